@@ -1,0 +1,71 @@
+-- The cases P1 to P11 of document 01 as one list of the rules' results, and its further cases.
+use mathlib.Core.Path.{_≡_, refl}
+use Prim.Native.Nat.{ℕ}
+use Prim.Native.String.{String}
+use mathlib.Core.List.{List, [], _∷_, map}
+use Rattle.rules.specs.Basics.{codes}
+use Rattle.rules.specs.Options.{Options, defaults}
+use Rattle.rules.specs.Assembly.{Formatted, formatWith}
+use Rattle.rules.specs.declared.PrintWidth.{PrintWidth}
+use Rattle.rules.specs.declared.FinalNewline.{FinalNewline}
+use Rattle.rules.proofs.Computing.{computing}
+
+-- options, source; text, imports split, blank names
+abbrev pub Case : Type 0
+Case = Options × String × String × ℕ × ℕ
+
+abbrev pub atWidth : ℕ → Options
+atWidth n =
+    record { indent = defaults .indent; printWidth = PrintWidth.Columns n; endOfLine = defaults .endOfLine; finalNewline = defaults .finalNewline }
+
+abbrev noFinalNewline : Options
+noFinalNewline =
+    record {
+      indent = defaults .indent;
+      printWidth = defaults .printWidth;
+      endOfLine = defaults .endOfLine;
+      finalNewline = FinalNewline.AsSource;
+    }
+
+abbrev pub expected : Case → Formatted
+expected c = record { text = codes (c .2); importsSplit = c .3; blankNames = c .4 }
+
+abbrev pub given : Case → Formatted
+given c = formatWith (c .0) (codes (c .1))
+
+abbrev pub cases : List Case
+cases =
+    -- P1
+    (defaults, "", "\n", 0, 0)
+    ∷ (noFinalNewline, "", "", 0, 0)
+    -- P2 to P6
+    ∷ (defaults, "f(a ,b)", "f(a, b)\n", 0, 0)
+    ∷ (defaults, "addRole(next, {\nx\n})", "addRole(next, {\n  x\n})\n", 0, 0)
+    ∷ (defaults, "}\nelse {", "} else {\n", 0, 0)
+    ∷ (defaults, "in a\n\nin b", "in a\nin b\n", 0, 0)
+    ∷ (defaults, "in a\n\nout b", "in a\n\nout b\n", 0, 0)
+    ∷ (defaults, "\"a  ,b\"  ,c", "\"a  ,b\", c\n", 0, 0)
+    -- P7, P8
+    ∷ (atWidth 7, "a + b*c", "a + b*c\n", 0, 0)
+    ∷ (atWidth 6, "a + b*c", "a\n  + b*c\n", 0, 0)
+    ∷ (atWidth 10, "import {a,,b} from \"l\"", "import {\n  a, b,\n} from \"l\"\n", 1, 1)
+    -- P9 to P11
+    ∷ (defaults, "a\r\nb\nc", "a\nb\nc\n", 0, 0)
+    ∷ (defaults, "// }\nelse", "// } else\n", 0, 0)
+    ∷ (defaults, "\\ ,a", "\\, a\n", 0, 0)
+    ∷ []
+
+pub bench : map given cases ≡ map expected cases
+unfolding computing
+bench = refl
+
+-- `"` U+1F600 `" + b` takes 8 units
+abbrev pub others : List Case
+others =
+    (atWidth 7, "\"😀\" + b", "\"😀\"\n  + b\n", 0, 0)
+    ∷ (atWidth 8, "\"😀\" + b", "\"😀\" + b\n", 0, 0)
+    ∷ []
+
+pub further : map given others ≡ map expected others
+unfolding computing
+further = refl

@@ -1,0 +1,4 @@
+-- Laws of the definitions.
+pub mod Choose
+pub mod Computing
+pub mod Examples

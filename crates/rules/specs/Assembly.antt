@@ -1,0 +1,52 @@
+-- Assembly: lines in, lines out; empty lines at the end go; the rest joined by the ending.
+use Prim.Native.Nat.{ℕ}
+use mathlib.Core.Bool.{Bool, true, false}
+use mathlib.Core.List.{List, [], _∷_, _++_, foldl}
+use Rattle.rules.specs.Basics.{choose}
+use Rattle.rules.specs.Lines.{asStr, linesOf, dominantIn, endsInLf}
+use Rattle.rules.specs.Options.{Options}
+use Rattle.rules.specs.Line.{Formatter, start, formatLine}
+use Rattle.rules.specs.declared.LineEnding.{LineEnding}
+use Rattle.rules.specs.declared.EndOfLine.{EndOfLine}
+use Rattle.rules.specs.declared.FinalNewline.{FinalNewline}
+
+pub record Formatted : Type 0 where
+  pub text : List ℕ
+  pub importsSplit : ℕ
+  pub blankNames : ℕ
+
+unfoldable pub endingOf : EndOfLine → List ℕ → LineEnding
+endingOf EndOfLine.Kept source = dominantIn source
+endingOf (EndOfLine.Set e) source = e
+
+-- the newest lines that are empty go
+unfoldable pub dropEmpty : List (List ℕ) → List (List ℕ)
+dropEmpty [] = []
+dropEmpty ([] ∷ ls) = dropEmpty ls
+dropEmpty ((c ∷ cs) ∷ ls) = (c ∷ cs) ∷ ls
+
+-- the lines, the newest first, joined in order
+unfoldable pub joined : List ℕ → List (List ℕ) → List ℕ
+joined eol [] = []
+joined eol (l ∷ []) = l
+joined eol (l ∷ m ∷ ls) = joined eol (m ∷ ls) ++ (eol ++ l)
+
+-- one more ending follows if final newline is set or the source ends in LF
+unfoldable pub lastEnding : FinalNewline → List ℕ → List ℕ → List ℕ
+lastEnding FinalNewline.Always source eol = eol
+lastEnding FinalNewline.AsSource source eol = choose (endsInLf source) eol []
+
+unfoldable pub finish : Options → List ℕ → List ℕ → Formatter → Formatted
+finish o source eol f =
+    record {
+      text = joined eol (dropEmpty (f .lines)) ++ lastEnding (o .finalNewline) source eol;
+      importsSplit = f .importsSplit;
+      blankNames = f .blankNames;
+    }
+
+unfoldable pub formatLines : Options → List (List ℕ) → Formatter → Formatter
+formatLines o raws f = foldl (formatLine o) f raws
+
+-- format_with, with both counts
+unfoldable pub formatWith : Options → List ℕ → Formatted
+formatWith o source = finish o source (asStr (endingOf (o .endOfLine) source)) (formatLines o (linesOf source) start)

@@ -1,0 +1,186 @@
+-- format.rs, one line: the formatter's record before and after it.
+use Prim.Native.Nat.{ℕ, _+_}
+use mathlib.Core.Bool.{Bool, true, false, not, _&&_, _||_}
+use mathlib.Core.List.{List, [], _∷_, _++_, reverseAux}
+use mathlib.Core.Option.{Option, none, some}
+use lib.Dec.{eqb}
+use lib.ListN.{drop}
+use Rattle.unicode.specs.Unicode.{trim, trimEnd}
+use Rattle.rules.specs.Basics.{choose, is, codes, at, lastIs, isEmpty}
+use Rattle.rules.specs.Scan.{classify, carryAfter, allCodeOrStr}
+use Rattle.rules.specs.Options.{Options, indentOf, overWide}
+use Rattle.rules.specs.Spacing.{normalizeSpacing}
+use Rattle.rules.specs.Brackets.{Entry, leadingClosers, scanBrackets, countBrackets, levels}
+use Rattle.rules.specs.Words.{startsWithWord, startsWithBinaryOp, sameDeclaration, isMarker, hasCode}
+use Rattle.rules.specs.Else.{isPlainElse, canJoin, joinElse}
+use Rattle.rules.specs.SplitImport.{Laid, splitImport}
+use Rattle.rules.specs.SplitOperation.{strengths, splitOperation}
+use Rattle.rules.specs.declared.Carry.{Carry}
+use Rattle.rules.specs.declared.Ignore.{Ignore}
+use Rattle.rules.specs.declared.PrintWidth.{PrintWidth}
+
+-- `lines` has the newest line first; `prev` is the previous line that is not blank
+pub record Formatter : Type 0 where
+  pub lines : List (List ℕ)
+  pub stack : List Entry
+  pub prevBlank : Bool
+  pub prev : List ℕ
+  pub ignore : Ignore
+  pub carry : Carry
+  pub importsSplit : ℕ
+  pub blankNames : ℕ
+
+abbrev pub start : Formatter
+start =
+    record {
+      lines = [];
+      stack = [];
+      prevBlank = false;
+      prev = [];
+      ignore = Ignore.Nothing;
+      carry = Carry.Code;
+      importsSplit = 0;
+      blankNames = 0;
+    }
+
+-- A line starting inside a comment is trimmed at its end; one inside a prefab is kept whole.
+unfoldable pub asWritten : Carry → List ℕ → List ℕ
+asWritten Carry.Code raw = raw
+asWritten (Carry.Block d) raw = trimEnd raw
+asWritten Carry.Prefab raw = raw
+
+unfoldable pub insideLine : Formatter → List ℕ → Formatter
+insideLine f raw =
+    record {
+      lines = asWritten (f .carry) raw ∷ f .lines;
+      stack = scanBrackets (classify (f .carry) raw) (f .stack);
+      prevBlank = false;
+      prev = trim raw;
+      ignore = f .ignore;
+      carry = carryAfter (f .carry) raw;
+      importsSplit = f .importsSplit;
+      blankNames = f .blankNames;
+    }
+
+-- Of blank lines in a row one is written, and none before the first written line. A pending marker stays pending.
+unfoldable pub blankLine : Formatter → Formatter
+blankLine f =
+    choose (f .prevBlank || isEmpty (f .lines)) f
+    (record {
+      lines = [] ∷ f .lines;
+      stack = f .stack;
+      prevBlank = true;
+      prev = f .prev;
+      ignore = f .ignore;
+      carry = f .carry;
+      importsSplit = f .importsSplit;
+      blankNames = f .blankNames;
+    })
+
+-- A protected line is kept as written; its brackets are counted, and it becomes the previous line, trimmed. A protected marker protects nothing.
+unfoldable pub protectedLine : Formatter → List ℕ → Formatter
+protectedLine f raw =
+    record {
+      lines = raw ∷ f .lines;
+      stack = countBrackets (leadingClosers (trim raw)) (classify Carry.Code (trim raw)) (f .stack);
+      prevBlank = false;
+      prev = trim raw;
+      ignore = Ignore.Nothing;
+      carry = carryAfter Carry.Code (trim raw);
+      importsSplit = f .importsSplit;
+      blankNames = f .blankNames;
+    }
+
+-- a plain `else` joined to the newest line: no indent, blank or split rule applies
+unfoldable pub elseLine : Formatter → List ℕ → Formatter
+elseLine f line =
+    record {
+      lines = joinElse line (f .lines);
+      stack = scanBrackets (classify Carry.Code line) (f .stack);
+      prevBlank = false;
+      prev = line;
+      ignore = Ignore.Nothing;
+      carry = carryAfter Carry.Code line;
+      importsSplit = f .importsSplit;
+      blankNames = f .blankNames;
+    }
+
+-- Blank between declarations: the newest line goes if it is empty, no bracket is open and both lines declare the same.
+unfoldable pub dropBlank : List (List ℕ) → List (List ℕ)
+dropBlank [] = []
+dropBlank ([] ∷ ls) = ls
+dropBlank ((c ∷ cs) ∷ ls) = (c ∷ cs) ∷ ls
+
+unfoldable pub linesBefore : Formatter → List ℕ → List (List ℕ)
+linesBefore f line = choose (isEmpty (f .stack) && sameDeclaration line (f .prev)) (dropBlank (f .lines)) (f .lines)
+
+-- The line continues the one before: it has no leading closers, and starts with the word `then`, with `else` after a line not ending in `}`,
+-- with a binary operator, or with `.` but not `...`.
+unfoldable pub continues : List ℕ → List ℕ → Bool
+continues prev line =
+    eqb (leadingClosers line) 0
+    && (startsWithWord line (codes "then") || (startsWithWord line (codes "else") && not (lastIs (is "}") prev)) || startsWithBinaryOp line
+    || (at line "." && not (at line "...")))
+
+-- the indent: levels after the leading closers popped, plus one if the line continues
+unfoldable pub levelOf : Formatter → List ℕ → ℕ
+levelOf f line = levels (drop (leadingClosers line) (f .stack)) + choose (continues (f .prev) line) 1 0
+
+abbrev pub oneLine : List ℕ → Laid
+oneLine l = record { lines = l ∷ []; importsSplit = 0; blankNames = 0 }
+
+-- import first, otherwise operators
+unfoldable pub orOperation : Option Laid → Options → ℕ → ℕ → List ℕ → Laid
+orOperation (some laid) o max level line = laid
+orOperation none o max level line = record { lines = splitOperation strengths o max level line; importsSplit = 0; blankNames = 0 }
+
+unfoldable pub broken : Options → ℕ → ℕ → List ℕ → Laid
+broken o max level line = orOperation (splitImport o max level (classify Carry.Code line)) o max level line
+
+-- a line that may be split is, where it is wider than the width with its indent
+unfoldable pub fitted : PrintWidth → Options → ℕ → List ℕ → Laid
+fitted PrintWidth.Off o level line = oneLine (indentOf o level ++ line)
+fitted (PrintWidth.Columns max) o level line =
+    choose (overWide o max (indentOf o level ++ line)) (broken o max level line) (oneLine (indentOf o level ++ line))
+
+unfoldable pub mayBreak : Formatter → Bool → List ℕ → Bool
+mayBreak f marker line =
+    not (continues (f .prev) line) && eqb (leadingClosers line) 0 && not marker && allCodeOrStr (classify Carry.Code line)
+
+unfoldable pub laid : Options → Formatter → Bool → List ℕ → Laid
+laid o f marker line = fitted (choose (mayBreak f marker line) (o .printWidth) PrintWidth.Off) o (levelOf f line) line
+
+unfoldable pub placedLine : Options → Formatter → Bool → List ℕ → Formatter
+placedLine o f marker line =
+    record {
+      lines = reverseAux (laid o f marker line .lines) (linesBefore f line);
+      stack = countBrackets (leadingClosers line) (classify Carry.Code line) (f .stack);
+      prevBlank = false;
+      prev = line;
+      ignore = choose marker Ignore.NextLine Ignore.Nothing;
+      carry = carryAfter Carry.Code line;
+      importsSplit = f .importsSplit + laid o f marker line .importsSplit;
+      blankNames = f .blankNames + laid o f marker line .blankNames;
+    }
+
+unfoldable pub spacedLine : Options → Formatter → Bool → List ℕ → Formatter
+spacedLine o f marker line = choose (isPlainElse line && canJoin (f .lines)) (elseLine f line) (placedLine o f marker line)
+
+abbrev pub protects : Ignore → Bool
+protects Ignore.Nothing = false
+protects Ignore.NextLine = true
+
+unfoldable pub codeLine : Options → Formatter → List ℕ → Formatter
+codeLine o f raw =
+    choose (protects (f .ignore) || (isMarker (classify Carry.Code (trim raw)) && hasCode (classify Carry.Code (trim raw))))
+    (protectedLine f raw)
+    (spacedLine o f (isMarker (classify Carry.Code (trim raw))) (normalizeSpacing (classify Carry.Code (trim raw))))
+
+abbrev pub inCodeNow : Carry → Bool
+inCodeNow Carry.Code = true
+inCodeNow (Carry.Block d) = false
+inCodeNow Carry.Prefab = false
+
+unfoldable pub formatLine : Options → Formatter → List ℕ → Formatter
+formatLine o f raw =
+    choose (inCodeNow (f .carry)) (choose (isEmpty (trim raw)) (blankLine f) (codeLine o f raw)) (insideLine f raw)

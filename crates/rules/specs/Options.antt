@@ -1,0 +1,73 @@
+-- options.rs: what the host chooses, the defaults, and `indent_with` with its limit.
+use Prim.Native.Nat.{ℕ, _+_}
+use mathlib.Core.Bool.{Bool, true, false, _&&_}
+use mathlib.Core.List.{List, [], _∷_}
+use lib.Dec.{leb, ltb}
+use lib.ListN.{length}
+use Rattle.buffer.specs.Repeat.{times}
+use Rattle.unicode.specs.Unicode.{width}
+use Rattle.rules.specs.Basics.{choose, codes, isBlank}
+use Rattle.rules.specs.declared.EndOfLine.{EndOfLine}
+use Rattle.rules.specs.declared.PrintWidth.{PrintWidth}
+use Rattle.rules.specs.declared.FinalNewline.{FinalNewline}
+
+pub record Options : Type 0 where
+  pub indent : List ℕ
+  pub printWidth : PrintWidth
+  pub endOfLine : EndOfLine
+  pub finalNewline : FinalNewline
+
+-- indent two spaces, width 100, ending kept, final newline true
+abbrev pub defaults : Options
+defaults =
+    record {
+      indent = codes "  ";
+      printWidth = PrintWidth.Columns 100;
+      endOfLine = EndOfLine.Kept;
+      finalNewline = FinalNewline.Always;
+    }
+
+-- an indent of at most 64 bytes, spaces and tabs only; an empty one is fine
+abbrev pub maxIndent : ℕ
+maxIndent = 64
+
+unfoldable pub allBlank : List ℕ → Bool
+allBlank [] = true
+allBlank (c ∷ cs) = isBlank c && allBlank cs
+
+unfoldable pub validIndent : List ℕ → Bool
+validIndent indent = leb (length indent) maxIndent && allBlank indent
+
+abbrev pub withIndent : Options → List ℕ → Options
+withIndent o indent =
+    record { indent = indent; printWidth = o .printWidth; endOfLine = o .endOfLine; finalNewline = o .finalNewline }
+
+-- What a setting step gives: the changed options, or with refusal 2 the options unchanged.
+pub record Changed : Type 0 where
+  pub refused : Bool
+  pub options : Options
+
+abbrev pub tab : List ℕ
+tab = codes "\t"
+
+abbrev pub spaces : ℕ → List ℕ
+spaces n = times n (codes " ")
+
+-- indent_with: one tab, or `size` spaces; a size over 64 is refused, needed or not
+unfoldable pub indentWith : Options → Bool → ℕ → Changed
+indentWith o tabs size =
+    choose (ltb maxIndent size)
+    (record { refused = true; options = o })
+    (record { refused = false; options = withIndent o (choose tabs tab (spaces size)) })
+
+-- the indent of a level
+unfoldable pub indentOf : Options → ℕ → List ℕ
+indentOf o level = times level (o .indent)
+
+-- The column that a part reaches which starts at column `from`, in UTF-16 units. Whatever measures a line uses this.
+unfoldable pub measure : Options → ℕ → List ℕ → ℕ
+measure o from part = from + width part
+
+-- a whole line is wider than the width
+unfoldable pub overWide : Options → ℕ → List ℕ → Bool
+overWide o max line = ltb max (measure o 0 line)

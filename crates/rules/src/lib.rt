@@ -1,0 +1,169 @@
+// The types that the code and the definitions of document 01 share.
+
+// What a character of a line is part of.
+pub enum Class {
+    Code,
+    Str,
+    LineComment,
+    BlockComment,
+    Prefab,
+}
+
+// What is still open at the end of a line; a block comment with its depth.
+pub enum Carry {
+    Code,
+    Block(u32),
+    Prefab,
+}
+
+// Where in a line a character stands. The bools say which quote ends a string: `"` if true, else `'`.
+// Interp and Inner are inside `${..}`, at a depth of braces; Inner is a string in it.
+pub enum Mode {
+    Code,
+    Quoted(bool),
+    Interp(bool, u32),
+    Inner(bool, u32, bool),
+    Line,
+    Block(u32),
+    Prefab,
+}
+
+// Characters that are read together: how many are left, their class, and the mode after them.
+pub struct Mark {
+    pub more: usize,
+    pub class: Class,
+    pub mode: Mode,
+}
+
+// What spacing has just read, in code: a backslash, a comma, a space, or anything else.
+pub enum Gap {
+    Nothing,
+    Escape,
+    Comma,
+    Space,
+}
+
+// What a marker protects: nothing, or the next line that is not blank.
+pub enum Ignore {
+    Nothing,
+    NextLine,
+}
+
+pub enum LineEnding {
+    Lf,
+    Crlf,
+}
+
+impl LineEnding {
+    pub const LF: LineEnding = LineEnding::Lf;
+
+    pub const CRLF: LineEnding = LineEnding::Crlf;
+}
+
+// The line ending of the text: kept, or one of the two.
+pub enum EndOfLine {
+    Kept,
+    Set(LineEnding),
+}
+
+// The print width: none, or a number of UTF-16 columns.
+pub enum PrintWidth {
+    Off,
+    Columns(usize),
+}
+
+// Whether the text ends in a line ending: if the source does, or always.
+pub enum FinalNewline {
+    AsSource,
+    Always,
+}
+
+// The refusals of document 01, with what their places need.
+pub enum Refusal {
+    SourceTooLong,
+    BadOption,
+    ScratchShort(usize),
+    NotUtf8(usize),
+    OutputShort(usize),
+}
+
+// What a formatting call comes to: the text's length, imports split and blank names; or a refusal.
+pub enum Outcome {
+    Formatted(usize, usize, usize),
+    Refused(Refusal),
+}
+
+// The same in numbers, for a host.
+#[repr(C)]
+pub struct Answer {
+    pub refusal: u64,
+    pub place: u64,
+    pub length: u64,
+    pub imports_split: u64,
+    pub blank_names: u64,
+}
+
+// What an editor is told of a place.
+pub enum TextKind {
+    Code,
+    Str,
+    Comment,
+}
+
+// What asking for a text kind comes to.
+pub enum KindOutcome {
+    Found(TextKind),
+    Refused(Refusal),
+}
+
+#[repr(C)]
+pub struct Kind {
+    pub refusal: u64,
+    pub place: u64,
+    pub kind: u64,
+}
+
+// The values of .editorconfig, resolved.
+pub enum IndentStyle {
+    Unset,
+    Tabs,
+    Spaces,
+}
+
+pub enum IndentSize {
+    Unset,
+    UseTabWidth,
+    Value(usize),
+}
+
+pub enum TabWidth {
+    Unset,
+    Value(usize),
+}
+
+pub enum MaxLineLen {
+    Unset,
+    Off,
+    Value(usize),
+}
+
+pub enum ConfigEnding {
+    Unset,
+    Lf,
+    CrLf,
+    Cr,
+}
+
+pub enum InsertFinalNewline {
+    Unset,
+    Value(bool),
+}
+
+pub struct Resolved {
+    pub style: IndentStyle,
+    pub size: IndentSize,
+    pub tab: TabWidth,
+    pub max: MaxLineLen,
+    pub ending: ConfigEnding,
+    pub newline: InsertFinalNewline,
+}

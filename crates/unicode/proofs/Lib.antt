@@ -1,0 +1,11 @@
+pub mod Tests
+pub mod Table
+pub mod Decode
+pub mod Scan
+pub mod Back
+pub mod Cut
+pub mod Bytewise
+pub mod Machine
+pub mod Column
+pub mod Trim
+pub mod Examples

@@ -1,0 +1,59 @@
+-- What the contracts say of places in a list s of bytes.
+use Prim.Native.Nat.{ℕ, _+_, _-_, _<_, _≤_}
+use mathlib.Core.Bool.{cond}
+use mathlib.Core.List.{List, [], _∷_, _++_}
+use mathlib.Core.Path.{_≡_}
+use lib.ListN.{length, take, drop}
+use lib.Dec.{T, ltb}
+use Rattle.unicode.specs.Unicode.{isScalar, encodeChar, seqAt, codeAt, decode, prefixLen, WellFormed, trimStart, trimEnd}
+
+-- the well-formed sequence at i takes r bytes, or there is none and r is 0
+pub record SeqAt (s : List ℕ) (i r : ℕ) : Type 0 where
+  pub is : r ≡ seqAt (drop i s)
+  pub fits : i + r ≤ length s
+
+-- the character at i takes n bytes
+pub record Step (s : List ℕ) (i n : ℕ) : Type 0 where
+  pub some : 0 < n
+  pub fits : i + n ≤ length s
+  pub scalar : T (isScalar (codeAt (drop i s)))
+  pub chars : decode (drop i s) ≡ codeAt (drop i s) ∷ decode (drop (i + n) s)
+  pub bytes : drop i s ≡ encodeChar (codeAt (drop i s)) ++ drop (i + n) s
+  pub long : length (encodeChar (codeAt (drop i s))) ≡ n
+  pub well : WellFormed (drop i s) → WellFormed (drop (i + n) s)
+  pub prefix : prefixLen (drop i s) ≡ n + prefixLen (drop (i + n) s)
+
+-- the character before e takes r bytes, and what stands before it is well-formed
+pub record Back (s : List ℕ) (e r : ℕ) : Type 0 where
+  pub some : 0 < r
+  pub fits : r ≤ e
+  pub well : WellFormed (take (e - r) s)
+  pub text : decode (take e s) ≡ decode (take (e - r) s) ++ (codeAt (drop (e - r) s) ∷ [])
+
+-- from r on, s is its characters trimmed at their start
+pub record TrimmedStart (s : List ℕ) (r : ℕ) : Type 0 where
+  pub fits : r ≤ length s
+  pub well : WellFormed (drop r s)
+  pub text : decode (drop r s) ≡ trimStart (decode s)
+
+-- up to r, s is its characters trimmed at their end
+pub record TrimmedEnd (s : List ℕ) (r : ℕ) : Type 0 where
+  pub fits : r ≤ length s
+  pub well : WellFormed (take r s)
+  pub text : decode (take r s) ≡ trimEnd (decode s)
+
+-- i bytes are the first k characters of s, or all of s where it has fewer
+pub record Column (s : List ℕ) (k i : ℕ) : Type 0 where
+  pub fits : i ≤ length s
+  pub well : WellFormed (drop i s)
+  pub text : decode (drop i s) ≡ drop k (decode s)
+
+-- ---- what a byte counts for, in a well-formed text
+
+-- the UTF-16 units of the character that it starts, and 0 where it starts none
+unfoldable pub unitsOf : ℕ → ℕ
+unitsOf b = cond (ltb b 0x80) 1 (cond (ltb b 0xC0) 0 (cond (ltb b 0xF0) 1 2))
+
+-- 1 where it starts a character
+unfoldable pub leadOf : ℕ → ℕ
+leadOf b = cond (ltb b 0x80) 1 (cond (ltb b 0xC0) 0 1)

@@ -2,17 +2,17 @@
 --     Back, back      the last character takes r bytes
 --     ends            there is a last character
 --     end-bytes       its size is told by the last bytes
-use Prim.Native.Nat.{ℕ, zero, suc, _+_, _-_, _/_, _%_, _<_, _≤_}
-use mathlib.Core.List.{List, [], _∷_, _++_, append-nil, append-assoc}
+use Prim.Native.Nat.{ℕ, _+_, _-_, _/_, _%_, _<_, _≤_}
+use mathlib.Core.List.{List, [], _∷_, _++_, append-assoc}
 use mathlib.Core.Logic.{_⊎_, inl, inr, ⊎-elim}
 use mathlib.Core.Path.{_≡_, refl, sym, ap, _∙_, subst}
 use native.Mathlib.Omega.{arith}
 use lib.ListN.{length, getD, take, drop, length-append, take-append-drop}
 use lib.Seq.{take-take, take-at, drop-at, getD-take, getD-append-add, length-take-le}
 use lib.Dec.{T}
-use Rattle.unicode.specs.Unicode.{isScalar, Scalars, encodeChar, encode, size, codeAt, decode, WellFormed}
+use Rattle.unicode.specs.Unicode.{isScalar, Scalars, encodeChar, encode, size, decode, WellFormed}
 use Rattle.unicode.specs.Places.{Back}
-use Rattle.unicode.proofs.Table.{Shape, one, two, three, four, shape, Front, front, scalar-max}
+use Rattle.unicode.proofs.Table.{Shape, one, two, three, four, shape, Front, front}
 use Rattle.unicode.proofs.Decode.{encode-append, encode-one, decode-encode, decode-scalars, scalars-left, scalars-right, wf-encode}
 
 -- ---- the last character

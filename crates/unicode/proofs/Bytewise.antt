@@ -3,18 +3,16 @@
 --     unitsOf, width-bytes     the UTF-16 units that a byte stands for, and their sum
 --     leadOf, count-bytes      1 for a byte that starts a character, and their sum
 --     total-drop               one byte of a sum
-use Prim.Native.Nat.{ℕ, zero, suc, _+_, _*_, _/_, _%_, _<_, _≤_, zero-le}
-use mathlib.Core.Bool.{Bool, true, false, cond}
+use Prim.Native.Nat.{ℕ, _+_, _*_, _/_, _%_, _<_, _≤_, zero-le}
 use mathlib.Core.List.{List, [], _∷_, _++_}
-use mathlib.Core.Logic.{_⊎_, inl, inr, ⊎-elim}
-use mathlib.Core.Path.{_≡_, refl, sym, ap, _∙_, subst}
+use mathlib.Core.Path.{_≡_, refl, sym, ap, _∙_}
 use native.Mathlib.Omega.{arith}
 use native.Mathlib.Nat.{mul-suc}
 use native.Mathlib.Numerals.{add-one}
-use borrow.Author.Tests.{lt-ltb, le-ltb, ne-eqb}
+use borrow.Author.Tests.{lt-ltb, le-ltb}
 use lib.ListN.{length, getD, drop}
 use lib.Seq.{drop-cons, drop-length}
-use lib.Dec.{T, ltb, eqb}
+use lib.Dec.{T}
 use Rattle.unicode.specs.Unicode.{isScalar, Scalars, encodeChar, encode, decode, WellFormed, units, width}
 use Rattle.unicode.specs.Places.{unitsOf, leadOf}
 use Rattle.unicode.proofs.Table.{Shape, one, two, three, four, shape}
@@ -79,10 +77,21 @@ module _ (f g : ℕ → ℕ) (tails : (b : ℕ) → 0x80 ≤ b → b < 0xC0 → 
 
 -- ---- UTF-16 units
 
+pub width-nil : width [] ≡ 0
+unfolding width
+width-nil = refl
+
+pub width-cons : (c : ℕ) (cs : List ℕ) → width (c ∷ cs) ≡ units c + width cs
+unfolding width
+width-cons c cs = refl
+
 pub width-total : (cs : List ℕ) → width cs ≡ total units cs
 unfolding width
 width-total [] = refl
 width-total (c ∷ cs) = let r = width-total cs in omega arith
+
+pub width-append : (a b : List ℕ) → width (a ++ b) ≡ width a + width b
+width-append a b = rw (width-total (a ++ b), width-total a, width-total b) (total-append units a b)
 
 pub width-bytes : (s : List ℕ) → WellFormed s → total unitsOf s ≡ width (decode s)
 unfolding unitsOf units
@@ -101,18 +110,6 @@ count-bytes s w =
     (λ b c h k l m. simp (le-ltb b 0x80 (omega arith), le-ltb b 0xC0 h))
     (λ b c h k. simp (le-ltb b 0x80 (omega arith), le-ltb b 0xC0 (omega arith))) s w
     ∙ sym (length-total (decode s))
-
--- ---- how often a character below 80 hex stands in a text, as a comma
-
-unfoldable pub isIt : ℕ → ℕ → ℕ
-isIt a c = cond (eqb c a) 1 0
-
-pub count-ascii : (a : ℕ) → a < 0x80 → (s : List ℕ) → WellFormed s → total (isIt a) s ≡ total (isIt a) (decode s)
-unfolding isIt
-count-ascii a h s w =
-    by-first-byte (isIt a) (isIt a) (λ b k l. simp (ne-eqb b a (omega arith))) (λ c k. refl)
-    (λ b c k l m n. simp (ne-eqb b a (omega arith), ne-eqb c a (omega arith)))
-    (λ b c k l. simp (ne-eqb b a (omega arith), ne-eqb c a (omega arith))) s w
 
 -- ---- the scan: n is the sum over the first i bytes. k bounds what a byte counts
 

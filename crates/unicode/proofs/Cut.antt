@@ -2,18 +2,18 @@
 --     Cut, cut        the cut before a byte that starts a character
 --     ascii-cut       the cut around a byte below 80 hex, as a line feed or a comma: that byte is a character
 --     join            two well-formed lists make one
-use Prim.Native.Nat.{ℕ, zero, suc, _+_, _-_, _/_, _%_, _<_, _≤_}
+use Prim.Native.Nat.{ℕ, zero, suc, _+_, _-_, _<_, _≤_}
 use mathlib.Core.List.{List, [], _∷_, _++_}
-use mathlib.Core.Logic.{_⊎_, inl, inr, ⊎-elim}
+use mathlib.Core.Logic.{_⊎_, inl, inr}
 use mathlib.Core.Path.{_≡_, refl, sym, ap, _∙_, subst}
 use native.Mathlib.Omega.{arith}
-use lib.ListN.{length, getD, take, drop, length-append, List·getD-append, take-append-drop}
+use lib.ListN.{length, getD, take, drop, length-append, List·getD-append}
 use lib.Seq.{take-at, drop-at, getD-append-add}
-use Rattle.unicode.specs.Unicode.{Scalars, encodeChar, encode, size, codeAt, decode, WellFormed}
+use Rattle.unicode.specs.Unicode.{Scalars, encodeChar, encode, size, decode, WellFormed}
+use Rattle.unicode.specs.Places.{Step}
 use Rattle.unicode.proofs.Table.{Shape, one, two, three, four, shape}
 use Rattle.unicode.proofs.Tests.{split}
 use Rattle.unicode.proofs.Decode.{encode-append, decode-append, decode-encode, decode-scalars, scalars-left, scalars-right, wf-encode}
-use Rattle.unicode.specs.Places.{Step}
 use Rattle.unicode.proofs.Scan.{ascii, ascii-step}
 
 -- a byte that starts a character

@@ -1,10 +1,13 @@
 -- Laws of `decode`: it undoes `encode`, and what it reads is the longest well-formed prefix.
 --     decode-step, decode-stop     one character read
 --     decode-encode                the characters of an encoding are those that were encoded
+--     encode-ascii, decode-ascii   a text below 80 hex is its bytes
 --     prefix-split                 a list is the encoding of its characters, and what is left over
 --     prefix-longest               no encoding that a list starts with is longer
 --     wf-encode, wf-step           encodings are well-formed; what follows a character of a well-formed list is
-use Prim.Native.Nat.{ℕ, zero, suc, pred, _+_, _-_, _<_, _≤_}
+--     test-wf, wf-test             the test `wellFormed` tells it
+use Prim.Native.Nat.{ℕ, zero, suc, pred, _+_, _<_, _≤_}
+use mathlib.Core.Bool.{true, false}
 use mathlib.Core.List.{List, [], _∷_, _++_, append-nil, append-assoc, append-cancel-left}
 use mathlib.Core.Path.{_≡_, refl, sym, ap, _∙_, subst}
 use native.Mathlib.Omega.{arith}
@@ -12,9 +15,8 @@ use lib.ListN.{length, getD, take, drop, length-append, length-take, take-append
 use lib.Seq.{drop-append-seam, take-append-seam, length-take-le, take-all}
 use lib.Dec.{T}
 use borrow.Author.Tests.{eq-eqb, ne-eqb, eqb-true}
-use mathlib.Core.Bool.{true, false}
-use Rattle.unicode.specs.Unicode.{isScalar, Scalars, encodeChar, encode, size, seqLen, codeOf, seqAt, codeAt, next, chars, decode, prefixLen, WellFormed, wellFormed}
-use Rattle.unicode.proofs.Table.{Sequence, Good, good, Front, front}
+use Rattle.unicode.specs.Unicode.{isScalar, Scalars, encodeChar, encode, size, seqAt, codeAt, next, chars, decode, prefixLen, WellFormed, wellFormed}
+use Rattle.unicode.proofs.Table.{encodeChar-1, scalar-low, Sequence, Good, good, Front, front}
 
 -- ---- one character
 
@@ -137,6 +139,27 @@ decode-append (c ∷ cs) t s =
 pub decode-encode : (cs : List ℕ) → Scalars cs → decode (encode cs) ≡ cs
 unfolding chars
 decode-encode cs s = ap decode (sym (append-nil (encode cs))) ∙ decode-append cs [] s ∙ append-nil cs
+
+-- ---- characters below 80 hex are their bytes
+
+abbrev pub Ascii : List ℕ → Type 0
+Ascii [] = Unit {0}
+Ascii (c ∷ cs) = (c < 0x80) × Ascii cs
+
+pub ascii-scalars : (cs : List ℕ) → Ascii cs → Scalars cs
+ascii-scalars [] a = tt
+ascii-scalars (c ∷ cs) a = (scalar-low c (omega arith), ascii-scalars cs (a .1))
+
+pub encode-ascii : (cs : List ℕ) → Ascii cs → encode cs ≡ cs
+unfolding encode
+encode-ascii [] a = refl
+encode-ascii (c ∷ cs) a = rw (encodeChar-1 c (a .0), encode-ascii cs (a .1))
+
+pub decode-ascii : (s : List ℕ) → Ascii s → decode s ≡ s
+decode-ascii s a = ap decode (sym (encode-ascii s a)) ∙ decode-encode s (ascii-scalars s a)
+
+pub wf-ascii : (s : List ℕ) → Ascii s → WellFormed s
+wf-ascii s a = ap encode (decode-ascii s a) ∙ encode-ascii s a
 
 -- ---- the longest well-formed prefix
 

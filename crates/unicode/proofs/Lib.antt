@@ -8,4 +8,5 @@ pub mod Bytewise
 pub mod Machine
 pub mod Column
 pub mod Trim
+pub mod TrimScan
 pub mod Examples

@@ -4,17 +4,16 @@
 --     bytewise        the machine on bytes: a tail changes nothing
 --     run-bytes       on a well-formed list it ends where the machine on characters ends
 --     run-drop        one byte of a run
-use Prim.Native.Nat.{ℕ, zero, suc, _+_, _/_, _%_, _<_, _≤_}
-use mathlib.Core.Bool.{Bool, true, false, cond}
+use Prim.Native.Nat.{ℕ, _+_, _/_, _%_, _<_, _≤_}
+use mathlib.Core.Bool.{true, false, cond}
 use mathlib.Core.List.{List, [], _∷_, _++_}
 use mathlib.Core.Path.{_≡_, refl, sym, ap, _∙_}
 use native.Mathlib.Omega.{arith}
 use native.Mathlib.Numerals.{add-one}
-use borrow.Author.Tests.{le-leb, lt-leb, ne-eqb}
-use lib.Dec.{eqb}
+use borrow.Author.Tests.{le-leb, lt-leb}
 use lib.ListN.{length, getD, drop}
 use lib.Seq.{drop-cons, drop-length}
-use Rattle.unicode.specs.Unicode.{Scalars, encodeChar, encode, tail, decode, WellFormed}
+use Rattle.unicode.specs.Unicode.{encodeChar, encode, tail, decode, WellFormed}
 use Rattle.unicode.proofs.Table.{Shape, one, two, three, four, shape, tail-make}
 
 abbrev pub run {ℓ} : {S : Type ℓ} → (S → ℕ → S) → S → List ℕ → S

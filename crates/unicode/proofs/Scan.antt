@@ -4,15 +4,14 @@
 --     stops        where no sequence starts, nothing is read
 --     at-end       at the end nothing is left
 --     wf-sequence  in a well-formed rest a sequence starts
-use Prim.Native.Nat.{ℕ, zero, suc, _+_, _-_, _<_, _≤_}
-use mathlib.Core.List.{List, [], _∷_, _++_}
+use Prim.Native.Nat.{ℕ, zero, suc, _+_, _<_, _≤_}
+use mathlib.Core.List.{List, _∷_, _++_}
 use mathlib.Core.Path.{_≡_, refl, sym, ap, _∙_, subst}
 use native.Mathlib.Omega.{arith}
 use native.Mathlib.Nat.{add-zero}
 use lib.ListN.{length, getD, drop, length-drop, length-append}
 use lib.Seq.{drop-drop, drop-length, getD-drop}
-use lib.Dec.{T}
-use Rattle.unicode.specs.Unicode.{isScalar, encodeChar, encode, size, seqLen, codeOf, seqAt, codeAt, chars, decode, prefixLen, WellFormed}
+use Rattle.unicode.specs.Unicode.{encodeChar, encode, size, seqLen, codeOf, seqAt, codeAt, chars, decode, prefixLen, WellFormed}
 use Rattle.unicode.specs.Places.{Step, SeqAt}
 use Rattle.unicode.proofs.Table.{len-1, code-1, lead-2, lead-3, lead-4}
 use Rattle.unicode.proofs.Decode.{decode-step, decode-stop, Read, read, wf-step}

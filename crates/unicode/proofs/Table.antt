@@ -1,19 +1,20 @@
 -- Laws of UTF-8: Table 3-7 describes exactly the encodings of the scalar values.
 --     shape           a character's encoding, by its size
+--     bytes           it is the character itself, or bytes of 80 hex or more
 --     good            a sequence of Table 3-7 is the encoding of its code point, a scalar value
---     seq-encodeChar     the encoding of a scalar value is such a sequence, with that code point
-use Prim.Native.Nat.{ℕ, zero, suc, pred, _+_, _-_, _*_, _/_, _%_, _<_, _≤_}
-use mathlib.Core.Bool.{Bool, true, false, cond, not, _&&_, _||_}
-use mathlib.Core.List.{List, [], _∷_, _++_, reverse}
+--     front           the encoding of a scalar value is such a sequence, with that code point
+use Prim.Native.Nat.{ℕ, zero, suc, pred, _+_, _*_, _/_, _%_, _<_, _≤_}
+use mathlib.Core.Bool.{Bool, true, _&&_}
+use mathlib.Core.List.{List, [], _∷_, _++_}
 use mathlib.Core.Logic.{_⊎_, inl, inr, ⊎-elim}
-use mathlib.Core.Path.{_≡_, refl, sym, ap, _∙_, subst}
+use mathlib.Core.Path.{_≡_, refl, _∙_}
 use native.Mathlib.Omega.{arith}
 use native.Mathlib.Nat.{le-of-suc-le-suc}
-use borrow.Author.Tests.{lt-ltb, le-ltb, le-leb, lt-leb, eq-eqb, ne-eqb, ltb-true, ltb-false, leb-true, leb-false, eqb-true, eqb-false}
-use lib.ListN.{length, getD, take, drop}
-use lib.Dec.{T, leb, ltb, eqb}
+use borrow.Author.Tests.{lt-ltb, le-ltb, le-leb, ne-eqb, ltb-true, ltb-false, eqb-true, eqb-false}
+use lib.ListN.{length, getD, take}
+use lib.Dec.{T, ltb, eqb}
 use Rattle.unicode.proofs.Tests.{cond-elim, split, T-of, of-T, and-left, and-right, in-range, range}
-use Rattle.unicode.specs.Unicode.{isScalar, encodeChar, encode, size, tail, second, seqLen, codeOf, seqAt, codeAt, next, chars, decode, within}
+use Rattle.unicode.specs.Unicode.{isScalar, encodeChar, tail, second, seqLen, codeOf, seqAt, codeAt}
 
 -- an unequal bound is strict
 above : (a b : ℕ) → a ≤ b → (b ≡ a → ⊥) → a < b
@@ -68,6 +69,41 @@ shape c =
     (λ b. ⊎-elim (λ d. three b d (encodeChar-3 c b d)) (λ d. four d (encodeChar-4 c d)) (split c 0x10000))
     (split c 0x800))
     (split c 0x80)
+
+-- every byte is 80 hex or more
+pub data High : List ℕ → Type 0 where
+  none : High []
+  also : {b : ℕ} {bs : List ℕ} → 0x80 ≤ b → High bs → High (b ∷ bs)
+
+-- the bytes of a character: itself, or all of them 80 hex or more
+pub data Bytes (c : ℕ) : List ℕ → Type 0 where
+  single : c < 0x80 → Bytes c (c ∷ [])
+  several : {b : ℕ} {bs : List ℕ} → 0x80 ≤ c → 0x80 ≤ b → High bs → Bytes c (b ∷ bs)
+
+pub bytes : (c : ℕ) → Bytes c (encodeChar c)
+bytes c = go (shape c)
+  where
+    go : Shape c → Bytes c (encodeChar c)
+    go (one h e) = rw e (single h)
+    go (two h k e) = rw e (several {b = 0xC0 + c / 64} h (omega arith) (also {b = 0x80 + c % 64} (omega arith) none))
+    go (three h k e) =
+        rw e (several {b = 0xE0 + c / 4096} (omega arith) (omega arith) (also {b = 0x80 + c / 64 % 64} (omega arith) (also {b = 0x80 + c % 64} (omega arith) none)))
+    go (four h e) =
+        rw e
+        (several {b = 0xF0 + c / 262144} (omega arith) (omega arith)
+        (also {b = 0x80 + c / 4096 % 64} (omega arith) (also {b = 0x80 + c / 64 % 64} (omega arith) (also {b = 0x80 + c % 64} (omega arith) none))))
+
+pub high-byte : (c k : ℕ) → 0x80 ≤ c → k < length (encodeChar c) → 0x80 ≤ getD (encodeChar c) k 0
+high-byte c k h l = go (encodeChar c) (bytes c) k l
+  where
+    at : (bs : List ℕ) → High bs → (k : ℕ) → k < length bs → 0x80 ≤ getD bs k 0
+    at [] none k l = absurd (omega arith)
+    at (b ∷ bs) (also p q) zero l = p
+    at (b ∷ bs) (also p q) (suc k) l = at bs q k (omega arith)
+
+    go : (bs : List ℕ) → Bytes c bs → (k : ℕ) → k < length bs → 0x80 ≤ getD bs k 0
+    go (b ∷ bs) (single p) k l = absurd (omega arith)
+    go (b ∷ bs) (several p q r) k l = at (b ∷ bs) (also q r) k l
 
 -- ---- code points of sequences, by the first byte
 

@@ -3,9 +3,9 @@
 --     start-split, end-split, trim-split  a trimmed text is a part: what is left out is white space
 --     start-twice, end-twice, trim-twice  a trimmed text is trimmed
 --     trim-swap                           the order of the two ends is free
-use Prim.Native.Nat.{ℕ, zero, suc, _+_, _≤_}
-use mathlib.Core.Bool.{Bool, true, false, cond}
-use mathlib.Core.List.{List, [], _∷_, _++_, append-nil, append-assoc}
+use Prim.Native.Nat.{ℕ, _≤_}
+use mathlib.Core.Bool.{true, false}
+use mathlib.Core.List.{List, [], _∷_, _++_, append-nil}
 use mathlib.Core.Path.{_≡_, refl, sym, ap, _∙_, subst}
 use native.Mathlib.Omega.{arith}
 use lib.ListN.{length, length-append}

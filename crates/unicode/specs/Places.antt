@@ -1,11 +1,11 @@
 -- What the contracts say of places in a list s of bytes.
 use Prim.Native.Nat.{ℕ, _+_, _-_, _<_, _≤_}
-use mathlib.Core.Bool.{cond}
+use mathlib.Core.Bool.{true, false, cond}
 use mathlib.Core.List.{List, [], _∷_, _++_}
 use mathlib.Core.Path.{_≡_}
 use lib.ListN.{length, take, drop}
 use lib.Dec.{T, ltb}
-use Rattle.unicode.specs.Unicode.{isScalar, encodeChar, seqAt, codeAt, decode, prefixLen, WellFormed, trimStart, trimEnd}
+use Rattle.unicode.specs.Unicode.{isScalar, encodeChar, seqAt, codeAt, decode, prefixLen, WellFormed, isWhite, trimStart, trimEnd}
 
 -- the well-formed sequence at i takes r bytes, or there is none and r is 0
 pub record SeqAt (s : List ℕ) (i r : ℕ) : Type 0 where
@@ -29,6 +29,18 @@ pub record Back (s : List ℕ) (e r : ℕ) : Type 0 where
   pub fits : r ≤ e
   pub well : WellFormed (take (e - r) s)
   pub text : decode (take e s) ≡ decode (take (e - r) s) ++ (codeAt (drop (e - r) s) ∷ [])
+
+-- the character at i is white space and takes r bytes, or it is none and r is 0
+pub record WhiteAt (s : List ℕ) (i r : ℕ) : Type 0 where
+  pub fits : i + r ≤ length s
+  pub is : isWhite (codeAt (drop i s)) ≡ ltb 0 r
+  pub step : 0 < r → Step s i r
+
+-- the character before e is white space and takes r bytes, or it is none and r is 0
+pub record WhiteBefore (s : List ℕ) (e r : ℕ) : Type 0 where
+  pub fits : r ≤ e
+  pub white : 0 < r → Back s e r × (isWhite (codeAt (drop (e - r) s)) ≡ true)
+  pub other : r ≡ 0 → (n : ℕ) × Back s e n × (isWhite (codeAt (drop (e - n) s)) ≡ false)
 
 -- from r on, s is its characters trimmed at their start
 pub record TrimmedStart (s : List ℕ) (r : ℕ) : Type 0 where

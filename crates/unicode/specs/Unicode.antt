@@ -1,6 +1,6 @@
 -- Unicode: scalar values, UTF-8, UTF-16 lengths and White_Space. A character is its code point, a text a list of them; a byte is a number too.
 use Prim.Native.Nat.{ℕ, zero, suc, pred, _+_, _*_, _/_, _%_}
-use mathlib.Core.Bool.{Bool, true, false, cond, _&&_, _||_}
+use mathlib.Core.Bool.{Bool, false, cond, _&&_, _||_}
 use mathlib.Core.List.{List, [], _∷_, _++_}
 use mathlib.Core.Path.{_≡_}
 use lib.ListN.{length, getD}
@@ -119,6 +119,11 @@ unfoldable pub isWhite : ℕ → Bool
 isWhite c =
     within 0x09 0x0D c || eqb c 0x20 || eqb c 0x85 || eqb c 0xA0 || eqb c 0x1680 || within 0x2000 0x200A c
     || eqb c 0x2028 || eqb c 0x2029 || eqb c 0x202F || eqb c 0x205F || eqb c 0x3000
+
+-- whether a text starts with white space
+abbrev pub firstIsWhite : List ℕ → Bool
+firstIsWhite [] = false
+firstIsWhite (c ∷ cs) = isWhite c
 
 -- a text without the white space at its start
 unfoldable pub trimStart : List ℕ → List ℕ

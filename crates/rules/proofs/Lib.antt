@@ -11,3 +11,16 @@ pub mod BracketsBytes
 pub mod LinesBytes
 pub mod WordsBytes
 pub mod OperatorsBytes
+-- demand 3
+pub mod Struck
+pub mod SpacingLaws
+pub mod SplitOperationLaws
+pub mod SplitImportLaws
+pub mod LineLaws
+pub mod Demand3
+pub mod CallLaws
+-- the rounds of a break
+pub mod Rounds
+-- readings and calls, computed
+pub mod Readings
+pub mod CallExamples

@@ -15,3 +15,4 @@ pub mod Assembly
 pub mod Call
 pub mod TextKind
 pub mod EditorConfig
+pub mod Demand3

@@ -1,0 +1,80 @@
+use borrow.Author.Needs.{needs}
+use native.Mathlib.Omega.{arith}
+use Rattle.buffer.specs.Repeat.{times}
+use Rattle.text.proofs.StepLaws.{start-room, pad-room, kept-room, push-done}
+use Rattle.text.proofs.push_line.Statement.{statement}
+use Rattle.text.proofs.push_line.Tie as tie
+
+stem-at-requires : tie.Need-stem-at-requires
+stem-at-requires c κs = search needs
+
+stem-first-requires : tie.Need-stem-first-requires
+stem-first-requires c κs = search needs
+
+separate-requires : tie.Need-separate-requires
+separate-requires c κs = search needs
+
+append-indented-requires : tie.Need-append-indented-requires
+append-indented-requires c κs = search (needs, start-room)
+
+sub-long : tie.Need-sub-long
+sub-long c = search needs
+
+sub-pad : tie.Need-sub-pad
+sub-pad c = let d = c .before .before in
+    let a = d .before .before .before .before .before .before .before .before .before .before .before .args in
+    pad-room (times (a .levels) (a .indent .now)) (a .line .now) (d .append-indented .ensures)
+
+tail-of-requires : tie.Need-tail-of-requires
+tail-of-requires c κs = search needs
+
+add-t22 : tie.Need-add-t22
+add-t22 c = let d = c .before .before .before in
+    let s = d .before .before .before .before .before .before .before .before .before .before .before in
+    let a = s .args in
+    omega (arith, kept-room (times (a .levels) (a .indent .now)) (a .line .now) (d .append-indented .ensures) (s .pre .1 .0) (c .tail-of .ensures))
+
+full-of-requires : tie.Need-full-of-requires
+full-of-requires c κs = search needs
+
+full-of-requires-2 : tie.Need-full-of-requires-2
+full-of-requires-2 c κs = search needs
+
+alone-of-requires : tie.Need-alone-of-requires
+alone-of-requires c κs = search needs
+
+kind-of-requires : tie.Need-kind-of-requires
+kind-of-requires c κs = search needs
+
+same-length : tie.Need-same-length
+same-length c = search needs
+
+returns : tie.Need-returns
+returns c =
+    let d = c .before .before .before .before .before .before .before in
+    let w = d .before .before .before .before in
+    let s = w .before .before .before .before .before .before .before in
+    let a = s .args in
+    push-done (a .ending) _ _ _ _ _ (a .indent .now) (a .levels) (a .line .now) _ _ _ _ _ _ _ _ _ _ _ (s .pre .0) (s .pre .1 .0) (s .pre .1 .1 .0)
+    (w .before .before .before .stem-at .ensures) (w .before .before .stem-first .ensures) (w .separate .ensures) (d .append-indented .ensures)
+    (c .before .before .before .before .tail-of .ensures) (c .before .before .before .full-of .ensures) (c .before .before .full-of2 .ensures)
+    (c .before .alone-of .ensures) (c .kind-of .ensures)
+
+pub push-line-spec : {M : Type 1} → statement M
+push-line-spec =
+    tie.close
+    (tie.spec
+    stem-at-requires
+    stem-first-requires
+    separate-requires
+    append-indented-requires
+    sub-long
+    sub-pad
+    tail-of-requires
+    add-t22
+    full-of-requires
+    full-of-requires-2
+    alone-of-requires
+    kind-of-requires
+    same-length
+    returns)

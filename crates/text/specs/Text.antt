@@ -1,0 +1,135 @@
+-- The text as its lines, the newest first, joined by the ending `eol`; and what the code holds of it.
+use Prim.Native.Nat.{ℕ, _+_, _≤_}
+use mathlib.Core.Bool.{Bool, true, false}
+use mathlib.Core.List.{List, [], _∷_, _++_}
+use mathlib.Core.Path.{_≡_}
+use lib.Dec.{eqb}
+use lib.ListN.{length, replicate}
+use Rattle.unicode.specs.Unicode.{encode, decode, size, trimEnd, WellFormed}
+use Rattle.unicode.specs.Places.{TrimmedEnd}
+use Rattle.buffer.specs.Buffer.{Agree}
+use Rattle.rules.specs.Basics.{choose, is, lastIs}
+use Rattle.rules.specs.Assembly.{joined, dropEmpty}
+use Rattle.rules.specs.Line.{dropBlank}
+use Rattle.rules.specs.Else.{joinable, canJoin, joinElse}
+use Rattle.rules.specs.Call.{filled}
+use Rattle.text.specs.declared.Last.{Last}
+use Rattle.text.specs.declared.Last.the-variants.{Nothing, Empty, Joinable, Other}
+use Rattle.text.specs.declared.Written.{Written}
+
+-- the newest line trimmed at its end
+unfoldable pub trimNewest : List (List ℕ) → List (List ℕ)
+trimNewest [] = []
+trimNewest (l ∷ ls) = trimEnd l ∷ ls
+
+abbrev pub kindOf : ℕ → Bool → Last
+kindOf long joins = choose joins Joinable (choose (eqb long 0) Empty Other)
+
+unfoldable pub lastOf : List (List ℕ) → Last
+lastOf [] = Nothing
+lastOf (l ∷ ls) = kindOf (size l) (joinable l)
+
+abbrev pub isFirst : Last → Bool
+isFirst Nothing = true
+isFirst Empty = false
+isFirst Joinable = false
+isFirst Other = false
+
+abbrev pub isJoinable : Last → Bool
+isJoinable Nothing = false
+isJoinable Empty = false
+isJoinable Joinable = true
+isJoinable Other = false
+
+-- what stands between a line and the next: nothing before the first
+abbrev pub sepBy : List ℕ → Bool → List ℕ
+sepBy eol first = choose first [] eol
+
+abbrev pub sepOf : List ℕ → Last → List ℕ
+sepOf eol last = sepBy eol (isFirst last)
+
+abbrev pub linesBefore : Bool → List (List ℕ) → List (List ℕ)
+linesBefore drops ls = choose drops (dropBlank ls) ls
+
+abbrev pub aloneOf : ℕ → Bool → Bool
+aloneOf long first = choose (eqb long 0) first false
+
+-- the length of a line trimmed at its end: pad blanks, and then a line whose trimmed length is tail
+abbrev pub tailOf : ℕ → ℕ → ℕ
+tailOf pad tail = choose (eqb tail 0) 0 (pad + tail)
+
+abbrev pub fullOf : ℕ → ℕ → ℕ → ℕ
+fullOf long full at = choose (eqb long 0) full at
+
+-- before anything is written
+abbrev pub nothing : Written
+nothing = record { at = record { 0 = 0 }; cut = 0; full = 0; below = 0; alone = true; last = Nothing }
+
+-- after several lines that reach up to next, of which the newest is trimmed and not empty
+abbrev pub afterLines : ℕ → Bool → Written
+afterLines next joins =
+    record { at = record { 0 = next }; cut = next; full = next; below = next; alone = false; last = kindOf 1 joins }
+
+-- what the caller tells of a line: its length trimmed at its end, and whether it can take an else
+pub record Line (line : List ℕ) (tail : ℕ) (joins : Bool) : Type 0 where
+  pub well : WellFormed line
+  pub trims : TrimmedEnd line tail
+  pub takes : joins ≡ joinable (decode line)
+
+-- a trimmed else, and whether it ends in `}`
+pub record ElseLine (line : List ℕ) (joins : Bool) : Type 0 where
+  pub well : WellFormed line
+  pub trimmed : trimEnd (decode line) ≡ decode line
+  pub some : 1 ≤ length line
+  pub takes : joins ≡ lastIs (is "}") (decode line)
+
+-- The code's record t and the output `out` hold the text whose lines are ls: lengths are in bytes.
+pub record Text (eol : List ℕ) (ls : List (List ℕ)) (t : Written) (out : List ℕ) : Type 0 where
+  pub at : t .at .0 ≡ size (joined eol ls)
+  pub holds : Agree out (encode (joined eol ls))
+  pub cut : t .cut ≡ size (joined eol (trimNewest ls))
+  pub full : t .full ≡ size (joined eol (dropEmpty ls))
+  pub last : t .last ≡ lastOf ls
+  pub below : t .below ≡ size (joined eol (dropBlank ls))
+  pub alone : t .alone ≡ isFirst (lastOf (dropBlank ls))
+
+-- the lengths after a step that adds at most n bytes
+pub record Grown (t : Written) (n : ℕ) (u : Written) : Type 0 where
+  pub at : u .at .0 ≤ t .at .0 + n
+  pub cut : u .cut ≤ u .at .0
+  pub full : u .full ≤ u .below
+  pub below : u .below ≤ u .at .0
+
+-- the lengths are in order
+pub record Ordered (t : Written) : Type 0 where
+  pub cut : t .cut ≤ t .at .0
+  pub full : t .full ≤ t .below
+  pub below : t .below ≤ t .at .0
+
+-- where a line is written
+pub record From (drops : Bool) (t : Written) (r : ℕ) : Type 0 where
+  pub is : r ≡ choose drops (t .below) (t .at .0)
+  pub small : r ≤ t .at .0
+
+-- a line l of characters is added, after an empty newest line is dropped if `drops` says so
+pub record Adds (eol : List ℕ) (drops : Bool) (l out : List ℕ) (t : Written) (out′ : List ℕ) (u : Written) : Type 0 where
+  pub text : (ls : List (List ℕ)) → Text eol ls t out → Text eol (l ∷ linesBefore drops ls) u out′
+  pub grown : Grown t (size l + 2) u
+
+-- an else, trimmed, is joined to the newest line
+pub record Joins (line out : List ℕ) (t : Written) (out′ : List ℕ) (u : Written) : Type 0 where
+  pub text : (eol : List ℕ) (ls : List (List ℕ)) → Text eol ls t out → canJoin ls ≡ true → Text eol (joinElse line ls) u out′
+  pub grown : Grown t (size line + 1) u
+
+-- the separator before new lines was written; the first of them starts at r
+pub record Continues (eol : List ℕ) (drops : Bool) (out : List ℕ) (t : Written) (out′ : List ℕ) (r : ℕ) : Type 0 where
+  pub place : (ls : List (List ℕ)) → Text eol ls t out → r ≡ size (joined eol (linesBefore drops ls) ++ sepOf eol (lastOf (linesBefore drops ls)))
+  pub holds : (ls : List (List ℕ)) → Text eol ls t out
+      → Agree out′ (encode (joined eol (linesBefore drops ls) ++ sepOf eol (lastOf (linesBefore drops ls))))
+  pub small : r ≤ t .at .0 + 2
+
+-- the text is finished: its length, and the output, which is the text and then zeros, or all zeros where it does not fit
+pub record Finished (eol rest out : List ℕ) (t : Written) (out′ : List ℕ) (r : ℕ) : Type 0 where
+  pub long : (ls : List (List ℕ)) → Text eol ls t out → r ≡ size (joined eol (dropEmpty ls) ++ rest)
+  pub text : (ls : List (List ℕ)) → Text eol ls t out → r ≤ length out → out′ ≡ filled (length out) (encode (joined eol (dropEmpty ls) ++ rest))
+  pub zeros : length out + 1 ≤ r → out′ ≡ replicate (length out) 0

@@ -1,0 +1,252 @@
+// The text so far in an output that may be too short: lines are added at its end, and the newest can be cut back.
+ghost use mathlib.Core.Path.{_≡_};
+ghost use mathlib.Core.Bool.{true};
+ghost use mathlib.Core.List.{[], _++_};
+ghost use Prim.Native.Nat.{_+_, _<_, _≤_, _^_};
+ghost use lib.ListN.{length};
+ghost use Rattle.unicode.specs.Unicode.{decode};
+ghost use Rattle.buffer.specs.Buffer.{Appended};
+ghost use Rattle.buffer.specs.Repeat.{times};
+ghost use Rattle.rules.specs.Basics.{choose};
+ghost use Rattle.rules.specs.Lines.{asStr};
+ghost use Rattle.rules.specs.Options.{allBlank};
+ghost use Rattle.text.specs.Text.{nothing, sepBy, aloneOf, tailOf, kindOf, fullOf, isFirst, isJoinable, afterLines, Ordered, Line, ElseLine, From, Adds, Joins, Continues, Finished};
+use rules::LineEnding;
+use unicode::ByteOffset;
+
+// The newest line of the text: none, an empty one, one that can take an else, any other.
+pub enum Last {
+    Nothing,
+    Empty,
+    Joinable,
+    Other,
+}
+
+// Lengths of the text: as it is (the place reached), with its newest line trimmed at its end, without its last empty lines, and without its newest
+// line if that is empty; whether no line is left then.
+pub struct Written {
+    pub at: ByteOffset,
+    pub cut: usize,
+    pub full: usize,
+    pub below: usize,
+    pub alone: bool,
+    pub last: Last,
+}
+
+impl Written {
+    // Nothing is written yet.
+    pub fn new() -> Self
+        ensures { λ r. ⌜ r ≡ nothing ⌝ }
+    {
+        Self {
+            at: ByteOffset(0),
+            cut: 0,
+            full: 0,
+            below: 0,
+            alone: true,
+            last: Last::Nothing,
+        }
+    }
+}
+
+pub fn is_first(last: Last) -> bool
+    ensures { λ r. ⌜ r ≡ isFirst last ⌝ }
+{
+    match last {
+        Last::Nothing => true,
+        Last::Empty => false,
+        Last::Joinable => false,
+        Last::Other => false,
+    }
+}
+
+pub fn is_joinable(last: Last) -> bool
+    ensures { λ r. ⌜ r ≡ isJoinable last ⌝ }
+{
+    match last {
+        Last::Nothing => false,
+        Last::Empty => false,
+        Last::Joinable => true,
+        Last::Other => false,
+    }
+}
+
+// The line ending, from the place at on.
+fn append_ending(out: &mut [u8], at: usize, ending: LineEnding) -> usize
+    requires { ⌜ at + 2 < 2 ^ 64 ⌝ }
+    ensures { λ r. ⌜ Appended (now (out .entry)) (now (out .exit)) at (asStr ending) r ⌝ }
+{
+    match ending {
+        LineEnding::Lf => buffer::append(out, at, b"\n"),
+        LineEnding::Crlf => buffer::append(out, at, b"\r\n"),
+    }
+}
+
+// The line ending before a line, but not before the first.
+fn separate(out: &mut [u8], at: usize, ending: LineEnding, first: bool) -> usize
+    requires { ⌜ at + 2 < 2 ^ 64 ⌝ }
+    ensures { λ r. ⌜ Appended (now (out .entry)) (now (out .exit)) at (sepBy (asStr ending) first) r ⌝ }
+{
+    if first {
+        return at;
+    }
+    append_ending(out, at, ending)
+}
+
+fn stem_at(t: Written, drops: bool) -> usize
+    requires { ⌜ t .below ≤ t .at .0 ⌝ }
+    ensures { λ r. ⌜ From drops t r ⌝ }
+{
+    if drops {
+        return t.below;
+    }
+    let at = t.at;
+    at.0
+}
+
+fn stem_first(t: Written, drops: bool) -> bool
+    ensures { λ r. ⌜ r ≡ choose drops (t .alone) (isFirst (t .last)) ⌝ }
+{
+    if drops {
+        return t.alone;
+    }
+    let last = t.last;
+    is_first(last)
+}
+
+fn alone_of(long: usize, first: bool) -> bool
+    ensures { λ r. ⌜ r ≡ aloneOf long first ⌝ }
+{
+    if long == 0 {
+        return first;
+    }
+    false
+}
+
+fn tail_of(pad: usize, tail: usize) -> usize
+    requires { ⌜ pad + tail < 2 ^ 64 ⌝ }
+    ensures { λ r. ⌜ r ≡ tailOf pad tail ⌝ }
+{
+    if tail == 0 {
+        return 0;
+    }
+    pad + tail
+}
+
+fn kind_of(long: usize, joins: bool) -> Last
+    ensures { λ r. ⌜ r ≡ kindOf long joins ⌝ }
+{
+    if joins {
+        return Last::Joinable;
+    }
+    if long == 0 {
+        return Last::Empty;
+    }
+    Last::Other
+}
+
+fn full_of(long: usize, full: usize, at: usize) -> usize
+    ensures { λ r. ⌜ r ≡ fullOf long full at ⌝ }
+{
+    if long == 0 {
+        return full;
+    }
+    at
+}
+
+// One line more: the indent, levels times over, and line, whose length trimmed at its end is tail. If drops, an empty newest line goes first.
+// joins tells whether the line can take an else.
+pub fn push_line(
+    out: &mut [u8],
+    t: Written,
+    ending: LineEnding,
+    drops: bool,
+    indent: &[u8],
+    levels: usize,
+    line: &[u8],
+    tail: usize,
+    joins: bool,
+) -> Written
+    requires { ⌜ allBlank (now indent) ≡ true ⌝ }
+    requires { ⌜ Line (now line) tail joins ⌝ }
+    requires { ⌜ Ordered t ⌝ }
+    requires { ⌜ t .at .0 + 2 + (length (times levels (now indent)) + length (now line)) < 2 ^ 64 ⌝ }
+    ensures { λ r. ⌜ Adds (asStr ending) drops (times levels (now (indent .entry)) ++ decode (now (line .entry))) (now (out .entry)) t (now (out .exit)) r ⌝ }
+{
+    let full = t.full;
+    let from = stem_at(t, drops);
+    let first = stem_first(t, drops);
+    let start = separate(out, from, ending, first);
+    let next = buffer::append_indented(out, start, indent, levels, line);
+    let long = next - start;
+    let pad = long - line.len();
+    let kept = tail_of(pad, tail);
+    Written {
+        at: ByteOffset(next),
+        cut: start + kept,
+        full: full_of(long, full, next),
+        below: full_of(long, from, next),
+        alone: alone_of(long, first),
+        last: kind_of(long, joins),
+    }
+}
+
+// A space and line, a trimmed else, after the newest line trimmed at its end. joins tells whether line ends in `}`.
+pub fn join_else(out: &mut [u8], t: Written, line: &[u8], joins: bool) -> Written
+    requires { ⌜ ElseLine (now line) joins ⌝ }
+    requires { ⌜ t .cut ≤ t .at .0 ⌝ }
+    requires { ⌜ t .at .0 + 1 + length (now line) < 2 ^ 64 ⌝ }
+    ensures { λ r. ⌜ Joins (decode (now (line .entry))) (now (out .entry)) t (now (out .exit)) r ⌝ }
+{
+    let cut = t.cut;
+    let start = buffer::append(out, cut, b" ");
+    let next = buffer::append(out, start, line);
+    Written {
+        at: ByteOffset(next),
+        cut: next,
+        full: next,
+        below: next,
+        alone: false,
+        last: kind_of(1, joins),
+    }
+}
+
+// The line ending before several new lines. Gives the place where the first of them starts.
+pub fn continue_text(out: &mut [u8], t: Written, ending: LineEnding, drops: bool) -> usize
+    requires { ⌜ Ordered t ⌝ }
+    requires { ⌜ t .at .0 + 2 < 2 ^ 64 ⌝ }
+    ensures { λ r. ⌜ Continues (asStr ending) drops (now (out .entry)) t (now (out .exit)) r ⌝ }
+{
+    let from = stem_at(t, drops);
+    let first = stem_first(t, drops);
+    separate(out, from, ending, first)
+}
+
+// The record after several lines that reach up to next. The newest is trimmed and not empty; joins tells whether it can take an else.
+pub fn after_lines(next: usize, joins: bool) -> Written
+    ensures { λ r. ⌜ r ≡ afterLines next joins ⌝ }
+{
+    Written {
+        at: ByteOffset(next),
+        cut: next,
+        full: next,
+        below: next,
+        alone: false,
+        last: kind_of(1, joins),
+    }
+}
+
+// The text without its last empty lines, with a last ending if asked; zeros after it, or all zeros where it does not fit. Gives its length.
+pub fn finish_text(out: &mut [u8], t: Written, ending: LineEnding, newline: bool) -> usize
+    requires { ⌜ t .full + 2 < 2 ^ 64 ⌝ }
+    ensures { λ r. ⌜ Finished (asStr ending) (choose newline (asStr ending) []) (now (out .entry)) t (now (out .exit)) r ⌝ }
+{
+    let full = t.full;
+    let n = separate(out, full, ending, !newline);
+    if out.len() < n {
+        buffer::zero(out);
+        return n;
+    }
+    buffer::finish(out, n);
+    n
+}

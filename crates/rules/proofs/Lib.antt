@@ -21,6 +21,11 @@ pub mod Demand3
 pub mod CallLaws
 -- the rounds of a break
 pub mod Rounds
+pub mod Prefix
+pub mod Twelve
+-- the lines of a split
+pub mod SplitLines
+pub mod SplitSizes
 -- readings and calls, computed
 pub mod Readings
 pub mod CallExamples

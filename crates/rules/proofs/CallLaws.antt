@@ -28,7 +28,7 @@ use Rattle.rules.proofs.Demand3.{demand3}
 
 -- ---- characters that are struck are scalar values
 
-white-scalar : (c : ℕ) → isWhite c ≡ true → T (isScalar c)
+pub white-scalar : (c : ℕ) → isWhite c ≡ true → T (isScalar c)
 unfolding isWhite
 white-scalar c h = by-test (ltb c 0xD800) (λ e. scalar-low c (ltb-true c 0xD800 e)) (λ e. high (ltb-false c 0xD800 e))
   where
@@ -53,7 +53,7 @@ white-scalar c h = by-test (ltb c 0xD800) (λ e. scalar-low c (ltb-true c 0xD800
         in
         let y : _≡_ {A = ℕ} 0 1 = cc in absurd (omega arith)
 
-keep-scalars : (p : ℕ → Bool) (l : List ℕ) → Scalars l → Scalars (keep p l)
+pub keep-scalars : (p : ℕ → Bool) (l : List ℕ) → Scalars l → Scalars (keep p l)
 unfolding keep
 keep-scalars p [] s = tt
 keep-scalars p (c ∷ l) s = go (p c) (keep-scalars p l (s .1))
@@ -62,7 +62,7 @@ keep-scalars p (c ∷ l) s = go (p c) (keep-scalars p l (s .1))
     go true r = (s .0, r)
     go false r = r
 
-scalars-keep : (p : ℕ → Bool) → ((c : ℕ) → p c ≡ false → T (isScalar c)) → (l : List ℕ) → Scalars (keep p l) → Scalars l
+pub scalars-keep : (p : ℕ → Bool) → ((c : ℕ) → p c ≡ false → T (isScalar c)) → (l : List ℕ) → Scalars (keep p l) → Scalars l
 unfolding keep
 scalars-keep p h [] s = tt
 scalars-keep p h (c ∷ l) s = go (p c) refl s (scalars-keep p h l)

@@ -19,6 +19,8 @@ pub mod SplitImportLaws
 pub mod LineLaws
 pub mod Demand3
 pub mod CallLaws
+-- the respaced line
+pub mod SpacedLine
 -- the rounds of a break
 pub mod Rounds
 pub mod Prefix

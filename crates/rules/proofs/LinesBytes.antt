@@ -52,12 +52,12 @@ pub lines-encode : (l : List ℕ) → linesOf (encode l) ≡ map encode (linesOf
 unfolding linesOf
 lines-encode l = ap (map dropCr) (pieces-encode "\n" refl l) ∙ each-cr (pieces (splitOn "\n" l))
 
-rust-one : (l : List ℕ) → isEmpty l ≡ false → rustLines (l ∷ []) ≡ l ∷ []
+pub rust-one : (l : List ℕ) → isEmpty l ≡ false → rustLines (l ∷ []) ≡ l ∷ []
 unfolding rustLines
 rust-one [] e = absurd (let z : _≡_ {A = ℕ} 0 1 = cc in omega arith)
 rust-one (c ∷ cs) e = refl
 
-rust-more : (l m : List ℕ) (ls : List (List ℕ)) → rustLines (l ∷ m ∷ ls) ≡ dropCr l ∷ rustLines (m ∷ ls)
+pub rust-more : (l m : List ℕ) (ls : List (List ℕ)) → rustLines (l ∷ m ∷ ls) ≡ dropCr l ∷ rustLines (m ∷ ls)
 unfolding rustLines dropCr
 rust-more [] m ls = refl
 rust-more (c ∷ cs) m ls = refl

@@ -38,7 +38,7 @@ encodeCells (x ∷ xs) = label (x .class) (encodeChar (x .ch)) ++ encodeCells xs
 -- ---- marks
 
 -- the class of a character that means nothing in mode m
-ordinary : Mode → Class
+pub ordinary : Mode → Class
 ordinary Mode.Code = Class.Code
 ordinary (Mode.Quoted q) = Class.Str
 ordinary (Mode.Interp q d) = Class.Str
@@ -48,10 +48,10 @@ ordinary (Mode.Block d) = Class.BlockComment
 ordinary Mode.Prefab = Class.Prefab
 
 -- a mark that has no character left, with the class of an ordinary character in its mode
-abbrev rest : Mode → Mark
+abbrev pub rest : Mode → Mark
 rest m = one (ordinary m) m
 
-mark-high : (m : Mode) (b : ℕ) (s : List ℕ) → 0x80 ≤ b → markAt m (b ∷ s) ≡ rest m
+pub mark-high : (m : Mode) (b : ℕ) (s : List ℕ) → 0x80 ≤ b → markAt m (b ∷ s) ≡ rest m
 unfolding ordinary startsWith choose inCode inQuoted inInterp inInner inBlock inPrefab
 mark-high Mode.Code b s h = simp (not-ascii b)
 mark-high (Mode.Quoted true) b s h = simp (not-ascii b)
@@ -77,15 +77,15 @@ mark-encode Mode.Prefab s = simp starts-encode
 
 -- What is left of a mark, n characters of class k with the mode m after it, stands before s: a character from 80 hex on is its last one, and has
 -- m's own class
-Ready : ℕ → Class → Mode → List ℕ → Type 0
+pub Ready : ℕ → Class → Mode → List ℕ → Type 0
 Ready zero k m s = Unit {0}
 Ready (suc n) k m [] = Unit {0}
 Ready (suc n) k m (c ∷ s) = (0x80 ≤ c → (n ≡ 0) × (k ≡ ordinary m)) × Ready n k m s
 
-record Fit (s : List ℕ) (t : Mark) : Type 0 where
-  fit : Ready (t .more) (t .class) (t .mode) s
+pub record Fit (s : List ℕ) (t : Mark) : Type 0 where
+  pub fit : Ready (t .more) (t .class) (t .mode) s
 
-fit-one : (s : List ℕ) (k : Class) (m : Mode) → Fit s (one k m)
+pub fit-one : (s : List ℕ) (k : Class) (m : Mode) → Fit s (one k m)
 unfolding Ready
 fit-one s k m = record { fit = tt }
 
@@ -129,18 +129,18 @@ mark-fit Mode.Line c s = search fits depth 10
 mark-fit (Mode.Block d) c s = search fits depth 10
 mark-fit Mode.Prefab c s = search fits depth 10
 
-next-fit : (n : ℕ) (k : Class) (m : Mode) (c : ℕ) (s : List ℕ) → Ready n k m (c ∷ s) → Fit s (nextOf n k m (c ∷ s))
+pub next-fit : (n : ℕ) (k : Class) (m : Mode) (c : ℕ) (s : List ℕ) → Ready n k m (c ∷ s) → Fit s (nextOf n k m (c ∷ s))
 unfolding Ready
 next-fit zero k m c s r = mark-fit m c s
 next-fit (suc n) k m c s r = record { fit = r .1 }
 
 -- a character below 80 hex is its own byte
-next-single : (n : ℕ) (k : Class) (m : Mode) (c : ℕ) (s : List ℕ) → encode (c ∷ s) ≡ c ∷ encode s → nextOf n k m (c ∷ encode s) ≡ nextOf n k m (c ∷ s)
+pub next-single : (n : ℕ) (k : Class) (m : Mode) (c : ℕ) (s : List ℕ) → encode (c ∷ s) ≡ c ∷ encode s → nextOf n k m (c ∷ encode s) ≡ nextOf n k m (c ∷ s)
 next-single zero k m c s e = rw (← e) (mark-encode m (c ∷ s))
 next-single (suc n) k m c s e = refl
 
 -- a character, and a byte, from 80 hex on leaves a mark with no character left
-next-high : (n : ℕ) (k : Class) (m : Mode) (c b : ℕ) (s s′ : List ℕ) → Ready n k m (c ∷ s) → 0x80 ≤ c → 0x80 ≤ b → (nextOf n k m (c ∷ s) ≡ rest m) × (nextOf n k m (b ∷ s′) ≡ rest m)
+pub next-high : (n : ℕ) (k : Class) (m : Mode) (c b : ℕ) (s s′ : List ℕ) → Ready n k m (c ∷ s) → 0x80 ≤ c → 0x80 ≤ b → (nextOf n k m (c ∷ s) ≡ rest m) × (nextOf n k m (b ∷ s′) ≡ rest m)
 unfolding Ready
 next-high zero k m c b s s′ r hc hb = (mark-high m c s hc, mark-high m b s′ hb)
 next-high (suc n) k m c b s s′ r hc hb = let (z, e) = r .0 hc in (rw (z, e), rw (z, e))

@@ -43,7 +43,7 @@ keep-keep p q h (c ∷ l) = go (q c) refl (keep-keep p q h l)
     go true e k = ap (consIf (p c) c) k
     go false e k = k ∙ sym (ap (λ (t : Bool). consIf t c (keep p l)) (h c e))
 
-count-keep : (p : ℕ → Bool) (l : List ℕ) → count p l ≡ length (keep p l)
+pub count-keep : (p : ℕ → Bool) (l : List ℕ) → count p l ≡ length (keep p l)
 unfolding count keep choose
 count-keep p [] = refl
 count-keep p (c ∷ l) = ap (λ (n : ℕ). choose (p c) 1 0 + n) (count-keep p l) ∙ go (p c)
@@ -147,7 +147,7 @@ commasIn-append a b =
     )
 
 -- characters none of which is white space are the same in two such texts
-keep-like : (p : ℕ → Bool) → ((c : ℕ) → not (isWhite c) ≡ false → p c ≡ false) → {a b : List ℕ} → Like a b → keep p a ≡ keep p b
+pub keep-like : (p : ℕ → Bool) → ((c : ℕ) → not (isWhite c) ≡ false → p c ≡ false) → {a b : List ℕ} → Like a b → keep p a ≡ keep p b
 unfolding strikeWhite
 keep-like p h {a} {b} e =
     sym (keep-keep p (λ c. not (isWhite c)) h a) ∙ ap (keep p) (e .same) ∙ keep-keep p (λ c. not (isWhite c)) h b

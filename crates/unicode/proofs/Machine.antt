@@ -34,11 +34,11 @@ module _ {ℓ} {S : Type ℓ} (f : S → ℕ → S) where
   pub run-end : (st : S) (s : List ℕ) (i : ℕ) → i ≡ length s → run f st (drop i s) ≡ st
   run-end st s i e = rw (e, drop-length)
 
-not-tail-low : (b : ℕ) → b < 0x80 → tail b ≡ false
+pub not-tail-low : (b : ℕ) → b < 0x80 → tail b ≡ false
 unfolding tail
 not-tail-low b h = simp (lt-leb 0x80 b h)
 
-not-tail-high : (b : ℕ) → 0xC0 ≤ b → tail b ≡ false
+pub not-tail-high : (b : ℕ) → 0xC0 ≤ b → tail b ≡ false
 unfolding tail
 not-tail-high b h = simp (le-leb 0x80 b (omega arith), lt-leb b 0xBF h)
 

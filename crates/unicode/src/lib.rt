@@ -28,7 +28,7 @@ fn in_range(lo: u32, hi: u32, c: u32) -> bool
 }
 
 // A byte that no sequence starts with.
-fn is_tail(b: u8) -> bool
+pub fn is_tail(b: u8) -> bool
     ensures { λ r. ⌜ r ≡ tail b ⌝ }
 {
     in_range(0x80, 0xBF, b as u32)

@@ -1,0 +1,63 @@
+use borrow.Author.Needs.{needs}
+use Prim.Native.Nat.{_+_, _-_}
+use Rattle.buffer.specs.Buffer.{part}
+use Rattle.format.proofs.StackLaws.{Scanning, scanning-start, scan-at-more, scan-at-end}
+use Rattle.format.proofs.brackets.scan_brackets_at.Statement.{statement}
+use Rattle.format.proofs.brackets.scan_brackets_at.Tie as tie
+
+abbrev Inv-loop : tie.InvT-loop
+Inv-loop scratch₀ line-at n class-at base depth skip t₀ i₀ scratch t i = Scanning (part scratch₀ line-at (line-at + n)) (part scratch₀ class-at (class-at + n)) n scratch₀ base depth skip scratch t i
+
+abbrev μ-loop : tie.MeasureT-loop
+μ-loop scratch₀ line-at n class-at base depth skip t₀ i₀ scratch t i = n - i
+
+loop-holds : tie.Need-loop-holds Inv-loop μ-loop
+loop-holds c = search (needs, scanning-start)
+
+add-bracket-step : tie.Need-add-bracket-step Inv-loop μ-loop
+add-bracket-step c = search needs
+
+slice-read-bracket-step : tie.Need-slice-read-bracket-step Inv-loop μ-loop
+slice-read-bracket-step c = search needs
+
+add-bracket-step-2 : tie.Need-add-bracket-step-2 Inv-loop μ-loop
+add-bracket-step-2 c = search needs
+
+slice-read-bracket-step-2 : tie.Need-slice-read-bracket-step-2 Inv-loop μ-loop
+slice-read-bracket-step-2 c = search needs
+
+bracket-step-requires : tie.Need-bracket-step-requires Inv-loop μ-loop
+bracket-step-requires c κs = search needs
+
+add-i : tie.Need-add-i Inv-loop μ-loop
+add-i c = search needs
+
+loop-less : tie.Need-loop-less Inv-loop μ-loop
+loop-less c = search needs
+
+loop-again : tie.Need-loop-again Inv-loop μ-loop
+loop-again c = search (needs, scan-at-more)
+
+same-length : tie.Need-same-length Inv-loop μ-loop
+same-length c = search needs
+
+returns : tie.Need-returns Inv-loop μ-loop
+returns c = search (needs, scan-at-end)
+
+pub scan-brackets-at-spec : {M : Type 1} → statement M
+scan-brackets-at-spec =
+    tie.close
+    (tie.spec
+    Inv-loop
+    μ-loop
+    loop-holds
+    add-bracket-step
+    slice-read-bracket-step
+    add-bracket-step-2
+    slice-read-bracket-step-2
+    bracket-step-requires
+    add-i
+    loop-less
+    loop-again
+    same-length
+    returns)

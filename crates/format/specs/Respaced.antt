@@ -1,0 +1,69 @@
+-- The respaced line as it lies in scratch.
+use Prim.Native.Nat.{ℕ, _+_, _*_, _≤_, _<_}
+use mathlib.Core.Bool.{Bool, true, false}
+use mathlib.Core.List.{List, foldl}
+use mathlib.Core.Path.{_≡_}
+use lib.ListN.{length, getD, take, drop}
+use Rattle.buffer.specs.Buffer.{part}
+use Rattle.rules.specs.Scan.{Cell}
+use Rattle.rules.specs.ClassBytes.{cellsOf}
+use Rattle.rules.specs.Spacing.{Spaced, spaced, trimBlanks, spaceStep, normalizeSpacing}
+use Rattle.rules.specs.declared.Gap.{Gap}
+use Rattle.format.specs.Region.{Only}
+use Rattle.format.specs.declared.spacing.Respaced.{Respaced}
+
+-- the n bytes from at on
+abbrev pub textAt : List ℕ → ℕ → ℕ → List ℕ
+textAt buf at n = take n (drop at buf)
+
+-- the text so far, and what its last character was
+abbrev pub spacedAt : List ℕ → ℕ → Respaced → Spaced
+spacedAt buf at t = spaced (textAt buf at (t .len)) (t .gap)
+
+-- the first r of the n bytes from at on are those without the blanks at their end
+pub record Trimmed (buf : List ℕ) (at n r : ℕ) : Type 0 where
+  pub is : textAt buf at r ≡ trimBlanks (textAt buf at n)
+  pub most : r ≤ n
+
+-- a step from a text of n bytes to w, which writes at most `more` bytes
+pub record Wrote (w : Spaced) (more : ℕ) (before : List ℕ) (at n : ℕ) (after : List ℕ) (r : Respaced) : Type 0 where
+  pub is : spacedAt after at r ≡ w
+  pub most : r .len ≤ n + more
+  pub only : Only before after at (at + n + more)
+
+-- the class bytes of n bytes stand before the place for twice as many
+pub record Place (buf : List ℕ) (n class at : ℕ) : Type 0 where
+  pub classes : class + n ≤ at
+  pub room : at + 2 * n ≤ length buf
+
+-- the respaced line has r bytes, from at on
+pub record Normalized (cells : List Cell) (before after : List ℕ) (at n r : ℕ) : Type 0 where
+  pub is : part after at (at + r) ≡ normalizeSpacing cells
+  pub most : r ≤ 2 * n
+  pub only : Only before after at (at + 2 * n)
+
+-- ---- a line that is spaced already
+
+-- the respaced line, given that spacing leaves the first i characters as they are and remembers nothing of them
+unfoldable pub respacedFrom : List ℕ → List ℕ → ℕ → List ℕ
+respacedFrom line ks i = foldl spaceStep (spaced (take i line) Gap.Nothing) (cellsOf (drop i line) (drop i ks)) .out
+
+-- the character c of code stands at i
+pub record InCode (line ks : List ℕ) (i c : ℕ) : Type 0 where
+  pub within : i < length line
+  pub classes : length line ≤ length ks
+  pub char : getD line i 0 ≡ c
+  pub code : getD ks i 0 ≡ 0
+
+-- r characters from i on stay as they are, if r is not 0
+pub record KeptAt (line ks : List ℕ) (i r : ℕ) : Type 0 where
+  pub fits : i + r ≤ length line
+  pub kept : 0 < r → respacedFrom line ks i ≡ respacedFrom line ks (i + r)
+
+-- r says whether a blank stands before i; if not, none is to be left out there
+pub record NoBlank (line : List ℕ) (i : ℕ) (r : Bool) : Type 0 where
+  pub none : r ≡ false → trimBlanks (take i line) ≡ take i line
+
+-- a line that is said to be spaced is what spacing makes of it
+pub record Unchanged (line ks : List ℕ) (r : Bool) : Type 0 where
+  pub yes : r ≡ true → normalizeSpacing (cellsOf line ks) ≡ line

@@ -1,0 +1,204 @@
+-- What every kind of line uses.
+--     begin-holds, begin-small            before the first line
+--     first-line, takes-join              what the kind of the newest line says of the lines
+--     declaration-bytes, brace-bytes, carry-bytes     facts of a line, found on its bytes
+--     stack-scanned, stack-counted        the stack after `scan_brackets` on a line's bytes is the definition's on its characters
+--     cells-decoded                       the cells of a line and its class bytes are those of its characters
+--     classes-front, front-only           the class bytes that `classify` wrote to the front of scratch; the rest is as it was
+--     start-within, trimmed-line          a line trimmed at its end and then at its start
+--     line-room, front-size, classify-room, stack-room, push-room     there is room for a line that is to come
+--     line-told, line-none, indent-none   what `push_line` is told of a line
+use Prim.Native.Nat.{ℕ, zero, suc, _+_, _-_, _*_, _^_, _≤_, _<_}
+use native.Mathlib.Omega.{arith}
+use mathlib.Core.Bool.{Bool, true, false, not, _&&_}
+use mathlib.Core.List.{List, [], _∷_, _++_, append-nil}
+use mathlib.Core.Path.{_≡_, refl, sym, ap, _∙_}
+use lib.ListN.{length, take, drop, length-append, length-drop, drop-of-length-le}
+use lib.Seq.{take-at, drop-at, take-nil, length-take-le}
+use Rattle.unicode.specs.Unicode.{encode, chars, decode, trimStart, trimEnd, trim, WellFormed}
+use Rattle.unicode.specs.Places.{TrimmedStart, TrimmedEnd}
+use Rattle.unicode.proofs.Trim.{trim-swap}
+use Rattle.buffer.specs.Buffer.{part}
+use Rattle.buffer.specs.Repeat.{times}
+use Rattle.buffer.proofs.RepeatLaws.{times-nil}
+use Rattle.rules.specs.Basics.{choose, is, isEmpty, startsWith, lastIs}
+use Rattle.rules.specs.Scan.{classify, carryAfter}
+use Rattle.rules.specs.ClassBytes.{classBytes, cellsOf}
+use Rattle.rules.specs.Brackets.{Entry, leadingClosers, scanBrackets, countBrackets}
+use Rattle.rules.specs.Options.{allBlank}
+use Rattle.rules.specs.Else.{joinable, canJoin}
+use Rattle.rules.specs.Line.{Formatter, start}
+use Rattle.rules.specs.declared.Carry.{Carry}
+use Rattle.rules.proofs.StartsBytes.{on-decode, steady-is, starts-encode, last-encode, closers-encode}
+use Rattle.rules.proofs.ScanBytes.{encodeCells, carry-encode}
+use Rattle.rules.proofs.BracketsBytes.{brackets-encode, count-closers}
+use Rattle.rules.proofs.CellsLaws.{cells-classify, cells-bytes, length-classBytes, length-classify}
+use Rattle.scan.specs.Classified.{carryDepth, Classified}
+use Rattle.format.specs.Region.{Only}
+use Rattle.format.specs.Stack.{stacked, Closers, Fits, Settled}
+use Rattle.format.specs.Words.{declarationOf}
+use Rattle.format.specs.Else.{Facts}
+use Rattle.format.specs.declared.else_line.LineFacts.{LineFacts}
+use Rattle.format.proofs.StackLaws.{stacked-drop}
+use Rattle.text.specs.Text.{isFirst, isJoinable, Line}
+use Rattle.text.proofs.LinesLaws.{kind-first, kind-joinable}
+use Rattle.text.proofs.StepLaws.{text-nothing, nothing-ordered}
+use Rattle.line.specs.declared.state.State.{State}
+use Rattle.line.specs.Holds.{begin, Holds, Small, Ready, TrimmedLine, Classes}
+
+-- ---- before the first line
+
+pub begin-holds : (eol : List ℕ) (unit : ℕ) (out scratch : List ℕ) → Holds eol unit start begin out scratch
+unfolding stacked declarationOf startsWith choose lastIs
+begin-holds eol unit out scratch =
+    record {
+      text = text-nothing eol out;
+      stack = refl;
+      blank = refl;
+      decl = refl;
+      brace = refl;
+      ignore = refl;
+      carry = refl;
+      imports = refl;
+      blanks = refl;
+    }
+
+pub begin-small : Small begin
+begin-small = record { ordered = nothing-ordered; at = omega arith }
+
+-- ---- the lines, by the kind of the newest
+
+module _ {eol : List ℕ} {unit : ℕ} {f : Formatter} {st : State} {out scratch : List ℕ} (h : Holds eol unit f st out scratch) where
+  pub first-line : isFirst (st .text .last) ≡ isEmpty (f .lines)
+  first-line = ap isFirst (h .text .last) ∙ kind-first (f .lines)
+
+  pub takes-join : isJoinable (st .text .last) ≡ canJoin (f .lines)
+  takes-join = ap isJoinable (h .text .last) ∙ kind-joinable (f .lines)
+
+-- ---- facts of a line, found on its bytes
+
+declaration-encode : (l : List ℕ) → declarationOf (encode l) ≡ declarationOf l
+unfolding declarationOf
+declaration-encode l = simp starts-encode
+
+pub declaration-bytes : (line : List ℕ) → WellFormed line → declarationOf line ≡ declarationOf (decode line)
+declaration-bytes = on-decode declarationOf declarationOf declaration-encode
+
+pub brace-bytes : (line : List ℕ) → WellFormed line → lastIs (is "}") line ≡ lastIs (is "}") (decode line)
+brace-bytes = on-decode (lastIs (is "}")) (lastIs (is "}")) (last-encode (is "}") false (steady-is "}" refl))
+
+pub carry-bytes : (y : Carry) (line : List ℕ) → WellFormed line → carryAfter y line ≡ carryAfter y (decode line)
+carry-bytes y = on-decode (carryAfter y) (carryAfter y) (carry-encode y)
+
+-- ---- the stack
+
+module _
+    {y after : Carry} {line scratch : List ℕ} {at : ℕ} (well : WellFormed line) (classes : Classes y line scratch at after)
+  where
+    cells-here : cellsOf line (part scratch at (at + length line)) ≡ classify y line
+    cells-here = ap (cellsOf line) (classes .bytes) ∙ cells-classify y line
+
+    pub cells-decoded : cellsOf line (part scratch at (at + length line)) ≡ encodeCells (classify y (decode line))
+    cells-decoded = ap (cellsOf line) (classes .bytes) ∙ cells-bytes y line well
+
+    -- a line none of whose closers pop first
+    pub stack-scanned : {scratch′ : List ℕ} {base depth n deep : ℕ} {s : List Entry}
+        → Settled scratch scratch′ base depth n (scanBrackets (drop 0 (cellsOf line (part scratch at (at + length line)))) (stacked scratch base depth)) deep
+        → stacked scratch base depth ≡ s → stacked scratch′ base deep ≡ scanBrackets (classify y (decode line)) s
+    stack-scanned w e = w .is ∙ rw (cells-decoded, e) (brackets-encode (classify y (decode line)) _)
+
+    -- a line whose leading closers pop first
+    pub stack-counted : {scratch′ : List ℕ} {base left n deep closers : ℕ} {s : List Entry} (depth : ℕ) → Closers line closers → left ≡ depth - closers
+        → Settled scratch scratch′ base left n (scanBrackets (drop closers (cellsOf line (part scratch at (at + length line)))) (stacked scratch base left)) deep
+        → stacked scratch base depth ≡ s → stacked scratch′ base deep ≡ countBrackets (leadingClosers (decode line)) (classify y (decode line)) s
+    unfolding countBrackets
+    stack-counted {base = base} {closers = closers} {s = s} depth k l w e =
+        let n : closers ≡ leadingClosers (decode line) = k .is ∙ on-decode leadingClosers leadingClosers closers-encode line well in
+        let p : stacked scratch base (depth - closers) ≡ drop closers s = sym (stacked-drop scratch base depth closers) ∙ ap (drop closers) e in
+        w .is ∙ rw (l, p, cells-here, n) (ap (λ (r : List ℕ). countBrackets (leadingClosers (decode line)) (classify y r) s) (sym well) ∙ count-closers y (decode line) s)
+
+-- ---- classes
+
+module _ {y r : Carry} (line scratch w : List ℕ) (h : length line ≤ length scratch) (c : Classified y line (take (length line) scratch) w r) where
+  front-bytes : w ≡ classBytes (classify y line)
+  front-bytes =
+      c .bytes
+      ∙ (let k : length (take (length line) scratch) ≤ length line = omega (arith, length-take-le (length line) scratch h) in
+      rw (drop-of-length-le (take (length line) scratch) k, append-nil (classBytes (classify y line))))
+
+  front-long : length w ≡ length line
+  front-long = ap length front-bytes ∙ length-classBytes (classify y line) ∙ length-classify y line
+
+  -- the class bytes that `classify` wrote to the front of scratch
+  pub classes-front : Classes y line (w ++ drop (length line) scratch) 0 r
+  classes-front =
+      let n : 0 + length line - 0 ≡ length line = omega arith in
+      record { bytes = rw n (take-at w (drop (length line) scratch) (length line) front-long ∙ front-bytes); leaves = c .carry; depth = c .depth }
+
+  -- and the rest of it is as it was
+  pub front-only : Only scratch (w ++ drop (length line) scratch) 0 (length line)
+  front-only =
+      record {
+        long = omega (arith, length-append w (drop (length line) scratch), length-drop (length line) scratch, front-long);
+        front = refl;
+        back = drop-at w (drop (length line) scratch) (length line) front-long;
+      }
+
+-- ---- what the calls on a line ask
+
+-- of a line of at most n bytes, or respaced of at most 2 × n, where a line of n bytes is to come
+module _ {st : State} {scratch : List ℕ} {unit n : ℕ} (ready : Ready st scratch unit n) where
+  pub line-room : (line : List ℕ) → length line ≤ n → length line ≤ length scratch
+  line-room line h = omega (arith, ready .depth, ready .room)
+
+  -- the front of scratch, lent to `classify`
+  pub front-size : (line : List ℕ) → length line ≤ n → length line ≡ length (take (length line) scratch)
+  front-size line h = sym (length-take-le (length line) scratch (line-room line h))
+
+  pub classify-room : (y : Carry) (line : List ℕ) → length line ≤ n → carryDepth y ≤ carryDepth (st .carry)
+      → (length line ≤ length (take (length line) scratch)) × (carryDepth y + length line + 1 < 2 ^ 32)
+  classify-room y line h k = (omega (arith, front-size line h), omega (arith, ready .carry, ready .limit))
+
+  pub stack-room : (buf : List ℕ) (class m left : ℕ) → length buf ≡ length scratch → class + m ≤ 5 * unit → m ≤ 2 * n → left ≤ st .depth → Fits buf class m (5 * unit) left
+  stack-room buf class m left e h k l = record { classes = h; stack = omega (arith, ready .depth, ready .room) }
+
+  pub push-room : (m : ℕ) → m ≤ n → st .text .at .0 + 2 + (length (times 0 []) + m) < 2 ^ 64
+  push-room m h = omega (arith, ap length (times-nil 0), ready .small .at, ready .depth, ready .limit)
+
+-- ---- a trimmed line
+
+drop-take : (a e : ℕ) (l : List ℕ) → drop a (take e l) ≡ take (e - a) (drop a l)
+drop-take zero e l = let n : e - 0 ≡ e = omega arith in rw n
+drop-take (suc a) zero l = let n : 0 - suc a ≡ 0 = omega arith in rw n
+drop-take (suc a) (suc e) [] = sym (take-nil (suc e - suc a))
+drop-take (suc a) (suc e) (x ∷ l) = let n : suc e - suc a ≡ e - a = omega arith in rw n (drop-take a e l)
+
+pub start-within : (raw : List ℕ) (tail start : ℕ) → TrimmedEnd raw tail → TrimmedStart (take tail raw) start → start ≤ tail
+start-within raw tail start e s = omega (arith, s .fits, length-take-le tail raw (e .fits))
+
+-- at its end, and then at its start
+pub trimmed-line : (raw : List ℕ) (tail start : ℕ) → TrimmedEnd raw tail → TrimmedStart (take tail raw) start → TrimmedLine raw (take (tail - start) (drop start raw))
+unfolding trim
+trimmed-line raw tail start e s =
+    let p : drop start (take tail raw) ≡ take (tail - start) (drop start raw) = drop-take start tail raw in
+    record {
+      well = rw p at (s .well);
+      text = ap decode (sym p) ∙ s .text ∙ ap trimStart (e .text) ∙ trim-swap (decode raw);
+      short = omega (arith, ap length (sym p), length-drop start (take tail raw), length-take-le tail raw (e .fits), e .fits);
+    }
+
+-- ---- what `push_line` is told of a line
+
+pub line-told : (line : List ℕ) (r : LineFacts) (joins : Bool) → WellFormed line → Facts line r → joins ≡ (r .brace && not (r .«else_first»)) → Line line (r .trimmed) joins
+unfolding joinable
+line-told line r joins well facts e =
+    record { well = well; trims = facts .trimmed; takes = e ∙ rw (facts .brace, facts .starts) refl }
+
+-- an empty line
+pub line-none : Line [] 0 false
+unfolding chars encode trimEnd joinable lastIs
+line-none = record { well = refl; trims = record { fits = omega arith; well = refl; text = refl }; takes = refl }
+
+pub indent-none : allBlank [] ≡ true
+unfolding allBlank
+indent-none = refl

@@ -1,0 +1,182 @@
+-- Lines that go out as they are: what each makes of the formatter's record.
+use Prim.Native.Nat.{ℕ, _+_, _-_, _*_, _≤_}
+use native.Mathlib.Omega.{arith}
+use mathlib.Core.Bool.{Bool, true, false, _||_}
+use mathlib.Core.List.{List, [], _++_}
+use mathlib.Core.Path.{_≡_, refl, sym, ap, _∙_}
+use lib.ListN.{length, take, drop}
+use lib.Seq.{take-length, length-take-le}
+use Rattle.unicode.specs.Unicode.{encode, chars, decode, WellFormed}
+use Rattle.unicode.specs.Places.{TrimmedStart, TrimmedEnd}
+use Rattle.buffer.specs.Buffer.{part}
+use Rattle.buffer.specs.Repeat.{times}
+use Rattle.rules.specs.Basics.{choose, is, lastIs, isEmpty}
+use Rattle.rules.specs.Scan.{carryAfter}
+use Rattle.rules.specs.ClassBytes.{cellsOf}
+use Rattle.rules.specs.Brackets.{scanBrackets}
+use Rattle.rules.specs.Line.{Formatter, asWritten, insideLine, blankLine, protectedLine}
+use Rattle.rules.specs.declared.Carry.{Carry}
+use Rattle.rules.specs.declared.Ignore.{Ignore}
+use Rattle.rules.proofs.Choose.{choose-true}
+use Rattle.scan.specs.Classified.{Classified}
+use Rattle.format.specs.Stack.{stacked, Closers, Settled}
+use Rattle.format.specs.Words.{declarationOf}
+use Rattle.format.proofs.StackLaws.{stacked-past}
+use Rattle.format.specs.declared.words.Declaration.{Declaration}
+use Rattle.text.specs.Text.{isFirst, Adds}
+use Rattle.text.specs.declared.Written.{Written}
+use Rattle.text.proofs.StepLaws.{grown-ordered}
+use Rattle.line.specs.declared.state.State.{State}
+use Rattle.line.specs.Holds.{Holds, Small, Ready, Stepped, Blanked, TrimmedLine, Classes, keptLen, insideOf, protectedOf}
+use Rattle.line.proofs.HoldsLaws.{first-line, declaration-bytes, brace-bytes, carry-bytes, stack-scanned, stack-counted, classes-front, front-only, trimmed-line}
+
+-- ---- a blank line
+
+blank-same : (eol : List ℕ) (st : State) (out : List ℕ) → Small st
+    → ((unit : ℕ) (scratch : List ℕ) (f : Formatter) → Holds eol unit f st out scratch → (f .prevBlank || isEmpty (f .lines)) ≡ true)
+    → Blanked eol st out st out
+unfolding blankLine
+blank-same eol st out s e =
+    record {
+      step = λ unit scratch. record {
+        holds = λ f h. rw (choose-true (f .prevBlank || isEmpty (f .lines)) f _ (e unit scratch f h)) h;
+        ordered = s .ordered;
+        at = omega arith;
+        depth = omega arith;
+        carry = omega arith;
+        imports = omega arith;
+        blanks = omega arith;
+      };
+    }
+
+pub blank-again : (eol : List ℕ) (st : State) (out : List ℕ) → Small st → st .blank ≡ true → Blanked eol st out st out
+blank-again eol st out s e = blank-same eol st out s (λ unit scratch f h. ap (λ (b : Bool). b || isEmpty (f .lines)) (sym (h .blank) ∙ e))
+
+module _ (eol : List ℕ) (st : State) (out : List ℕ) (r : Bool) (s : Small st) (e : st .blank ≡ false) (q : r ≡ isFirst (st .text .last)) where
+  blank-test : {unit : ℕ} {scratch : List ℕ} (f : Formatter) → Holds eol unit f st out scratch → (f .prevBlank || isEmpty (f .lines)) ≡ r
+  blank-test f h = rw (← h .blank, e) (sym (first-line h) ∙ sym q)
+
+  pub blank-first : r ≡ true → Blanked eol st out st out
+  blank-first t = blank-same eol st out s (λ unit scratch f h. blank-test f h ∙ t)
+
+  pub blank-new : (out′ : List ℕ) (u : Written) → r ≡ false → Adds eol false (times 0 [] ++ decode []) out (st .text) out′ u
+      → Blanked eol st out
+      (record { text = u; depth = st .depth; blank = true; decl = st .decl; brace = st .brace; ignore = st .ignore; carry = st .carry; imports = st .imports; blanks = st .blanks })
+      out′
+  unfolding blankLine times choose chars encode
+  blank-new out′ u t w =
+      record {
+        step = λ unit scratch. record {
+          holds = λ f h. rw (blank-test f h ∙ t)
+              (record {
+                text = w .text (f .lines) (h .text);
+                stack = h .stack;
+                blank = refl;
+                decl = h .decl;
+                brace = h .brace;
+                ignore = h .ignore;
+                carry = h .carry;
+                imports = h .imports;
+                blanks = h .blanks;
+              });
+          ordered = grown-ordered (w .grown);
+          at = omega (arith, w .grown .at);
+          depth = omega arith;
+          carry = omega arith;
+          imports = omega arith;
+          blanks = omega arith;
+        };
+      }
+
+-- ---- a protected line
+
+pub protected-step : (raw line out out′ scratch scratch′ eol : List ℕ) (unit : ℕ) (st : State) (u : Written) (closers left deep : ℕ) (decl : Declaration) (brace : Bool) (after : Carry)
+    → WellFormed raw → TrimmedLine raw line → Classes Carry.Code line scratch 0 after
+    → Adds eol false (times 0 [] ++ decode raw) out (st .text) out′ u
+    → Closers line closers → left ≡ st .depth - closers
+    → Settled scratch scratch′ (5 * unit) left (length line)
+    (scanBrackets (drop closers (cellsOf line (part scratch 0 (0 + length line)))) (stacked scratch (5 * unit) left)) deep
+    → decl ≡ declarationOf line → brace ≡ lastIs (is "}") line
+    → Stepped (protectedOf (decode raw)) (length raw) unit eol st out scratch
+    (record { text = u; depth = deep; blank = false; decl = decl; brace = brace; ignore = Ignore.Nothing; carry = after; imports = st .imports; blanks = st .blanks })
+    out′ scratch′
+unfolding protectedLine times choose
+protected-step raw line out out′ scratch scratch′ eol unit st u closers left deep decl brace after well t classes w k l v ed eb =
+    record {
+      holds = λ f h. record {
+        text = w .text (f .lines) (h .text);
+        stack = rw (t .text) at (stack-counted (t .well) classes (st .depth) k l v (h .stack));
+        blank = refl;
+        decl = ed ∙ declaration-bytes line (t .well) ∙ ap declarationOf (t .text);
+        brace = eb ∙ brace-bytes line (t .well) ∙ ap (lastIs (is "}")) (t .text);
+        ignore = refl;
+        carry = classes .leaves ∙ carry-bytes Carry.Code line (t .well) ∙ ap (carryAfter Carry.Code) (t .text);
+        imports = h .imports;
+        blanks = h .blanks;
+      };
+      ordered = grown-ordered (w .grown);
+      at = omega (arith, w .grown .at, ap length well);
+      depth = omega (arith, v .most, t .short);
+      carry = omega (arith, classes .depth, t .short);
+      imports = omega arith;
+      blanks = omega arith;
+    }
+
+-- ---- a line that starts inside a comment or a prefab
+
+-- what of it is written
+pub record Shown (y : Carry) (raw : List ℕ) (kept : ℕ) : Type 0 where
+  pub fits : kept ≤ length raw
+  pub short : length (take kept raw) ≤ length raw
+  pub well : WellFormed (take kept raw)
+  pub text : decode (take kept raw) ≡ asWritten y (decode raw)
+
+shown-whole : (y : Carry) (raw : List ℕ) → WellFormed raw → decode raw ≡ asWritten y (decode raw) → Shown y raw (length raw)
+shown-whole y raw well e = let w : take (length raw) raw ≡ raw = take-length raw in record { fits = omega arith; short = rw w (omega arith); well = rw w well; text = rw w e }
+
+shown-by : (y : Carry) (raw : List ℕ) (tail : ℕ) → WellFormed raw → TrimmedEnd raw tail → Shown y raw (keptLen y tail (length raw))
+unfolding asWritten
+shown-by Carry.Code raw tail well e = shown-whole Carry.Code raw well refl
+shown-by (Carry.Block d) raw tail well e =
+    record { fits = e .fits; short = omega (arith, length-take-le tail raw (e .fits), e .fits); well = e .well; text = e .text }
+shown-by Carry.Prefab raw tail well e = shown-whole Carry.Prefab raw well refl
+
+pub shown : (y : Carry) (raw : List ℕ) (tail kept : ℕ) → WellFormed raw → TrimmedEnd raw tail → kept ≡ keptLen y tail (length raw) → Shown y raw kept
+shown y raw tail kept well e k = rw k (shown-by y raw tail well e)
+
+pub inside-step : (raw out out′ scratch w scratch′ eol : List ℕ) (unit : ℕ) (st : State) (u : Written) (tail start kept deep : ℕ) (decl : Declaration) (brace : Bool) (after : Carry)
+    → Ready st scratch unit (length raw) → WellFormed raw → Classified (st .carry) raw (take (length raw) scratch) w after
+    → TrimmedEnd raw tail → TrimmedStart (take tail raw) start → kept ≡ keptLen (st .carry) tail (length raw)
+    → Adds eol false (times 0 [] ++ decode (take kept raw)) out (st .text) out′ u
+    → Settled (w ++ drop (length raw) scratch) scratch′ (5 * unit) (st .depth) (length raw)
+    (scanBrackets (drop 0 (cellsOf raw (part (w ++ drop (length raw) scratch) 0 (0 + length raw)))) (stacked (w ++ drop (length raw) scratch) (5 * unit) (st .depth))) deep
+    → decl ≡ declarationOf (take (tail - start) (drop start raw)) → brace ≡ lastIs (is "}") (take (tail - start) (drop start raw))
+    → Stepped (insideOf (decode raw)) (length raw) unit eol st out scratch
+    (record { text = u; depth = deep; blank = false; decl = decl; brace = brace; ignore = st .ignore; carry = after; imports = st .imports; blanks = st .blanks })
+    out′ scratch′
+unfolding insideLine times choose
+inside-step raw out out′ scratch w scratch′ eol unit st u tail start kept deep decl brace after ready well classified e s k a v ed eb =
+    let room : length raw ≤ length scratch = omega (arith, ready .depth, ready .room) in
+    let t : TrimmedLine raw (take (tail - start) (drop start raw)) = trimmed-line raw tail start e s in
+    let x : Shown (st .carry) raw kept = shown (st .carry) raw tail kept well e k in
+    let low : stacked (w ++ drop (length raw) scratch) (5 * unit) (st .depth) ≡ stacked scratch (5 * unit) (st .depth) =
+    stacked-past (front-only raw scratch w room classified) (5 * unit) (st .depth) (omega (arith, ready .depth)) in
+    record {
+      holds = λ f h. record {
+        text = rw (x .text, h .carry) at (a .text (f .lines) (h .text));
+        stack = rw (h .carry) at (stack-scanned well (classes-front raw scratch w room classified) v (low ∙ h .stack));
+        blank = refl;
+        decl = ed ∙ declaration-bytes (take (tail - start) (drop start raw)) (t .well) ∙ ap declarationOf (t .text);
+        brace = eb ∙ brace-bytes (take (tail - start) (drop start raw)) (t .well) ∙ ap (lastIs (is "}")) (t .text);
+        ignore = h .ignore;
+        carry = classified .carry ∙ carry-bytes (st .carry) raw well ∙ ap (λ (y : Carry). carryAfter y (decode raw)) (h .carry);
+        imports = h .imports;
+        blanks = h .blanks;
+      };
+      ordered = grown-ordered (a .grown);
+      at = omega (arith, a .grown .at, ap length (x .well), x .short);
+      depth = omega (arith, v .most);
+      carry = omega (arith, classified .depth);
+      imports = omega arith;
+      blanks = omega arith;
+    }

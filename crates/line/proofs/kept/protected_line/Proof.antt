@@ -1,0 +1,75 @@
+use borrow.Author.Needs.{needs}
+use native.Mathlib.Omega.{arith}
+use mathlib.Core.Path.{refl}
+use Rattle.line.proofs.HoldsLaws.{stack-room, push-room, line-told, indent-none}
+use Rattle.line.proofs.KeptLaws.{protected-step}
+use Rattle.line.proofs.kept.protected_line.Statement.{statement}
+use Rattle.line.proofs.kept.protected_line.Tie as tie
+
+line-facts-requires : tie.Need-line-facts-requires
+line-facts-requires c κs = search needs
+
+takes-else-requires : tie.Need-takes-else-requires
+takes-else-requires c κs = search needs
+
+slice-aggregate-push-line : tie.Need-slice-aggregate-push-line
+slice-aggregate-push-line c = search needs
+
+push-line-requires : tie.Need-push-line-requires
+push-line-requires c κs =
+    let a = c .before .before in
+    let s = a .before .before .before .before .before .before .before .pre in
+    (indent-none, (line-told _ _ _ (s .1 .0) (a .before .line-facts .ensures) (a .takes-else .ensures), (s .0 .small .ordered, push-room (s .0) _ (omega arith))))
+
+leading-closers-requires : tie.Need-leading-closers-requires
+leading-closers-requires c κs = search needs
+
+pop-closers-requires : tie.Need-pop-closers-requires
+pop-closers-requires c κs = search needs
+
+mul-scan-brackets : tie.Need-mul-scan-brackets
+mul-scan-brackets c = search needs
+
+scan-brackets-requires : tie.Need-scan-brackets-requires
+scan-brackets-requires c κs =
+    let s = c .before .before .before .before .before .before .before .before .before .before .before .before .before .before .before .pre in
+    let k = s .1 .1 .0 .short in
+    stack-room (s .0) _ 0 _ _ refl (omega (arith, s .0 .depth, k)) (omega (arith, k)) (omega (arith, c .before .pop-closers .ensures))
+
+declaration-of-requires : tie.Need-declaration-of-requires
+declaration-of-requires c κs = search needs
+
+ends-in-brace-requires : tie.Need-ends-in-brace-requires
+ends-in-brace-requires c κs = search needs
+
+same-length : tie.Need-same-length
+same-length c = search needs
+
+same-length-2 : tie.Need-same-length-2
+same-length-2 c = search needs
+
+returns : tie.Need-returns
+returns c =
+    let b = c .before .before .before .before in
+    let a = b .before .before .before .before .before .before in
+    let s = a .before .before .before .before .before .before .before .before .before .before .pre in
+    protected-step _ _ _ _ _ _ _ _ _ _ _ _ _ _ _ _ (s .1 .0) (s .1 .1 .0) (s .1 .1 .1) (a .push-line .ensures) (b .before .before .before .leading-closers .ensures)
+    (b .before .before .pop-closers .ensures) (b .scan-brackets .ensures) (c .before .declaration-of .ensures) (c .ends-in-brace .ensures)
+
+pub protected-line-spec : {M : Type 1} → statement M
+protected-line-spec =
+    tie.close
+    (tie.spec
+    line-facts-requires
+    takes-else-requires
+    slice-aggregate-push-line
+    push-line-requires
+    leading-closers-requires
+    pop-closers-requires
+    mul-scan-brackets
+    scan-brackets-requires
+    declaration-of-requires
+    ends-in-brace-requires
+    same-length
+    same-length-2
+    returns)

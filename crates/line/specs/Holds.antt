@@ -1,0 +1,123 @@
+-- What the code holds of the formatter's record, and what a step of the code does.
+use Prim.Native.Nat.{ℕ, _+_, _*_, _≤_}
+use mathlib.Core.Bool.{true, false}
+use mathlib.Core.List.{List}
+use mathlib.Core.Path.{_≡_}
+use lib.ListN.{length}
+use Rattle.unicode.specs.Unicode.{decode, trim, WellFormed}
+use Rattle.buffer.specs.Buffer.{part}
+use Rattle.rules.specs.Basics.{is, lastIs}
+use Rattle.rules.specs.Scan.{classify, carryAfter}
+use Rattle.rules.specs.ClassBytes.{classBytes}
+use Rattle.rules.specs.Options.{Options, allBlank}
+use Rattle.rules.specs.Line.{Formatter, insideLine, blankLine, protectedLine}
+use Rattle.rules.specs.declared.Carry.{Carry}
+use Rattle.rules.specs.declared.Ignore.{Ignore}
+use Rattle.rules.specs.declared.PrintWidth.{PrintWidth}
+use Rattle.scan.specs.Classified.{carryDepth}
+use Rattle.format.specs.Stack.{stacked}
+use Rattle.format.specs.Words.{declarationOf}
+use Rattle.format.specs.declared.words.Declaration.{Declaration}
+use Rattle.text.specs.Text.{Text, Ordered, nothing}
+use Rattle.line.specs.declared.state.State.{State}
+
+-- before the first line
+abbrev pub begin : State
+begin =
+    record {
+      text = nothing;
+      depth = 0;
+      blank = false;
+      decl = Declaration.Nothing;
+      brace = false;
+      ignore = Ignore.Nothing;
+      carry = Carry.Code;
+      imports = 0;
+      blanks = 0;
+    }
+
+-- Scratch, for a source of `unit` bytes: the classes of the line from 0 on, the respaced line from unit on, its classes from 3 × unit on, the stack from
+-- 5 × unit on.
+abbrev pub respacedAt : ℕ → ℕ
+respacedAt unit = unit
+
+abbrev pub reclassedAt : ℕ → ℕ
+reclassedAt unit = 3 * unit
+
+abbrev pub stackAt : ℕ → ℕ
+stackAt unit = 5 * unit
+
+-- The code's state st, the output and the scratch hold the definition's record f.
+pub record Holds (eol : List ℕ) (unit : ℕ) (f : Formatter) (st : State) (out scratch : List ℕ) : Type 0 where
+  pub text : Text eol (f .lines) (st .text) out
+  pub stack : stacked scratch (stackAt unit) (st .depth) ≡ f .stack
+  pub blank : st .blank ≡ f .prevBlank
+  pub decl : st .decl ≡ declarationOf (f .prev)
+  pub brace : st .brace ≡ lastIs (is "}") (f .prev)
+  pub ignore : st .ignore ≡ f .ignore
+  pub carry : st .carry ≡ f .carry
+  pub imports : st .imports ≡ f .importsSplit
+  pub blanks : st .blanks ≡ f .blankNames
+
+-- the lengths are in order and far below 2 ^ 64
+pub record Small (st : State) : Type 0 where
+  pub ordered : Ordered (st .text)
+  pub at : st .text .at .0 ≤ 1152921504606846976
+
+-- what a step asks: a line of n bytes is to come, which respaced has at most 2 × n
+pub record Ready (st : State) (scratch : List ℕ) (unit n : ℕ) : Type 0 where
+  pub small : Small st
+  pub depth : st .depth + n ≤ unit
+  pub carry : carryDepth (st .carry) + 2 * n ≤ 2 * unit
+  pub imports : st .imports ≤ unit
+  pub blanks : st .blanks + 2 * n ≤ 2 * unit
+  pub limit : unit ≤ 1048576
+  pub room : 7 * unit ≤ length scratch
+
+-- what a step from the record f to g f gives, for a line of n bytes
+pub record Stepped (g : Formatter → Formatter) (n unit : ℕ) (eol : List ℕ) (st : State) (out scratch : List ℕ) (st′ : State) (out′ scratch′ : List ℕ) : Type 0 where
+  pub holds : (f : Formatter) → Holds eol unit f st out scratch → Holds eol unit (g f) st′ out′ scratch′
+  pub ordered : Ordered (st′ .text)
+  pub at : st′ .text .at .0 ≤ st .text .at .0 + (n + 1) * 536870912
+  pub depth : st′ .depth ≤ st .depth + n
+  pub carry : carryDepth (st′ .carry) ≤ carryDepth (st .carry) + 2 * n
+  pub imports : st′ .imports ≤ st .imports + 1
+  pub blanks : st′ .blanks ≤ st .blanks + 2 * n
+
+-- a step that leaves the scratch alone
+pub record Blanked (eol : List ℕ) (st : State) (out : List ℕ) (st′ : State) (out′ : List ℕ) : Type 0 where
+  pub step : (unit : ℕ) (scratch : List ℕ) → Stepped blankLine 0 unit eol st out scratch st′ out′ scratch
+
+-- the options that a line is formatted by
+pub record Uses (o : Options) (indent : List ℕ) (width : PrintWidth) : Type 0 where
+  pub indents : o .indent ≡ indent
+  pub breaks : o .printWidth ≡ width
+
+-- an indent of at most 64 spaces and tabs
+pub record ValidIndent (indent : List ℕ) : Type 0 where
+  pub blank : allBlank indent ≡ true
+  pub short : length indent ≤ 64
+
+-- line is raw trimmed
+pub record TrimmedLine (raw line : List ℕ) : Type 0 where
+  pub well : WellFormed line
+  pub text : decode line ≡ trim (decode raw)
+  pub short : length line ≤ length raw
+
+-- the class bytes of the line, which starts in y, stand in scratch from at on, and it leaves `after` open
+pub record Classes (y : Carry) (line scratch : List ℕ) (at : ℕ) (after : Carry) : Type 0 where
+  pub bytes : part scratch at (at + length line) ≡ classBytes (classify y line)
+  pub leaves : after ≡ carryAfter y line
+  pub depth : carryDepth after ≤ carryDepth y + length line
+
+-- how much of a line that starts inside a comment or a prefab is written
+abbrev pub keptLen : Carry → ℕ → ℕ → ℕ
+keptLen Carry.Code tail len = len
+keptLen (Carry.Block d) tail len = tail
+keptLen Carry.Prefab tail len = len
+
+abbrev pub insideOf : List ℕ → Formatter → Formatter
+insideOf raw f = insideLine f raw
+
+abbrev pub protectedOf : List ℕ → Formatter → Formatter
+protectedOf raw f = protectedLine f raw

@@ -1,0 +1,144 @@
+// Lines that go out as they are: inside a comment or a prefab, blank, protected.
+ghost use mathlib.Core.Path.{_≡_};
+ghost use mathlib.Core.Bool.{not, _&&_};
+ghost use lib.ListN.{length};
+ghost use Rattle.unicode.specs.Unicode.{decode, WellFormed};
+ghost use Rattle.rules.specs.Lines.{asStr};
+ghost use Rattle.line.specs.Holds.{Small, Ready, Stepped, Blanked, TrimmedLine, Classes, keptLen, insideOf, protectedOf};
+use crate::state::State;
+use format::else_line::LineFacts;
+use rules::Carry;
+use rules::Ignore;
+use rules::LineEnding;
+
+// Whether an else can be joined to a line with these facts.
+pub fn takes_else(facts: LineFacts) -> bool
+    ensures { λ r. ⌜ r ≡ (facts .brace && not (facts .«else_first»)) ⌝ }
+{
+    if facts.else_first {
+        return false;
+    }
+    facts.brace
+}
+
+// How much of a line that starts inside a comment or a prefab is written: a comment's is trimmed at its end.
+fn kept_len(carry: Carry, tail: usize, len: usize) -> usize
+    ensures { λ r. ⌜ r ≡ keptLen carry tail len ⌝ }
+{
+    match carry {
+        Carry::Code => len,
+        Carry::Block(_) => tail,
+        Carry::Prefab => len,
+    }
+}
+
+// A line that starts inside a comment or a prefab.
+pub fn inside_line(
+    raw: &[u8],
+    out: &mut [u8],
+    scratch: &mut [u8],
+    unit: usize,
+    ending: LineEnding,
+    st: State,
+) -> State
+    requires { ⌜ Ready st (now scratch) unit (length (now raw)) ⌝ }
+    requires { ⌜ WellFormed (now raw) ⌝ }
+    ensures { λ r. ⌜ Stepped (insideOf (decode (now (raw .entry)))) (length (now (raw .entry))) unit (asStr ending) st (now (out .entry)) (now (scratch .entry)) r (now (out .exit)) (now (scratch .exit)) ⌝ }
+{
+    let t = st.text;
+    let depth = st.depth;
+    let ignore = st.ignore;
+    let carry = st.carry;
+    let n = raw.len();
+    let after = scan::classify(raw, carry, &mut scratch[..n]);
+    let tail = unicode::trim_end(raw);
+    let start = unicode::trim_start(&raw[..tail]);
+    let line = &raw[start..tail];
+    let kept = kept_len(carry, tail, n);
+    let shown = &raw[..kept];
+    let facts = format::else_line::line_facts(shown);
+    let joins = takes_else(facts);
+    let next = text::push_line(out, t, ending, false, b"", 0, shown, facts.trimmed, joins);
+    let deep = format::brackets::scan_brackets(raw, scratch, 0, 5 * unit, depth, 0);
+    let decl = format::words::declaration_of(line);
+    State {
+        text: next,
+        depth: deep,
+        blank: false,
+        decl,
+        brace: format::else_line::ends_in_brace(line),
+        ignore,
+        carry: after,
+        imports: st.imports,
+        blanks: st.blanks,
+    }
+}
+
+// Of blank lines in a row one is written, and none before the first line. A pending marker stays pending.
+pub fn blank_line(out: &mut [u8], ending: LineEnding, st: State) -> State
+    requires { ⌜ Small st ⌝ }
+    ensures { λ r. ⌜ Blanked (asStr ending) st (now (out .entry)) r (now (out .exit)) ⌝ }
+{
+    let t = st.text;
+    let last = t.last;
+    if st.blank {
+        return st;
+    }
+    if text::is_first(last) {
+        return st;
+    }
+    let decl = st.decl;
+    let pending = st.ignore;
+    let carry = st.carry;
+    let next = text::push_line(out, t, ending, false, b"", 0, b"", 0, false);
+    State {
+        text: next,
+        depth: st.depth,
+        blank: true,
+        decl,
+        brace: st.brace,
+        ignore: pending,
+        carry,
+        imports: st.imports,
+        blanks: st.blanks,
+    }
+}
+
+// A protected line is kept as written. line is raw trimmed; its class bytes stand at the front of scratch, and it leaves `after` open.
+pub fn protected_line(
+    raw: &[u8],
+    line: &[u8],
+    out: &mut [u8],
+    scratch: &mut [u8],
+    unit: usize,
+    ending: LineEnding,
+    after: Carry,
+    st: State,
+) -> State
+    requires { ⌜ Ready st (now scratch) unit (length (now raw)) ⌝ }
+    requires { ⌜ WellFormed (now raw) ⌝ }
+    requires { ⌜ TrimmedLine (now raw) (now line) ⌝ }
+    requires { ⌜ Classes Carry.Code (now line) (now scratch) 0 after ⌝ }
+    ensures { λ r. ⌜ Stepped (protectedOf (decode (now (raw .entry)))) (length (now (raw .entry))) unit (asStr ending) st (now (out .entry)) (now (scratch .entry)) r (now (out .exit)) (now (scratch .exit)) ⌝ }
+{
+    let t = st.text;
+    let depth = st.depth;
+    let facts = format::else_line::line_facts(raw);
+    let joins = takes_else(facts);
+    let next = text::push_line(out, t, ending, false, b"", 0, raw, facts.trimmed, joins);
+    let closers = format::brackets::leading_closers(line);
+    let left = format::brackets::pop_closers(depth, closers);
+    let deep = format::brackets::scan_brackets(line, scratch, 0, 5 * unit, left, closers);
+    let decl = format::words::declaration_of(line);
+    State {
+        text: next,
+        depth: deep,
+        blank: false,
+        decl,
+        brace: format::else_line::ends_in_brace(line),
+        ignore: Ignore::Nothing,
+        carry: after,
+        imports: st.imports,
+        blanks: st.blanks,
+    }
+}

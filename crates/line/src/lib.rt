@@ -1,0 +1,3 @@
+// format.rs, one line: the formatter's record before and after it. The bracket stack and the line's classes lie in scratch.
+pub mod kept;
+pub mod state;

@@ -1,0 +1,196 @@
+-- A line broken: an import first, otherwise at its operators.
+use Prim.Native.Nat.{ℕ, _+_, _*_, _≤_}
+use mathlib.Core.Bool.{Bool, true, false, true≢false}
+use mathlib.Core.List.{List, [], _∷_, reverse, reverseAux}
+use mathlib.Core.Option.{Option, none, some}
+use mathlib.Core.Path.{_≡_, refl, sym, ap, _∙_, subst}
+use native.Mathlib.Omega.{arith}
+use lib.ListN.{length}
+use Rattle.unicode.specs.Unicode.{encode, decode, size}
+use Rattle.buffer.specs.Buffer.{Appended}
+use Rattle.rules.specs.Basics.{choose, is, isEmpty, lastIs}
+use Rattle.rules.specs.Lines.{asStr}
+use Rattle.rules.specs.Scan.{classify}
+use Rattle.rules.specs.Options.{Options, allBlank}
+use Rattle.rules.specs.SplitImport.{Laid, splitImport}
+use Rattle.rules.specs.SplitOperation.{strengths, splitOperation}
+use Rattle.rules.specs.Assembly.{joined}
+use Rattle.rules.specs.Line.{dropBlank, orOperation, broken}
+use Rattle.rules.specs.declared.Carry.{Carry}
+use Rattle.rules.specs.declared.LineEnding.{LineEnding}
+use Rattle.rules.proofs.SplitLines.{Newest, newest, newest-one, alone-line, import-lines, operation-lines, operation-several, operation-alone}
+use Rattle.rules.proofs.SplitSizes.{Fit, import-fits, operation-fits}
+use Rattle.format.specs.Else.{Facts}
+use Rattle.format.specs.declared.else_line.LineFacts.{LineFacts}
+use Rattle.split.specs.Text.{indented, Fits}
+use Rattle.split_import.specs.Import.{Given, ImportFits}
+use Rattle.split_import.specs.declared.ImportSplit.{ImportSplit}
+use Rattle.split_operation.specs.Operation.{Broken}
+use Rattle.split_operation.specs.declared.OperationSplit.{OperationSplit}
+use Rattle.text.specs.Text.{Text, Continues, afterLines}
+use Rattle.text.specs.declared.Written.{Written}
+use Rattle.text.proofs.PadLaws.{some-size}
+use Rattle.text.proofs.StepLaws.{ending, grown-ordered, lines-done, lines-grown}
+use Rattle.place.specs.declared.Placed.{Placed}
+use Rattle.place.specs.Placing.{ValidIndent, GoesOn, Breaks, aloneIn}
+use Rattle.place.proofs.PlaceLaws.{brace-decode, facts-joinable}
+
+size-line : (m : List ℕ) → isEmpty m ≡ false → 1 ≤ size m
+size-line [] h = absurd (true≢false h)
+size-line (c ∷ cs) h = some-size c cs
+
+module _
+    (line class indent : List ℕ) (level : ℕ) (e : LineEnding) (eol : List ℕ) (drops : Bool) (out o1 : List ℕ) (t : Written) (start : ℕ) (v : ValidIndent indent)
+    (flat : level ≤ 1048576) (g : GoesOn line class) (eq : eol ≡ asStr e) (go-on : Continues (asStr e) drops out t o1 start)
+  where
+    -- ---- what the two splits ask
+
+    pub break-fits : t .at .0 ≤ 1152921504606846976 → Fits line indent level eol start
+    break-fits h =
+        record {
+          well = g .well;
+          blank = v .blank;
+          short = v .short;
+          flat = flat;
+          ascii = rw eq (ending e .bytes);
+          end = rw eq (ending e .small);
+          size = omega (arith, g .short);
+          room = omega (arith, g .short, go-on .small);
+        }
+
+    pub import-asks : t .at .0 ≤ 1152921504606846976 → ImportFits line class indent level eol start
+    import-asks h = record { fits = break-fits h; classes = g .classes }
+
+    -- ---- lines that were written
+
+    long : size (decode line) ≡ length line
+    long = ap length (g .well)
+
+    eol-small : size (asStr e) ≤ 2
+    eol-small = omega (arith, ap length (ending e .bytes), ending e .small)
+
+    -- lines were written, and the newest takes an else where b says so
+    record Came (laid : Laid) (b : Bool) (o2 : List ℕ) (next : ℕ) (p : Placed) : Type 0 where
+      newest : Newest b (laid .lines)
+      written : Appended o1 o2 start (encode (joined (asStr e) (reverse (laid .lines)))) next
+      fit : Fit (asStr e) ((size (decode line) + 1) * 67108932) (laid .lines)
+      imports : p .imports ≡ laid .importsSplit
+      blanks : p .blanks ≡ laid .blankNames
+      few : p .imports ≤ 1
+      fewer : p .blanks ≤ size (decode line)
+
+    module _ (max : ℕ) (b : Bool) (o2 : List ℕ) (next : ℕ) (p : Placed) (is : p .text ≡ afterLines next b) (came : (o : Options) → o .indent ≡ indent → Came (broken o max level (decode line)) b o2 next p) where
+      came-text : (o : Options) (ls : List (List ℕ)) → o .indent ≡ indent → Text (asStr e) ls t out
+          → Text (asStr e) (reverseAux (broken o max level (decode line) .lines) (choose drops (dropBlank ls) ls)) (p .text) o2
+      came-text o ls i x =
+          let r = came o i in
+          let n = r .newest in
+          rw (is, n .onto (choose drops (dropBlank ls) ls))
+          (lines-done (n .last) (n .before) go-on (rw (n .reversed) at (r .written)) (size-line (n .last) (n .line .some)) (n .line .trimmed) (n .line .joins) ls x)
+
+      came-breaks : Breaks max indent (decode line) level (asStr e) drops (length line) out t p o2
+      came-breaks =
+          let r = came (indented indent) refl in
+          let n = r .newest in
+          let w = lines-grown (n .last) (n .before) go-on (rw (n .reversed) at (r .written)) b in
+          record {
+            text = came-text;
+            imports = λ o i. came o i .imports;
+            blanks = λ o i. came o i .blanks;
+            ordered = rw is (grown-ordered w);
+            at = rw is (omega (arith, w .at, long, r .fit .text, ap (λ (l : List (List ℕ)). size (joined (asStr e) l)) (n .reversed)));
+            few = r .few;
+            fewer = omega (arith, r .fewer, long);
+          }
+
+    blank-of : (o : Options) → o .indent ≡ indent → allBlank (o .indent) ≡ true
+    blank-of o i = rw i (v .blank)
+
+    short-of : (o : Options) → o .indent ≡ indent → length (o .indent) ≤ 64
+    short-of o i = rw i (v .short)
+
+    -- ---- an import
+
+    module _ (max : ℕ) (brace : Bool) (ends : brace ≡ lastIs (is "}") line) (o2 : List ℕ) (i : ImportSplit)
+        (given : (o : Options) → o .indent ≡ indent → Given (splitImport o max level (classify Carry.Code (decode line))) eol o1 o2 start i) where
+      module _ (u : Written) (reached : u ≡ afterLines (i .next) brace) (yes : i .split ≡ true) where
+        abbrev placed : Placed
+        placed = record { text = u; imports = 1; blanks = i .blanks }
+
+        import-came : (o : Options) → o .indent ≡ indent → Came (broken o max level (decode line)) brace o2 (i .next) placed
+        import-came o k = go (splitImport o max level (classify Carry.Code (decode line))) refl (given o k)
+          where
+            go : (s : Option Laid) → splitImport o max level (classify Carry.Code (decode line)) ≡ s → Given s eol o1 o2 start i → Came (broken o max level (decode line)) brace o2 (i .next) placed
+            go none q w = absurd (true≢false (sym yes ∙ w .split))
+            go (some laid) q w =
+                let r = import-lines o (blank-of o k) max level (decode line) (g .trimmed) laid q in
+                let f = import-fits o (blank-of o k) (short-of o k) level flat (asStr e) eol-small max (decode line) laid q in
+                let same : broken o max level (decode line) ≡ laid = unfold broken orOperation in (rw q refl) in
+                subst (λ (x : Laid). Came x brace o2 (i .next) placed) (sym same)
+                (record {
+                  newest = rw (ends, brace-decode line (g .well)) (newest (r .lines));
+                  written = rw eq at (w .written .text);
+                  fit = f .lines;
+                  imports = sym (r .counted);
+                  blanks = w .blanks;
+                  few = omega arith;
+                  fewer = omega (arith, w .blanks, f .blanks);
+                })
+
+        pub import-breaks : Breaks max indent (decode line) level (asStr e) drops (length line) out t placed o2
+        import-breaks = came-breaks max brace o2 (i .next) placed reached import-came
+
+      -- ---- an expression
+
+      module _ (other : i .split ≡ false) (o3 : List ℕ) (r : OperationSplit)
+          (made : (o : Options) → o .indent ≡ indent → Broken eol (splitOperation strengths o max level (decode line)) o2 o3 start r) where
+        abbrev operationLaid : Options → Laid
+        operationLaid o = record { lines = splitOperation strengths o max level (decode line); importsSplit = 0; blankNames = 0 }
+
+        -- it is no import that is split, and nothing was written for it
+        other-same : (o : Options) → o .indent ≡ indent → (broken o max level (decode line) ≡ operationLaid o) × (o2 ≡ o1)
+        other-same o k = go (splitImport o max level (classify Carry.Code (decode line))) refl (given o k)
+          where
+            go : (s : Option Laid) → splitImport o max level (classify Carry.Code (decode line)) ≡ s → Given s eol o1 o2 start i
+                → (broken o max level (decode line) ≡ operationLaid o) × (o2 ≡ o1)
+            go none q w = (unfold broken orOperation in (rw q refl), w .same)
+            go (some laid) q w = absurd (true≢false (sym (w .split) ∙ other))
+
+        operation-came : (b : Bool) (u : Written) (o : Options) → o .indent ≡ indent → Newest b (splitOperation strengths o max level (decode line)) → Came (broken o max level (decode line)) b o3 (r .next) (aloneIn u)
+        operation-came b u o k n =
+            let s = other-same o k in
+            subst (λ (x : Laid). Came x b o3 (r .next) (aloneIn u)) (sym (s .0))
+            (record {
+              newest = n;
+              written = rw (eq, s .1) at (made o k .written .text);
+              fit = operation-fits o (blank-of o k) (short-of o k) level flat (asStr e) eol-small strengths max (decode line);
+              imports = refl;
+              blanks = refl;
+              few = omega arith;
+              fewer = omega arith;
+            })
+
+        operation-breaks : (b : Bool) (u : Written) (p : Placed) → ((o : Options) → o .indent ≡ indent → Newest b (splitOperation strengths o max level (decode line)))
+            → u ≡ afterLines (r .next) b → p ≡ aloneIn u → Breaks max indent (decode line) level (asStr e) drops (length line) out t p o3
+        operation-breaks b u p n reached is =
+            subst (λ (x : Placed). Breaks max indent (decode line) level (asStr e) drops (length line) out t x o3) (sym is)
+            (came-breaks max b o3 (r .next) (aloneIn u) reached (λ o k. operation-came b u o k (n o k)))
+
+        pub several-breaks : (u : Written) (p : Placed) → r .more ≡ true → u ≡ afterLines (r .next) brace → p ≡ aloneIn u
+            → Breaks max indent (decode line) level (asStr e) drops (length line) out t p o3
+        several-breaks u p more reached is =
+            operation-breaks brace u p
+            (λ o k. rw (ends, brace-decode line (g .well)) (newest (operation-several (operation-lines strengths o (blank-of o k) max level (decode line) (g .trimmed)) (sym (made o k .more) ∙ more))))
+            reached is
+
+        pub alone-breaks : (facts : LineFacts) (j : Bool) (u : Written) (p : Placed) → Facts line facts → j ≡ choose (facts .«else_first») false (facts .brace)
+            → r .more ≡ false → u ≡ afterLines (r .next) j → p ≡ aloneIn u → Breaks max indent (decode line) level (asStr e) drops (length line) out t p o3
+        alone-breaks facts j u p w q more reached is =
+            operation-breaks j u p
+            (λ o k. rw (operation-alone (operation-lines strengths o (blank-of o k) max level (decode line) (g .trimmed)) (sym (made o k .more) ∙ more), facts-joinable line facts j w q)
+            (newest-one (alone-line o (blank-of o k) level (decode line) (some-of (decode line) (omega (arith, long, g .some))) (g .trimmed))))
+            reached is
+          where
+            some-of : (l : List ℕ) → 1 ≤ size l → isEmpty l ≡ false
+            some-of [] h = unfold encode in absurd (omega arith)
+            some-of (c ∷ cs) h = refl

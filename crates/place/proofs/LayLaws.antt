@@ -1,0 +1,174 @@
+-- A line placed: its level, the blank before it and the width that it may be broken at, as the code finds them, are those of the rules.
+use Prim.Native.Nat.{ℕ, zero, suc, _+_, _-_}
+use mathlib.Core.Bool.{Bool, true, false, not, _&&_, and-false}
+use mathlib.Core.List.{List}
+use mathlib.Core.Path.{_≡_, refl, sym, ap, _∙_, subst}
+use native.Mathlib.Omega.{arith}
+use borrow.Author.Tests.{ne-eqb}
+use lib.Dec.{eqb}
+use lib.ListN.{length}
+use Rattle.unicode.specs.Unicode.{encode, decode}
+use Rattle.rules.specs.Basics.{choose, isEmpty}
+use Rattle.rules.specs.Scan.{classify, allCodeOrStr}
+use Rattle.rules.specs.Options.{Options}
+use Rattle.rules.specs.Brackets.{leadingClosers}
+use Rattle.rules.specs.Words.{sameDeclaration}
+use Rattle.rules.specs.Else.{isPlainElse, canJoin}
+use Rattle.rules.specs.Line.{Formatter, elseLine, dropBlank, linesBefore, continues, levelOf, fitted, mayBreak, laid, placedLine, spacedLine}
+use Rattle.rules.specs.declared.Carry.{Carry}
+use Rattle.rules.specs.declared.PrintWidth.{PrintWidth}
+use Rattle.rules.proofs.Choose.{choose-true, choose-false}
+use Rattle.rules.proofs.StartsBytes.{on-decode, starts-encode, closers-encode}
+use Rattle.format.specs.Stack.{stacked, Closers}
+use Rattle.format.specs.Words.{Continues, declarationOf}
+use Rattle.format.specs.declared.words.Declaration.{Declaration}
+use Rattle.format.proofs.StackLaws.{stacked-drop}
+use Rattle.format.proofs.WordLaws.{same-declaration-by}
+use Rattle.text.specs.Text.{Text, Joins, isJoinable}
+use Rattle.text.specs.declared.Written.{Written}
+use Rattle.text.proofs.LinesLaws.{kind-joinable}
+use Rattle.text.proofs.StepLaws.{grown-ordered}
+use Rattle.place.specs.declared.Before.{Before}
+use Rattle.place.specs.declared.Placed.{Placed}
+use Rattle.place.specs.Placing.{Uses, GoesOn, Knows, Puts, Level, Lays, spacedBy, placedBy, dropsBlank, breakWidth, aloneIn}
+
+-- ---- tests in another order
+
+-- the width that a line may be broken at
+width-same : (k z m a : Bool) (w : PrintWidth)
+    → choose (not k && z && not m && a) w PrintWidth.Off
+    ≡ choose a (choose k PrintWidth.Off (choose z (choose m PrintWidth.Off w) PrintWidth.Off)) PrintWidth.Off
+unfolding choose
+width-same true z m true w = refl
+width-same true z m false w = refl
+width-same false false m true w = refl
+width-same false false m false w = refl
+width-same false true true true w = refl
+width-same false true true false w = refl
+width-same false true false true w = refl
+width-same false true false false w = refl
+
+and-choose : (a b : Bool) → (a && b) ≡ choose a b false
+unfolding choose
+and-choose true b = refl
+and-choose false b = refl
+
+-- ---- what is found on bytes
+
+stacked-empty : (scratch : List ℕ) (base depth : ℕ) → isEmpty (stacked scratch base depth) ≡ eqb depth 0
+unfolding stacked
+stacked-empty scratch base zero = refl
+stacked-empty scratch base (suc depth) = sym (ne-eqb (suc depth) 0 (λ e. absurd (omega arith)))
+
+declaration-bytes : (l : List ℕ) → declarationOf (encode l) ≡ declarationOf l
+unfolding declarationOf
+declaration-bytes l = simp starts-encode
+
+-- ---- a line placed
+
+module _
+    (marker : Bool) (indent : List ℕ) (width : PrintWidth) (line class eol out out′ scratch : List ℕ) (b : Before) (closers left : ℕ) (continued : Bool) (level : ℕ)
+    (d : Declaration) (drops : Bool) (max : PrintWidth) (p : Placed) (g : GoesOn line class) (wc : Closers line closers) (el : left ≡ b .depth - closers)
+    (wk : Continues line (b .brace) continued) (wl : Level scratch (b .base) left continued level) (ed : d ≡ declarationOf line)
+    (er : drops ≡ dropsBlank (b .depth) d (b .decl)) (em : max ≡ breakWidth width marker continued closers)
+    (w : Lays (choose (allCodeOrStr (classify Carry.Code (decode line))) max PrintWidth.Off) indent (decode line) level eol drops (length line) out (b .text) p out′)
+  where
+    closers-same : closers ≡ leadingClosers (decode line)
+    closers-same = wc .is ∙ on-decode leadingClosers leadingClosers closers-encode line (g .well)
+
+    module _ (o : Options) (f : Formatter) (u : Uses o indent width) (k : Knows eol f b out scratch) where
+      continued-same : continued ≡ continues (f .prev) (decode line)
+      continued-same = wk .is (f .prev) (sym (k .brace))
+
+      level-same : levelOf f (decode line) ≡ level
+      unfolding levelOf
+      level-same =
+          sym (wl .is ∙ rw (el, ← stacked-drop scratch (b .base) (b .depth) closers, k .stack, closers-same, continued-same) refl)
+
+      fits-same : choose (mayBreak f marker (decode line)) (o .printWidth) PrintWidth.Off
+          ≡ choose (allCodeOrStr (classify Carry.Code (decode line))) max PrintWidth.Off
+      unfolding mayBreak
+      fits-same =
+          rw (em, ← continued-same, ← closers-same, u .breaks) (width-same continued (eqb closers 0) marker (allCodeOrStr (classify Carry.Code (decode line))) width)
+
+      laid-same : laid o f marker (decode line) ≡ fitted (choose (allCodeOrStr (classify Carry.Code (decode line))) max PrintWidth.Off) o level (decode line)
+      unfolding laid
+      laid-same = rw (fits-same, level-same) refl
+
+      drops-same : (isEmpty (f .stack) && sameDeclaration (decode line) (f .prev)) ≡ drops
+      drops-same =
+          sym (er ∙ rw (ed, k .decl, on-decode declarationOf declarationOf declaration-bytes line (g .well), ← same-declaration-by, ← stacked-empty scratch (b .base) (b .depth), k .stack) (sym (and-choose _ _)))
+
+      lines-same : linesBefore f (decode line) ≡ choose drops (dropBlank (f .lines)) (f .lines)
+      unfolding linesBefore
+      lines-same = rw drops-same refl
+
+      lay-text : Text eol (placedLine o f marker (decode line) .lines) (p .text) out′
+      unfolding placedLine
+      lay-text = rw (laid-same, lines-same) (w .text o (f .lines) (u .indents) (k .text))
+
+      lay-imports : placedLine o f marker (decode line) .importsSplit ≡ f .importsSplit + p .imports
+      unfolding placedLine
+      lay-imports = rw (laid-same, w .imports o (u .indents)) refl
+
+      lay-blanks : placedLine o f marker (decode line) .blankNames ≡ f .blankNames + p .blanks
+      unfolding placedLine
+      lay-blanks = rw (laid-same, w .blanks o (u .indents)) refl
+
+    pub lay-done : Puts (placedBy marker (decode line)) indent width eol (length line) b out scratch p out′
+    lay-done =
+        record { text = lay-text; imports = lay-imports; blanks = lay-blanks; ordered = w .ordered; at = w .at; few = w .few; fewer = w .fewer }
+
+-- ---- a line that goes on: a plain else is joined where the newest line can take it
+
+module _
+    (marker : Bool) (indent : List ℕ) (width : PrintWidth) (line eol out out′ scratch : List ℕ) (b : Before) (e : Bool) (else : e ≡ isPlainElse (decode line))
+  where
+    -- the newest line's kind says whether it can
+    takes : (j : Bool) → j ≡ isJoinable (b .text .last) → (f : Formatter) → Knows eol f b out scratch → j ≡ canJoin (f .lines)
+    takes j q f k = q ∙ ap isJoinable (k .text .last) ∙ kind-joinable (f .lines)
+
+    module _ (class : List ℕ) (u : Written) (p : Placed) (g : GoesOn line class) (w : Joins (decode line) out (b .text) out′ u) (is : p ≡ aloneIn u) (yes : e ≡ true) (j : Bool)
+        (last : j ≡ isJoinable (b .text .last)) (can : j ≡ true) where
+      joined-same : (o : Options) (f : Formatter) → Knows eol f b out scratch → spacedLine o f marker (decode line) ≡ elseLine f (decode line)
+      unfolding spacedLine
+      joined-same o f k = choose-true _ _ _ (rw (← else, yes, ← takes j last f k, can) refl)
+
+      join-alone : Puts (spacedBy marker (decode line)) indent width eol (length line) b out scratch (aloneIn u) out′
+      unfolding elseLine
+      join-alone =
+          record {
+            text = λ o f i k. rw (joined-same o f k) (w .text eol (f .lines) (k .text) (sym (takes j last f k) ∙ can));
+            imports = λ o f i k. rw (joined-same o f k) (omega arith);
+            blanks = λ o f i k. rw (joined-same o f k) (omega arith);
+            ordered = grown-ordered (w .grown);
+            at = omega (arith, w .grown .at, ap length (g .well));
+            few = omega arith;
+            fewer = omega arith;
+          }
+
+      pub join-put : Puts (spacedBy marker (decode line)) indent width eol (length line) b out scratch p out′
+      join-put = subst (λ (x : Placed). Puts (spacedBy marker (decode line)) indent width eol (length line) b out scratch x out′) (sym is) join-alone
+
+    module _ (p : Placed) (w : Puts (placedBy marker (decode line)) indent width eol (length line) b out scratch p out′) where
+      placed-as : ((f : Formatter) → Knows eol f b out scratch → (isPlainElse (decode line) && canJoin (f .lines)) ≡ false)
+          → Puts (spacedBy marker (decode line)) indent width eol (length line) b out scratch p out′
+      placed-as h =
+          record {
+            text = λ o f i k. rw (same o f k) (w .text o f i k);
+            imports = λ o f i k. rw (same o f k) (w .imports o f i k);
+            blanks = λ o f i k. rw (same o f k) (w .blanks o f i k);
+            ordered = w .ordered;
+            at = w .at;
+            few = w .few;
+            fewer = w .fewer;
+          }
+        where
+          same : (o : Options) (f : Formatter) → Knows eol f b out scratch → spacedLine o f marker (decode line) ≡ placedLine o f marker (decode line)
+          same o f k = unfold spacedLine in (choose-false _ _ _ (h f k))
+
+      pub not-else : e ≡ false → Puts (spacedBy marker (decode line)) indent width eol (length line) b out scratch p out′
+      not-else q = placed-as (λ f k. rw (← else, q) refl)
+
+      pub not-joinable : (j : Bool) → j ≡ isJoinable (b .text .last) → j ≡ false → Puts (spacedBy marker (decode line)) indent width eol (length line) b out scratch p out′
+      not-joinable j last q = placed-as (λ f k. rw (← takes j last f k, q) (and-false (isPlainElse (decode line))))

@@ -1,0 +1,113 @@
+-- Laws of putting a line into the text.
+use Prim.Native.Nat.{ℕ, _+_, _≤_, _<_}
+use mathlib.Core.Bool.{Bool, true, false, not, _&&_}
+use mathlib.Core.List.{List, [], _∷_, _++_}
+use mathlib.Core.Path.{_≡_, refl, sym, ap, _∙_}
+use native.Mathlib.Omega.{arith}
+use borrow.Author.Tests.{le-ltb, lt-ltb}
+use lib.Dec.{ltb}
+use lib.ListN.{length, length-append}
+use Rattle.unicode.specs.Unicode.{encodeChar, encode, decode, size, units, width, WellFormed}
+use Rattle.unicode.proofs.Table.{Shape, one, two, three, four, shape}
+use Rattle.unicode.proofs.Decode.{encode-cons}
+use Rattle.unicode.proofs.Bytewise.{width-nil, width-cons, width-append}
+use Rattle.buffer.specs.Repeat.{times}
+use Rattle.buffer.proofs.RepeatLaws.{times-within}
+use Rattle.rules.specs.Basics.{choose, is, lastIs}
+use Rattle.rules.proofs.StartsBytes.{on-decode, last-encode, steady-is}
+use Rattle.rules.specs.Else.{joinable}
+use Rattle.rules.specs.Options.{defaults, withIndent, indentOf, measure, overWide}
+use Rattle.format.specs.Stack.{Levels}
+use Rattle.format.specs.Else.{Facts}
+use Rattle.format.specs.declared.else_line.LineFacts.{LineFacts}
+use Rattle.text.specs.Text.{Line, ElseLine}
+use Rattle.split.specs.Measure.{Measured, IndentMeasured}
+use Rattle.place.specs.Placing.{ValidIndent, GoesOn, Level, Wide}
+
+-- ---- the level
+
+module _ (scratch : List ℕ) (base left : ℕ) (continued : Bool) (n : ℕ) (w : Levels scratch base left n) where
+  pub level-more : continued ≡ true → Level scratch base left continued (n + 1)
+  unfolding choose
+  level-more e = record { is = rw e (omega (arith, w .is)); small = omega (arith, w .most) }
+
+  pub level-same : continued ≡ false → Level scratch base left continued n
+  unfolding choose
+  level-same e = record { is = rw e (omega (arith, w .is)); small = omega (arith, w .most) }
+
+-- ---- the facts of a line
+
+and-not : (a b : Bool) → choose b false a ≡ (a && not b)
+unfolding choose
+and-not true true = refl
+and-not true false = refl
+and-not false true = refl
+and-not false false = refl
+
+pub facts-joinable : (line : List ℕ) (r : LineFacts) (j : Bool) → Facts line r → j ≡ choose (r .«else_first») false (r .brace) → j ≡ joinable (decode line)
+unfolding joinable
+facts-joinable line r j w e = e ∙ and-not (r .brace) (r .«else_first») ∙ rw (w .brace, w .starts)
+
+-- ---- the width of an indented line
+
+units-low : (c : ℕ) → c < 0x10000 → units c ≡ 1
+unfolding units
+units-low c h = rw (lt-ltb c 0x10000 h)
+
+units-high : (c : ℕ) → 0x10000 ≤ c → units c ≡ 2
+unfolding units
+units-high c h = rw (le-ltb c 0x10000 h)
+
+units-size : (c : ℕ) → units c ≤ length (encodeChar c)
+units-size c = go (shape c)
+  where
+    go : Shape c → units c ≤ length (encodeChar c)
+    go (one h e) = omega (arith, units-low c (omega arith), ap length e)
+    go (two h k e) = omega (arith, units-low c (omega arith), ap length e)
+    go (three h k e) = omega (arith, units-low c k, ap length e)
+    go (four h e) = omega (arith, units-high c h, ap length e)
+
+pub width-size : (cs : List ℕ) → width cs ≤ size cs
+width-size [] = omega (arith, width-nil)
+width-size (c ∷ cs) =
+    omega (arith, width-cons c cs, ap length (encode-cons c cs), length-append (encodeChar c) (encode cs), units-size c, width-size cs)
+
+module _ (indent : List ℕ) (level : ℕ) (line : List ℕ) (max pad : ℕ) (p : IndentMeasured indent level pad) where
+  pad-is : pad ≡ width (times level indent)
+  unfolding measure indentOf
+  pad-is = omega (arith, p .is (withIndent defaults indent) refl)
+
+  whole : width (times level indent ++ decode line) ≡ pad + width (decode line)
+  whole = omega (arith, width-append (times level indent) (decode line), pad-is)
+
+  pub wide-not : WellFormed line → pad + length line ≤ max → Wide indent level line max false
+  unfolding overWide measure
+  wide-not w h = record { is = λ o. let h : 0 + width (times level indent ++ decode line) ≤ max = omega (arith, whole, width-size (decode line), ap length w) in sym (le-ltb _ _ h) }
+
+  pub wide-measured : (end : ℕ) → Measured pad line end → Wide indent level line max (ltb max end)
+  unfolding overWide measure
+  wide-measured end m = record { is = λ o. ap (ltb max) (omega (arith, whole, m .is o)) }
+
+-- ---- the last byte of a line is its last character, where it is `}`
+
+pub brace-decode : (line : List ℕ) → WellFormed line → lastIs (is "}") line ≡ lastIs (is "}") (decode line)
+brace-decode line w = on-decode (lastIs (is "}")) (lastIs (is "}")) (last-encode (is "}") false (steady-is "}" refl)) line w
+
+-- ---- an else that goes on
+
+pub else-goes : (line class : List ℕ) (j : Bool) → GoesOn line class → j ≡ lastIs (is "}") line → ElseLine line j
+else-goes line class j g e =
+    record {
+      well = g .well;
+      trimmed = g .trimmed;
+      some = g .some;
+      takes = e ∙ brace-decode line (g .well);
+    }
+
+pub facts-line : (line : List ℕ) (r : LineFacts) (j : Bool) → WellFormed line → Facts line r → j ≡ choose (r .«else_first») false (r .brace) → Line line (r .trimmed) j
+facts-line line r j w f e = record { well = w; trims = f .trimmed; takes = facts-joinable line r j f e }
+
+-- ---- an indent is small
+
+pub indent-small : (indent : List ℕ) (level : ℕ) → ValidIndent indent → level ≤ 1048576 → length (times level indent) ≤ 67108864
+indent-small indent level v h = omega (arith, times-within level indent {a = 1048576} {b = 64} h (v .short))

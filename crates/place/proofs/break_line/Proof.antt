@@ -1,0 +1,123 @@
+use mathlib.Core.Path.{_∙_}
+use Rattle.place.proofs.BreakLaws.{break-fits, import-asks, import-breaks, several-breaks, alone-breaks}
+use borrow.Author.Needs.{needs}
+use Rattle.place.proofs.break_line.Statement.{statement}
+use Rattle.place.proofs.break_line.Tie as tie
+
+continue-text-requires : tie.Need-continue-text-requires
+continue-text-requires c κs = search needs
+
+slice-aggregate-as-str : tie.Need-slice-aggregate-as-str
+slice-aggregate-as-str c = search needs
+
+as-str-requires : tie.Need-as-str-requires
+as-str-requires c κs = search needs
+
+ends-in-brace-requires : tie.Need-ends-in-brace-requires
+ends-in-brace-requires c κs = search needs
+
+split-import-requires : tie.Need-split-import-requires
+split-import-requires c κs =
+    let a = c .before .before in
+    let t = a .before .before .before .before in
+    let s = t .before .before .before .before .before .before in
+    import-asks _ _ _ _ _ _ _ _ _ _ _ (s .pre .0) (s .pre .1 .0) (s .pre .1 .1 .0) (a .as-str .ensures) (t .continue-text .ensures) (s .pre .1 .1 .1 .1)
+
+after-lines-requires : tie.Need-after-lines-requires
+after-lines-requires c κs = search needs
+
+same-length : tie.Need-same-length
+same-length c = search needs
+
+returns : tie.Need-returns
+returns c =
+    let i = c .before .before .before .before in
+    let a = i .before .before .before in
+    let t = a .before .before .before .before in
+    let s = t .before .before .before .before .before .before in
+    import-breaks _ _ _ _ _ _ _ _ _ _ _ (s .pre .0) (s .pre .1 .0) (s .pre .1 .1 .0) (a .as-str .ensures) (t .continue-text .ensures) _ _ (i .before .before .ends-in-brace .ensures) _ _ (i .split-import .ensures)
+    _ (c .after-lines .ensures) (c .before .if1 .taken)
+
+split-operation-requires : tie.Need-split-operation-requires
+split-operation-requires c κs =
+    let a = c .before .before .before .before .before .before .before in
+    let t = a .before .before .before .before in
+    let s = t .before .before .before .before .before .before in
+    break-fits _ _ _ _ _ _ _ _ _ _ _ (s .pre .0) (s .pre .1 .0) (s .pre .1 .1 .0) (a .as-str .ensures) (t .continue-text .ensures) (s .pre .1 .1 .1 .1)
+
+after-lines-requires-2 : tie.Need-after-lines-requires-2
+after-lines-requires-2 c κs = search needs
+
+alone-requires : tie.Need-alone-requires
+alone-requires c κs = search needs
+
+same-length-2 : tie.Need-same-length-2
+same-length-2 c =
+    let o = c .before .before .before .before in
+    let i = o .before .before .before .before .before in
+    o .out3 .given ∙ i .out2 .given ∙ i .before .before .before .before .before .before .before .out .given
+
+returns-2 : tie.Need-returns-2
+returns-2 c =
+    let o = c .before .before .before .before .before in
+    let i = o .before .before .before .before .before in
+    let a = i .before .before .before in
+    let t = a .before .before .before .before in
+    let s = t .before .before .before .before .before .before in
+    several-breaks _ _ _ _ _ _ _ _ _ _ _ (s .pre .0) (s .pre .1 .0) (s .pre .1 .1 .0) (a .as-str .ensures) (t .continue-text .ensures) _ _ (i .before .before .ends-in-brace .ensures) _ _ (i .split-import .ensures)
+    (o .before .before .if1 .left) _ _ (o .split-operation .ensures) _ _ (c .before .before .if2 .taken) (c .before .after-lines2 .ensures) (c .alone .ensures)
+
+line-facts-requires : tie.Need-line-facts-requires
+line-facts-requires c κs =
+    let s = c .before .before .before .before .before .before .before .before .before .before .before .before .before .before .before .before .before .before .before .before .before in
+    s .pre .1 .1 .0 .well
+
+takes-else-requires : tie.Need-takes-else-requires
+takes-else-requires c κs = search needs
+
+after-lines-requires-3 : tie.Need-after-lines-requires-3
+after-lines-requires-3 c κs = search needs
+
+alone-requires-2 : tie.Need-alone-requires-2
+alone-requires-2 c κs = search needs
+
+same-length-3 : tie.Need-same-length-3
+same-length-3 c =
+    let o = c .before .before .before .before .before .before in
+    let i = o .before .before .before .before .before in
+    o .out3 .given ∙ i .out2 .given ∙ i .before .before .before .before .before .before .before .out .given
+
+returns-3 : tie.Need-returns-3
+returns-3 c =
+    let o = c .before .before .before .before .before .before .before in
+    let i = o .before .before .before .before .before in
+    let a = i .before .before .before in
+    let t = a .before .before .before .before in
+    let s = t .before .before .before .before .before .before in
+    alone-breaks _ _ _ _ _ _ _ _ _ _ _ (s .pre .0) (s .pre .1 .0) (s .pre .1 .1 .0) (a .as-str .ensures) (t .continue-text .ensures) _ _ (i .before .before .ends-in-brace .ensures) _ _ (i .split-import .ensures)
+    (o .before .before .if1 .left) _ _ (o .split-operation .ensures) _ _ _ _ (c .before .before .before .line-facts .ensures) (c .before .before .takes-else .ensures)
+    (c .before .before .before .before .if2 .left) (c .before .after-lines3 .ensures) (c .alone2 .ensures)
+
+pub break-line-spec : {M : Type 1} → statement M
+break-line-spec =
+    tie.close
+    (tie.spec
+    continue-text-requires
+    slice-aggregate-as-str
+    as-str-requires
+    ends-in-brace-requires
+    split-import-requires
+    after-lines-requires
+    same-length
+    returns
+    split-operation-requires
+    after-lines-requires-2
+    alone-requires
+    same-length-2
+    returns-2
+    line-facts-requires
+    takes-else-requires
+    after-lines-requires-3
+    alone-requires-2
+    same-length-3
+    returns-3)

@@ -1,0 +1,66 @@
+use Rattle.place.proofs.LayLaws.{join-put, not-else, not-joinable}
+use borrow.Author.Needs.{needs}
+use Rattle.place.proofs.place_line.Statement.{statement}
+use Rattle.place.proofs.place_line.Tie as tie
+
+is-plain-else-requires : tie.Need-is-plain-else-requires
+is-plain-else-requires c κs = search needs
+
+is-joinable-requires : tie.Need-is-joinable-requires
+is-joinable-requires c κs = search needs
+
+join-one-requires : tie.Need-join-one-requires
+join-one-requires c κs = search needs
+
+alone-requires : tie.Need-alone-requires
+alone-requires c κs = search needs
+
+same-length : tie.Need-same-length
+same-length c = search needs
+
+returns : tie.Need-returns
+returns c =
+    let j = c .before .before .before .before .before in
+    let e = j .before .before .before in
+    let s = e .before .before .before .before .before .before .before in
+    join-put _ _ _ _ _ _ _ _ _ _ (e .is-plain-else .ensures) _ _ _ (s .pre .1 .0) (c .before .before .before .join-one .ensures) (c .alone .ensures)
+    (j .before .before .if1 .taken) _ (j .before .is-joinable .ensures) (j .if2 .taken)
+
+lay-line-requires : tie.Need-lay-line-requires
+lay-line-requires c κs = search needs
+
+same-length-2 : tie.Need-same-length-2
+same-length-2 c = search needs
+
+returns-2 : tie.Need-returns-2
+returns-2 c =
+    let j = c .before .before .before .before in
+    not-joinable _ _ _ _ _ _ _ _ _ _ (j .before .before .before .is-plain-else .ensures) _ (c .before .before .lay-line .ensures) _ (j .before .is-joinable .ensures) (j .if2 .left)
+
+lay-line-requires-2 : tie.Need-lay-line-requires-2
+lay-line-requires-2 c κs = search needs
+
+same-length-3 : tie.Need-same-length-3
+same-length-3 c = search needs
+
+returns-3 : tie.Need-returns-3
+returns-3 c =
+    let e = c .before .before .before .before in
+    not-else _ _ _ _ _ _ _ _ _ _ (e .before .is-plain-else .ensures) _ (c .before .before .lay-line2 .ensures) (e .if1 .left)
+
+pub place-line-spec : {M : Type 1} → statement M
+place-line-spec =
+    tie.close
+    (tie.spec
+    is-plain-else-requires
+    is-joinable-requires
+    join-one-requires
+    alone-requires
+    same-length
+    returns
+    lay-line-requires
+    same-length-2
+    returns-2
+    lay-line-requires-2
+    same-length-3
+    returns-3)

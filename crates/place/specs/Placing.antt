@@ -1,0 +1,114 @@
+-- What putting a line into the text does.
+use Prim.Native.Nat.{ℕ, _+_, _*_, _≤_}
+use mathlib.Core.Bool.{Bool, true, false}
+use mathlib.Core.List.{List, _++_, reverseAux}
+use mathlib.Core.Path.{_≡_}
+use lib.Dec.{eqb}
+use lib.ListN.{length}
+use Rattle.unicode.specs.Unicode.{decode, trimEnd, WellFormed}
+use Rattle.buffer.specs.Repeat.{times}
+use Rattle.rules.specs.Basics.{choose, is, lastIs}
+use Rattle.rules.specs.Scan.{classify}
+use Rattle.rules.specs.ClassBytes.{classBytes}
+use Rattle.rules.specs.Options.{Options, allBlank, overWide}
+use Rattle.rules.specs.Brackets.{levels}
+use Rattle.rules.specs.Line.{Formatter, dropBlank, broken, fitted, spacedLine, placedLine}
+use Rattle.rules.specs.declared.Carry.{Carry}
+use Rattle.rules.specs.declared.PrintWidth.{PrintWidth}
+use Rattle.format.specs.Stack.{stacked}
+use Rattle.format.specs.Words.{declarationOf, sameOf}
+use Rattle.format.specs.declared.words.Declaration.{Declaration}
+use Rattle.text.specs.Text.{Text, Ordered}
+use Rattle.text.specs.declared.Written.{Written}
+use Rattle.place.specs.declared.Before.{Before}
+use Rattle.place.specs.declared.Placed.{Placed}
+
+-- the options that a line is formatted by
+pub record Uses (o : Options) (indent : List ℕ) (width : PrintWidth) : Type 0 where
+  pub indents : o .indent ≡ indent
+  pub breaks : o .printWidth ≡ width
+
+-- an indent of at most 64 spaces and tabs
+pub record ValidIndent (indent : List ℕ) : Type 0 where
+  pub blank : allBlank indent ≡ true
+  pub short : length indent ≤ 64
+
+-- a line that goes on: trimmed, not empty, with its class bytes
+pub record GoesOn (line class : List ℕ) : Type 0 where
+  pub well : WellFormed line
+  pub some : 1 ≤ length line
+  pub short : length line ≤ 2097152
+  pub trimmed : trimEnd (decode line) ≡ decode line
+  pub classes : class ≡ classBytes (classify Carry.Code line)
+
+-- what the code knows before the line: the text, the open brackets in scratch, and the previous line's two facts
+pub record Knows (eol : List ℕ) (f : Formatter) (b : Before) (out scratch : List ℕ) : Type 0 where
+  pub text : Text eol (f .lines) (b .text) out
+  pub stack : stacked scratch (b .base) (b .depth) ≡ f .stack
+  pub decl : b .decl ≡ declarationOf (f .prev)
+  pub brace : b .brace ≡ lastIs (is "}") (f .prev)
+
+-- what it asks
+pub record Asks (b : Before) (scratch : List ℕ) : Type 0 where
+  pub ordered : Ordered (b .text)
+  pub small : b .text .at .0 ≤ 1152921504606846976
+  pub depth : b .depth ≤ 1048575
+  pub fits : b .base + b .depth ≤ length scratch
+
+-- the line of characters l was put into the text, as the step g says
+pub record Puts (g : Options → Formatter → Formatter) (indent : List ℕ) (width : PrintWidth) (eol : List ℕ) (n : ℕ) (b : Before) (out scratch : List ℕ) (r : Placed) (out′ : List ℕ) : Type 0 where
+  pub text : (o : Options) (f : Formatter) → Uses o indent width → Knows eol f b out scratch → Text eol (g o f .lines) (r .text) out′
+  pub imports : (o : Options) (f : Formatter) → Uses o indent width → Knows eol f b out scratch → g o f .importsSplit ≡ f .importsSplit + r .imports
+  pub blanks : (o : Options) (f : Formatter) → Uses o indent width → Knows eol f b out scratch → g o f .blankNames ≡ f .blankNames + r .blanks
+  pub ordered : Ordered (r .text)
+  pub at : r .text .at .0 ≤ b .text .at .0 + (n + 1) * 268435456
+  pub few : r .imports ≤ 1
+  pub fewer : r .blanks ≤ n
+
+abbrev pub spacedBy : Bool → List ℕ → Options → Formatter → Formatter
+spacedBy marker line o f = spacedLine o f marker line
+
+abbrev pub placedBy : Bool → List ℕ → Options → Formatter → Formatter
+placedBy marker line o f = placedLine o f marker line
+
+-- the indent's level
+pub record Level (scratch : List ℕ) (base left : ℕ) (continued : Bool) (r : ℕ) : Type 0 where
+  pub is : r ≡ levels (stacked scratch base left) + choose continued 1 0
+  pub small : r ≤ left + 1
+
+-- whether a blank between goes
+abbrev pub dropsBlank : ℕ → Declaration → Declaration → Bool
+dropsBlank depth d before = choose (eqb depth 0) (sameOf d before) false
+
+-- whether an indented line is wider than max
+pub record Wide (indent : List ℕ) (level : ℕ) (line : List ℕ) (max : ℕ) (r : Bool) : Type 0 where
+  pub is : (o : Options) → r ≡ overWide o max (times level indent ++ decode line)
+
+-- the line of characters l was laid out at a level as `fitted` says for the width w, after an empty newest line was dropped if `drops` says so
+pub record Lays (w : PrintWidth) (indent l : List ℕ) (level : ℕ) (eol : List ℕ) (drops : Bool) (n : ℕ) (out : List ℕ) (t : Written) (r : Placed) (out′ : List ℕ) : Type 0 where
+  pub text : (o : Options) (ls : List (List ℕ)) → o .indent ≡ indent → Text eol ls t out → Text eol (reverseAux (fitted w o level l .lines) (choose drops (dropBlank ls) ls)) (r .text) out′
+  pub imports : (o : Options) → o .indent ≡ indent → r .imports ≡ fitted w o level l .importsSplit
+  pub blanks : (o : Options) → o .indent ≡ indent → r .blanks ≡ fitted w o level l .blankNames
+  pub ordered : Ordered (r .text)
+  pub at : r .text .at .0 ≤ t .at .0 + (n + 1) * 268435456
+  pub few : r .imports ≤ 1
+  pub fewer : r .blanks ≤ n
+
+-- the width that a line may be broken at, by what is known before its classes are looked at
+abbrev pub breakWidth : PrintWidth → Bool → Bool → ℕ → PrintWidth
+breakWidth width marker continued closers =
+    choose continued PrintWidth.Off (choose (eqb closers 0) (choose marker PrintWidth.Off width) PrintWidth.Off)
+
+-- the line of characters l was broken at a level as `broken` says
+pub record Breaks (max : ℕ) (indent l : List ℕ) (level : ℕ) (eol : List ℕ) (drops : Bool) (n : ℕ) (out : List ℕ) (t : Written) (r : Placed) (out′ : List ℕ) : Type 0 where
+  pub text : (o : Options) (ls : List (List ℕ)) → o .indent ≡ indent → Text eol ls t out → Text eol (reverseAux (broken o max level l .lines) (choose drops (dropBlank ls) ls)) (r .text) out′
+  pub imports : (o : Options) → o .indent ≡ indent → r .imports ≡ broken o max level l .importsSplit
+  pub blanks : (o : Options) → o .indent ≡ indent → r .blanks ≡ broken o max level l .blankNames
+  pub ordered : Ordered (r .text)
+  pub at : r .text .at .0 ≤ t .at .0 + (n + 1) * 268435456
+  pub few : r .imports ≤ 1
+  pub fewer : r .blanks ≤ n
+
+-- a text to which one line was added
+abbrev pub aloneIn : Written → Placed
+aloneIn t = record { text = t; imports = 0; blanks = 0 }

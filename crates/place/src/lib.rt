@@ -1,0 +1,274 @@
+// The line that goes on, put into the text: joined to the newest line, or indented, or split.
+ghost use mathlib.Core.Path.{_≡_};
+ghost use mathlib.Core.Bool.{false};
+ghost use Rattle.rules.specs.Basics.{choose};
+ghost use Prim.Native.Nat.{_+_, _≤_, _<_};
+ghost use lib.ListN.{length};
+ghost use Rattle.unicode.specs.Unicode.{decode, WellFormed};
+ghost use Rattle.buffer.specs.Repeat.{times};
+ghost use Rattle.rules.specs.Lines.{asStr};
+ghost use mathlib.Core.List.{_++_};
+ghost use Rattle.text.specs.Text.{Adds, Joins, Ordered};
+ghost use Rattle.rules.specs.Scan.{classify, allCodeOrStr};
+ghost use Rattle.rules.specs.declared.Carry.{Carry};
+ghost use Rattle.rules.specs.declared.PrintWidth.{PrintWidth};
+ghost use Rattle.place.specs.Placing.{ValidIndent, GoesOn, Asks, Puts, spacedBy, placedBy, Level, dropsBlank, Wide, aloneIn, breakWidth, Lays, Breaks};
+use format::else_line::LineFacts;
+use format::words::Declaration;
+use rules::LineEnding;
+use rules::PrintWidth;
+use text::Written;
+
+// What is known before the line: the text so far, the stack of open brackets, which lies in scratch from base on, and of the previous line which
+// declaration it is and whether it ends in `}`.
+pub struct Before {
+    pub text: Written,
+    pub base: usize,
+    pub depth: usize,
+    pub decl: Declaration,
+    pub brace: bool,
+}
+
+// The text after the line, and what the line adds to the counts.
+pub struct Placed {
+    pub text: Written,
+    pub imports: usize,
+    pub blanks: usize,
+}
+
+// Whether an else can be joined to a line with these facts.
+pub fn takes_else(facts: LineFacts) -> bool
+    ensures { λ r. ⌜ r ≡ choose (facts .«else_first») false (facts .brace) ⌝ }
+{
+    if facts.else_first {
+        return false;
+    }
+    facts.brace
+}
+
+// The levels left after the leading closers, and one more if the line continues the one before.
+fn level_of(scratch: &[u8], base: usize, left: usize, continued: bool) -> usize
+    requires { ⌜ base + left ≤ length (now scratch) ⌝ }
+    requires { ⌜ left ≤ 1048575 ⌝ }
+    ensures { λ r. ⌜ Level (now (scratch .entry)) base left continued r ⌝ }
+{
+    let n = format::brackets::levels_of(scratch, base, left);
+    if continued {
+        return n + 1;
+    }
+    n
+}
+
+// Whether a blank between this line and the one before goes: no bracket is open, and both declare the same.
+fn drops_blank(depth: usize, d: Declaration, before: Declaration) -> bool
+    ensures { λ r. ⌜ r ≡ dropsBlank depth d before ⌝ }
+{
+    if depth == 0 {
+        return format::words::same_declaration(d, before);
+    }
+    false
+}
+
+// Whether the line, with its indent, is wider than max. A character takes no more UTF-16 units than bytes, so that most lines are not measured.
+fn over_wide(indent: &[u8], level: usize, line: &[u8], max: usize) -> bool
+    requires { ⌜ ValidIndent (now indent) ⌝ }
+    requires { ⌜ level ≤ 1048576 ⌝ }
+    requires { ⌜ WellFormed (now line) × (length (now line) ≤ 2097152) ⌝ }
+    ensures { λ r. ⌜ Wide (now (indent .entry)) level (now (line .entry)) max r ⌝ }
+{
+    let pad = split::indent_column(indent, level);
+    let n = line.len();
+    if pad.0 + n <= max {
+        return false;
+    }
+    let end = split::measure_from(pad, line);
+    max < end.0
+}
+
+// The line indented, alone.
+fn push_one(
+    line: &[u8],
+    indent: &[u8],
+    level: usize,
+    ending: LineEnding,
+    drops: bool,
+    out: &mut [u8],
+    t: Written,
+) -> Written
+    requires { ⌜ ValidIndent (now indent) ⌝ }
+    requires { ⌜ level ≤ 1048576 ⌝ }
+    requires { ⌜ WellFormed (now line) × (length (now line) ≤ 2097152) ⌝ }
+    requires { ⌜ Ordered t × (t .at .0 ≤ 1152921504606846976) ⌝ }
+    ensures { λ r. ⌜ Adds (asStr ending) drops (times level (now (indent .entry)) ++ decode (now (line .entry))) (now (out .entry)) t (now (out .exit)) r ⌝ }
+{
+    let facts = format::else_line::line_facts(line);
+    let joins = takes_else(facts);
+    let tail = facts.trimmed;
+    text::push_line(out, t, ending, drops, indent, level, line, tail, joins)
+}
+
+// A plain else joined to the newest line.
+fn join_one(line: &[u8], class: &[u8], out: &mut [u8], t: Written) -> Written
+    requires { ⌜ GoesOn (now line) (now class) ⌝ }
+    requires { ⌜ Ordered t × (t .at .0 ≤ 1152921504606846976) ⌝ }
+    ensures { λ r. ⌜ Joins (decode (now (line .entry))) (now (out .entry)) t (now (out .exit)) r ⌝ }
+{
+    let brace = format::else_line::ends_in_brace(line);
+    text::join_else(out, t, line, brace)
+}
+
+// The line alone adds nothing to the counts.
+fn alone(text: Written) -> Placed
+    ensures { λ r. ⌜ r ≡ aloneIn text ⌝ }
+{
+    Placed {
+        text,
+        imports: 0,
+        blanks: 0,
+    }
+}
+
+// The width that a line may be broken at, before its classes are looked at: a marker, a line that continues another and one with leading
+// closers are not broken.
+fn break_width(width: PrintWidth, marker: bool, continued: bool, closers: usize) -> PrintWidth
+    ensures { λ r. ⌜ r ≡ breakWidth width marker continued closers ⌝ }
+{
+    if continued {
+        return PrintWidth::Off;
+    }
+    if closers == 0 {
+        if marker {
+            return PrintWidth::Off;
+        }
+        return width;
+    }
+    PrintWidth::Off
+}
+
+// The line laid out at its level: split where it is wider than the width and all of it is code and strings.
+fn fit_line(
+    line: &[u8],
+    class: &[u8],
+    indent: &[u8],
+    level: usize,
+    width: PrintWidth,
+    ending: LineEnding,
+    drops: bool,
+    out: &mut [u8],
+    t: Written,
+) -> Placed
+    requires { ⌜ ValidIndent (now indent) ⌝ }
+    requires { ⌜ level ≤ 1048576 ⌝ }
+    requires { ⌜ GoesOn (now line) (now class) ⌝ }
+    requires { ⌜ Ordered t × (t .at .0 ≤ 1152921504606846976) ⌝ }
+    ensures { λ r. ⌜ Lays (choose (allCodeOrStr (classify Carry.Code (decode (now (line .entry))))) width PrintWidth.Off) (now (indent .entry)) (decode (now (line .entry))) level (asStr ending) drops (length (now (line .entry))) (now (out .entry)) t r (now (out .exit)) ⌝ }
+{
+    match width {
+        PrintWidth::Off => alone(push_one(line, indent, level, ending, drops, out, t)),
+        PrintWidth::Columns(max) => {
+            if over_wide(indent, level, line, max) {
+                if scan::all_code_or_str(class) {
+                    return break_line(line, class, indent, level, max, ending, drops, out, t);
+                }
+                return alone(push_one(line, indent, level, ending, drops, out, t));
+            }
+            alone(push_one(line, indent, level, ending, drops, out, t))
+        }
+    }
+}
+
+// The line indented, or split.
+fn lay_line(
+    line: &[u8],
+    class: &[u8],
+    marker: bool,
+    indent: &[u8],
+    width: PrintWidth,
+    ending: LineEnding,
+    out: &mut [u8],
+    scratch: &[u8],
+    b: Before,
+) -> Placed
+    requires { ⌜ ValidIndent (now indent) ⌝ }
+    requires { ⌜ GoesOn (now line) (now class) ⌝ }
+    requires { ⌜ Asks b (now scratch) ⌝ }
+    ensures { λ r. ⌜ Puts (placedBy marker (decode (now (line .entry)))) (now (indent .entry)) width (asStr ending) (length (now (line .entry))) b (now (out .entry)) (now (scratch .entry)) r (now (out .exit)) ⌝ }
+{
+    let t = b.text;
+    let base = b.base;
+    let depth = b.depth;
+    let before = b.decl;
+    let closers = format::brackets::leading_closers(line);
+    let left = format::brackets::pop_closers(depth, closers);
+    let continued = format::words::continues(line, closers, b.brace);
+    let level = level_of(scratch, base, left, continued);
+    let d = format::words::declaration_of(line);
+    let drops = drops_blank(depth, d, before);
+    let max = break_width(width, marker, continued, closers);
+    fit_line(line, class, indent, level, max, ending, drops, out, t)
+}
+
+// The line that goes on, put into the text: a plain else is joined to the newest line if that can take it.
+pub fn place_line(
+    line: &[u8],
+    class: &[u8],
+    marker: bool,
+    indent: &[u8],
+    width: PrintWidth,
+    ending: LineEnding,
+    out: &mut [u8],
+    scratch: &[u8],
+    b: Before,
+) -> Placed
+    requires { ⌜ ValidIndent (now indent) ⌝ }
+    requires { ⌜ GoesOn (now line) (now class) ⌝ }
+    requires { ⌜ Asks b (now scratch) ⌝ }
+    ensures { λ r. ⌜ Puts (spacedBy marker (decode (now (line .entry)))) (now (indent .entry)) width (asStr ending) (length (now (line .entry))) b (now (out .entry)) (now (scratch .entry)) r (now (out .exit)) ⌝ }
+{
+    let t = b.text;
+    let last = t.last;
+    if format::else_line::is_plain_else(line) {
+        if text::is_joinable(last) {
+            return alone(join_one(line, class, out, t));
+        }
+        return lay_line(line, class, marker, indent, width, ending, out, scratch, b);
+    }
+    lay_line(line, class, marker, indent, width, ending, out, scratch, b)
+}
+
+// The line broken: an import first, otherwise at its operators.
+fn break_line(
+    line: &[u8],
+    class: &[u8],
+    indent: &[u8],
+    level: usize,
+    max: usize,
+    ending: LineEnding,
+    drops: bool,
+    out: &mut [u8],
+    t: Written,
+) -> Placed
+    requires { ⌜ ValidIndent (now indent) ⌝ }
+    requires { ⌜ level ≤ 1048576 ⌝ }
+    requires { ⌜ GoesOn (now line) (now class) ⌝ }
+    requires { ⌜ Ordered t × (t .at .0 ≤ 1152921504606846976) ⌝ }
+    ensures { λ r. ⌜ Breaks max (now (indent .entry)) (decode (now (line .entry))) level (asStr ending) drops (length (now (line .entry))) (now (out .entry)) t r (now (out .exit)) ⌝ }
+{
+    let start = text::continue_text(out, t, ending, drops);
+    let eol = options::ending::as_str(ending, b"\r\n");
+    let brace = format::else_line::ends_in_brace(line);
+    let i = split_import::split_import(line, class, indent, level, eol, max, out, start);
+    if i.split {
+        return Placed {
+            text: text::after_lines(i.next, brace),
+            imports: 1,
+            blanks: i.blanks,
+        };
+    }
+    let o = split_operation::split_operation(line, indent, level, eol, max, out, start);
+    if o.more {
+        return alone(text::after_lines(o.next, brace));
+    }
+    let facts = format::else_line::line_facts(line);
+    alone(text::after_lines(o.next, takes_else(facts)))
+}

@@ -1,0 +1,11 @@
+pub mod PrefixLaws
+pub mod NextLaws
+pub mod StartsLaws
+pub mod MarkLaws
+pub mod ScannedLaws
+pub mod StringLaws
+pub mod CodeLaws
+pub mod ClassifyLaws
+pub mod CodeEnd
+pub mod ScanLaws
+pub mod WithinLaws

@@ -1,0 +1,92 @@
+-- The loop of `classify_at`: the loop of `classify` on two parts of one buffer.
+use Prim.Native.Nat.{ℕ, zero, suc, _+_, _-_, _<_, _≤_}
+use mathlib.Core.Path.{_≡_, refl, ap, sym, subst, _∙_}
+use mathlib.Core.List.{List, [], _∷_, append-nil}
+use native.Mathlib.Omega.{arith}
+use lib.ListN.{length, take, drop, set, length-set, length-drop, drop-of-length-le}
+use lib.Seq.{length-take-le, drop-set-lt, take-set-le, take-set-lt, drop-set-add, drop-drop}
+use Rattle.rules.specs.declared.Carry.{Carry}
+use Rattle.rules.specs.declared.Mark.{Mark}
+use Rattle.rules.specs.Scan.{next, begin, openAfter}
+use Rattle.rules.specs.ClassBytes.{classByte}
+use Rattle.buffer.specs.Buffer.{part}
+use Rattle.scan.specs.Classified.{ClassRoom, Classified, ClassifiedAt}
+use Rattle.scan.proofs.ScanLaws.{part-from, Reached, reached-start, reached-more, reached-end}
+
+-- one byte written into a part; beside it
+part-set : (d : List ℕ) (a n i b : ℕ) → i < n → part (set d (a + i) b) a (a + n) ≡ set (part d a (a + n)) i b
+part-set d a n i b h =
+    ap (take (a + n - a)) (drop-set-add a d i b) ∙ take-set-lt (a + n - a) (drop a d) i b (omega arith)
+
+part-beside : (d : List ℕ) (a e j b : ℕ) → a ≤ e → e ≤ j → part (set d j b) a e ≡ part d a e
+part-beside d a e j b h k =
+    let m : a + (j - a) ≡ j = omega arith in
+    ap (λ (x : ℕ). take (e - a) (drop a (set d x b))) (sym m)
+    ∙ ap (take (e - a)) (drop-set-add a d (j - a) b)
+    ∙ take-set-le (e - a) (drop a d) (j - a) b (omega arith)
+
+length-part : (d : List ℕ) (a n : ℕ) → a + n ≤ length d → length (part d a (a + n)) ≡ n
+length-part d a n h = length-take-le (a + n - a) (drop a d) (omega (arith, length-drop a d)) ∙ omega arith
+
+drop-take : (i n : ℕ) (l : List ℕ) → drop i (take n l) ≡ take (n - i) (drop i l)
+drop-take zero n l = let k : n - 0 ≡ n = omega arith in rw k
+drop-take (suc i) zero l = let k : 0 - suc i ≡ 0 = omega arith in rw k
+drop-take (suc i) (suc n) [] = go (suc n - suc i)
+  where
+    go : (m : ℕ) → _≡_ {A = List ℕ} [] (take m [])
+    go zero = refl
+    go (suc m) = refl
+drop-take (suc i) (suc n) (x ∷ l) = let k : suc n - suc i ≡ n - i = omega arith in rw k (drop-take i n l)
+
+-- the rest of a part
+part-rest : (d : List ℕ) (a n i : ℕ) → i ≤ n → take (a + n - (a + i)) (drop (a + i) d) ≡ drop i (part d a (a + n))
+part-rest d a n i h =
+    let k : a + n - (a + i) ≡ n - i = omega arith in
+    let m : a + n - a ≡ n = omega arith in
+    rw (k, m) (ap (take (n - i)) (drop-more a i d) ∙ sym (drop-take i n (drop a d)))
+  where
+    drop-more : (a i : ℕ) (d : List ℕ) → drop (a + i) d ≡ drop i (drop a d)
+    drop-more a i d = sym (drop-drop i a d)
+
+pub record Within (buf₀ : List ℕ) (at n class : ℕ) (t₀ : Mark) (buf : List ℕ) (t : Mark) (i : ℕ) : Type 0 where
+  pub long : length buf ≡ length buf₀
+  pub line : part buf at (at + n) ≡ part buf₀ at (at + n)
+  pub front : take class buf ≡ take class buf₀
+  pub back : drop (class + n) buf ≡ drop (class + n) buf₀
+  pub reached : Reached (part buf₀ at (at + n)) (part buf₀ class (class + n)) t₀ (part buf class (class + n)) t i
+
+pub within-start : (buf : List ℕ) (at n class : ℕ) (t : Mark) → Within buf at n class t buf t 0
+within-start buf at n class t =
+    record { long = refl; line = refl; front = refl; back = refl; reached = reached-start (part buf at (at + n)) (part buf class (class + n)) t }
+
+module _ {buf₀ : List ℕ} {at n class : ℕ} {t₀ : Mark} {buf : List ℕ} {t : Mark} {i : ℕ} (fits : ClassRoom buf₀ at n class) (r : Within buf₀ at n class t₀ buf t i) where
+  line-long : length (part buf₀ at (at + n)) ≡ n
+  line-long = length-part buf₀ at n (omega (arith, fits .apart, fits .room))
+
+  pub within-more : (u : Mark) (b : ℕ) → i < n → u ≡ next t (take (at + n - (at + i)) (drop (at + i) buf)) → b ≡ classByte (u .class)
+      → Within buf₀ at n class t₀ (set buf (class + i) b) u (i + 1)
+  within-more u b h e f =
+      let rest : take (at + n - (at + i)) (drop (at + i) buf) ≡ take (length (part buf₀ at (at + n)) - i) (drop i (part buf₀ at (at + n))) =
+      part-rest buf at n i (omega arith) ∙ ap (drop i) (r .line) ∙ sym (part-from (part buf₀ at (at + n)) i) in
+      let room : length (part buf₀ at (at + n)) ≤ length (part buf₀ class (class + n)) = omega (arith, line-long, length-part buf₀ class n (fits .room)) in
+      record {
+        long = length-set buf (class + i) b ∙ r .long;
+        line = part-beside buf at (at + n) (class + i) b (omega arith) (omega (arith, fits .apart)) ∙ r .line;
+        front = take-set-le class buf (class + i) b (omega arith) ∙ r .front;
+        back = drop-set-lt (class + n) buf (class + i) b (omega arith) ∙ r .back;
+        reached = subst (λ (x : List ℕ). Reached (part buf₀ at (at + n)) (part buf₀ class (class + n)) t₀ x u (i + 1)) (sym (part-set buf class n i b h))
+            (reached-more (r .reached) u b (omega (arith, line-long)) room (e ∙ ap (next t) rest) f);
+      }
+
+  pub within-end : (y : Carry) → n ≤ i → t₀ ≡ begin Carry.Code → y ≡ openAfter (t .mode) → ClassifiedAt buf₀ at n class buf y
+  within-end y h e f =
+      let w : Classified Carry.Code (part buf₀ at (at + n)) (part buf₀ class (class + n)) (part buf class (class + n)) y = reached-end (r .reached) Carry.Code y (omega (arith, line-long)) e f in
+      let none : drop (length (part buf₀ at (at + n))) (part buf₀ class (class + n)) ≡ [] = drop-of-length-le (part buf₀ class (class + n)) {i = length (part buf₀ at (at + n))} (omega (arith, line-long, length-part buf₀ class n (fits .room))) in
+      record {
+        bytes = w .bytes ∙ rw (none, append-nil);
+        carry = w .carry;
+        depth = omega (arith, w .depth, line-long);
+        long = r .long;
+        front = r .front;
+        back = r .back;
+      }

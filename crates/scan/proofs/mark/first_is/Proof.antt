@@ -1,0 +1,18 @@
+use mathlib.Core.Path.{_≡_, refl, sym, _∙_}
+use native.Mathlib.Omega.{arith}
+use borrow.Author.Needs.{needs}
+use Rattle.scan.proofs.PrefixLaws.{is-none, is-first}
+use Rattle.scan.proofs.mark.first_is.Statement.{statement}
+use Rattle.scan.proofs.mark.first_is.Tie as tie
+
+returns : tie.Need-returns
+returns c = is-none (c .before .args .c) (c .before .args .s .now) (c .if1 .taken)
+
+shared-slice-read-result : tie.Need-shared-slice-read-result
+shared-slice-read-result c = search needs
+
+returns-2 : tie.Need-returns-2
+returns-2 c = is-first (c .before .before .args .c) (c .before .before .args .s .now) (c .before .if1 .left)
+
+pub first-is-spec : {M : Type 1} → statement M
+first-is-spec = tie.close (tie.spec returns shared-slice-read-result returns-2)

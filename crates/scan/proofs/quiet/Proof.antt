@@ -1,0 +1,51 @@
+use borrow.Author.Needs.{needs}
+use native.Mathlib.Omega.{arith}
+use Prim.Native.Nat.{_-_}
+use Rattle.scan.proofs.CodeLaws.{Looked, looked-start, looked-more, looked-end}
+use Rattle.scan.proofs.quiet.Statement.{statement}
+use Rattle.scan.proofs.quiet.Tie as tie
+
+abbrev Inv-loop : tie.InvT-loop
+Inv-loop line at any₀ k₀ any k = Looked line at any k
+
+abbrev μ-loop : tie.MeasureT-loop
+μ-loop line at any₀ k₀ any k = 8 - k
+
+loop-holds : tie.Need-loop-holds Inv-loop μ-loop
+loop-holds c = looked-start _ _
+
+add-starts-in-code : tie.Need-add-starts-in-code Inv-loop μ-loop
+add-starts-in-code c = omega arith
+
+shared-slice-read-starts-in-code : tie.Need-shared-slice-read-starts-in-code Inv-loop μ-loop
+shared-slice-read-starts-in-code c = omega arith
+
+starts-in-code-requires : tie.Need-starts-in-code-requires Inv-loop μ-loop
+starts-in-code-requires c κs = search needs
+
+add-k : tie.Need-add-k Inv-loop μ-loop
+add-k c = omega arith
+
+loop-less : tie.Need-loop-less Inv-loop μ-loop
+loop-less c = omega arith
+
+loop-again : tie.Need-loop-again Inv-loop μ-loop
+loop-again c = looked-more (c .before .before .before .loop .inv) (c .starts-in-code .ensures)
+
+returns : tie.Need-returns Inv-loop μ-loop
+returns c = looked-end (c .before .loop .inv) (omega arith)
+
+pub quiet-spec : {M : Type 1} → statement M
+quiet-spec =
+    tie.close
+    (tie.spec
+    Inv-loop
+    μ-loop
+    loop-holds
+    add-starts-in-code
+    shared-slice-read-starts-in-code
+    starts-in-code-requires
+    add-k
+    loop-less
+    loop-again
+    returns)

@@ -1,0 +1,3 @@
+pub mod Classified
+pub mod CodeEnd
+pub mod Stretch

@@ -1,0 +1,124 @@
+-- Laws on columns and on parts of a line.
+use Prim.Native.Nat.{ℕ, zero, suc, _+_, _-_, _*_, _^_, _≤_, _<_}
+use mathlib.Core.Bool.{Bool, true, false, _&&_}
+use mathlib.Core.List.{List, [], _∷_, _++_}
+use mathlib.Core.Path.{_≡_, refl, sym, ap, _∙_, subst}
+use native.Mathlib.Omega.{arith}
+use native.Mathlib.Nat.{mul-le-mul, suc-mul}
+use lib.ListN.{length, take, drop, length-append, length-take, length-drop}
+use lib.Seq.{take-nil, take-take, length-take-le, drop-drop}
+use lib.Dec.{eqb, ltb}
+use borrow.Author.Tests.{eqb-true, lt-ltb}
+use Rattle.buffer.specs.Buffer.{part}
+use Rattle.buffer.specs.Repeat.{times}
+use Rattle.buffer.proofs.RegionLaws.{part-from}
+use Rattle.buffer.proofs.RepeatLaws.{length-times}
+use Rattle.unicode.specs.Unicode.{decode, encode, WellFormed, Scalars, units, width, trim, trimStart, trimEnd}
+use Rattle.unicode.specs.Places.{unitsOf, TrimmedStart, TrimmedEnd}
+use Rattle.unicode.proofs.Tests.{by-test, and-left, and-right}
+use Rattle.unicode.proofs.Bytewise.{total, width-bytes, width-append}
+use Rattle.unicode.proofs.Decode.{Ascii, decode-ascii}
+use Rattle.rules.specs.Basics.{isBlank}
+use Rattle.rules.specs.Options.{Options, allBlank, indentOf, measure, overWide}
+use Rattle.split.specs.declared.Part.{Part}
+use Rattle.split.specs.Measure.{Measurable, Measured, Indent, IndentMeasured, Within, Trimmed}
+
+-- ---- columns
+
+-- a byte takes at most two units
+byte-units : (b : ℕ) → unitsOf b ≤ 2
+unfolding unitsOf
+byte-units b = by-test (ltb b 0x80) (λ e. rw e (omega arith)) (λ e. rw e (by-test (ltb b 0xC0) (λ f. rw f (omega arith)) (λ f. rw f (by-test (ltb b 0xF0) (λ g. rw g (omega arith)) (λ g. rw g (omega arith))))))
+
+total-small : (s : List ℕ) → total unitsOf s ≤ 2 * length s
+total-small [] = omega arith
+total-small (b ∷ s) = let r = total-small s in omega (arith, byte-units b)
+
+pub width-small : (s : List ℕ) → WellFormed s → width (decode s) ≤ 2 * length s
+width-small s w = rw (width-bytes s w) at (total-small s)
+
+pub measured : (from : ℕ) (l : List ℕ) (n : ℕ) → Measurable from l → n ≡ width (decode l) → Measured from l (from + n)
+unfolding measure
+measured from l n p e = record { is = λ o. ap (λ (k : ℕ). from + k) e; small = omega (arith, width-small l (p .well)) }
+
+pub measure-room : (from : ℕ) (l : List ℕ) (n : ℕ) → Measurable from l → n ≡ width (decode l) → from + n < 2 ^ 64
+measure-room from l n p e = omega (arith, width-small l (p .well), p .fits)
+
+-- a line is measured part by part
+pub measure-append : (o : Options) (from : ℕ) (a b : List ℕ) → measure o from (a ++ b) ≡ measure o (measure o from a) b
+unfolding measure
+measure-append o from a b = omega (arith, width-append a b)
+
+-- ---- an indent
+
+blank-ascii : (c : ℕ) → isBlank c ≡ true → c < 0x80
+blank-ascii c e =
+    by-test (eqb c 32) (λ h. let k : c ≡ 32 = eqb-true c 32 h in omega arith)
+    (λ h. let k : c ≡ 9 = eqb-true c 9 (rw h at e) in omega arith)
+
+pub blank-all-ascii : (s : List ℕ) → allBlank s ≡ true → Ascii s
+unfolding allBlank
+blank-all-ascii [] e = tt
+blank-all-ascii (c ∷ s) e = (blank-ascii c (and-left (isBlank c) (allBlank s) e), blank-all-ascii s (and-right (isBlank c) (allBlank s) e))
+
+-- a character below 80 hex takes one unit
+ascii-width : (s : List ℕ) → Ascii s → width s ≡ length s
+unfolding width units
+ascii-width [] a = refl
+ascii-width (c ∷ s) a = rw (lt-ltb c 0x10000 (omega (arith, a .0))) (omega (arith, ascii-width s (a .1)))
+
+ascii-append : (a b : List ℕ) → Ascii a → Ascii b → Ascii (a ++ b)
+ascii-append [] b p q = q
+ascii-append (c ∷ a) b p q = (p .0, ascii-append a b (p .1) q)
+
+pub ascii-times : (n : ℕ) (w : List ℕ) → Ascii w → Ascii (times n w)
+unfolding times
+ascii-times zero w a = tt
+ascii-times (suc n) w a = ascii-append w (times n w) a (ascii-times n w a)
+
+indent-small : (indent : List ℕ) (level : ℕ) → Indent indent level → level * length indent ≤ 67108928
+indent-small indent level p = let k : level * length indent ≤ 1048577 * 64 = mul-le-mul (p .flat) (p .short) in omega arith
+
+pub indent-measured : (indent : List ℕ) (level : ℕ) → Indent indent level → IndentMeasured indent level (level * length indent)
+unfolding measure indentOf
+indent-measured indent level p =
+    record {
+      is = λ o e. rw e (omega (arith, ascii-width (times level indent) (ascii-times level indent (blank-all-ascii indent (p .blank))), length-times level indent));
+      small = indent-small indent level p;
+    }
+
+pub indent-room : (indent : List ℕ) (level : ℕ) → Indent indent level → level * length indent < 2 ^ 64
+indent-room indent level p = omega (arith, indent-small indent level p)
+
+-- ---- parts
+
+-- a part of a part
+pub drop-take : (n k : ℕ) (l : List ℕ) → drop n (take k l) ≡ take (k - n) (drop n l)
+drop-take zero k l = let e : k - 0 ≡ k = omega arith in rw e
+drop-take (suc n) zero l = let e : 0 - suc n ≡ 0 = omega arith in rw e
+drop-take (suc n) (suc k) [] = sym (take-nil (suc k - suc n))
+drop-take (suc n) (suc k) (x ∷ l) = let e : suc k - suc n ≡ k - n = omega arith in rw e (drop-take n k l)
+
+pub part-part : (s : List ℕ) (a e n m : ℕ) → n + m ≤ e - a → take m (drop n (part s a e)) ≡ part s (a + n) (a + n + m)
+part-part s a e n m h =
+    let k : a + n + m - (a + n) ≡ m = omega arith in
+    rw (drop-take, k, drop-drop) (take-take m (e - a - n) (drop (a + n) s) (omega arith))
+
+pub part-length : (s : List ℕ) (a e : ℕ) → e ≤ length s → length (part s a e) ≡ e - a
+part-length s a e h = length-take-le (e - a) (drop a s) (omega (arith, length-drop a s))
+
+pub trimmed-part : (s : List ℕ) (a e n m : ℕ) → Within s a e → TrimmedStart (part s a e) n → TrimmedEnd (part (part s a e) n (length (part s a e))) m
+    → Trimmed s a e (record { start = a + n; end = a + n + m })
+unfolding trim
+trimmed-part s a e n m w p q =
+    let l : length (part s a e) ≡ e - a = part-length s a e (w .fits) in
+    let r : part (part s a e) n (length (part s a e)) ≡ drop n (part s a e) = part-from (part s a e) n in
+    let f : n + m ≤ e - a = omega (arith, l, p .fits, q .fits, ap length r, length-drop n (part s a e)) in
+    let t : take m (part (part s a e) n (length (part s a e))) ≡ part s (a + n) (a + n + m) = ap (take m) r ∙ part-part s a e n m f in
+    record {
+      after = omega arith;
+      order = omega arith;
+      fits = omega (arith, w .order);
+      well = subst WellFormed t (q .well);
+      text = ap decode (sym t) ∙ q .text ∙ ap (λ (x : List ℕ). trimEnd (decode x)) r ∙ ap trimEnd (p .text);
+    }

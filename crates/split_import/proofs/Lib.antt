@@ -1,0 +1,3 @@
+-- The laws that this crate's proofs share.
+pub mod NameLaws
+pub mod ImportLaws

@@ -1,0 +1,513 @@
+-- Laws of the names of an import.
+use Prim.Native.Nat.{ℕ, zero, suc, _+_, _-_, _*_, _^_, _≤_, _<_, zero-le}
+use mathlib.Core.Bool.{Bool, true, false, not, _&&_}
+use mathlib.Core.List.{List, [], _∷_, _++_, map, map-append, foldl, reverse, reverse-cons, append-nil, append-assoc}
+use mathlib.Core.Path.{_≡_, refl, sym, ap, _∙_, subst}
+use native.Mathlib.Numerals.{add-one}
+use native.Mathlib.Omega.{arith}
+use lib.Dec.{eqb, leb, ltb}
+use lib.ListN.{length, getD, take, drop, length-append, length-drop, drop-of-length-le}
+use lib.Seq.{drop-cons, drop-drop, take-suc, take-all}
+use borrow.Author.Tests.{eq-eqb, ne-eqb, le-leb, lt-leb, leb-true, leb-false, le-ltb, lt-ltb}
+use Rattle.buffer.specs.Buffer.{part, Appended}
+use Rattle.buffer.specs.Repeat.{times}
+use Rattle.buffer.proofs.RegionLaws.{part-from}
+use Rattle.buffer.proofs.WriteLaws.{appended-nil, appended-append}
+use Rattle.unicode.specs.Unicode.{encode, decode, Scalars, WellFormed, trim}
+use Rattle.unicode.proofs.Tests.{by-test}
+use Rattle.unicode.proofs.Decode.{encode-nil, encode-append, encode-ascii, decode-ascii, decode-scalars, wf-ascii}
+use Rattle.rules.specs.Basics.{choose, isEmpty, Pieces, pieces, atSep, splitOn, is, codes}
+use Rattle.rules.specs.Options.{Options, indentOf, measure, overWide}
+use Rattle.rules.specs.SplitImport.{consName, namesOf, blanksOf, withComma, addName, fillNames}
+use Rattle.rules.proofs.Choose.{choose-true, choose-false}
+use Rattle.rules.proofs.WordsBytes.{pieces-encode}
+use Rattle.unicode.specs.declared.Utf16Column.{Utf16Column}
+use Rattle.split.specs.declared.Part.{Part}
+use Rattle.split.specs.Measure.{Measurable, Measured, Indent, IndentMeasured, Within, Trimmed}
+use Rattle.split.specs.Text.{indented, lay, AllWell, following, lineRoom}
+use Rattle.split.proofs.MeasureLaws.{measure-append, part-length, ascii-times, blank-all-ascii}
+use Rattle.split.proofs.TextLaws.{AllScalars, all-well, all-decode, following-append, indent-short}
+use Rattle.split_import.specs.declared.Names.{Names}
+use Rattle.split_import.specs.declared.Filled.{Filled}
+use Rattle.split_import.specs.Names.{left, NameLen, parts, Countable, Counted, Place, Named, NameMeasured, reached, Column, NameFits, namesText, OnNewLine, addIf, AddedTo, Added, NamesFit, NamesWritten}
+
+-- ---- pieces between commas
+
+left-some : (s : List ℕ) (a : ℕ) → a ≤ length s → left s a ≡ pieces (splitOn "," (drop a s))
+unfolding left
+left-some s a h = choose-true _ _ _ (le-leb a (length s) h)
+
+left-none : (s : List ℕ) (a : ℕ) → length s < a → left s a ≡ []
+unfolding left
+left-none s a h = choose-false _ _ _ (lt-leb a (length s) h)
+
+left-drop : (s : List ℕ) (a n : ℕ) → a ≤ length s → left (drop a s) (n + 1) ≡ left s (a + n + 1)
+left-drop s a n h =
+    let l = length-drop a s in
+    let e : a + (n + 1) ≡ a + n + 1 = omega arith in
+    by-test (leb (a + n + 1) (length s))
+    (λ t. let k : a + n + 1 ≤ length s = leb-true _ _ t in left-some (drop a s) (n + 1) (omega arith) ∙ rw (drop-drop (n + 1) a s, e) (sym (left-some s (a + n + 1) k)))
+    (λ t. let k : length s < a + n + 1 = leb-false _ _ t in left-none (drop a s) (n + 1) (omega arith) ∙ sym (left-none s (a + n + 1) k))
+
+-- the piece at a, as a call with `&s[a..]` finds its length
+pub left-cons : (s : List ℕ) (a n : ℕ) → a ≤ length s → NameLen (take (length s - a) (drop a s)) n → left s a ≡ part s a (a + n) ∷ left s (a + n + 1)
+left-cons s a n h q =
+    let p : take (length s - a) (drop a s) ≡ drop a s = part-from s a in
+    let m : a + n - a ≡ n = omega arith in
+    let e : pieces (splitOn "," (drop a s)) ≡ take n (drop a s) ∷ left (drop a s) (n + 1) = rw p at (q .is) in
+    left-some s a h ∙ e ∙ rw (left-drop s a n h, m)
+
+pub name-fits : (s : List ℕ) (a n : ℕ) → a ≤ length s → NameLen (take (length s - a) (drop a s)) n → a + n ≤ length s
+name-fits s a n h q = omega (arith, q .fits, ap length (part-from s a), length-drop a s)
+
+-- ---- the first piece: no comma stands before i
+
+pub record NameScan (s : List ℕ) (i : ℕ) : Type 0 where
+  pub within : i ≤ length s
+  pub first : splitOn "," s .first ≡ take i s ++ splitOn "," (drop i s) .first
+  pub rest : splitOn "," s .rest ≡ splitOn "," (drop i s) .rest
+
+split-cons : (s : List ℕ) (i : ℕ) → i < length s → splitOn "," (drop i s) ≡ atSep (is "," (getD s i 0)) (getD s i 0) (splitOn "," (drop (i + 1) s))
+unfolding splitOn
+split-cons s i h = rw (add-one, drop-cons s i 0)
+
+pub name-begin : (s : List ℕ) → NameScan s 0
+name-begin s = record { within = zero-le; first = refl; rest = refl }
+
+module _ (s : List ℕ) (i : ℕ) (q : NameScan s i) where
+  pub name-more : i < length s → (getD s i 0 ≡ 44 → ⊥) → NameScan s (i + 1)
+  unfolding atSep
+  name-more h n =
+      let e : splitOn "," (drop i s) ≡ atSep false (getD s i 0) (splitOn "," (drop (i + 1) s)) = rw (ne-eqb (getD s i 0) 44 n) at (split-cons s i h) in
+      record {
+        within = omega arith;
+        first = q .first ∙ ap (λ (p : Pieces). take i s ++ p .first) e ∙ rw (add-one i, take-suc s i 0 h, append-assoc);
+        rest = q .rest ∙ ap (λ (p : Pieces). p .rest) e;
+      }
+
+  pub name-found : i < length s → getD s i 0 ≡ 44 → NameLen s i
+  unfolding atSep
+  name-found h n =
+      let e : splitOn "," (drop i s) ≡ atSep true (getD s i 0) (splitOn "," (drop (i + 1) s)) = rw (eq-eqb (getD s i 0) 44 n) at (split-cons s i h) in
+      let f : splitOn "," s .first ≡ take i s = q .first ∙ ap (λ (p : Pieces). take i s ++ p .first) e ∙ append-nil (take i s) in
+      let r : splitOn "," s .rest ≡ pieces (splitOn "," (drop (i + 1) s)) = q .rest ∙ ap (λ (p : Pieces). p .rest) e in
+      record { fits = q .within; is = rw (f, r, left-some s (i + 1) (omega arith)) }
+
+  pub name-end : length s ≤ i → NameLen s i
+  unfolding splitOn
+  name-end h =
+      let d : drop i s ≡ [] = drop-of-length-le s {i = i} h in
+      let f : splitOn "," s .first ≡ take i s = q .first ∙ rw (d, append-nil) in
+      let r : splitOn "," s .rest ≡ [] = q .rest ∙ rw d in
+      record { fits = q .within; is = rw (f, r, left-none s (i + 1) (omega arith)) }
+
+-- ---- the pieces' characters
+
+split-scalars : (l : List ℕ) → Scalars l → AllScalars (pieces (splitOn "," l))
+unfolding splitOn atSep
+split-scalars [] s = (tt, tt)
+split-scalars (c ∷ cs) s = go (is "," c) (split-scalars cs (s .1))
+  where
+    go : (t : Bool) → AllScalars (pieces (splitOn "," cs)) → AllScalars (pieces (atSep t c (splitOn "," cs)))
+    go true q = (tt, q)
+    go false q = ((s .0, q .0), q .1)
+
+pub record AllPieces (s : List ℕ) : Type 0 where
+  pub well : AllWell (left s 0)
+  pub chars : map decode (left s 0) ≡ parts s
+
+pub all-pieces : (s : List ℕ) → WellFormed s → AllPieces s
+all-pieces s w =
+    let e : left s 0 ≡ map encode (parts s) = left-some s 0 zero-le ∙ ap (λ (l : List ℕ). pieces (splitOn "," l)) (sym w) ∙ pieces-encode "," refl (decode s) in
+    let z : AllScalars (parts s) = split-scalars (decode s) (decode-scalars s) in
+    record { well = rw e (all-well (parts s) z); chars = ap (map decode) e ∙ all-decode (parts s) z }
+
+-- ---- a name, or a blank piece
+
+none-decoded : (s : List ℕ) → length s ≡ 0 → decode s ≡ []
+none-decoded [] h = decode-ascii [] tt
+none-decoded (b ∷ s) h = absurd (omega arith)
+
+some-decoded : (s : List ℕ) → WellFormed s → 0 < length s → 0 < length (decode s)
+some-decoded s w h = go (decode s) w
+  where
+    go : (l : List ℕ) → encode l ≡ s → 0 < length l
+    go [] e = absurd (omega (arith, ap length (sym encode-nil ∙ e)))
+    go (c ∷ l) e = omega arith
+
+module _ (s : List ℕ) (a e : ℕ) (p : Part) (u : Trimmed s a e p) (h : e ≤ length s) where
+  long : length (part s (p .start) (p .end)) ≡ p .end - p .start
+  long = part-length s (p .start) (p .end) (omega (arith, u .fits))
+
+  pub blank-piece : p .start ≡ p .end → trim (decode (part s a e)) ≡ []
+  blank-piece z = sym (u .text) ∙ none-decoded (part s (p .start) (p .end)) (omega (arith, long))
+
+  pub name-piece : (p .start ≡ p .end → ⊥) → 0 < length (trim (decode (part s a e)))
+  name-piece z = subst (λ (l : List ℕ). 0 < length l) (u .text) (some-decoded (part s (p .start) (p .end)) (u .well) (omega (arith, long, u .order)))
+
+cons-none : (n : List ℕ) (ns : List (List ℕ)) → n ≡ [] → consName n ns ≡ ns
+unfolding consName
+cons-none n ns e = rw e
+
+cons-some : (n : List ℕ) (ns : List (List ℕ)) → 0 < length n → consName n ns ≡ n ∷ ns
+unfolding consName
+cons-some [] ns h = absurd (omega arith)
+cons-some (c ∷ cs) ns h = refl
+
+names-cons : (d : List ℕ) (ds : List (List ℕ)) → namesOf (d ∷ ds) ≡ consName (trim d) (namesOf ds)
+unfolding namesOf
+names-cons d ds = refl
+
+blanks-none : (d : List ℕ) (ds : List (List ℕ)) → trim d ≡ [] → blanksOf (d ∷ ds) ≡ 1 + blanksOf ds
+unfolding blanksOf choose
+blanks-none d ds e = rw e
+
+blanks-some : (d : List ℕ) (ds : List (List ℕ)) → 0 < length (trim d) → blanksOf (d ∷ ds) ≡ blanksOf ds
+unfolding blanksOf choose
+blanks-some d ds h = go (trim d) h
+  where
+    go : (l : List ℕ) → 0 < length l → choose (isEmpty l) 1 0 + blanksOf ds ≡ blanksOf ds
+    go [] h = absurd (omega arith)
+    go (c ∷ cs) h = omega arith
+
+-- ---- counting: the pieces before a are counted
+
+pub record Counting (s : List ℕ) (names blanks a : ℕ) : Type 0 where
+  pub pre : Countable s
+  pub within : a ≤ length s + 1
+  pub well : AllWell (left s a)
+  pub named : length (namesOf (parts s)) ≡ names + length (namesOf (map decode (left s a)))
+  pub blank : blanksOf (parts s) ≡ blanks + blanksOf (map decode (left s a))
+  pub few : names ≤ a
+  pub fewer : blanks ≤ a
+
+pub counting-start : (s : List ℕ) → Countable s → Counting s 0 0 0
+counting-start s c =
+    let q : AllPieces s = all-pieces s (c .well) in
+    record {
+      pre = c;
+      within = zero-le;
+      well = q .well;
+      named = rw (← (q .chars)) (omega arith);
+      blank = rw (← (q .chars)) (omega arith);
+      few = zero-le;
+      fewer = zero-le;
+    }
+
+-- the piece at a is well-formed
+pub piece-within : (s : List ℕ) (a n : ℕ) → AllWell (left s a) → a ≤ length s → NameLen (take (length s - a) (drop a s)) n → Within s a (a + n)
+piece-within s a n w h q =
+    let v : AllWell (part s a (a + n) ∷ left s (a + n + 1)) = subst AllWell (left-cons s a n h q) w in
+    record { order = omega arith; fits = name-fits s a n h q; well = v .0 }
+
+module _ (s : List ℕ) (names blanks a : ℕ) (q : Counting s names blanks a) (n : ℕ) (h : a ≤ length s) (l : NameLen (take (length s - a) (drop a s)) n) where
+  cons : left s a ≡ part s a (a + n) ∷ left s (a + n + 1)
+  cons = left-cons s a n h l
+
+  well-left : AllWell (part s a (a + n) ∷ left s (a + n + 1))
+  well-left = subst AllWell cons (q .well)
+
+  abbrev chars : List ℕ
+  chars = decode (part s a (a + n))
+
+  abbrev later : List (List ℕ)
+  later = map decode (left s (a + n + 1))
+
+  module _ (p : Part) (u : Trimmed s a (a + n) p) where
+    pub counting-blank : p .start ≡ p .end → Counting s names (blanks + 1) (a + n + 1)
+    counting-blank z =
+        let t : trim chars ≡ [] = blank-piece s a (a + n) p u (name-fits s a n h l) z in
+        record {
+          pre = q .pre;
+          within = omega (arith, name-fits s a n h l);
+          well = well-left .1;
+          named = q .named ∙ ap (λ (ps : List (List ℕ)). names + length (namesOf (map decode ps))) cons ∙ rw (names-cons chars later, cons-none (trim chars) (namesOf later) t);
+          blank = q .blank ∙ ap (λ (ps : List (List ℕ)). blanks + blanksOf (map decode ps)) cons ∙ rw (blanks-none chars later t) (omega arith);
+          few = omega (arith, q .few);
+          fewer = omega (arith, q .fewer);
+        }
+
+    pub counting-name : (p .start ≡ p .end → ⊥) → Counting s (names + 1) blanks (a + n + 1)
+    counting-name z =
+        let t : 0 < length (trim chars) = name-piece s a (a + n) p u (name-fits s a n h l) z in
+        record {
+          pre = q .pre;
+          within = omega (arith, name-fits s a n h l);
+          well = well-left .1;
+          named = q .named ∙ ap (λ (ps : List (List ℕ)). names + length (namesOf (map decode ps))) cons ∙ rw (names-cons chars later, cons-some (trim chars) (namesOf later) t) (omega arith);
+          blank = q .blank ∙ ap (λ (ps : List (List ℕ)). blanks + blanksOf (map decode ps)) cons ∙ rw (blanks-some chars later t);
+          few = omega (arith, q .few);
+          fewer = omega (arith, q .fewer);
+        }
+
+pub counting-end : (s : List ℕ) (names blanks a : ℕ) → Counting s names blanks a → length s < a → Counted s (record { names = names; blanks = blanks })
+unfolding namesOf blanksOf
+counting-end s names blanks a q h =
+    let e : left s a ≡ [] = left-none s a h in
+    record { names = sym (q .named ∙ rw e (omega arith)); blanks = sym (q .blank ∙ rw e (omega arith)) }
+
+-- ---- a name on a line
+
+-- one byte, which is a character
+pub one-measurable : (from b : ℕ) → b < 0x80 → from + 2 < 2 ^ 64 → Measurable from (b ∷ [])
+one-measurable from b h k = record { well = wf-ascii (b ∷ []) (h, tt); fits = omega arith }
+
+one-measured : (o : Options) (from b n : ℕ) → b < 0x80 → Measured from (b ∷ []) n → n ≡ measure o from (b ∷ [])
+one-measured o from b n h m = m .is o ∙ rw (decode-ascii (b ∷ []) (h, tt))
+
+pub name-measured : (from : ℕ) (name : List ℕ) (m n : ℕ) → Measured from name m → Measured m (44 ∷ []) n → NameMeasured from name n
+name-measured from name m n p q =
+    record {
+      is = λ o. one-measured o m 44 n (omega arith) q ∙ ap (λ (k : ℕ). measure o k (44 ∷ [])) (p .is o) ∙ sym (measure-append o from (decode name) (44 ∷ []));
+      small = omega (arith, p .small, q .small);
+    }
+
+pub put-name : (name : List ℕ) {x y z u : List ℕ} {at n m r : ℕ} → Appended x y at (32 ∷ []) n → Appended y z n name m → Appended z u m (44 ∷ []) r
+    → Appended x u at (32 ∷ (name ++ 44 ∷ [])) r
+put-name name a b c = appended-append (appended-append a b) c
+
+pub put-line : (eol indent : List ℕ) (level : ℕ) (name : List ℕ) {x y z u : List ℕ} {at n m r : ℕ} → Appended x y at eol n → Appended y z n (times level indent ++ name) m → Appended z u m (44 ∷ []) r
+    → Appended x u at (eol ++ lay indent level (name ++ 44 ∷ [])) r
+put-line eol indent level name a b c =
+    rw (← (append-assoc (times level indent) name (44 ∷ [])), ← (append-assoc eol (times level indent ++ name) (44 ∷ []))) (appended-append (appended-append a b) c)
+
+pub line-room : {eol indent : List ℕ} {level : ℕ} {name : List ℕ} {at : ℕ} (q : Place eol indent level name at) {x y : List ℕ} {n : ℕ} → Appended x y at eol n
+    → n + (length (times level indent) + length name) < 2 ^ 64
+line-room {indent = indent} {level = level} q a = omega (arith, a .next, q .end, q .room, indent-short indent level (q .indents))
+
+pub comma-room : {eol indent : List ℕ} {level : ℕ} {name : List ℕ} {at : ℕ} (q : Place eol indent level name at) {x y z : List ℕ} {n m : ℕ} → Appended x y at eol n → Appended y z n (times level indent ++ name) m
+    → m + 1 < 2 ^ 64
+comma-room {indent = indent} {level = level} {name = name} q a b =
+    omega (arith, a .next, b .next, q .end, q .room, indent-short indent level (q .indents), length-append (times level indent) name)
+
+pub on-new-line : (indent : List ℕ) (level : ℕ) (eol name out out′ : List ℕ) (f : Filled) (c : ℕ) (col : Utf16Column) (at : ℕ) → IndentMeasured indent level c → NameMeasured c name (col .0)
+    → Appended out out′ (f .at) (eol ++ lay indent level (name ++ 44 ∷ [])) at → OnNewLine indent level eol name out out′ f (record { at = at; column = col; some = true })
+unfolding indentOf
+on-new-line indent level eol name out out′ f c col at p q a =
+    record {
+      text = a;
+      column = λ o e.
+          q .is o ∙ ap (λ (k : ℕ). measure o k (withComma (decode name))) (p .is o e)
+          ∙ ap (λ (i : List ℕ). measure o (measure o 0 (times level i)) (withComma (decode name))) e ∙ sym (measure-append o 0 (times level indent) (withComma (decode name)));
+      small = omega (arith, p .small, q .small);
+      some = refl;
+    }
+
+-- the text of one line more
+text-cons : (eol l : List ℕ) (ls : List (List ℕ)) → namesText eol (l ∷ ls) ≡ namesText eol ls ++ (eol ++ encode l)
+unfolding following
+text-cons eol l ls =
+    ap (λ (x : List (List ℕ)). following eol (map encode x)) (reverse-cons l ls) ∙ ap (following eol) (map-append encode (reverse ls) (l ∷ []))
+    ∙ following-append eol (map encode (reverse ls)) (encode l ∷ []) ∙ rw (append-nil (eol ++ encode l))
+
+-- a name and its comma in bytes
+name-bytes : (name : List ℕ) → WellFormed name → encode (withComma (decode name)) ≡ name ++ 44 ∷ []
+name-bytes name w = encode-append (decode name) (44 ∷ []) ∙ rw (w, encode-ascii (44 ∷ []) (omega arith, tt))
+
+line-bytes : (indent : List ℕ) (level : ℕ) (name : List ℕ) → Indent indent level → WellFormed name → encode (times level indent ++ withComma (decode name)) ≡ lay indent level (name ++ 44 ∷ [])
+line-bytes indent level name p w =
+    encode-append (times level indent) (withComma (decode name)) ∙ rw (name-bytes name w, encode-ascii (times level indent) (ascii-times level indent (blank-all-ascii indent (p .blank))))
+
+-- the text of a line that grows by a name
+grown-line : (eol cur name : List ℕ) (done : List (List ℕ)) → WellFormed name
+    → namesText eol done ++ (eol ++ encode (cur ++ (codes " " ++ withComma (decode name)))) ≡ namesText eol (cur ∷ done) ++ (32 ∷ (name ++ 44 ∷ []))
+grown-line eol cur name done w =
+    let x : encode (codes " " ++ withComma (decode name)) ≡ 32 ∷ (name ++ 44 ∷ []) = encode-append (codes " ") (withComma (decode name)) ∙ rw (name-bytes name w, encode-ascii (codes " ") (omega arith, tt)) in
+    rw (encode-append cur (codes " " ++ withComma (decode name)), x, text-cons eol cur done, append-assoc (namesText eol done) (eol ++ encode cur) (32 ∷ (name ++ 44 ∷ [])), append-assoc eol (encode cur) (32 ∷ (name ++ 44 ∷ [])))
+
+if-some : (o : Options) (max : ℕ) (cont : List ℕ) (lines : List (List ℕ)) (name : List ℕ) → 0 < length name → addIf o max cont lines name ≡ addName o max cont lines name
+if-some o max cont lines [] h = absurd (omega arith)
+if-some o max cont lines (c ∷ cs) h = refl
+
+-- what a part measures doesn't depend on the options
+measure-any : (o p : Options) (from : ℕ) (l : List ℕ) → measure o from l ≡ measure p from l
+unfolding measure
+measure-any o p from l = refl
+
+module _ (indent : List ℕ) (level : ℕ) (eol : List ℕ) (max : ℕ) (name out : List ℕ) (f : Filled) where
+  abbrev opts : Options
+  opts = indented indent
+
+  abbrev cont : List ℕ
+  cont = times level indent
+
+  pub add-none : length name ≡ 0 → Added indent level eol max name out out f f
+  add-none z =
+      record {
+        to = λ lines c.
+            subst (λ (l : List ℕ). AddedTo lines (addIf opts max cont lines l) eol out out f f) (sym (none-decoded name z))
+            (record { column = c; grown = []; text = appended-nil out (f .at); grows = sym (append-nil (namesText eol lines)) });
+        small = λ n h k. omega arith;
+        room = omega arith;
+      }
+
+  module _ (fits : NameFits indent level eol name f) (z : length name ≡ 0 → ⊥) where
+    abbrev newLine : List ℕ
+    newLine = cont ++ withComma (decode name)
+
+    named : (lines : List (List ℕ)) → addIf opts max cont lines (decode name) ≡ addName opts max cont lines (decode name)
+    named lines = if-some opts max cont lines (decode name) (some-decoded name (fits .well) (omega arith))
+
+    added-line : (lines : List (List ℕ)) (out′ : List ℕ) (r : Filled) → OnNewLine indent level eol name out out′ f r → AddedTo lines (newLine ∷ lines) eol out out′ f r
+    added-line lines out′ r q =
+        record {
+          column = record { some = q .some; at = λ o. q .column opts refl ∙ measure-any opts o 0 newLine };
+          grown = eol ++ lay indent level (name ++ 44 ∷ []);
+          text = q .text;
+          grows = text-cons eol newLine lines ∙ rw (line-bytes indent level name (fits .indents) (fits .well));
+        }
+
+    abbrev Result : List ℕ → Filled → Type 0
+    Result out′ r = Added indent level eol max name out out′ f r
+
+    line-small : (out′ : List ℕ) (r : Filled) → OnNewLine indent level eol name out out′ f r → (n : ℕ) → 67108928 ≤ n → f .column .0 ≤ n → r .column .0 ≤ n + 2 * length name + 4
+    line-small out′ r q n h k = omega (arith, q .small)
+
+    line-at : (out′ : List ℕ) (r : Filled) → OnNewLine indent level eol name out out′ f r → r .at ≤ f .at + (67108931 + length name)
+    line-at out′ r q =
+        omega (arith, q .text .next, length-append eol (lay indent level (name ++ 44 ∷ [])), length-append cont (name ++ 44 ∷ []), length-append name (44 ∷ []), indent-short indent level (fits .indents), fits .end)
+
+    -- the first line
+    pub add-first : (out′ : List ℕ) (r : Filled) → f .some ≡ false → OnNewLine indent level eol name out out′ f r → Result out′ r
+    unfolding addName
+    add-first out′ r e q =
+        record {
+          to = λ lines c. subst (λ (ls : List (List ℕ)). AddedTo lines ls eol out out′ f r) (sym (named lines)) (go lines c);
+          small = line-small out′ r q;
+          room = line-at out′ r q;
+        }
+      where
+        go : (lines : List (List ℕ)) → Column lines f → AddedTo lines (addName opts max cont lines (decode name)) eol out out′ f r
+        go [] c = added-line [] out′ r q
+        go (cur ∷ done) c = absurd (let y : _≡_ {A = ℕ} 0 1 = cc (c .some, e) in omega arith)
+
+    module _ (b n : ℕ) (e : f .some ≡ true) (p : Measured (f .column .0) (32 ∷ []) b) (q : NameMeasured b name n) where
+      abbrev joinedLine : List ℕ → List ℕ
+      joinedLine cur = cur ++ (codes " " ++ withComma (decode name))
+
+      -- the column that the newest line would reach
+      column-of : (cur : List ℕ) (done : List (List ℕ)) → Column (cur ∷ done) f → (o : Options) → n ≡ measure o 0 (joinedLine cur)
+      column-of cur done c o =
+          q .is o ∙ ap (λ (k : ℕ). measure o k (withComma (decode name))) (one-measured o (f .column .0) 32 b (omega arith) p ∙ ap (λ (k : ℕ). measure o k (32 ∷ [])) (c .at o))
+          ∙ sym (measure-append o 0 cur (codes " " ++ withComma (decode name)) ∙ measure-append o (measure o 0 cur) (codes " ") (withComma (decode name)))
+
+      pub add-wide : (out′ : List ℕ) (r : Filled) → max < n → OnNewLine indent level eol name out out′ f r → Result out′ r
+      unfolding addName overWide
+      add-wide out′ r h l =
+          record {
+            to = λ lines c. subst (λ (ls : List (List ℕ)). AddedTo lines ls eol out out′ f r) (sym (named lines)) (go lines c);
+            small = line-small out′ r l;
+            room = line-at out′ r l;
+          }
+        where
+          go : (lines : List (List ℕ)) → Column lines f → AddedTo lines (addName opts max cont lines (decode name)) eol out out′ f r
+          go [] c = absurd (let y : _≡_ {A = ℕ} 0 1 = cc (c .some, e) in omega arith)
+          go (cur ∷ done) c =
+              rw (choose-true (ltb max (measure opts 0 (joinedLine cur))) (newLine ∷ cur ∷ done) (joinedLine cur ∷ done) (rw (← (column-of cur done c opts)) (lt-ltb max n h)))
+              (added-line (cur ∷ done) out′ r l)
+
+      pub add-here : (out′ : List ℕ) (col : Utf16Column) (at : ℕ) → col .0 ≡ n → n ≤ max → Appended out out′ (f .at) (32 ∷ (name ++ 44 ∷ [])) at → Result out′ (record { at = at; column = col; some = true })
+      unfolding addName overWide
+      add-here out′ col at k h a =
+          record {
+            to = λ lines c. subst (λ (ls : List (List ℕ)). AddedTo lines ls eol out out′ f (record { at = at; column = col; some = true })) (sym (named lines)) (go lines c);
+            small = λ m i j. omega (arith, q .small, p .small);
+            room = omega (arith, a .next, length-append name (44 ∷ []));
+          }
+        where
+          go : (lines : List (List ℕ)) → Column lines f → AddedTo lines (addName opts max cont lines (decode name)) eol out out′ f (record { at = at; column = col; some = true })
+          go [] c = absurd (let y : _≡_ {A = ℕ} 0 1 = cc (c .some, e) in omega arith)
+          go (cur ∷ done) c =
+              rw (choose-false (ltb max (measure opts 0 (joinedLine cur))) (newLine ∷ cur ∷ done) (joinedLine cur ∷ done) (rw (← (column-of cur done c opts)) (le-ltb max n h)))
+              (record {
+                column = record { some = refl; at = λ o. k ∙ column-of cur done c o };
+                grown = 32 ∷ (name ++ 44 ∷ []);
+                text = a;
+                grows = text-cons eol (joinedLine cur) done ∙ grown-line eol cur name done (fits .well);
+              })
+
+-- ---- the lines of names: the pieces before a are on them
+
+pub record Filling (s indent : List ℕ) (level : ℕ) (eol : List ℕ) (max : ℕ) (out₀ : List ℕ) (at : ℕ) (out : List ℕ) (f : Filled) (a : ℕ) : Type 0 where
+  pub pre : NamesFit s indent level eol at
+  pub within : a ≤ length s + 1
+  pub well : AllWell (left s a)
+  pub lines : List (List ℕ)
+  pub fill : fillNames (indented indent) max (times level indent) (namesOf (parts s)) ≡ foldl (addName (indented indent) max (times level indent)) lines (namesOf (map decode (left s a)))
+  pub column : Column lines f
+  pub text : Appended out₀ out at (namesText eol lines) (f .at)
+  pub narrow : f .column .0 ≤ 67108928 + 4 * a
+  pub room : f .at ≤ at + a * lineRoom
+  pub as-long : length out ≡ length out₀
+
+pub filling-start : (s indent : List ℕ) (level : ℕ) (eol : List ℕ) (max : ℕ) (out : List ℕ) (at : ℕ) (col : Utf16Column) → NamesFit s indent level eol at → col .0 ≡ 0
+    → Filling s indent level eol max out at out (record { at = at; column = col; some = false }) 0
+unfolding fillNames following
+filling-start s indent level eol max out at col p z =
+    let q : AllPieces s = all-pieces s (p .well) in
+    record {
+      pre = p;
+      within = zero-le;
+      well = q .well;
+      lines = [];
+      fill = rw (← (q .chars));
+      column = record { some = refl; at = tt };
+      text = appended-nil out at;
+      narrow = omega arith;
+      room = omega arith;
+      as-long = refl;
+    }
+
+-- one name more, if the piece is not blank
+fold-cons : (o : Options) (max : ℕ) (cont : List ℕ) (lines : List (List ℕ)) (n : List ℕ) (ns : List (List ℕ))
+    → foldl (addName o max cont) lines (consName n ns) ≡ foldl (addName o max cont) (addIf o max cont lines n) ns
+unfolding consName
+fold-cons o max cont lines [] ns = refl
+fold-cons o max cont lines (c ∷ cs) ns = refl
+
+module _ (s indent : List ℕ) (level : ℕ) (eol : List ℕ) (max : ℕ) (out₀ : List ℕ) (at : ℕ) (out : List ℕ) (f : Filled) (a : ℕ) (q : Filling s indent level eol max out₀ at out f a)
+    (n : ℕ) (h : a ≤ length s) (l : NameLen (take (length s - a) (drop a s)) n) (p : Part) (u : Trimmed s a (a + n) p) where
+  abbrev name : List ℕ
+  name = part s (p .start) (p .end)
+
+  name-long : length name ≤ n
+  name-long = omega (arith, part-length s (p .start) (p .end) (omega (arith, u .fits, name-fits s a n h l)), u .after, u .fits)
+
+  pub filling-room : NameFits indent level eol name f
+  filling-room =
+      record {
+        indents = q .pre .indents;
+        end = q .pre .end;
+        well = u .well;
+        short = omega (arith, name-long, name-fits s a n h l, q .pre .short);
+        narrow = omega (arith, q .narrow, q .within, q .pre .short);
+        room = omega (arith, q .room, q .pre .room, name-long, name-fits s a n h l, q .pre .short);
+      }
+
+  pub filling-more : (out′ : List ℕ) (r : Filled) → Added indent level eol max name out out′ f r → length out′ ≡ length out → Filling s indent level eol max out₀ at out′ r (a + n + 1)
+  filling-more out′ r g k =
+      let cons : left s a ≡ part s a (a + n) ∷ left s (a + n + 1) = left-cons s a n h l in
+      let w : AllWell (part s a (a + n) ∷ left s (a + n + 1)) = subst AllWell cons (q .well) in
+      let to = g .to (q .lines) (q .column) in
+      record {
+        pre = q .pre;
+        within = omega (arith, name-fits s a n h l);
+        well = w .1;
+        lines = addIf (indented indent) max (times level indent) (q .lines) (decode name);
+        fill =
+            q .fill ∙ ap (λ (ps : List (List ℕ)). foldl (addName (indented indent) max (times level indent)) (q .lines) (namesOf (map decode ps))) cons
+            ∙ rw (names-cons (decode (part s a (a + n))) (map decode (left s (a + n + 1))), ← (u .text))
+            (fold-cons (indented indent) max (times level indent) (q .lines) (decode name) (namesOf (map decode (left s (a + n + 1)))));
+        column = to .column;
+        text = rw (to .grows) (appended-append (q .text) (to .text));
+        narrow = omega (arith, g .small (67108928 + 4 * a) (omega arith) (q .narrow), name-long);
+        room = omega (arith, g .room, q .room, name-long);
+        as-long = k ∙ q .as-long;
+      }
+
+pub filling-end : (s indent : List ℕ) (level : ℕ) (eol : List ℕ) (max : ℕ) (out₀ : List ℕ) (at : ℕ) (out : List ℕ) (f : Filled) (a : ℕ) → Filling s indent level eol max out₀ at out f a → length s < a
+    → NamesWritten s indent level eol max out₀ out at (f .at)
+unfolding namesOf
+filling-end s indent level eol max out₀ at out f a q h =
+    let e : fillNames (indented indent) max (times level indent) (namesOf (parts s)) ≡ q .lines = q .fill ∙ rw (left-none s a h) in
+    record { text = rw e (q .text); room = omega (arith, q .room, q .within) }

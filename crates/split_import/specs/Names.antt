@@ -1,0 +1,115 @@
+-- The names of an import, in bytes: pieces between commas, counted and filled into lines.
+use Prim.Native.Nat.{ℕ, _+_, _*_, _^_, _≤_, _<_}
+use mathlib.Core.Bool.{Bool, true, false, not, _&&_}
+use mathlib.Core.List.{List, [], _∷_, _++_, map, reverse}
+use mathlib.Core.Path.{_≡_}
+use lib.Dec.{eqb, leb}
+use lib.ListN.{length, take, drop}
+use Rattle.buffer.specs.Buffer.{Appended}
+use Rattle.buffer.specs.Repeat.{times}
+use Rattle.unicode.specs.Unicode.{encode, decode, WellFormed}
+use Rattle.rules.specs.Basics.{choose, isEmpty, pieces, splitOn}
+use Rattle.rules.specs.Options.{Options, measure}
+use Rattle.rules.specs.Scan.{Cell, isCode}
+use Rattle.rules.specs.SplitImport.{namesOf, blanksOf, withComma, addName, fillNames}
+use Rattle.split.specs.Measure.{Indent}
+use Rattle.split.specs.Text.{indented, lay, following, lineRoom}
+use Rattle.split_import.specs.declared.Names.{Names}
+use Rattle.split_import.specs.declared.Filled.{Filled}
+
+-- x is the code character c
+abbrev pub codeByte : ℕ → Cell → Bool
+codeByte c x = isCode (x .class) && eqb (x .ch) c
+
+-- ---- pieces between commas
+
+-- the pieces of s from a on; none past its end
+unfoldable pub left : List ℕ → ℕ → List (List ℕ)
+left s a = choose (leb a (length s)) (pieces (splitOn "," (drop a s))) []
+
+-- the first piece of s has r bytes
+pub record NameLen (s : List ℕ) (r : ℕ) : Type 0 where
+  pub fits : r ≤ length s
+  pub is : pieces (splitOn "," s) ≡ take r s ∷ left s (r + 1)
+
+-- the pieces' characters
+abbrev pub parts : List ℕ → List (List ℕ)
+parts s = pieces (splitOn "," (decode s))
+
+pub record Countable (s : List ℕ) : Type 0 where
+  pub well : WellFormed s
+  pub short : length s < 2 ^ 31
+
+pub record Counted (s : List ℕ) (r : Names) : Type 0 where
+  pub names : r .names ≡ length (namesOf (parts s))
+  pub blanks : r .blanks ≡ blanksOf (parts s)
+
+-- ---- lines of names
+
+pub record Place (eol indent : List ℕ) (level : ℕ) (name : List ℕ) (at : ℕ) : Type 0 where
+  pub indents : Indent indent level
+  pub end : length eol ≤ 2
+  pub room : at + (67108931 + length name) < 2 ^ 64
+
+pub record Named (from : ℕ) (name : List ℕ) : Type 0 where
+  pub well : WellFormed name
+  pub fits : from + 2 * length name + 2 < 2 ^ 64
+
+-- r is the column after a name and its comma
+pub record NameMeasured (from : ℕ) (name : List ℕ) (r : ℕ) : Type 0 where
+  pub is : (o : Options) → r ≡ measure o from (withComma (decode name))
+  pub small : r ≤ from + 2 * length name + 2
+
+-- what f says of the lines of names so far, the newest first
+abbrev pub reached : List (List ℕ) → ℕ → Type 0
+reached [] n = Unit {0}
+reached (cur ∷ done) n = (o : Options) → n ≡ measure o 0 cur
+
+pub record Column (lines : List (List ℕ)) (f : Filled) : Type 0 where
+  pub some : f .some ≡ not (isEmpty lines)
+  pub at : reached lines (f .column .0)
+
+pub record NameFits (indent : List ℕ) (level : ℕ) (eol name : List ℕ) (f : Filled) : Type 0 where
+  pub indents : Indent indent level
+  pub end : length eol ≤ 2
+  pub well : WellFormed name
+  pub short : length name < 2 ^ 31
+  pub narrow : f .column .0 < 2 ^ 40
+  pub room : f .at + (67108931 + length name) < 2 ^ 64
+
+-- the bytes of lines of names, the newest first, each after a line ending
+abbrev pub namesText : List ℕ → List (List ℕ) → List ℕ
+namesText eol lines = following eol (map encode (reverse lines))
+
+pub record OnNewLine (indent : List ℕ) (level : ℕ) (eol name out out′ : List ℕ) (f r : Filled) : Type 0 where
+  pub text : Appended out out′ (f .at) (eol ++ lay indent level (name ++ 44 ∷ [])) (r .at)
+  pub column : (o : Options) → o .indent ≡ indent → r .column .0 ≡ measure o 0 (times level indent ++ withComma (decode name))
+  pub small : r .column .0 ≤ 67108930 + 2 * length name
+  pub some : r .some ≡ true
+
+-- one more name, if it is not blank
+abbrev pub addIf : Options → ℕ → List ℕ → List (List ℕ) → List ℕ → List (List ℕ)
+addIf o max cont lines [] = lines
+addIf o max cont lines (c ∷ cs) = addName o max cont lines (c ∷ cs)
+
+pub record AddedTo (lines lines′ : List (List ℕ)) (eol out out′ : List ℕ) (f r : Filled) : Type 0 where
+  pub column : Column lines′ r
+  pub grown : List ℕ
+  pub text : Appended out out′ (f .at) grown (r .at)
+  pub grows : namesText eol lines′ ≡ namesText eol lines ++ grown
+
+pub record Added (indent : List ℕ) (level : ℕ) (eol : List ℕ) (max : ℕ) (name out out′ : List ℕ) (f r : Filled) : Type 0 where
+  pub to : (lines : List (List ℕ)) → Column lines f → AddedTo lines (addIf (indented indent) max (times level indent) lines (decode name)) eol out out′ f r
+  pub small : (n : ℕ) → 67108928 ≤ n → f .column .0 ≤ n → r .column .0 ≤ n + 2 * length name + 4
+  pub room : r .at ≤ f .at + (67108931 + length name)
+
+pub record NamesFit (s indent : List ℕ) (level : ℕ) (eol : List ℕ) (at : ℕ) : Type 0 where
+  pub well : WellFormed s
+  pub short : length s < 2 ^ 31
+  pub indents : Indent indent level
+  pub end : length eol ≤ 2
+  pub room : at + (length s + 1) * lineRoom < 2 ^ 64
+
+pub record NamesWritten (s indent : List ℕ) (level : ℕ) (eol : List ℕ) (max : ℕ) (out out′ : List ℕ) (at r : ℕ) : Type 0 where
+  pub text : Appended out out′ at (namesText eol (fillNames (indented indent) max (times level indent) (namesOf (parts s)))) r
+  pub room : r ≤ at + (length s + 1) * lineRoom

@@ -1,0 +1,321 @@
+// split_import: the names of an over-wide import, refilled over lines.
+ghost use mathlib.Core.Path.{_≡_};
+ghost use mathlib.Core.Bool.{false, _&&_};
+ghost use mathlib.Core.List.{[], _∷_, _++_, reverse};
+ghost use Prim.Native.Nat.{ℕ, _+_, _≤_, _<_, _^_};
+ghost use lib.Dec.{eqb};
+ghost use lib.ListN.{length};
+ghost use Rattle.buffer.specs.Buffer.{Appended};
+ghost use Rattle.unicode.specs.Unicode.{decode};
+ghost use Rattle.rules.specs.Options.{Options};
+ghost use Rattle.rules.specs.Scan.{isCode, classify};
+ghost use Rattle.rules.specs.ClassBytes.{classOf};
+ghost use Rattle.rules.specs.SplitImport.{splitImport, startsImport};
+ghost use Rattle.rules.specs.declared.Carry.{Carry};
+ghost use Rattle.rules.proofs.CellsLaws.{Found};
+ghost use Rattle.split.specs.Text.{lay};
+ghost use Rattle.split_import.specs.Names.{codeByte, NameLen, Countable, Counted, Place, Named, NameMeasured, Column, NameFits, OnNewLine, Added, NamesFit, NamesWritten};
+ghost use Rattle.split_import.specs.Import.{HeadFits, HeadWritten, Braces, partsOf, Given, ImportFits};
+use split::indent_column;
+use split::is_ident;
+use split::measure_from;
+use split::starts_with;
+use split::trim_part;
+use split::write_line;
+use unicode::Utf16Column;
+
+// Whether the import is split; then the next place, the place where the last line starts, and how many blank names are dropped.
+pub struct ImportSplit {
+    pub split: bool,
+    pub next: usize,
+    pub last: usize,
+    pub blanks: usize,
+}
+
+// `import`, and no ASCII letter, digit or underscore is next.
+fn starts_import(line: &[u8]) -> bool
+    ensures { λ r. ⌜ r ≡ startsImport (now (line .entry)) ⌝ }
+{
+    if starts_with(line, b"import") {
+        if line.len() <= 6 {
+            return true;
+        }
+        if is_ident(line[6]) {
+            return false;
+        }
+        return true;
+    }
+    false
+}
+
+// Whether the byte b with the class byte k is the code character c.
+fn code_is(c: u8, b: u8, k: u8) -> bool
+    ensures { λ r. ⌜ r ≡ (isCode (classOf k) && eqb b c) ⌝ }
+{
+    if k == 0 {
+        return b == c;
+    }
+    false
+}
+
+// Where the first code character c stands, or the line's length.
+fn find_code(line: &[u8], class: &[u8], c: u8) -> usize
+    requires { ⌜ length (now line) ≤ length (now class) ⌝ }
+    ensures { λ r. ⌜ Found (codeByte c) (now (line .entry)) (now (class .entry)) r ⌝ }
+{
+    let mut i = 0;
+    while i < line.len() {
+        if code_is(c, line[i], class[i]) {
+            return i;
+        }
+        i += 1;
+    }
+    i
+}
+
+// How many bytes stand before the first comma.
+fn name_len(s: &[u8]) -> usize
+    ensures { λ r. ⌜ NameLen (now (s .entry)) r ⌝ }
+{
+    let mut i = 0;
+    while i < s.len() {
+        if s[i] == b',' {
+            return i;
+        }
+        i += 1;
+    }
+    i
+}
+
+// How many pieces are names, and how many are blank.
+pub struct Names {
+    pub names: usize,
+    pub blanks: usize,
+}
+
+fn count_names(s: &[u8]) -> Names
+    requires { ⌜ Countable (now s) ⌝ }
+    ensures { λ r. ⌜ Counted (now (s .entry)) r ⌝ }
+{
+    let mut names = 0;
+    let mut blanks = 0;
+    let mut a = 0;
+    while a <= s.len() {
+        let e = a + name_len(&s[a..]);
+        let p = trim_part(s, a, e);
+        a = e + 1;
+        if p.start == p.end {
+            blanks += 1;
+        } else {
+            names += 1;
+        }
+    }
+    Names { names, blanks }
+}
+
+// A name, and its comma, after others on its line.
+fn put_name(out: &mut [u8], at: usize, name: &[u8]) -> usize
+    requires { ⌜ at + (length (now name) + 2) < 2 ^ 64 ⌝ }
+    ensures { λ r. ⌜ Appended (now (out .entry)) (now (out .exit)) at (32 ∷ (now (name .entry) ++ 44 ∷ [])) r ⌝ }
+{
+    let n = buffer::append(out, at, b" ");
+    let m = buffer::append(out, n, name);
+    buffer::append(out, m, b",")
+}
+
+// A name, and its comma, on a line of its own.
+fn put_line(
+    out: &mut [u8],
+    at: usize,
+    eol: &[u8],
+    indent: &[u8],
+    level: usize,
+    name: &[u8],
+) -> usize
+    requires { ⌜ Place (now eol) (now indent) level (now name) at ⌝ }
+    ensures { λ r. ⌜ Appended (now (out .entry)) (now (out .exit)) at (now (eol .entry) ++ lay (now (indent .entry)) level (now (name .entry) ++ 44 ∷ [])) r ⌝ }
+{
+    let n = buffer::append(out, at, eol);
+    let m = buffer::append_indented(out, n, indent, level, name);
+    buffer::append(out, m, b",")
+}
+
+// The column after a name and its comma.
+fn name_column(from: Utf16Column, name: &[u8]) -> Utf16Column
+    requires { ⌜ Named (from .0) (now name) ⌝ }
+    ensures { λ r. ⌜ NameMeasured (from .0) (now (name .entry)) (r .0) ⌝ }
+{
+    measure_from(measure_from(from, name), b",")
+}
+
+// The lines of names so far: the place reached, the column reached on the newest of them, and whether there is one.
+pub struct Filled {
+    pub at: usize,
+    pub column: Utf16Column,
+    pub some: bool,
+}
+
+fn new_line(
+    out: &mut [u8],
+    f: Filled,
+    indent: &[u8],
+    level: usize,
+    eol: &[u8],
+    name: &[u8],
+) -> Filled
+    requires { ⌜ NameFits (now indent) level (now eol) (now name) f ⌝ }
+    ensures { λ r. ⌜ OnNewLine (now (indent .entry)) level (now (eol .entry)) (now (name .entry)) (now (out .entry)) (now (out .exit)) f r ⌝ }
+{
+    let column = name_column(indent_column(indent, level), name);
+    Filled {
+        at: put_line(out, f.at, eol, indent, level, name),
+        column,
+        some: true,
+    }
+}
+
+// One more name: on the newest line if the width holds it, else on a line of its own. A blank one is dropped.
+fn add_name(
+    out: &mut [u8],
+    f: Filled,
+    indent: &[u8],
+    level: usize,
+    eol: &[u8],
+    max: usize,
+    name: &[u8],
+) -> Filled
+    requires { ⌜ NameFits (now indent) level (now eol) (now name) f ⌝ }
+    ensures { λ r. ⌜ Added (now (indent .entry)) level (now (eol .entry)) max (now (name .entry)) (now (out .entry)) (now (out .exit)) f r ⌝ }
+{
+    if name.len() == 0 {
+        return f;
+    }
+    if f.some {
+        let c = f.column;
+        let column = name_column(measure_from(c, b" "), name);
+        if column.0 <= max {
+            return Filled {
+                at: put_name(out, f.at, name),
+                column,
+                some: true,
+            };
+        }
+        return new_line(out, f, indent, level, eol, name);
+    }
+    new_line(out, f, indent, level, eol, name)
+}
+
+// The lines of the names between commas, each after a line ending.
+fn write_names(
+    s: &[u8],
+    indent: &[u8],
+    level: usize,
+    eol: &[u8],
+    max: usize,
+    out: &mut [u8],
+    at: usize,
+) -> usize
+    requires { ⌜ NamesFit (now s) (now indent) level (now eol) at ⌝ }
+    ensures { λ r. ⌜ NamesWritten (now (s .entry)) (now (indent .entry)) level (now (eol .entry)) max (now (out .entry)) (now (out .exit)) at r ⌝ }
+{
+    let mut f = Filled {
+        at,
+        column: Utf16Column(0),
+        some: false,
+    };
+    let mut a = 0;
+    while a <= s.len() {
+        let e = a + name_len(&s[a..]);
+        let p = trim_part(s, a, e);
+        let b = p.start;
+        let d = p.end;
+        f = add_name(out, f, indent, level, eol, max, &s[b..d]);
+        a = e + 1;
+    }
+    f.at
+}
+
+fn not_split() -> ImportSplit
+    ensures { λ r. ⌜ r .split ≡ false ⌝ }
+{
+    ImportSplit {
+        split: false,
+        next: 0,
+        last: 0,
+        blanks: 0,
+    }
+}
+
+// The first line: the text before the brace, trimmed at its end, a space and the brace.
+fn write_head(out: &mut [u8], at: usize, indent: &[u8], level: usize, head: &[u8]) -> usize
+    requires { ⌜ HeadFits (now head) (now indent) level at ⌝ }
+    ensures { λ r. ⌜ HeadWritten (now (head .entry)) (now (indent .entry)) level (now (out .entry)) (now (out .exit)) at r ⌝ }
+{
+    let n = unicode::trim_end(head);
+    let m = buffer::append_indented(out, at, indent, level, &head[..n]);
+    buffer::append(out, m, b" {")
+}
+
+// The lines of an import whose braces stand at start and end; under two names, it isn't split.
+fn write_import(
+    line: &[u8],
+    start: usize,
+    end: usize,
+    indent: &[u8],
+    level: usize,
+    eol: &[u8],
+    max: usize,
+    out: &mut [u8],
+    at: usize,
+) -> ImportSplit
+    requires { ⌜ Braces (now line) start end (now indent) level (now eol) at ⌝ }
+    ensures { λ r. ⌜ ((o : Options) → o .indent ≡ now (indent .entry)
+        → Given (partsOf o max level (now (line .entry)) start end) (now (eol .entry)) (now (out .entry)) (now (out .exit)) at r) ⌝ }
+{
+    let a = start + 1;
+    let s = &line[a..end];
+    let c = count_names(s);
+    if c.names < 2 {
+        return not_split();
+    }
+    let n = write_head(out, at, indent, level, &line[..start]);
+    let m = write_names(s, indent, level + 1, eol, max, out, n);
+    let w = write_line(out, m, eol, indent, level, &line[end..]);
+    ImportSplit {
+        split: true,
+        next: w.next,
+        last: w.start,
+        blanks: c.blanks,
+    }
+}
+
+// An over-wide line, if it is an import with braces and at least two names: its names refilled over lines, written from the place at on.
+pub fn split_import(
+    line: &[u8],
+    class: &[u8],
+    indent: &[u8],
+    level: usize,
+    eol: &[u8],
+    max: usize,
+    out: &mut [u8],
+    at: usize,
+) -> ImportSplit
+    requires { ⌜ ImportFits (now line) (now class) (now indent) level (now eol) at ⌝ }
+    ensures { λ r. ⌜ ((o : Options) → o .indent ≡ now (indent .entry)
+        → Given (splitImport o max level (classify Carry.Code (decode (now (line .entry))))) (now (eol .entry)) (now (out .entry)) (now (out .exit)) at r) ⌝ }
+{
+    if starts_import(line) {
+        let start = find_code(line, class, b'{');
+        if line.len() <= start {
+            return not_split();
+        }
+        let a = start + 1;
+        let n = find_code(&line[a..], &class[a..], b'}');
+        let end = a + n;
+        if line.len() <= end {
+            return not_split();
+        }
+        return write_import(line, start, end, indent, level, eol, max, out, at);
+    }
+    not_split()
+}

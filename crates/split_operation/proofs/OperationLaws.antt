@@ -1,0 +1,511 @@
+-- Laws of split_operation: its pieces found and written in bytes, round by round.
+use Prim.Native.Nat.{ℕ, zero, suc, _+_, _-_, _*_, _^_, _≤_, _<_, zero-le}
+use mathlib.Core.Bool.{Bool, true, false, not, _&&_, _||_, or-assoc, or-true, or-false}
+use mathlib.Core.List.{List, [], _∷_, _++_, map, map-append, append-nil, append-assoc}
+use mathlib.Core.Option.{Option, none, some}
+use mathlib.Core.Path.{_≡_, refl, sym, ap, _∙_, subst}
+use native.Mathlib.Nat.{mul-le-mul}
+use native.Mathlib.Numerals.{add-one}
+use native.Mathlib.Omega.{arith}
+use lib.Dec.{eqb, ltb}
+use lib.ListN.{length, getD, take, drop, length-append, length-drop}
+use lib.Seq.{drop-cons}
+use borrow.Author.Tests.{eq-eqb, ne-eqb, lt-ltb, le-ltb}
+use Rattle.buffer.specs.Buffer.{part, Appended}
+use Rattle.buffer.specs.Repeat.{times}
+use Rattle.buffer.proofs.WriteLaws.{appended-nil, appended-append}
+use Rattle.unicode.specs.Unicode.{encode, decode, Scalars, WellFormed, trim}
+use Rattle.unicode.proofs.Tests.{by-test}
+use Rattle.unicode.proofs.Decode.{decode-encode, decode-scalars, wf-encode, scalars-append, scalars-left, scalars-right}
+use Rattle.rules.specs.declared.Carry.{Carry}
+use Rattle.rules.specs.declared.Mark.{Mark}
+use Rattle.rules.specs.Basics.{choose, isEmpty, Pieces}
+use Rattle.rules.specs.Scan.{Cell, charsOf, classify}
+use Rattle.rules.specs.Options.{Options, indentOf, measure, overWide}
+use Rattle.rules.specs.SplitOperation.{Ops, OpMark, opStep, noOps, marksFrom, topLevelOps, hasWord, isBalanced, keywords, loosest, atMark, cutBefore, trimmed, breakAt, splitOnce, nextBreak, breakOn, breakFirst, layPieces, splitOperation}
+use Rattle.rules.proofs.Choose.{choose-case, choose-true, choose-false}
+use Rattle.rules.proofs.ScanBytes.{encodeCells, classify-encode, chars-classify}
+use Rattle.rules.proofs.WordsBytes.{encodePieces, balanced-encode, keywords-encode}
+use Rattle.rules.proofs.OperatorsBytes.{byteMarks, encodeMarks, marks-encode, loosest-encode, cut-encode}
+use Rattle.split_operation.specs.declared.pass.Cut.{Cut}
+use Rattle.split_operation.specs.declared.pass.Reading.{Reading}
+use Rattle.split.specs.declared.Part.{Part}
+use Rattle.split.specs.declared.NewLine.{NewLine}
+use Rattle.split_operation.specs.declared.OperationSplit.{OperationSplit}
+use Rattle.split_operation.specs.Marks.{depthOf}
+use Rattle.split_operation.specs.Operators.{opsOf}
+use Rattle.split.specs.Measure.{Measured, Indent, IndentMeasured, Within, Trimmed}
+use Rattle.split.specs.Text.{indented, lay, AllWell, following, lastOf, LineRoom, LineWritten, Written, Fits, lineRoom}
+use Rattle.split_operation.specs.Pass.{Begins, Sound, Cutting, breakStrength, restFrom, cutsAt, NextOp}
+use Rattle.split_operation.specs.Operation.{Broken, trimBytes, restLines, RestFits, After, RestWritten, LineFits, roundStrength, firstLine, otherLines, PiecesWritten, brokenIn, FirstBroken}
+use Rattle.split.proofs.MeasureLaws.{measure-append, part-length}
+use Rattle.split.proofs.TextLaws.{AllScalars, all-well, following-append, last-append, written-lines, lay-encode, indent-short, level-fits, deeper-fits}
+
+-- ---- a line broken once: on bytes as on characters
+
+module _ (table line : List ℕ) (w : WellFormed line) where
+  abbrev cells : List Cell
+  cells = classify Carry.Code (decode line)
+
+  abbrev marks : List OpMark
+  marks = topLevelOps table cells
+
+  cells-line : classify Carry.Code line ≡ encodeCells cells
+  cells-line = ap (classify Carry.Code) (sym w) ∙ classify-encode Carry.Code (decode line)
+
+  marks-line : byteMarks table noOps (classify Carry.Code line) ≡ encodeMarks marks
+  marks-line = ap (byteMarks table noOps) cells-line ∙ marks-encode table cells
+
+  strength-line : breakStrength table line ≡ choose (hasWord keywords cells) 0 (choose (not (isBalanced cells)) 0 (loosest marks))
+  unfolding breakStrength
+  strength-line = rw (marks-line, cells-line, keywords-encode, balanced-encode, loosest-encode)
+
+  pub split-once : splitOnce table cells ≡ breakAt (breakStrength table line) marks
+  unfolding splitOnce breakAt choose
+  split-once = sym (ap (λ (n : ℕ). breakAt n marks) strength-line ∙ go (hasWord keywords cells) (isBalanced cells))
+    where
+      go : (a b : Bool) → breakAt (choose a 0 (choose (not b) 0 (loosest marks))) marks ≡ choose a none (choose (not b) none (breakAt (loosest marks) marks))
+      go true b = refl
+      go false true = refl
+      go false false = refl
+
+  -- the pieces of a strength
+  pub cuts-line : (p : ℕ) → 0 < p → cutBefore p (byteMarks table noOps (classify Carry.Code line)) ≡ encodePieces (cutBefore p marks)
+  cuts-line p h = ap (cutBefore p) marks-line ∙ cut-encode p h marks
+
+-- ---- every piece is well-formed
+
+markChars : List OpMark → List ℕ
+markChars [] = []
+markChars (m ∷ ms) = m .ch ∷ markChars ms
+
+chars-marks : (table : List ℕ) (s : Ops) (xs : List Cell) → markChars (marksFrom table s xs) ≡ charsOf xs
+unfolding markChars marksFrom charsOf
+chars-marks table s [] = refl
+chars-marks table s (x ∷ xs) = rw (chars-marks table (opStep table s x (charsOf xs) .after) xs)
+
+record PieceScalars (p : Pieces) : Type 0 where
+  first : Scalars (p .first)
+  rest : AllScalars (p .rest)
+
+cut-scalars : (p : ℕ) (ms : List OpMark) → Scalars (markChars ms) → PieceScalars (cutBefore p ms)
+unfolding markChars cutBefore atMark
+cut-scalars p [] s = record { first = tt; rest = tt }
+cut-scalars p (m ∷ ms) s = go (eqb (m .strength) p) (cut-scalars p ms (s .1))
+  where
+    go : (t : Bool) → PieceScalars (cutBefore p ms) → PieceScalars (atMark t (m .ch) (cutBefore p ms))
+    go true q = record { first = tt; rest = ((s .0, q .first), q .rest) }
+    go false q = record { first = (s .0, q .first); rest = q .rest }
+
+pieces-scalars : (table line : List ℕ) (p : ℕ) → PieceScalars (cutBefore p (topLevelOps table (classify Carry.Code (decode line))))
+unfolding topLevelOps
+pieces-scalars table line p =
+    cut-scalars p _ (subst Scalars (sym (chars-marks table noOps (classify Carry.Code (decode line)) ∙ chars-classify Carry.Code (decode line))) (decode-scalars line))
+
+lines-trimmed : (indent : List ℕ) (level : ℕ) (ls : List (List ℕ)) → AllScalars ls
+    → restLines indent level (map encode ls) ≡ map (λ (l : List ℕ). lay indent level (encode l)) (map trim ls)
+lines-trimmed indent level [] s = refl
+lines-trimmed indent level (l ∷ ls) s = rw (decode-encode l (s .0), lines-trimmed indent level ls (s .1))
+
+-- ---- the first cut of a line
+
+abbrev piecesAt : List ℕ → List ℕ → ℕ → Pieces
+piecesAt table line p = cutBefore p (topLevelOps table (classify Carry.Code (decode line)))
+
+pub record FirstCut (table line : List ℕ) (p : ℕ) (c : Cut) : Type 0 where
+  pub first : part line 0 (c .place) ≡ encode (piecesAt table line p .first)
+  pub rest : restFrom table p line c ≡ map encode (piecesAt table line p .rest)
+  pub well : WellFormed (part line 0 (c .place))
+  pub others : AllWell (restFrom table p line c)
+
+pub first-cut : (table line : List ℕ) (p : ℕ) (s : Reading) (c : Cut) → WellFormed line → (p ≡ 0 → ⊥) → Begins s → NextOp table p line 0 s c → FirstCut table line p c
+unfolding classify
+first-cut table line p s c w n b q =
+    let e : cutsAt table p s (drop 0 line) ≡ encodePieces (piecesAt table line p) = rw (b .mark, b .ops) (cuts-line table line w p (omega arith)) in
+    let f : part line 0 (c .place) ≡ encode (piecesAt table line p .first) = sym (q .first) ∙ ap (λ (x : Pieces). x .first) e in
+    let r : restFrom table p line c ≡ map encode (piecesAt table line p .rest) = sym (q .rest) ∙ ap (λ (x : Pieces). x .rest) e in
+    let z = pieces-scalars table line p in
+    record { first = f; rest = r; well = rw f (wf-encode _ (z .first)); others = rw r (all-well (piecesAt table line p .rest) (z .rest)) }
+
+-- ---- rounds
+
+module _ (table : List ℕ) (o : Options) (max level : ℕ) where
+  abbrev alone : List ℕ → Pieces
+  alone l = record { first = l; rest = [] }
+
+  abbrev with-rest : Pieces → List (List ℕ) → Pieces
+  with-rest p r = record { first = p .first; rest = p .rest ++ r }
+
+  rest-stays : (n : ℕ) (l : List ℕ) (r : List (List ℕ))
+      → breakFirst table o max level n (record { first = l; rest = r }) ≡ with-rest (breakFirst table o max level n (alone l)) r
+  unfolding breakFirst breakOn
+  rest-stays zero l r = refl
+  rest-stays (suc n) l r = go (nextBreak table o max level l) (rest-stays n)
+    where
+      go : (b : Option Pieces) → ((l : List ℕ) (r : List (List ℕ)) → breakFirst table o max level n (record { first = l; rest = r }) ≡ with-rest (breakFirst table o max level n (alone l)) r)
+          → breakOn b (record { first = l; rest = r }) (breakFirst table o max level n) ≡ with-rest (breakOn b (alone l) (breakFirst table o max level n)) r
+      go none i = refl
+      go (some q) i =
+          i (q .first) (q .rest ++ r)
+          ∙ ap (λ (x : List (List ℕ)). record { first = breakFirst table o max level n (alone (q .first)) .first; rest = x })
+          (sym (append-assoc (breakFirst table o max level n (alone (q .first)) .rest) (q .rest) r))
+          ∙ sym (ap (λ (p : Pieces). with-rest p r) (ap (λ (x : List (List ℕ)). breakFirst table o max level n (record { first = q .first; rest = x })) (append-nil (q .rest)) ∙ i (q .first) (q .rest)))
+
+  pub round-over : (n : ℕ) (l : List ℕ) → nextBreak table o max level l ≡ none → breakFirst table o max level (suc n) (alone l) ≡ alone l
+  unfolding breakFirst breakOn
+  round-over n l e = rw e
+
+  pub round-broken : (n : ℕ) (l : List ℕ) (q : Pieces) → nextBreak table o max level l ≡ some q
+      → breakFirst table o max level (suc n) (alone l) ≡ with-rest (breakFirst table o max level n (alone (q .first))) (q .rest)
+  unfolding breakFirst breakOn
+  round-broken n l q e =
+      rw e (ap (λ (x : List (List ℕ)). breakFirst table o max level n (record { first = q .first; rest = x })) (append-nil (q .rest)) ∙ rest-stays n (q .first) (q .rest))
+
+-- ---- the strength of a round
+
+module _ (table indent : List ℕ) (level max rounds : ℕ) (line : List ℕ) where
+  abbrev opts : Options
+  opts = indented indent
+
+  pub strength-none : rounds ≡ 0 → 0 ≡ roundStrength table indent level max rounds line
+  unfolding roundStrength
+  strength-none e = sym (choose-true _ _ _ (eq-eqb rounds 0 e))
+
+  module _ (some : rounds ≡ 0 → ⊥) (c n : ℕ) (p : IndentMeasured indent level c) (q : Measured c line n) where
+    columns : measure opts 0 (indentOf opts level ++ decode line) ≡ n
+    columns = measure-append opts 0 (indentOf opts level) (decode line) ∙ rw (← (p .is opts refl), ← (q .is opts))
+
+    pub strength-fits : n ≤ max → 0 ≡ roundStrength table indent level max rounds line
+    unfolding roundStrength overWide
+    strength-fits h = sym (choose-false _ _ _ (ne-eqb rounds 0 some) ∙ choose-false _ _ _ (rw columns (le-ltb max n h)))
+
+    pub strength-wide : (r : ℕ) → max < n → r ≡ breakStrength table line → r ≡ roundStrength table indent level max rounds line
+    unfolding roundStrength overWide
+    strength-wide r h e = e ∙ sym (choose-false _ _ _ (ne-eqb rounds 0 some) ∙ choose-true _ _ _ (rw columns (lt-ltb max n h)))
+
+  -- what the strength says of the round
+  breaks : (w : WellFormed line) → (rounds ≡ 0 → ⊥) → nextBreak table opts max level (decode line) ≡ breakAt (roundStrength table indent level max rounds line) (topLevelOps table (classify Carry.Code (decode line)))
+  unfolding nextBreak roundStrength breakAt choose
+  breaks w n = rw (ne-eqb rounds 0 n, split-once table line w) (go (overWide opts max (indentOf opts level ++ decode line)))
+    where
+      go : (t : Bool) → choose t (breakAt (breakStrength table line) (topLevelOps table (classify Carry.Code (decode line)))) none
+          ≡ breakAt (choose t (breakStrength table line) 0) (topLevelOps table (classify Carry.Code (decode line)))
+      go true = refl
+      go false = refl
+
+  pub round-whole : WellFormed line → 0 ≡ roundStrength table indent level max rounds line → brokenIn table indent level max rounds line ≡ record { first = decode line; rest = [] }
+  unfolding breakFirst breakAt
+  round-whole w e = go rounds refl
+    where
+      go : (n : ℕ) → rounds ≡ n → breakFirst table opts max level n (record { first = decode line; rest = [] }) ≡ record { first = decode line; rest = [] }
+      go zero f = refl
+      go (suc n) f = round-over table opts max level n (decode line) (breaks w (λ (z : rounds ≡ 0). let y : suc n ≡ 0 = sym f ∙ z in omega arith) ∙ rw (← e))
+
+  -- the pieces of a round: the first broken in the rounds that are left, then the others
+  pub round-pieces : (p : ℕ) → WellFormed line → p ≡ roundStrength table indent level max rounds line → (p ≡ 0 → ⊥)
+      → brokenIn table indent level max rounds line
+      ≡ record {
+        first = breakFirst table opts max level (rounds - 1) (record { first = trim (piecesAt table line p .first); rest = [] }) .first;
+        rest = breakFirst table opts max level (rounds - 1) (record { first = trim (piecesAt table line p .first); rest = [] }) .rest ++ map trim (piecesAt table line p .rest);
+      }
+  unfolding breakAt trimmed roundStrength
+  round-pieces zero w e z = absurd (z refl)
+  round-pieces (suc p) w e z = go rounds refl
+    where
+      some-left : (n : ℕ) → rounds ≡ n → (n ≡ 0 → ⊥)
+      some-left n f y = z (e ∙ choose-true _ _ _ (eq-eqb rounds 0 (f ∙ y)))
+
+      go : (n : ℕ) → rounds ≡ n → breakFirst table opts max level n (record { first = decode line; rest = [] })
+          ≡ record {
+            first = breakFirst table opts max level (n - 1) (record { first = trim (piecesAt table line (suc p) .first); rest = [] }) .first;
+            rest = breakFirst table opts max level (n - 1) (record { first = trim (piecesAt table line (suc p) .first); rest = [] }) .rest ++ map trim (piecesAt table line (suc p) .rest);
+          }
+      go zero f = absurd (some-left zero f refl)
+      go (suc n) f =
+          let m : suc n - 1 ≡ n = omega arith in
+          rw m (round-broken table opts max level n (decode line) (trimmed (piecesAt table line (suc p))) (breaks w (λ (y : rounds ≡ 0). some-left rounds refl y) ∙ rw (← e)))
+
+  pub rounds-left : (p : ℕ) → p ≡ roundStrength table indent level max rounds line → (p ≡ 0 → ⊥) → (rounds ≡ 0 → ⊥)
+  unfolding roundStrength
+  rounds-left p e z y = z (e ∙ choose-true _ _ _ (eq-eqb rounds 0 y))
+
+-- ---- the pieces from a cut on
+
+rest-open : (table : List ℕ) (p : ℕ) (line : List ℕ) (c : Cut) → c .place < length line
+    → restFrom table p line c ≡ (getD line (c .place) 0 ∷ cutsAt table p (c .after) (drop (c .place + 1) line) .first) ∷ cutsAt table p (c .after) (drop (c .place + 1) line) .rest
+unfolding restFrom
+rest-open table p line c h = choose-true _ _ _ (lt-ltb (c .place) (length line) h)
+
+rest-none : (table : List ℕ) (p : ℕ) (line : List ℕ) (c : Cut) → length line ≤ c .place → restFrom table p line c ≡ []
+unfolding restFrom
+rest-none table p line c h = choose-false _ _ _ (le-ltb (c .place) (length line) h)
+
+-- one more line
+after-more : {eol : List ℕ} {ls : List (List ℕ)} {l out₀ out out′ : List ℕ} {first r : OperationSplit} {n : NewLine} → After eol ls out₀ out first r → LineWritten eol l out out′ (r .next) n
+    → After eol (ls ++ (l ∷ [])) out₀ out′ first (record { next = n .next; last = n .start; more = true })
+unfolding following lastOf
+after-more {eol} {ls} {l} {first = first} a g =
+    record {
+      text = rw (following-append eol ls (l ∷ []), append-nil) (appended-append (a .text) (g .text));
+      last = λ k e. rw (last-append k ls (l ∷ [])) (g .start);
+      more = sym (rw (no-end ls l) (or-true (first .more)));
+    }
+  where
+    no-end : (ls : List (List ℕ)) (l : List ℕ) → isEmpty (ls ++ (l ∷ [])) ≡ false
+    no-end [] l = refl
+    no-end (m ∷ ms) l = refl
+
+part-cons : (l : List ℕ) (a e : ℕ) → a < e → e ≤ length l → getD l a 0 ∷ part l (a + 1) e ≡ part l a e
+part-cons l a e h k =
+    let n : e - a ≡ suc (e - (a + 1)) = omega arith in
+    let m : a < length l = omega arith in
+    sym (rw (n, drop-cons l a 0 m, ← add-one a))
+
+rest-cons : (table : List ℕ) (p : ℕ) (line : List ℕ) (c d : Cut) → c .place < length line → NextOp table p line (c .place + 1) (c .after) d
+    → restFrom table p line c ≡ part line (c .place) (d .place) ∷ restFrom table p line d
+rest-cons table p line c d h q = opened ∙ rw (q .first, q .rest, part-cons line (c .place) (d .place) (omega (arith, q .after)) (q .fits))
+  where
+    opened : restFrom table p line c ≡ (getD line (c .place) 0 ∷ cutsAt table p (c .after) (drop (c .place + 1) line) .first) ∷ cutsAt table p (c .after) (drop (c .place + 1) line) .rest
+    opened = rest-open table p line c h
+
+-- what `write_rest` keeps: the pieces that are written, and those from the cut c on
+pub record Writing (table : List ℕ) (strength : ℕ) (line : List ℕ) (cut : Cut) (indent : List ℕ) (level : ℕ) (eol out₀ : List ℕ) (first : OperationSplit) (out : List ℕ) (c : Cut) (r : OperationSplit) : Type 0 where
+  pub fits : RestFits table strength line cut indent level eol first
+  pub done : List (List ℕ)
+  pub all : restFrom table strength line cut ≡ done ++ restFrom table strength line c
+  pub well : AllWell (restFrom table strength line c)
+  pub after : After eol (restLines indent level done) out₀ out first r
+  pub order : cut .place ≤ c .place
+  pub within : c .place ≤ length line
+  pub sound : c .place < length line → Sound (c .after) (c .place + 1)
+  pub room : r .next ≤ first .next + (c .place - cut .place) * lineRoom
+  pub as-long : length out ≡ length out₀
+
+pub writing-start : {table : List ℕ} {strength : ℕ} {line : List ℕ} {cut : Cut} {indent : List ℕ} {level : ℕ} {eol : List ℕ} {first : OperationSplit} (out : List ℕ) → RestFits table strength line cut indent level eol first
+    → Writing table strength line cut indent level eol out first out cut first
+unfolding following lastOf
+writing-start {first = first} out f =
+    record {
+      fits = f;
+      done = [];
+      all = refl;
+      well = f .well;
+      after = record { text = appended-nil out (first .next); last = λ l e. e; more = sym (or-false (first .more)) };
+      order = omega arith;
+      within = f .within;
+      sound = f .sound;
+      room = omega arith;
+      as-long = refl;
+    }
+
+module _ {table : List ℕ} {strength : ℕ} {line : List ℕ} {cut : Cut} {indent : List ℕ} {level : ℕ} {eol out₀ : List ℕ} {first : OperationSplit} {out : List ℕ} {c : Cut} {r : OperationSplit}
+    (w : Writing table strength line cut indent level eol out₀ first out c r) where
+  pub writing-cut : c .place < length line → Cutting line (c .place + 1) (c .after)
+  writing-cut h = record { within = omega arith; short = w .fits .short; sound = w .sound h }
+
+  pub writing-within : (d : Cut) → c .place < length line → NextOp table strength line (c .place + 1) (c .after) d → Within line (c .place) (d .place)
+  writing-within d h q =
+      let e : AllWell (part line (c .place) (d .place) ∷ restFrom table strength line d) = subst AllWell (rest-cons table strength line c d h q) (w .well) in
+      record { order = omega (arith, q .after); fits = q .fits; well = e .0 }
+
+  pub writing-room : (d : Cut) (p : Part) → c .place < length line → NextOp table strength line (c .place + 1) (c .after) d → Trimmed line (c .place) (d .place) p
+      → LineRoom eol indent level (part line (p .start) (p .end)) (r .next)
+  writing-room d p h q t =
+      record {
+        indents = w .fits .indents;
+        end = w .fits .end;
+        room = omega (arith, w .room, w .fits .room, w .order, part-length line (p .start) (p .end) (omega (arith, t .fits, q .fits)), t .after, t .fits, q .after, q .fits);
+      }
+
+  pub writing-more : (d : Cut) (p : Part) (n : NewLine) (out′ : List ℕ) → c .place < length line → NextOp table strength line (c .place + 1) (c .after) d → Trimmed line (c .place) (d .place) p
+      → LineWritten eol (lay indent level (part line (p .start) (p .end))) out out′ (r .next) n → length out′ ≡ length out
+      → Writing table strength line cut indent level eol out₀ first out′ d (record { next = n .next; last = n .start; more = true })
+  writing-more d p n out′ h q t g k =
+      let piece = part line (c .place) (d .place) in
+      let cons : restFrom table strength line c ≡ piece ∷ restFrom table strength line d = rest-cons table strength line c d h q in
+      let well : AllWell (piece ∷ restFrom table strength line d) = subst AllWell cons (w .well) in
+      let bytes : part line (p .start) (p .end) ≡ trimBytes piece = sym (t .well) ∙ ap encode (t .text) in
+      let lines : restLines indent level (w .done ++ (piece ∷ [])) ≡ restLines indent level (w .done) ++ (lay indent level (part line (p .start) (p .end)) ∷ []) = map-append _ (w .done) (piece ∷ []) ∙ rw bytes in
+      let room : n .next ≤ r .next + (67108930 + length (part line (p .start) (p .end))) =
+      omega (arith, g .text .next, length-append eol (lay indent level (part line (p .start) (p .end))), length-append (times level indent) (part line (p .start) (p .end)), indent-short indent level (w .fits .indents), w .fits .end) in
+      record {
+        fits = w .fits;
+        done = w .done ++ (piece ∷ []);
+        all = w .all ∙ rw cons (sym (append-assoc (w .done) (piece ∷ []) (restFrom table strength line d)));
+        well = well .1;
+        after = rw lines (after-more (w .after) g);
+        order = omega (arith, w .order, q .after);
+        within = q .fits;
+        sound = q .sound;
+        room = omega (arith, w .room, room, w .order, part-length line (p .start) (p .end) (omega (arith, t .fits, q .fits)), t .after, t .fits, q .after, q .fits);
+        as-long = k ∙ w .as-long;
+      }
+
+  pub writing-end : length line ≤ c .place → RestWritten table strength line cut indent level eol out₀ out first r
+  writing-end h =
+      let e : restFrom table strength line cut ≡ w .done = w .all ∙ rw (rest-none table strength line c h) (append-nil (w .done)) in
+      record { after = rw e (w .after); room = omega (arith, w .room, w .within, w .order) }
+
+-- lines after those of pieces
+empty-append : (a b : List (List ℕ)) → (not (isEmpty a) || not (isEmpty b)) ≡ not (isEmpty (a ++ b))
+empty-append [] b = refl
+empty-append (l ∷ a) b = refl
+
+empty-map : (f : List ℕ → List ℕ) (a : List (List ℕ)) → isEmpty (map f a) ≡ isEmpty a
+empty-map f [] = refl
+empty-map f (l ∷ a) = refl
+
+pieces-more : {indent : List ℕ} {level : ℕ} {eol : List ℕ} {p : Pieces} (others : List (List ℕ)) {out out₁ out₂ : List ℕ} {at : ℕ} {first r : OperationSplit}
+    → PiecesWritten indent level eol p out out₁ at first → After eol (map (λ (l : List ℕ). lay indent (suc level) (encode l)) others) out₁ out₂ first r
+    → PiecesWritten indent level eol (record { first = p .first; rest = p .rest ++ others }) out out₂ at r
+pieces-more {indent} {level} {eol} {p} others {out} {out₁} {out₂} {at} {first} {r} w a =
+    let lines : otherLines indent level (record { first = p .first; rest = p .rest ++ others }) ≡ otherLines indent level p ++ map (λ (l : List ℕ). lay indent (suc level) (encode l)) others = map-append _ (p .rest) others in
+    record {
+      text = rw (lines, following-append eol (otherLines indent level p), ← append-assoc) (appended-append (w .text) (a .text));
+      last = rw (lines, last-append) (a .last _ (w .last));
+      more = a .more ∙ rw (w .more, empty-map) (empty-append (p .rest) others);
+    }
+
+-- ---- a line, its first piece broken again
+
+module _ {line indent : List ℕ} {level : ℕ} {eol : List ℕ} {at : ℕ} (pre : Fits line indent level eol at) where
+  pub line-fits : LineFits line indent level
+  line-fits = record { well = pre .well; size = pre .size; indents = level-fits pre }
+
+  pub whole-room : at + (length (times level indent) + length line) < 2 ^ 64
+  whole-room = omega (arith, indent-short indent level (level-fits pre), pre .room)
+
+module _ (table line indent : List ℕ) (level : ℕ) (eol : List ℕ) (max rounds at : ℕ) (pre : Fits line indent level eol at) where
+  pub first-whole : (p : ℕ) (out out′ : List ℕ) (next : ℕ) → p ≡ roundStrength table indent level max rounds line → p ≡ 0 → Appended out out′ at (times level indent ++ line) next
+      → FirstBroken table line indent level eol max rounds out out′ at (record { next = next; last = at; more = false })
+  unfolding following lastOf
+  first-whole p out out′ next e z a =
+      let b : brokenIn table indent level max rounds line ≡ record { first = decode line; rest = [] } = round-whole table indent level max rounds line (pre .well) (sym z ∙ e) in
+      let q : PiecesWritten indent level eol (record { first = decode line; rest = [] }) out out′ at (record { next = next; last = at; more = false }) =
+      record { text = rw (append-nil, pre .well) a; last = rw (pre .well) (omega (arith, a .next)); more = refl } in
+      record {
+        pieces = subst (λ (p : Pieces). PiecesWritten indent level eol p out out′ at (record { next = next; last = at; more = false })) (sym b) q;
+        room = omega (arith, a .next, length-append (times level indent) line, indent-short indent level (level-fits pre));
+      }
+
+  module _ (p : ℕ) (e : p ≡ roundStrength table indent level max rounds line) (z : p ≡ 0 → ⊥) (s : Reading) (c : Cut) (b : Begins s) (q : NextOp table p line 0 s c) where
+    abbrev cutting : FirstCut table line p c
+    cutting = first-cut table line p s c (pre .well) z b q
+
+    pub first-within : Within line 0 (c .place)
+    first-within = record { order = zero-le; fits = q .fits; well = cutting .well }
+
+    module _ (t : Part) (u : Trimmed line 0 (c .place) t) where
+      abbrev piece : List ℕ
+      piece = part line (t .start) (t .end)
+
+      piece-length : length piece ≤ c .place
+      piece-length = omega (arith, part-length line (t .start) (t .end) (omega (arith, u .fits, q .fits)), u .fits)
+
+      pub first-fits : Fits piece indent level eol at
+      first-fits =
+          record {
+            well = u .well;
+            blank = pre .blank;
+            short = pre .short;
+            flat = pre .flat;
+            ascii = pre .ascii;
+            end = pre .end;
+            size = omega (arith, piece-length, q .fits, pre .size);
+            room = omega (arith, piece-length, q .fits, pre .room);
+          }
+
+      first-text : decode piece ≡ trim (piecesAt table line p .first)
+      first-text = u .text ∙ ap (λ (l : List ℕ). trim (decode l)) (cutting .first) ∙ ap trim (decode-encode _ (pieces-scalars table line p .first))
+
+      module _ (out out₁ : List ℕ) (first : OperationSplit) (f : FirstBroken table piece indent level eol max (rounds - 1) out out₁ at first) where
+        pub rest-fits : RestFits table p line c indent (level + 1) eol first
+        rest-fits =
+            record {
+              within = q .fits;
+              short = pre .size;
+              sound = q .sound;
+              well = cutting .others;
+              indents = deeper-fits pre;
+              end = pre .end;
+              room = omega (arith, f .room, piece-length, q .fits, pre .room);
+            }
+
+        -- the pieces of the first, and the others
+        abbrev inner : Pieces
+        inner = brokenIn table indent level max (rounds - 1) piece
+
+        abbrev others : List (List ℕ)
+        others = map trim (piecesAt table line p .rest)
+
+        whole : brokenIn table indent level max rounds line ≡ record { first = inner .first; rest = inner .rest ++ others }
+        whole =
+            round-pieces table indent level max rounds line p (pre .well) e z
+            ∙ ap (λ (l : List ℕ). with-rest table (indented indent) max level (breakFirst table (indented indent) max level (rounds - 1) (record { first = l; rest = [] })) others) (sym first-text)
+
+        pub first-broken : (out₂ : List ℕ) (r : OperationSplit) → RestWritten table p line c indent (level + 1) eol out₁ out₂ first r
+            → FirstBroken table line indent level eol max rounds out out₂ at r
+        first-broken out₂ r w =
+            let ls : restLines indent (level + 1) (restFrom table p line c) ≡ map (λ (l : List ℕ). lay indent (suc level) (encode l)) others =
+            ap (restLines indent (level + 1)) (cutting .rest) ∙ lines-trimmed indent (level + 1) (piecesAt table line p .rest) (pieces-scalars table line p .rest) ∙ rw (add-one level) in
+            let a : After eol (map (λ (l : List ℕ). lay indent (suc level) (encode l)) others) out₁ out₂ first r = rw ls at (w .after) in
+            record {
+              pieces = subst (λ (x : Pieces). PiecesWritten indent level eol x out out₂ at r) (sym whole) (pieces-more others (f .pieces) a);
+              room = omega (arith, f .room, w .room, piece-length, q .fits);
+            }
+
+-- ---- the whole
+
+module _ (table : List ℕ) (o : Options) (indent : List ℕ) (e : o .indent ≡ indent) (max level : ℕ) where
+  -- of the options only the indent matters
+  same-next : (l : List ℕ) → nextBreak table o max level l ≡ nextBreak table (indented indent) max level l
+  unfolding nextBreak overWide measure indentOf
+  same-next l = rw e
+
+  same-break : (n : ℕ) (p : Pieces) → breakFirst table o max level n p ≡ breakFirst table (indented indent) max level n p
+  unfolding breakFirst breakOn
+  same-break zero p = refl
+  same-break (suc n) p = rw (same-next (p .first)) (go (nextBreak table (indented indent) max level (p .first)) (same-break n))
+    where
+      go : (b : Option Pieces) → ((p : Pieces) → breakFirst table o max level n p ≡ breakFirst table (indented indent) max level n p)
+          → breakOn b p (breakFirst table o max level n) ≡ breakOn b p (breakFirst table (indented indent) max level n)
+      go none i = refl
+      go (some q) i = i _
+
+lay-all : (o : Options) (indent : List ℕ) (level : ℕ) → o .indent ≡ indent → Indent indent level → (ls : List (List ℕ))
+    → map encode (map (λ (l : List ℕ). indentOf o level ++ l) ls) ≡ map (λ (l : List ℕ). lay indent level (encode l)) ls
+lay-all o indent level e p [] = refl
+lay-all o indent level e p (l ∷ ls) = rw (lay-encode o indent level l e p, lay-all o indent level e p ls)
+
+several : (f : List ℕ → List ℕ) (l : List ℕ) (ls : List (List ℕ)) → not (isEmpty ls) ≡ ltb 1 (length (l ∷ map f ls))
+several f l [] = refl
+several f l (m ∷ ms) = sym (lt-ltb 1 (length (l ∷ f m ∷ map f ms)) (omega arith))
+
+pub all-broken : {table line indent : List ℕ} {level : ℕ} {eol : List ℕ} {max at : ℕ} {out out′ : List ℕ} {r : OperationSplit} (n : ℕ) → Fits line indent level eol at → n ≡ length (decode line)
+    → FirstBroken table line indent level eol max n out out′ at r → (o : Options) → o .indent ≡ indent → Broken eol (splitOperation table o max level (decode line)) out out′ at r
+unfolding splitOperation layPieces
+all-broken {table} {line} {indent} {level} {eol} {max} {at} {out} {out′} {r} n pre k f o e =
+    let p : Pieces = brokenIn table indent level max n line in
+    let b : breakFirst table o max level (length (decode line)) (record { first = decode line; rest = [] }) ≡ p = rw (← k) (same-break table o indent e max level n (record { first = decode line; rest = [] })) in
+    let d : Indent indent (suc level) = rw add-one at (deeper-fits pre) in
+    subst (λ (x : Pieces). Broken eol (layPieces o level x) out out′ at r) (sym b)
+    (record {
+      written = written-lines eol (indentOf o level ++ p .first) (map (λ (l : List ℕ). indentOf o (suc level) ++ l) (p .rest)) (firstLine indent level p) (otherLines indent level p)
+          (pre .ascii) (lay-encode o indent level (p .first) e (level-fits pre)) (lay-all o indent (suc level) e d (p .rest)) (f .pieces .text) (f .pieces .last);
+      more = f .pieces .more ∙ several (λ (l : List ℕ). indentOf o (suc level) ++ l) (indentOf o level ++ p .first) (p .rest);
+    })
+
+-- ---- what the calls of `break_first` ask
+
+pub begin-cut : {line indent : List ℕ} {level : ℕ} {eol : List ℕ} {at : ℕ} {s : Reading} → Fits line indent level eol at → Begins s → Cutting line 0 s
+begin-cut {s = s} f b =
+    let o : opsOf (s .ops) .opened ≡ 0 = ap (λ (x : Ops). x .opened) (b .ops) in
+    let k : opsOf (s .ops) .closed ≡ 0 = ap (λ (x : Ops). x .closed) (b .ops) in
+    let d : depthOf (s .mark .mode) ≡ 0 = ap (λ (x : Mark). depthOf (x .mode)) (b .mark) in
+    record { within = zero-le; short = f .size; sound = record { opened = omega arith; closed = omega arith; depth = omega arith } }
+
+pub some-rounds : (rounds : ℕ) → (rounds ≡ 0 → ⊥) → 1 ≤ rounds
+some-rounds rounds h = omega arith
+
+pub fewer-rounds : {rounds t : ℕ} → rounds ≡ t → (rounds ≡ 0 → ⊥) → rounds - 1 < t
+fewer-rounds e h = omega arith

@@ -1,0 +1,81 @@
+use Rattle.rules.specs.Scan.{inQuoted}
+use Rattle.rules.proofs.Choose.{picks}
+use borrow.Author.Needs.{needs}
+use Rattle.split_operation.proofs.marks.in_quoted.Statement.{statement}
+use Rattle.split_operation.proofs.marks.in_quoted.Tie as tie
+use Rattle.split_operation.proofs.marks.in_quoted.Reads as reads
+use Rattle.split_operation.proofs.marks.in_quoted.Lts as lts
+use Rattle.split_operation.proofs.marks.closes.Reads as closes-reads
+use Rattle.split_operation.proofs.marks.first_is.Reads as first-is-reads
+use Rattle.split_operation.proofs.marks.long_mark.Reads as long-mark-reads
+use Rattle.split_operation.proofs.marks.one_mark.Reads as one-mark-reads
+use Rattle.split.proofs.starts_with.Reads as starts-with-reads
+
+-- src/lib.rt:126:8
+first-is-requires : tie.Need-first-is-requires
+first-is-requires c κs = search needs
+
+-- src/lib.rt:127:9
+long-mark-requires : tie.Need-long-mark-requires
+long-mark-requires c κs = search needs
+
+-- src/lib.rt:127:9
+returns : tie.Need-returns
+unfolding inQuoted
+returns c = search picks depth 20
+
+-- src/lib.rt:129:23
+slice-aggregate-starts-with : tie.Need-slice-aggregate-starts-with
+slice-aggregate-starts-with c = search needs
+
+-- src/lib.rt:129:8
+starts-with-requires : tie.Need-starts-with-requires
+starts-with-requires c κs = search needs
+
+-- src/lib.rt:130:9
+long-mark-requires-2 : tie.Need-long-mark-requires-2
+long-mark-requires-2 c κs = search needs
+
+-- src/lib.rt:130:9
+returns-2 : tie.Need-returns-2
+unfolding inQuoted
+returns-2 c = search picks depth 20
+
+-- src/lib.rt:132:8
+closes-requires : tie.Need-closes-requires
+closes-requires c κs = search needs
+
+-- src/lib.rt:133:9
+one-mark-requires : tie.Need-one-mark-requires
+one-mark-requires c κs = search needs
+
+-- src/lib.rt:133:9
+returns-3 : tie.Need-returns-3
+unfolding inQuoted
+returns-3 c = search picks depth 20
+
+-- src/lib.rt:135:5
+one-mark-requires-2 : tie.Need-one-mark-requires-2
+one-mark-requires-2 c κs = search needs
+
+-- src/lib.rt:123:1
+returns-4 : tie.Need-returns-4
+unfolding inQuoted
+returns-4 c = search picks depth 20
+
+pub in-quoted-spec : {M : Type 1} → statement M
+in-quoted-spec =
+    tie.close
+    (tie.spec
+    first-is-requires
+    long-mark-requires
+    returns
+    slice-aggregate-starts-with
+    starts-with-requires
+    long-mark-requires-2
+    returns-2
+    closes-requires
+    one-mark-requires
+    returns-3
+    one-mark-requires-2
+    returns-4)

@@ -1,0 +1,22 @@
+use borrow.Author.Needs.{needs}
+use native.Mathlib.Omega.{arith}
+use Rattle.rules.specs.SplitOperation.{operator}
+use Rattle.rules.proofs.Choose.{choose-true, choose-false}
+use borrow.Author.Tests.{eq-eqb, ne-eqb}
+use Rattle.split_operation.proofs.operators.operator.Statement.{statement}
+use Rattle.split_operation.proofs.operators.operator.Tie as tie
+use Rattle.split_operation.proofs.operators.operator.Reads as reads
+use Rattle.split_operation.proofs.operators.operator.Lts as lts
+
+-- src/operators.rt:164:9
+returns : tie.Need-returns
+unfolding operator
+returns c = rw (choose-true _ _ _ (eq-eqb _ _ (c .if1 .taken)))
+
+-- src/operators.rt:153:1
+returns-2 : tie.Need-returns-2
+unfolding operator
+returns-2 c = rw (choose-false _ _ _ (ne-eqb _ _ (c .if1 .left)))
+
+pub operator-spec : {M : Type 1} → statement M
+operator-spec = tie.close (tie.spec returns returns-2)

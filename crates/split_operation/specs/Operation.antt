@@ -1,0 +1,80 @@
+-- What split_operation gives.
+use Prim.Native.Nat.{ℕ, suc, _+_, _-_, _*_, _^_, _≤_, _<_}
+use mathlib.Core.Bool.{Bool, true, not, _||_}
+use mathlib.Core.List.{List, [], _∷_, _++_, map}
+use mathlib.Core.Path.{_≡_}
+use lib.Dec.{ltb, eqb}
+use lib.ListN.{length}
+use Rattle.buffer.specs.Buffer.{Appended}
+use Rattle.unicode.specs.Unicode.{encode, decode, WellFormed, trim}
+use Rattle.rules.specs.Basics.{choose, isEmpty, Pieces}
+use Rattle.rules.specs.Options.{Options, indentOf, overWide}
+use Rattle.rules.specs.SplitOperation.{breakFirst}
+use Rattle.split.specs.Measure.{Indent}
+use Rattle.split.specs.Text.{indented, lay, AllWell, following, lastOf, Written, Fits, lineRoom}
+use Rattle.split_operation.specs.Pass.{breakStrength, restFrom, Sound}
+use Rattle.split_operation.specs.declared.pass.Cut.{Cut}
+use Rattle.split_operation.specs.declared.OperationSplit.{OperationSplit}
+
+-- the lines of an expression, written
+pub record Broken (eol : List ℕ) (lines : List (List ℕ)) (out out′ : List ℕ) (at : ℕ) (r : OperationSplit) : Type 0 where
+  pub written : Written eol lines out out′ at (r .last) (r .next)
+  pub more : r .more ≡ ltb 1 (length lines)
+
+-- bytes of a piece, trimmed
+abbrev pub trimBytes : List ℕ → List ℕ
+trimBytes p = encode (trim (decode p))
+
+-- the lines of the pieces from a cut on
+abbrev pub restLines : List ℕ → ℕ → List (List ℕ) → List (List ℕ)
+restLines indent level ps = map (λ (p : List ℕ). lay indent level (trimBytes p)) ps
+
+pub record RestFits (table : List ℕ) (strength : ℕ) (line : List ℕ) (cut : Cut) (indent : List ℕ) (level : ℕ) (eol : List ℕ) (first : OperationSplit) : Type 0 where
+  pub within : cut .place ≤ length line
+  pub short : length line < 2 ^ 31
+  pub sound : cut .place < length line → Sound (cut .after) (cut .place + 1)
+  pub well : AllWell (restFrom table strength line cut)
+  pub indents : Indent indent level
+  pub end : length eol ≤ 2
+  pub room : first .next + (length line - cut .place) * lineRoom < 2 ^ 64
+
+-- lines ls written after the first ones, of which the last is any l that ends at their next place
+pub record After (eol : List ℕ) (ls : List (List ℕ)) (out out′ : List ℕ) (first r : OperationSplit) : Type 0 where
+  pub text : Appended out out′ (first .next) (following eol ls) (r .next)
+  pub last : (l : List ℕ) → first .last + length l ≡ first .next → r .last + length (lastOf l ls) ≡ r .next
+  pub more : r .more ≡ (first .more || not (isEmpty ls))
+
+pub record RestWritten (table : List ℕ) (strength : ℕ) (line : List ℕ) (cut : Cut) (indent : List ℕ) (level : ℕ) (eol out out′ : List ℕ) (first r : OperationSplit) : Type 0 where
+  pub after : After eol (restLines indent level (restFrom table strength line cut)) out out′ first r
+  pub room : r .next ≤ first .next + (length line - cut .place) * lineRoom
+
+pub record LineFits (line indent : List ℕ) (level : ℕ) : Type 0 where
+  pub well : WellFormed line
+  pub size : length line < 2 ^ 31
+  pub indents : Indent indent level
+
+-- the strength that a first line is broken at, or 0: it fits, or no rounds are left
+unfoldable pub roundStrength : List ℕ → List ℕ → ℕ → ℕ → ℕ → List ℕ → ℕ
+roundStrength table indent level max rounds line =
+    choose (eqb rounds 0) 0
+    (choose (overWide (indented indent) max (indentOf (indented indent) level ++ decode line)) (breakStrength table line) 0)
+
+-- the lines of pieces, as bytes
+abbrev pub firstLine : List ℕ → ℕ → Pieces → List ℕ
+firstLine indent level p = lay indent level (encode (p .first))
+
+abbrev pub otherLines : List ℕ → ℕ → Pieces → List (List ℕ)
+otherLines indent level p = map (λ (l : List ℕ). lay indent (suc level) (encode l)) (p .rest)
+
+pub record PiecesWritten (indent : List ℕ) (level : ℕ) (eol : List ℕ) (p : Pieces) (out out′ : List ℕ) (at : ℕ) (r : OperationSplit) : Type 0 where
+  pub text : Appended out out′ at (firstLine indent level p ++ following eol (otherLines indent level p)) (r .next)
+  pub last : r .last + length (lastOf (firstLine indent level p) (otherLines indent level p)) ≡ r .next
+  pub more : r .more ≡ not (isEmpty (p .rest))
+
+-- the pieces that a line alone becomes in so many rounds
+abbrev pub brokenIn : List ℕ → List ℕ → ℕ → ℕ → ℕ → List ℕ → Pieces
+brokenIn table indent level max rounds line = breakFirst table (indented indent) max level rounds (record { first = decode line; rest = [] })
+
+pub record FirstBroken (table line indent : List ℕ) (level : ℕ) (eol : List ℕ) (max rounds : ℕ) (out out′ : List ℕ) (at : ℕ) (r : OperationSplit) : Type 0 where
+  pub pieces : PiecesWritten indent level eol (brokenIn table indent level max rounds line) out out′ at r
+  pub room : r .next ≤ at + (length line + 1) * lineRoom

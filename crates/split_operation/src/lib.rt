@@ -1,0 +1,177 @@
+// split_operation: an over-wide expression broken before its loosest operators.
+mod marks;
+mod operators;
+mod pass;
+
+ghost use mathlib.Core.Path.{_≡_};
+ghost use Rattle.unicode.specs.Unicode.{decode};
+ghost use Rattle.rules.specs.Options.{Options};
+ghost use Rattle.rules.specs.SplitOperation.{strengths, splitOperation};
+ghost use Rattle.split.specs.Text.{Fits};
+ghost use Rattle.split_operation.specs.Operation.{LineFits, Broken, RestFits, RestWritten, roundStrength, FirstBroken};
+use pass::Cut;
+use pass::begin;
+use pass::break_strength;
+use pass::next_op;
+use split::indent_column;
+use split::measure_from;
+use split::trim_part;
+use split::write_line;
+
+// Tightness: a strength for each of the operators, in their order.
+pub const STRENGTHS: [u8; 21] = [
+    1,
+    1,
+    2,
+    3,
+    4,
+    5,
+    6,
+    6,
+    7,
+    7,
+    7,
+    7,
+    8,
+    8,
+    9,
+    10,
+    10,
+    11,
+    11,
+    11,
+    12,
+];
+
+// The next place, the place where the last line starts, and whether there is more than one.
+pub struct OperationSplit {
+    pub next: usize,
+    pub last: usize,
+    pub more: bool,
+}
+
+// The pieces from an operator on, each a line.
+fn write_rest(
+    table: &[u8; 21],
+    line: &[u8],
+    strength: u8,
+    cut: Cut,
+    indent: &[u8],
+    level: usize,
+    eol: &[u8],
+    out: &mut [u8],
+    first: OperationSplit,
+) -> OperationSplit
+    requires { ⌜ RestFits (now table) strength (now line) cut (now indent) level (now eol) first ⌝ }
+    ensures { λ r. ⌜ RestWritten (now (table .entry)) strength (now (line .entry)) cut (now (indent .entry)) level (now (eol .entry)) (now (out .entry)) (now (out .exit)) first r ⌝ }
+{
+    let mut c = cut;
+    let mut r = first;
+    while c.place < line.len() {
+        let from = c.place;
+        let q = c.after;
+        c = next_op(table, line, strength, from + 1, q);
+        let p = trim_part(line, from, c.place);
+        let a = p.start;
+        let e = p.end;
+        let w = write_line(out, r.next, eol, indent, level, &line[a..e]);
+        r = OperationSplit {
+            next: w.next,
+            last: w.start,
+            more: true,
+        };
+    }
+    r
+}
+
+// The strength that a first line is broken at, or 0: it fits, or no rounds are left.
+fn round_strength(
+    table: &[u8; 21],
+    line: &[u8],
+    indent: &[u8],
+    level: usize,
+    max: usize,
+    rounds: usize,
+) -> u8
+    requires { ⌜ LineFits (now line) (now indent) level ⌝ }
+    ensures { λ r. ⌜ r ≡ roundStrength (now (table .entry)) (now (indent .entry)) level max rounds (now (line .entry)) ⌝ }
+{
+    if rounds == 0 {
+        return 0;
+    }
+    let end = measure_from(indent_column(indent, level), line);
+    if end.0 <= max {
+        return 0;
+    }
+    break_strength(table, line)
+}
+
+// A line, its first piece broken again in so many rounds while it is too wide.
+fn break_first(
+    table: &[u8; 21],
+    line: &[u8],
+    indent: &[u8],
+    level: usize,
+    eol: &[u8],
+    max: usize,
+    rounds: usize,
+    out: &mut [u8],
+    at: usize,
+) -> OperationSplit
+    requires { ⌜ Fits (now line) (now indent) level (now eol) at ⌝ }
+    ensures { λ r. ⌜ FirstBroken (now (table .entry)) (now (line .entry)) (now (indent .entry)) level (now (eol .entry)) max rounds (now (out .entry)) (now (out .exit)) at r ⌝ }
+{
+    let strength = round_strength(table, line, indent, level, max, rounds);
+    if strength == 0 {
+        let next = buffer::append_indented(out, at, indent, level, line);
+        return OperationSplit {
+            next,
+            last: at,
+            more: false,
+        };
+    }
+    let cut = next_op(table, line, strength, 0, begin());
+    let p = trim_part(line, 0, cut.place);
+    let a = p.start;
+    let e = p.end;
+    let first = break_first(
+        table,
+        &line[a..e],
+        indent,
+        level,
+        eol,
+        max,
+        rounds - 1,
+        out,
+        at,
+    );
+    write_rest(
+        table,
+        line,
+        strength,
+        cut,
+        indent,
+        level + 1,
+        eol,
+        out,
+        first,
+    )
+}
+
+// An over-wide line, broken before its loosest operators. Where there is nothing to break at, that is the line alone.
+pub fn split_operation(
+    line: &[u8],
+    indent: &[u8],
+    level: usize,
+    eol: &[u8],
+    max: usize,
+    out: &mut [u8],
+    at: usize,
+) -> OperationSplit
+    requires { ⌜ Fits (now line) (now indent) level (now eol) at ⌝ }
+    ensures { λ r. ⌜ ((o : Options) → o .indent ≡ now (indent .entry)
+        → Broken (now (eol .entry)) (splitOperation strengths o max level (decode (now (line .entry)))) (now (out .entry)) (now (out .exit)) at r) ⌝ }
+{
+    let n = unicode::char_count(line);
+    break_first(&STRENGTHS, line, indent, level, eol, max, n.0, out, at)
+}

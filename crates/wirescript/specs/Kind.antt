@@ -1,0 +1,43 @@
+-- Text kinds, as the contracts say them: what a call leaves, and the kinds read off a line's bytes.
+use Prim.Native.Nat.{ℕ, _+_, _≤_, _<_, _^_}
+use mathlib.Core.List.{List, [], _∷_}
+use mathlib.Core.Path.{_≡_}
+use lib.ListN.{length, drop, replicate}
+use Rattle.unicode.specs.Unicode.{tail, WellFormed}
+use Rattle.rules.specs.Basics.{choose, pieces, splitOn}
+use Rattle.rules.specs.Scan.{next}
+use Rattle.rules.specs.TextKind.{inInterpolation, kindOf, rustLines, kindOutcomeOf, kindAnswer}
+use Rattle.rules.specs.declared.Mark.{Mark}
+use Rattle.rules.specs.declared.TextKind.{TextKind}
+use Rattle.rules.specs.declared.Kind.{Kind}
+
+-- the answer, and the scratch: all zeros, whatever stood there
+pub record KindAnswered (source : List ℕ) (line col : ℕ) (before after : List ℕ) (r : Kind) : Type 0 where
+  pub answer : r ≡ kindAnswer (kindOutcomeOf source line col (length before))
+  pub scratch : after ≡ replicate (length before) 0
+
+-- `kinds`, on bytes: the kind of each byte that starts a character; t is the mark before them
+unfoldable pub byteKinds : Mark → List ℕ → List TextKind
+byteKinds t [] = []
+byteKinds t (b ∷ s) =
+    let r = byteKinds (next t (b ∷ s)) s in
+    choose (tail b) r (kindOf (next t (b ∷ s) .class) (inInterpolation (t .mode)) ∷ r)
+
+abbrev pub firstOf : List (List ℕ) → List ℕ
+firstOf [] = []
+firstOf (l ∷ ls) = l
+
+-- the first of a text's lines, as Rust's `lines` cuts them, or nothing
+unfoldable pub lineAt : List ℕ → List ℕ
+lineAt s = firstOf (rustLines (pieces (splitOn "\n" s)))
+
+-- the piece that starts at `at` ends at e
+pub record LineEnd (s : List ℕ) (at e : ℕ) : Type 0 where
+  pub is : e ≡ at + length (splitOn "\n" (drop at s) .first)
+  pub fits : e ≤ length s
+
+-- a well-formed source: the classes of its lines fit into the scratch, and the depth of its comments and braces into 32 bits
+pub record SourceFits (source scratch : List ℕ) : Type 0 where
+  pub well : WellFormed source
+  pub room : length source ≤ length scratch
+  pub short : length source + 1 < 2 ^ 32

@@ -1,0 +1,312 @@
+//! The benchmark: the proved library, through the crate that a host uses, and the Rust,
+//! on the same inputs in one run. Prints a markdown table.
+//!
+//!     bench [--only NAME] [--small]
+//!
+//! Times are the best of several runs. The formatter's buffers are kept between runs, and
+//! each call clears them itself. A run of the Rust that may take over a few seconds, judged
+//! by the size before it, is left out.
+
+use runs::grammar;
+use runs::random::Random;
+use std::hint::black_box;
+use std::time::Instant;
+use upstream::{FormatOptions, format_with, text_kind_at};
+use wirescript_format::{Formatter, Options};
+
+struct Input {
+    name: &'static str,
+    indent: &'static str,
+    width: fn(usize) -> usize,
+    make: fn(usize) -> String,
+}
+
+fn hundred(_: usize) -> usize {
+    100
+}
+
+fn repeated(unit: &str, size: usize) -> String {
+    unit.repeat(size / unit.len())
+}
+
+/// The source, no longer than `size`.
+fn cut(mut source: String, size: usize) -> String {
+    let end = (0..=size).rev().find(|&i| source.is_char_boundary(i));
+    source.truncate(end.unwrap_or(0));
+    source
+}
+
+fn written(size: usize, noise: usize) -> String {
+    cut(grammar::source(&mut Random::new(1), size, noise), size)
+}
+
+/// An import of this size.
+fn import(size: usize) -> String {
+    let names: String = (0..size / 8 - 4)
+        .map(|i| format!("n{:05}, ", i % 100_000))
+        .collect();
+    format!("import {{ {names}}} from \"lib\"\n")
+}
+
+const INPUTS: &[Input] = &[
+    Input {
+        name: "realistic",
+        indent: "  ",
+        width: hundred,
+        make: |n| written(n, 0),
+    },
+    Input {
+        name: "hostile",
+        indent: "  ",
+        width: hundred,
+        make: |n| written(n, 8),
+    },
+    Input {
+        name: "already formatted",
+        indent: "  ",
+        width: hundred,
+        make: |n| format_with(&written(n, 0), &FormatOptions::default()),
+    },
+    Input {
+        name: "one long line of words",
+        indent: "  ",
+        width: hundred,
+        make: |n| repeated("word another ", n),
+    },
+    Input {
+        name: "one long sum",
+        indent: "  ",
+        width: hundred,
+        make: |n| format!("a{}", repeated(" + b * c", n)),
+    },
+    Input {
+        name: "wide imports",
+        indent: "  ",
+        width: hundred,
+        make: |n| repeated(&import(400), n),
+    },
+    Input {
+        name: "one import, width 100",
+        indent: "  ",
+        width: hundred,
+        make: import,
+    },
+    Input {
+        name: "one import, half its width",
+        indent: "  ",
+        width: |n| n / 2,
+        make: import,
+    },
+    Input {
+        name: "wide operator lines",
+        indent: "  ",
+        width: hundred,
+        make: |n| {
+            repeated(
+                &format!(
+                    "let x = f(a, b){} || c == d\n",
+                    " + value * 3 - (a && b)".repeat(6)
+                ),
+                n,
+            )
+        },
+    },
+    Input {
+        name: "commas",
+        indent: "  ",
+        width: hundred,
+        make: |n| repeated("f(a ,b,c  , d)\n", n),
+    },
+    Input {
+        name: "commas alone",
+        indent: "  ",
+        width: hundred,
+        make: |n| repeated(",", n),
+    },
+    Input {
+        name: "spaces before a comma",
+        indent: "  ",
+        width: hundred,
+        make: |n| repeated(&format!("a{},b\n", " ".repeat(500)), n),
+    },
+    Input {
+        name: "blank lines",
+        indent: "  ",
+        width: hundred,
+        make: |n| repeated("\n", n),
+    },
+    Input {
+        name: "declarations",
+        indent: "  ",
+        width: hundred,
+        make: |n| repeated("in a: int\n\nin b: int\n", n),
+    },
+    Input {
+        name: "nested to 40",
+        indent: "  ",
+        width: hundred,
+        make: |n| {
+            repeated(
+                &format!("{}{}", "f(x, {\n".repeat(40), "})\n".repeat(40)),
+                n,
+            )
+        },
+    },
+    Input {
+        name: "deep nesting, empty indent",
+        indent: "",
+        width: hundred,
+        make: |n| repeated("(\n", n),
+    },
+    Input {
+        name: "line comments",
+        indent: "  ",
+        width: hundred,
+        make: |n| repeated("  // a note, with { and (  \n", n),
+    },
+    Input {
+        name: "block comments",
+        indent: "  ",
+        width: hundred,
+        make: |n| repeated("/* a\n   note /* inner */ }\n  end */ f(a ,b)\n", n),
+    },
+    Input {
+        name: "prefabs",
+        indent: "  ",
+        width: hundred,
+        make: |n| repeated("let p = $```\n  var a: int = 0 }\n``` ,b\n", n),
+    },
+    Input {
+        name: "multi-byte text",
+        indent: "  ",
+        width: hundred,
+        make: |n| repeated("let 名前 = \"日本語 😀\" + é ,Ω\n", n),
+    },
+    Input {
+        name: "strings with ${",
+        indent: "  ",
+        width: hundred,
+        make: |n| repeated("log(\"a ${b + \"x}\" + {c}} d ${e}\" ,'f ${g}')\n", n),
+    },
+    Input {
+        name: "joins",
+        indent: "  ",
+        width: hundred,
+        make: |n| format!("}}\n{}", repeated("else }\n", n)),
+    },
+    Input {
+        name: "if and else",
+        indent: "  ",
+        width: hundred,
+        make: |n| repeated("if a {\n  b\n}\nelse {\n  c\n}\n", n),
+    },
+    Input {
+        name: "backslashes",
+        indent: "  ",
+        width: hundred,
+        make: |n| repeated("\\a\\ ,\\\\ \\\"", n),
+    },
+    Input {
+        name: "CRLF",
+        indent: "  ",
+        width: hundred,
+        make: |n| repeated("var a: int = 0\r\n", n),
+    },
+];
+
+/// Seconds that one run of the Rust may take.
+const MOST: f64 = 4.0;
+
+/// The best time of `run`, in seconds.
+fn best(mut run: impl FnMut()) -> f64 {
+    let (mut best, mut total, mut runs) = (f64::MAX, 0.0, 0);
+    while total < 0.2 && runs < 30 {
+        let start = Instant::now();
+        run();
+        let time = start.elapsed().as_secs_f64();
+        best = best.min(time);
+        total += time;
+        runs += 1;
+    }
+    best
+}
+
+/// A row of the table: times in seconds.
+fn row(name: &str, source: usize, text: usize, rust: Option<f64>, ours: f64) {
+    println!(
+        "| {name} | {source} | {text} | {} | {:.2} ms | {} | {:.0} MB/s |",
+        rust.map_or("-".into(), |t| format!("{:.2} ms", t * 1e3)),
+        ours * 1e3,
+        rust.map_or("-".into(), |t| format!("{:.1}", t / ours)),
+        source as f64 / ours / 1e6,
+    );
+}
+
+/// Formatting one input at each size.
+fn format_rows(input: &Input, sizes: &[usize], formatter: &mut Formatter) {
+    let mut last = 0.0;
+    for &size in sizes {
+        let source = cut((input.make)(size), size);
+        let width = (input.width)(size);
+        let options = Options::new()
+            .indent(input.indent)
+            .width(Some(width as u64));
+        let theirs = FormatOptions {
+            indent: input.indent.into(),
+            print_width: Some(width),
+            ..FormatOptions::default()
+        };
+        // four times the source may take sixteen times as long
+        let runs = last * 16.0 < MOST;
+        let rust = runs.then(|| best(|| drop(black_box(format_with(black_box(&source), &theirs)))));
+        let ours = best(|| {
+            black_box(formatter.format(black_box(&source), &options)).expect("accepted");
+        });
+        let text = formatter.format(&source, &options).expect("accepted").text;
+        if runs {
+            assert_eq!(text, format_with(&source, &theirs), "{}", input.name);
+        }
+        row(input.name, source.len(), text.len(), rust, ours);
+        last = rust.unwrap_or(MOST);
+    }
+}
+
+/// The text kind at the source's end.
+fn kind_rows(sizes: &[usize], formatter: &mut Formatter) {
+    for &size in sizes {
+        let source = written(size, 0);
+        let line = source.lines().count() - 1;
+        let rust = best(|| {
+            black_box(text_kind_at(black_box(&source), line, 0));
+        });
+        let ours = best(|| {
+            let found = formatter.text_kind_at(black_box(&source), line as u64, 0);
+            black_box(found).expect("accepted");
+        });
+        row("text kind at the end", source.len(), 0, Some(rust), ours);
+    }
+}
+
+fn main() {
+    let arguments: Vec<String> = std::env::args().skip(1).collect();
+    let only = arguments
+        .iter()
+        .position(|a| a == "--only")
+        .and_then(|i| arguments.get(i + 1));
+    let sizes: &[usize] = if arguments.iter().any(|a| a == "--small") {
+        &[64 << 10]
+    } else {
+        &[64 << 10, 256 << 10, 1 << 20]
+    };
+    println!("| input | source | text | Rust | ours | Rust / ours | ours |");
+    println!("|---|--:|--:|--:|--:|--:|--:|");
+    let mut formatter = Formatter::new();
+    for input in INPUTS {
+        if only.is_none_or(|name| input.name.contains(name.as_str())) {
+            format_rows(input, sizes, &mut formatter);
+        }
+    }
+    if only.is_none() {
+        kind_rows(sizes, &mut formatter);
+    }
+}

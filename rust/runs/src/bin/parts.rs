@@ -1,0 +1,176 @@
+//! Inner functions beside the Rust's: `classify`, `normalize_spacing` and `scan_brackets`. They are
+//! reached through test wrappers in `libwirescript_parts.a` (feature `parts`; the archive
+//! is looked for where `libwirescript.a` is).
+//!
+//!     parts [SOURCES]
+
+use runs::random::Random;
+use runs::{grammar, sources};
+use upstream::Carry;
+
+/// What is open: 0 code, 1 a block comment of this depth, 2 a prefab.
+#[repr(C)]
+#[derive(Clone, Copy, Debug, PartialEq, Eq)]
+struct Open {
+    carry: u64,
+    depth: u64,
+}
+
+unsafe extern "C" {
+    /// Writes a class for each byte of the line: 0 code, 1 string, 2 line comment, 3 block
+    /// comment, 4 prefab.
+    fn wirescript_test_classify(
+        line: *const u8,
+        line_length: usize,
+        carry: u64,
+        depth: u32,
+        classes: *mut u8,
+        classes_length: usize,
+    ) -> Open;
+    /// `scratch` holds the line's class bytes, and takes the respaced line after them. Gives
+    /// its length.
+    fn wirescript_test_normalize_spacing(
+        line: *const u8,
+        line_length: usize,
+        scratch: *mut u8,
+        scratch_length: usize,
+    ) -> u64;
+    /// Whether respacing leaves the line as it is.
+    fn wirescript_test_is_spaced(
+        line: *const u8,
+        line_length: usize,
+        classes: *const u8,
+        classes_length: usize,
+    ) -> bool;
+    /// `scratch` holds the line's class bytes and then the stack. Gives its new depth.
+    fn wirescript_test_scan_brackets(
+        line: *const u8,
+        line_length: usize,
+        scratch: *mut u8,
+        scratch_length: usize,
+        depth: u64,
+    ) -> u64;
+}
+
+fn classify(line: &str, open: Open) -> (Vec<u8>, Open) {
+    let mut classes = vec![9; line.len()];
+    // SAFETY: pointers and lengths of slices; only `classes` is written.
+    let after = unsafe {
+        wirescript_test_classify(
+            line.as_ptr(),
+            line.len(),
+            open.carry,
+            open.depth as u32,
+            classes.as_mut_ptr(),
+            classes.len(),
+        )
+    };
+    (classes, after)
+}
+
+fn normalize_spacing(line: &str, classes: &[u8]) -> Vec<u8> {
+    let mut scratch = classes.to_vec();
+    scratch.resize(3 * line.len(), 0);
+    // SAFETY: pointers and lengths of slices; only `scratch` is written.
+    let length = unsafe {
+        wirescript_test_normalize_spacing(
+            line.as_ptr(),
+            line.len(),
+            scratch.as_mut_ptr(),
+            scratch.len(),
+        )
+    };
+    scratch[line.len()..line.len() + length as usize].to_vec()
+}
+
+fn is_spaced(line: &str, classes: &[u8]) -> bool {
+    // SAFETY: pointers and lengths of slices; nothing is written.
+    unsafe { wirescript_test_is_spaced(line.as_ptr(), line.len(), classes.as_ptr(), classes.len()) }
+}
+
+fn scan_brackets(line: &str, classes: &[u8], stack: &[bool]) -> Vec<bool> {
+    let mut scratch = classes.to_vec();
+    scratch.extend(stack.iter().map(|adds| u8::from(*adds)));
+    scratch.resize(2 * line.len() + stack.len(), 0);
+    // SAFETY: pointers and lengths of slices; only `scratch` is written.
+    let depth = unsafe {
+        wirescript_test_scan_brackets(
+            line.as_ptr(),
+            line.len(),
+            scratch.as_mut_ptr(),
+            scratch.len(),
+            stack.len() as u64,
+        )
+    };
+    scratch[line.len()..line.len() + depth as usize]
+        .iter()
+        .map(|adds| *adds != 0)
+        .collect()
+}
+
+fn open_of(carry: Carry) -> Open {
+    let (carry, depth) = match carry {
+        Carry::Code => (0, 0),
+        Carry::Block(depth) => (1, u64::from(depth)),
+        Carry::Prefab => (2, 0),
+    };
+    Open { carry, depth }
+}
+
+/// The Rust's class of each character, for each of its bytes.
+fn by_bytes(line: &str, classes: &[u8]) -> Vec<u8> {
+    line.chars()
+        .zip(classes)
+        .flat_map(|(c, class)| std::iter::repeat_n(*class, c.len_utf8()))
+        .collect()
+}
+
+/// Compares both functions on the lines of a source; gives how many there were.
+fn compare(source: &str) -> u64 {
+    let mut carry = Carry::Code;
+    let mut stack = Vec::new();
+    let mut lines = 0;
+    for line in source.split('\n') {
+        let (classes, after) = upstream::classify(line, carry);
+        let rust = (by_bytes(line, &classes), open_of(after));
+        let ours = classify(line, open_of(carry));
+        assert_eq!(ours, rust, "classify of {line:?} after {carry:?}");
+        if carry == Carry::Code {
+            let respaced = normalize_spacing(line, &rust.0);
+            let wanted = upstream::normalize_spacing(line, &classes);
+            assert_eq!(respaced, wanted.as_bytes(), "normalize_spacing of {line:?}");
+            if is_spaced(line, &rust.0) {
+                assert_eq!(line, wanted, "is_spaced of {line:?}");
+            }
+        }
+        let ours = scan_brackets(line, &rust.0, &stack);
+        upstream::scan_brackets(line, &classes, 0, &mut stack);
+        assert_eq!(ours, stack, "scan_brackets of {line:?}");
+        carry = after;
+        lines += 1;
+    }
+    lines
+}
+
+fn main() {
+    let most = std::env::args().nth(1).and_then(|n| n.parse().ok());
+    let most: u64 = most.unwrap_or(200_000);
+    let mut lines = 0;
+    for (_, alphabet) in sources::ALPHABETS {
+        for length in 0..=4 {
+            for number in 0..sources::count(alphabet, length).min(most) {
+                lines += compare(&sources::nth(alphabet, length, number));
+            }
+        }
+    }
+    let mut random = Random::new(1);
+    for _ in 0..most {
+        let source = if random.one_in(2) {
+            sources::short(&mut random)
+        } else {
+            grammar::source(&mut random, 300, 6)
+        };
+        lines += compare(&source);
+    }
+    println!("{lines} lines agree");
+}

@@ -1,0 +1,242 @@
+//! One comparison with the Rust: answers, every byte lent, and the bytes around them.
+
+use crate::call::{Call, scratch_needed};
+use crate::library::Library;
+use crate::model;
+use std::fmt::Debug;
+use upstream::FormatOptions;
+use wirescript_format::raw::{Answer, Kind, Resolved, Settings};
+
+/// A thing to compare.
+#[derive(Clone, Debug, PartialEq, Eq)]
+pub enum Check {
+    Format(Call),
+    /// So many lines of `(`, whose text is too long for the Rust: it is refused, and its
+    /// length is known.
+    Far {
+        lines: u64,
+        indent: usize,
+        output: usize,
+    },
+    /// The kind at one place, with a scratch of so many bytes more than needed.
+    Kind {
+        source: Vec<u8>,
+        line: u64,
+        column: u64,
+        scratch: isize,
+    },
+    /// The kinds at every place of a source, and at some past its end.
+    Kinds(Vec<u8>),
+    /// `indent_with` on a call's options and output.
+    Indent {
+        call: Call,
+        tabs: u64,
+        size: u64,
+    },
+    /// The `.editorconfig` step on a call's options and output.
+    Config {
+        call: Call,
+        values: Resolved,
+    },
+}
+
+/// Lent buffers, with bytes before and after them that no call may change.
+#[derive(Default)]
+pub struct Buffers {
+    output: Vec<u8>,
+    scratch: Vec<u8>,
+}
+
+const GUARD: usize = 32;
+const GUARD_BYTE: u8 = 0xc5;
+const OLD: u8 = 0x5a;
+
+/// A part of `buffer` that holds old bytes; its start moves with its length.
+fn lend(buffer: &mut Vec<u8>, length: usize) -> std::ops::Range<usize> {
+    let start = GUARD + length % 8;
+    buffer.clear();
+    buffer.resize(start, GUARD_BYTE);
+    buffer.resize(start + length, OLD);
+    buffer.resize(start + length + GUARD, GUARD_BYTE);
+    start..start + length
+}
+
+fn differ<T: Debug>(what: &str, ours: T, rust: T) -> String {
+    format!("{what}\n  ours {ours:?}\n  must {rust:?}")
+}
+
+fn guarded(buffer: &[u8], part: &std::ops::Range<usize>) -> bool {
+    let outside = |b: &[u8]| b.iter().all(|x| *x == GUARD_BYTE);
+    outside(&buffer[..part.start]) && outside(&buffer[part.end..])
+}
+
+fn zeros(bytes: &[u8]) -> bool {
+    bytes.iter().all(|b| *b == 0)
+}
+
+impl Buffers {
+    /// What differs, if anything does.
+    pub fn check(&mut self, library: &dyn Library, check: &Check) -> Option<String> {
+        match check {
+            Check::Format(call) => self.format(library, call),
+            Check::Kind {
+                source,
+                line,
+                column,
+                scratch,
+            } => {
+                let length = scratch_needed(source).saturating_add_signed(*scratch);
+                self.kind(library, source, *line, *column, length)
+            }
+            Check::Kinds(source) => self.kinds(library, source),
+            Check::Far {
+                lines,
+                indent,
+                output,
+            } => self.far(library, *lines, *indent, *output),
+            Check::Indent { call, tabs, size } => {
+                let found = model::indent_with(call, *tabs, *size);
+                self.step(call, found.as_ref(), &|output| {
+                    library.indent_with(call.choices(), *tabs, *size, output)
+                })
+            }
+            Check::Config { call, values } => {
+                let found = model::editorconfig(call, *values);
+                self.step(call, found.as_ref(), &|output| {
+                    library.editorconfig(call.choices(), *values, output)
+                })
+            }
+        }
+    }
+
+    fn step(
+        &mut self,
+        call: &Call,
+        found: Option<&FormatOptions>,
+        run: &dyn Fn(&mut [u8]) -> Settings,
+    ) -> Option<String> {
+        let room = call
+            .output
+            .of(found.map_or(0, |options| options.indent.len()));
+        let must = model::settled(found, room);
+        let output = lend(&mut self.output, room);
+        let answer = run(&mut self.output[output.clone()]);
+        if answer != must.answer {
+            return Some(differ("the answer", answer, must.answer));
+        }
+        let (indent, rest) = self.output[output.clone()].split_at(must.indent.len());
+        if indent != must.indent {
+            return Some(differ("the indent", indent, &must.indent[..]));
+        }
+        if !zeros(rest) {
+            return Some("the output is not zero after the indent".into());
+        }
+        (!guarded(&self.output, &output)).then(|| "bytes beside the output changed".into())
+    }
+
+    fn format(&mut self, library: &dyn Library, call: &Call) -> Option<String> {
+        let found = model::text_of(call);
+        let room = call.output.of(model::length(&found));
+        let rust = model::outcome(&found, room);
+        let output = lend(&mut self.output, room);
+        let scratch = lend(&mut self.scratch, call.scratch_length());
+        let answer = library.format(
+            &call.source,
+            call.choices(),
+            &mut self.output[output.clone()],
+            &mut self.scratch[scratch.clone()],
+        );
+        if answer != rust.answer {
+            return Some(differ("the answer", answer, rust.answer));
+        }
+        let (text, rest) = self.output[output.clone()].split_at(rust.text.len());
+        if text != rust.text {
+            let show = |bytes: &[u8]| String::from_utf8_lossy(bytes).into_owned();
+            return Some(differ("the text", show(text), show(&rust.text)));
+        }
+        if !zeros(rest) {
+            return Some("the output is not zero after the text".into());
+        }
+        if !zeros(&self.scratch[scratch.clone()]) {
+            return Some("the scratch is not zero".into());
+        }
+        if !guarded(&self.output, &output) || !guarded(&self.scratch, &scratch) {
+            return Some("bytes beside a lent buffer changed".into());
+        }
+        None
+    }
+
+    fn far(
+        &mut self,
+        library: &dyn Library,
+        lines: u64,
+        indent: usize,
+        output: usize,
+    ) -> Option<String> {
+        if !library.goes_far() {
+            return None;
+        }
+        let source = "(\n".repeat(lines as usize);
+        let indent = " ".repeat(indent);
+        let options = FormatOptions {
+            indent: indent.clone(),
+            ..FormatOptions::default()
+        };
+        let call = Call::new(source, &options);
+        let output = lend(&mut self.output, output);
+        let scratch = lend(&mut self.scratch, call.scratch_length());
+        let ours = library.format(
+            &call.source,
+            call.choices(),
+            &mut self.output[output.clone()],
+            &mut self.scratch[scratch],
+        );
+        let must = Answer {
+            refusal: 5,
+            // a bracket and an ending to a line, and one level more at each
+            place: 2 * lines + indent.len() as u64 * (lines * (lines - 1) / 2),
+            ..Answer::default()
+        };
+        if ours != must {
+            return Some(differ("the answer", ours, must));
+        }
+        (!zeros(&self.output[output])).then(|| "the output is not zero".into())
+    }
+
+    fn kind(
+        &mut self,
+        library: &dyn Library,
+        source: &[u8],
+        line: u64,
+        column: u64,
+        length: usize,
+    ) -> Option<String> {
+        let scratch = lend(&mut self.scratch, length);
+        let lent = &mut self.scratch[scratch.clone()];
+        let ours: Kind = library.text_kind_at(source, line, column, lent);
+        let rust = model::text_kind_at(source, line, column, length);
+        if ours != rust {
+            let what = format!("the kind at line {line}, column {column}");
+            return Some(differ(&what, ours, rust));
+        }
+        if !zeros(&self.scratch[scratch.clone()]) {
+            return Some("the scratch is not zero after a kind".into());
+        }
+        (!guarded(&self.scratch, &scratch)).then(|| "bytes beside the scratch changed".into())
+    }
+
+    fn kinds(&mut self, library: &dyn Library, source: &[u8]) -> Option<String> {
+        let length = scratch_needed(source);
+        let lines: Vec<&[u8]> = source.split(|b| *b == b'\n').collect();
+        for line in 0..=lines.len() {
+            let columns = lines.get(line).map_or(0, |l| l.len() + 1);
+            for column in 0..=columns {
+                let found = self.kind(library, source, line as u64, column as u64, length);
+                if found.is_some() {
+                    return found;
+                }
+            }
+        }
+        None
+    }
+}

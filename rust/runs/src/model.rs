@@ -1,0 +1,186 @@
+//! What each call must come to: the Rust's answers, and the refusals that the Rust
+//! doesn't have.
+
+use crate::call::{Call, Outcome, Settled, scratch_needed};
+use ec4rs::Properties;
+use ec4rs::property::{EndOfLine, FinalNewline, IndentSize, IndentStyle, MaxLineLen, TabWidth};
+use upstream::{FormatOptions, LineEnding, TextKind};
+use wirescript_format::raw::{Answer, Kind, Resolved, Settings};
+
+const MAX_SOURCE: usize = 1_048_576;
+
+/// The text and the counts of a call to which none of refusals 1 to 4 applies; else the
+/// refusal's number and place.
+pub fn text_of(call: &Call) -> Result<upstream::Counted, (u64, u64)> {
+    if call.source.len() > MAX_SOURCE {
+        return Err((1, MAX_SOURCE as u64));
+    }
+    let Some(options) = call.options() else {
+        return Err((2, 0));
+    };
+    let needed = scratch_needed(&call.source);
+    if call.scratch_length() < needed {
+        return Err((3, needed as u64));
+    }
+    match std::str::from_utf8(&call.source) {
+        Ok(source) => Ok(upstream::format_counted(source, &options)),
+        Err(error) => Err((4, error.valid_up_to() as u64)),
+    }
+}
+
+fn refused((number, place): (u64, u64)) -> Outcome {
+    let answer = Answer {
+        refusal: number,
+        place,
+        ..Answer::default()
+    };
+    Outcome {
+        answer,
+        text: Vec::new(),
+    }
+}
+
+/// The outcome where the output has `room`.
+pub fn outcome(found: &Result<upstream::Counted, (u64, u64)>, room: usize) -> Outcome {
+    match found {
+        Err(refusal) => refused(*refusal),
+        Ok(counted) if counted.text.len() > room => refused((5, counted.text.len() as u64)),
+        Ok(counted) => Outcome {
+            answer: Answer {
+                refusal: 0,
+                place: 0,
+                length: counted.text.len() as u64,
+                imports_split: counted.imports_split as u64,
+                blank_names: counted.blank_names as u64,
+            },
+            text: counted.text.clone().into_bytes(),
+        },
+    }
+}
+
+pub fn text_kind_at(source: &[u8], line: u64, column: u64, scratch: usize) -> Kind {
+    let refuse = |refusal, place| Kind {
+        refusal,
+        place,
+        kind: 0,
+    };
+    if source.len() > MAX_SOURCE {
+        return refuse(1, MAX_SOURCE as u64);
+    }
+    let needed = scratch_needed(source);
+    if scratch < needed {
+        return refuse(3, needed as u64);
+    }
+    match std::str::from_utf8(source) {
+        Err(error) => refuse(4, error.valid_up_to() as u64),
+        Ok(source) => Kind {
+            refusal: 0,
+            place: 0,
+            kind: match upstream::text_kind_at(source, line as usize, column as usize) {
+                TextKind::Code => 0,
+                TextKind::Str => 1,
+                TextKind::Comment => 2,
+            },
+        },
+    }
+}
+
+/// The text's length, 0 where there is none.
+pub fn length(found: &Result<upstream::Counted, (u64, u64)>) -> usize {
+    found.as_ref().map_or(0, |counted| counted.text.len())
+}
+
+/// The options that `indent_with` gives; `None` is refusal 2. A call's options are what is
+/// changed.
+pub fn indent_with(call: &Call, tabs: u64, size: u64) -> Option<FormatOptions> {
+    let options = call.options()?;
+    (tabs <= 1 && size <= 64).then(|| options.indent_with(tabs == 1, size as usize))
+}
+
+/// The options that the `.editorconfig` step gives; `None` is refusal 2.
+pub fn editorconfig(call: &Call, values: Resolved) -> Option<FormatOptions> {
+    let options = call.options()?;
+    let values = properties(values)?;
+    // the size that the step resolves to
+    let size = match (values.size, values.tab) {
+        (Some(IndentSize::Value(n)), _) | (_, Some(TabWidth::Value(n))) => n,
+        _ => 0,
+    };
+    (size <= 64).then(|| upstream::with_resolved(options, values))
+}
+
+/// What a setting step leaves where the output has `room`.
+pub fn settled(options: Option<&FormatOptions>, room: usize) -> Settled {
+    let refused = |refusal, place| Settled {
+        answer: Settings {
+            refusal,
+            place: place as u64,
+            ..Settings::default()
+        },
+        indent: Vec::new(),
+    };
+    let Some(options) = options else {
+        return refused(2, 0);
+    };
+    let length = options.indent.len();
+    if length > room {
+        return refused(5, length);
+    }
+    Settled {
+        answer: Settings {
+            refusal: 0,
+            place: 0,
+            indent_len: length as u64,
+            width_set: u64::from(options.print_width.is_some()),
+            width: options.print_width.unwrap_or(0) as u64,
+            line_ending: match options.end_of_line {
+                None => 0,
+                Some(LineEnding::Lf) => 1,
+                Some(LineEnding::Crlf) => 2,
+            },
+            final_newline: u64::from(options.insert_final_newline),
+        },
+        indent: options.indent.clone().into_bytes(),
+    }
+}
+
+/// The values that the numbers name, if each names one.
+fn properties(r: Resolved) -> Option<Properties> {
+    Some(Properties {
+        style: match r.style {
+            0 => None,
+            1 => Some(IndentStyle::Tabs),
+            2 => Some(IndentStyle::Spaces),
+            _ => return None,
+        },
+        size: match r.size_kind {
+            0 => None,
+            1 => Some(IndentSize::UseTabWidth),
+            2 => Some(IndentSize::Value(r.size as usize)),
+            _ => return None,
+        },
+        tab: match r.tab_set {
+            0 => None,
+            1 => Some(TabWidth::Value(r.tab as usize)),
+            _ => return None,
+        },
+        max: match r.max_kind {
+            0 => None,
+            1 => Some(MaxLineLen::Off),
+            2 => Some(MaxLineLen::Value(r.max as usize)),
+            _ => return None,
+        },
+        ending: match r.ending {
+            0 => None,
+            1 => Some(EndOfLine::Lf),
+            2 => Some(EndOfLine::CrLf),
+            3 => Some(EndOfLine::Cr),
+            _ => return None,
+        },
+        newline: match r.newline {
+            0 => None,
+            n @ (1 | 2) => Some(FinalNewline::Value(n == 2)),
+            _ => return None,
+        },
+    })
+}

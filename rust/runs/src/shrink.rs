@@ -1,0 +1,113 @@
+//! A smaller check that still differs.
+
+use crate::call::{Call, Size};
+use crate::compare::{Buffers, Check};
+use crate::library::Library;
+
+/// Makes a check that differs as small as it gets: the first smaller one that differs
+/// still, again and again.
+pub fn shrink(library: &dyn Library, check: Check) -> Check {
+    let mut buffers = Buffers::default();
+    let mut best = check;
+    loop {
+        let mut smaller = None;
+        candidates(&best, &mut |check| {
+            let differs = buffers.check(library, &check).is_some();
+            if differs {
+                smaller = Some(check);
+            }
+            differs
+        });
+        match smaller {
+            Some(check) => best = check,
+            None => return best,
+        }
+    }
+}
+
+/// Tries sources with a part cut out, larger parts first, then with a character made
+/// plain, until one is taken.
+fn sources(source: &[u8], take: &mut dyn FnMut(Vec<u8>) -> bool) -> bool {
+    // where a source is UTF-8 its parts stay so
+    let cuts: Vec<usize> = match std::str::from_utf8(source) {
+        Ok(text) => text
+            .char_indices()
+            .map(|(i, _)| i)
+            .chain([text.len()])
+            .collect(),
+        Err(_) => (0..=source.len()).collect(),
+    };
+    let n = cuts.len() - 1;
+    let mut size = n;
+    while size > 0 {
+        for start in (0..=n - size).step_by(size.div_ceil(2)) {
+            let mut smaller = source.to_vec();
+            smaller.drain(cuts[start]..cuts[start + size]);
+            if take(smaller) {
+                return true;
+            }
+        }
+        size /= 2;
+    }
+    for plain in [b'a', b' '] {
+        for pair in cuts.windows(2) {
+            let old = &source[pair[0]..pair[1]];
+            if old != b"a" && old != b" " && old != b"\n" {
+                let mut plainer = source.to_vec();
+                plainer.splice(pair[0]..pair[1], [plain]);
+                if take(plainer) {
+                    return true;
+                }
+            }
+        }
+    }
+    false
+}
+
+/// Tries smaller checks until one is taken.
+fn candidates(check: &Check, take: &mut dyn FnMut(Check) -> bool) -> bool {
+    match check {
+        Check::Kinds(source) => sources(source, &mut |s| take(Check::Kinds(s))),
+        Check::Kind {
+            source,
+            line,
+            column,
+            scratch,
+        } => {
+            let (line, column) = (*line, *column);
+            let with = |source: Vec<u8>, line, column| Check::Kind {
+                source,
+                line,
+                column,
+                scratch: *scratch,
+            };
+            sources(source, &mut |s| take(with(s, line, column)))
+                || (line > 0 && take(with(source.clone(), line - 1, column)))
+                || (column > 0 && take(with(source.clone(), line, column - 1)))
+        }
+        Check::Format(call) => {
+            sources(&call.source, &mut |source| {
+                take(Check::Format(Call {
+                    source,
+                    ..call.clone()
+                }))
+            }) || PLAINER.iter().any(|change| {
+                let mut other = call.clone();
+                change(&mut other);
+                other != *call && take(Check::Format(other))
+            })
+        }
+        Check::Indent { .. } | Check::Config { .. } | Check::Far { .. } => false,
+    }
+}
+
+const PLAINER: [fn(&mut Call); 8] = [
+    |c| c.output = Size::Needed(0),
+    |c| c.scratch = Size::Needed(0),
+    |c| c.final_newline = c.final_newline.min(1),
+    |c| c.line_ending = 0,
+    |c| c.indent.truncate(2),
+    |c| c.width_set = 0,
+    |c| c.width /= 2,
+    |c| c.width = c.width.saturating_sub(1),
+];

@@ -1,0 +1,39 @@
+//! Brings the Rust formatter from `WIRESCRIPT_SRC` (by default `../shared/docs/src`
+//! beside the repository) into the build folder. The four files are copied as they
+//! are; one line is appended to format.rs, `pub mod reach;`, so that `src/reach.rs`
+//! becomes a child of that module and can call its private functions. The test module
+//! that format.rs names isn't there; an empty file stands for it.
+
+use std::path::{Path, PathBuf};
+use std::{env, fs};
+
+fn main() {
+    println!("cargo::rerun-if-env-changed=WIRESCRIPT_SRC");
+    let here = PathBuf::from(env::var_os("CARGO_MANIFEST_DIR").expect("set by cargo"));
+    let out = PathBuf::from(env::var_os("OUT_DIR").expect("set by cargo"));
+    let src = env::var_os("WIRESCRIPT_SRC")
+        .map_or_else(|| here.join("../../../shared/docs/src"), PathBuf::from);
+    let analysis = src.join("crates/wirescript/src/analysis");
+
+    fs::create_dir_all(out.join("format")).expect("the build folder can be written");
+    for name in ["format/options.rs", "format/scan.rs", "format/split.rs"] {
+        fs::write(out.join(name), read(&analysis.join(name))).expect("written");
+    }
+    fs::write(out.join("format/tests.rs"), "").expect("written");
+    let reach = here.join("src/reach.rs");
+    println!("cargo::rerun-if-changed={}", reach.display());
+    let format = read(&analysis.join("format.rs"));
+    let appended = format!("{format}\n#[path = {reach:?}]\npub mod reach;\n");
+    fs::write(out.join("format.rs"), appended).expect("written");
+    fs::write(out.join("upstream.rs"), "pub mod format;\n").expect("written");
+}
+
+fn read(path: &Path) -> String {
+    println!("cargo::rerun-if-changed={}", path.display());
+    fs::read_to_string(path).unwrap_or_else(|error| {
+        panic!(
+            "{}: {error} (set WIRESCRIPT_SRC to the folder of the Rust formatter's source)",
+            path.display()
+        )
+    })
+}

@@ -1,0 +1,165 @@
+//! Formats Wirescript, through a library of which every function is proved against its
+//! rules (`libwirescript.a`).
+//!
+//! ```no_run
+//! use wirescript_format::{Options, format};
+//!
+//! let formatted = format("f(a ,b)", &Options::new())?;
+//! assert_eq!(formatted.text, "f(a, b)\n");
+//! # Ok::<(), wirescript_format::Refusal>(())
+//! ```
+//!
+//! An editor keeps a [`Formatter`], which reuses its buffers. [`raw`] has the exported
+//! functions as they are, for callers with buffers of their own.
+
+mod options;
+pub mod raw;
+mod refusal;
+
+pub use options::{
+    EditorConfig, EndOfLine, IndentSize, IndentStyle, LineEnding, MaxLineLength, Options,
+};
+pub use refusal::{MAX_INDENT, MAX_SOURCE, Refusal};
+
+/// A formatted text, and what splitting did.
+#[derive(Clone, Copy, Debug, PartialEq, Eq)]
+pub struct Formatted<Text = String> {
+    pub text: Text,
+    /// Imports whose names were spread over lines.
+    pub imports_split: u64,
+    /// Blank names dropped in them.
+    pub blank_names: u64,
+}
+
+/// What an editor is told of a place.
+#[derive(Clone, Copy, Debug, PartialEq, Eq)]
+pub enum TextKind {
+    /// Code, including a `${..}` in a string, a prefab, and a place past the end.
+    Code,
+    Str,
+    Comment,
+}
+
+/// Formats a source; see [`Formatter::format`].
+pub fn format(source: impl AsRef<[u8]>, options: &Options) -> Result<Formatted, Refusal> {
+    let mut buffers = Formatter::new();
+    let formatted = buffers.format(source, options)?;
+    Ok(Formatted {
+        text: formatted.text.to_owned(),
+        imports_split: formatted.imports_split,
+        blank_names: formatted.blank_names,
+    })
+}
+
+/// The text kind at a place; see [`Formatter::text_kind_at`].
+pub fn text_kind_at(source: impl AsRef<[u8]>, line: u64, column: u64) -> Result<TextKind, Refusal> {
+    Formatter::new().text_kind_at(source, line, column)
+}
+
+/// Keeps the buffers of its calls.
+#[derive(Clone, Debug)]
+pub struct Formatter {
+    output: Vec<u8>,
+    scratch: Vec<u8>,
+    most: usize,
+    /// The length of the last text: the next may well be of the same file.
+    last: usize,
+}
+
+impl Default for Formatter {
+    fn default() -> Self {
+        Self {
+            output: Vec::new(),
+            scratch: Vec::new(),
+            most: Self::MOST,
+            last: 0,
+        }
+    }
+}
+
+impl Formatter {
+    /// The longest text by default. Deep nesting makes a text grow with the square of its
+    /// source, so there must be an end.
+    pub const MOST: usize = 64 << 20;
+
+    #[must_use]
+    pub fn new() -> Self {
+        Self::default()
+    }
+
+    /// Refuse a text of more bytes than this, with [`Refusal::OutputShort`].
+    #[must_use]
+    pub fn most(mut self, bytes: usize) -> Self {
+        self.most = bytes;
+        self
+    }
+
+    /// Formats a source. The text stays in the formatter's buffer.
+    pub fn format(
+        &mut self,
+        source: impl AsRef<[u8]>,
+        options: &Options,
+    ) -> Result<Formatted<&str>, Refusal> {
+        let source = source.as_ref();
+        let room = source.len().max(self.last);
+        let answer = match self.call(source, options, room + room / 4 + 256) {
+            // the place is the text's length, so the second call has room
+            Err(Refusal::OutputShort { needed }) if needed <= self.most as u64 => {
+                self.call(source, options, needed as usize)
+            }
+            other => other,
+        }?;
+        self.last = answer.length as usize;
+        let text = &self.output[..self.last];
+        Ok(Formatted {
+            text: std::str::from_utf8(text).expect("the text is proved to be UTF-8"),
+            imports_split: answer.imports_split,
+            blank_names: answer.blank_names,
+        })
+    }
+
+    /// The text kind at a line and a character column, both from 0.
+    pub fn text_kind_at(
+        &mut self,
+        source: impl AsRef<[u8]>,
+        line: u64,
+        column: u64,
+    ) -> Result<TextKind, Refusal> {
+        let source = source.as_ref();
+        let scratch = part(&mut self.scratch, scratch_for(source));
+        let answer = raw::text_kind_at(source, line, column, scratch);
+        match Refusal::of(answer.refusal, answer.place) {
+            Some(refusal) => Err(refusal),
+            None => Ok(match answer.kind {
+                0 => TextKind::Code,
+                1 => TextKind::Str,
+                _ => TextKind::Comment,
+            }),
+        }
+    }
+
+    fn call(
+        &mut self,
+        source: &[u8],
+        options: &Options,
+        room: usize,
+    ) -> Result<raw::Answer, Refusal> {
+        let output = part(&mut self.output, room.min(self.most));
+        let scratch = part(&mut self.scratch, scratch_for(source));
+        let answer = raw::format(source, options.choices(), output, scratch);
+        Refusal::of(answer.refusal, answer.place).map_or(Ok(answer), Err)
+    }
+}
+
+/// The scratch that a call needs; a source that is too long needs none.
+fn scratch_for(source: &[u8]) -> usize {
+    8 * source.len().min(MAX_SOURCE) + 256
+}
+
+/// The first `length` bytes of a buffer, which grows where it is shorter.
+fn part(buffer: &mut Vec<u8>, length: usize) -> &mut [u8] {
+    if buffer.len() < length {
+        buffer.resize(length, 0);
+    }
+    &mut buffer[..length]
+}

@@ -1,0 +1,262 @@
+use crate::raw::{self, Choices, Resolved, Settings};
+use crate::refusal::{MAX_INDENT, Refusal};
+
+/// How the text's lines end.
+#[derive(Clone, Copy, Debug, Default, PartialEq, Eq)]
+pub enum LineEnding {
+    /// CRLF if more of the source's lines end so than in LF alone, else LF.
+    #[default]
+    Kept,
+    Lf,
+    Crlf,
+}
+
+/// What a host chooses. The defaults: two spaces, width 100, ending kept, final newline.
+#[derive(Clone, Debug, PartialEq, Eq)]
+pub struct Options {
+    pub(crate) indent: String,
+    pub(crate) width: Option<u64>,
+    pub(crate) line_ending: LineEnding,
+    pub(crate) final_newline: bool,
+}
+
+impl Default for Options {
+    fn default() -> Self {
+        Self {
+            indent: "  ".into(),
+            width: Some(Self::DEFAULT_WIDTH),
+            line_ending: LineEnding::Kept,
+            final_newline: true,
+        }
+    }
+}
+
+impl Options {
+    pub const DEFAULT_WIDTH: u64 = 100;
+
+    #[must_use]
+    pub fn new() -> Self {
+        Self::default()
+    }
+
+    /// One level of indentation: up to 64 spaces and tabs. Others are refused by the call.
+    #[must_use]
+    pub fn indent(mut self, indent: impl Into<String>) -> Self {
+        self.indent = indent.into();
+        self
+    }
+
+    /// Lines wider than this, in UTF-16 units, are split where they can be; `None` splits none.
+    #[must_use]
+    pub fn width(mut self, width: Option<u64>) -> Self {
+        self.width = width;
+        self
+    }
+
+    #[must_use]
+    pub fn line_ending(mut self, line_ending: LineEnding) -> Self {
+        self.line_ending = line_ending;
+        self
+    }
+
+    /// End the text with a line ending. When false, it has one if the source has.
+    #[must_use]
+    pub fn final_newline(mut self, always: bool) -> Self {
+        self.final_newline = always;
+        self
+    }
+
+    /// Indent with a tab, or with `size` spaces. A size over 64 is refused, needed or not.
+    pub fn indent_with(self, tabs: bool, size: u64) -> Result<Self, Refusal> {
+        let mut indent = [0; MAX_INDENT];
+        let set = raw::indent_with(self.choices(), u64::from(tabs), size, &mut indent);
+        Self::of(set, &indent)
+    }
+
+    /// These options overridden by what .editorconfig files say.
+    pub fn with_editorconfig(self, config: EditorConfig) -> Result<Self, Refusal> {
+        let mut indent = [0; MAX_INDENT];
+        let set = raw::editorconfig(self.choices(), config.resolved(), &mut indent);
+        Self::of(set, &indent)
+    }
+
+    /// The options as the library takes them.
+    #[must_use]
+    pub fn choices(&self) -> Choices<'_> {
+        Choices {
+            indent: self.indent.as_bytes(),
+            width_set: u64::from(self.width.is_some()),
+            width: self.width.unwrap_or(0),
+            line_ending: match self.line_ending {
+                LineEnding::Kept => 0,
+                LineEnding::Lf => 1,
+                LineEnding::Crlf => 2,
+            },
+            final_newline: u64::from(self.final_newline),
+        }
+    }
+
+    fn of(set: Settings, indent: &[u8]) -> Result<Self, Refusal> {
+        if let Some(refusal) = Refusal::of(set.refusal, set.place) {
+            return Err(refusal);
+        }
+        let indent = &indent[..set.indent_len as usize];
+        Ok(Self {
+            indent: indent.iter().map(|b| char::from(*b)).collect(),
+            width: (set.width_set == 1).then_some(set.width),
+            line_ending: match set.line_ending {
+                0 => LineEnding::Kept,
+                1 => LineEnding::Lf,
+                _ => LineEnding::Crlf,
+            },
+            final_newline: set.final_newline == 1,
+        })
+    }
+}
+
+#[derive(Clone, Copy, Debug, PartialEq, Eq)]
+pub enum IndentStyle {
+    Tabs,
+    Spaces,
+}
+
+#[derive(Clone, Copy, Debug, PartialEq, Eq)]
+pub enum IndentSize {
+    /// The tab width.
+    Tab,
+    Value(u64),
+}
+
+#[derive(Clone, Copy, Debug, PartialEq, Eq)]
+pub enum MaxLineLength {
+    Off,
+    Value(u64),
+}
+
+#[derive(Clone, Copy, Debug, PartialEq, Eq)]
+pub enum EndOfLine {
+    Lf,
+    Crlf,
+    /// Changes nothing.
+    Cr,
+}
+
+/// Resolved values of .editorconfig; `None` is unset.
+#[derive(Clone, Copy, Debug, Default, PartialEq, Eq)]
+pub struct EditorConfig {
+    pub indent_style: Option<IndentStyle>,
+    pub indent_size: Option<IndentSize>,
+    pub tab_width: Option<u64>,
+    pub max_line_length: Option<MaxLineLength>,
+    pub end_of_line: Option<EndOfLine>,
+    pub insert_final_newline: Option<bool>,
+}
+
+impl EditorConfig {
+    /// The values as the library takes them.
+    #[must_use]
+    pub fn resolved(self) -> Resolved {
+        let (size_kind, size) = match self.indent_size {
+            None => (0, 0),
+            Some(IndentSize::Tab) => (1, 0),
+            Some(IndentSize::Value(n)) => (2, n),
+        };
+        let (max_kind, max) = match self.max_line_length {
+            None => (0, 0),
+            Some(MaxLineLength::Off) => (1, 0),
+            Some(MaxLineLength::Value(n)) => (2, n),
+        };
+        Resolved {
+            style: match self.indent_style {
+                None => 0,
+                Some(IndentStyle::Tabs) => 1,
+                Some(IndentStyle::Spaces) => 2,
+            },
+            size_kind,
+            size,
+            tab_set: u64::from(self.tab_width.is_some()),
+            tab: self.tab_width.unwrap_or(0),
+            max_kind,
+            max,
+            ending: match self.end_of_line {
+                None => 0,
+                Some(EndOfLine::Lf) => 1,
+                Some(EndOfLine::Crlf) => 2,
+                Some(EndOfLine::Cr) => 3,
+            },
+            newline: self.insert_final_newline.map_or(0, |v| 1 + u64::from(v)),
+        }
+    }
+}
+
+#[cfg(test)]
+mod tests {
+    use super::*;
+
+    #[test]
+    fn options_as_numbers() {
+        let choices = Choices {
+            indent: b"  ",
+            width_set: 1,
+            width: 100,
+            line_ending: 0,
+            final_newline: 1,
+        };
+        assert_eq!(Options::new().choices(), choices);
+        let other = Options::new()
+            .indent("\t")
+            .width(None)
+            .line_ending(LineEnding::Crlf)
+            .final_newline(false);
+        let choices = Choices {
+            indent: b"\t",
+            width_set: 0,
+            width: 0,
+            line_ending: 2,
+            final_newline: 0,
+        };
+        assert_eq!(other.choices(), choices);
+    }
+
+    #[test]
+    fn an_answer_becomes_options() {
+        let mut set = Settings {
+            indent_len: 1,
+            line_ending: 1,
+            ..Settings::default()
+        };
+        let wanted = Options::new()
+            .indent("\t")
+            .width(None)
+            .line_ending(LineEnding::Lf)
+            .final_newline(false);
+        assert_eq!(Options::of(set, b"\t\0"), Ok(wanted));
+        set.refusal = 2;
+        assert_eq!(Options::of(set, b"\t\0"), Err(Refusal::BadOption));
+    }
+
+    #[test]
+    fn resolved_values_as_numbers() {
+        assert_eq!(EditorConfig::default().resolved(), Resolved::default());
+        let config = EditorConfig {
+            indent_style: Some(IndentStyle::Spaces),
+            indent_size: Some(IndentSize::Value(3)),
+            tab_width: Some(8),
+            max_line_length: Some(MaxLineLength::Off),
+            end_of_line: Some(EndOfLine::Cr),
+            insert_final_newline: Some(true),
+        };
+        let resolved = Resolved {
+            style: 2,
+            size_kind: 2,
+            size: 3,
+            tab_set: 1,
+            tab: 8,
+            max_kind: 1,
+            max: 0,
+            ending: 3,
+            newline: 2,
+        };
+        assert_eq!(config.resolved(), resolved);
+    }
+}

@@ -1,0 +1,206 @@
+//! The exported functions of the proved library as they are, on slices and numbers.
+//! None of them asks anything of its arguments.
+//!
+//! A slice passes as pointer and length. After a call the scratch is all zeros, and so
+//! is the output but for the text.
+
+/// What a formatting call comes to. `refusal` 0 is an accepted call.
+#[repr(C)]
+#[derive(Clone, Copy, Debug, Default, PartialEq, Eq)]
+pub struct Answer {
+    pub refusal: u64,
+    pub place: u64,
+    pub length: u64,
+    pub imports_split: u64,
+    pub blank_names: u64,
+}
+
+/// What asking for a text kind comes to: 0 code, 1 string, 2 comment.
+#[repr(C)]
+#[derive(Clone, Copy, Debug, Default, PartialEq, Eq)]
+pub struct Kind {
+    pub refusal: u64,
+    pub place: u64,
+    pub kind: u64,
+}
+
+/// Options as numbers. `width_set`: 0 no width, 1 the width. `line_ending`: 0 kept, 1 LF,
+/// 2 CRLF. `final_newline`: 0 as the source, 1 always. Other numbers name no choice.
+#[derive(Clone, Copy, Debug, PartialEq, Eq)]
+pub struct Choices<'a> {
+    pub indent: &'a [u8],
+    pub width_set: u64,
+    pub width: u64,
+    pub line_ending: u64,
+    pub final_newline: u64,
+}
+
+/// What a setting step comes to: the changed options, whose indent is in the output; with a
+/// refusal, zeros.
+#[repr(C)]
+#[derive(Clone, Copy, Debug, Default, PartialEq, Eq)]
+pub struct Settings {
+    pub refusal: u64,
+    pub place: u64,
+    pub indent_len: u64,
+    pub width_set: u64,
+    pub width: u64,
+    pub line_ending: u64,
+    pub final_newline: u64,
+}
+
+/// The resolved values of .editorconfig as numbers; 0 is unset. `style`: 1 tabs, 2 spaces.
+/// `size_kind`: 1 the tab width, 2 the size. `tab_set`: 1 the width. `max_kind`: 1 `off`, 2 the
+/// length. `ending`: 1 LF, 2 CRLF, 3 CR. `newline`: 1 false, 2 true.
+#[derive(Clone, Copy, Debug, Default, PartialEq, Eq)]
+pub struct Resolved {
+    pub style: u64,
+    pub size_kind: u64,
+    pub size: u64,
+    pub tab_set: u64,
+    pub tab: u64,
+    pub max_kind: u64,
+    pub max: u64,
+    pub ending: u64,
+    pub newline: u64,
+}
+
+#[cfg(not(wirescript_missing))]
+mod linked {
+    use super::{Answer, Kind, Settings};
+
+    #[rustfmt::skip]
+    unsafe extern "C" {
+        pub fn wirescript_format(
+            source: *const u8, source_length: usize, indent: *const u8, indent_length: usize,
+            width_set: u64, width: u64, line_ending: u64, final_newline: u64,
+            output: *mut u8, output_length: usize, scratch: *mut u8, scratch_length: usize,
+        ) -> Answer;
+        pub fn wirescript_text_kind_at(
+            source: *const u8, source_length: usize, line: u64, column: u64,
+            scratch: *mut u8, scratch_length: usize,
+        ) -> Kind;
+        pub fn wirescript_indent_with(
+            indent: *const u8, indent_length: usize,
+            width_set: u64, width: u64, line_ending: u64, final_newline: u64,
+            tabs: u64, size: u64, output: *mut u8, output_length: usize,
+        ) -> Settings;
+        pub fn wirescript_editorconfig(
+            indent: *const u8, indent_length: usize,
+            width_set: u64, width: u64, line_ending: u64, final_newline: u64,
+            style: u64, size_kind: u64, size: u64, tab_set: u64, tab: u64,
+            max_kind: u64, max: u64, ending: u64, newline: u64,
+            output: *mut u8, output_length: usize,
+        ) -> Settings;
+    }
+}
+
+/// Stands where the archive was missing when this crate was built.
+#[cfg(wirescript_missing)]
+#[allow(clippy::too_many_arguments)]
+mod linked {
+    use super::{Answer, Kind, Settings};
+
+    const MISSING: &str = "built without libwirescript.a";
+
+    macro_rules! missing {
+        ($($name:ident($($type:ty),*) -> $answer:ty;)*) => {
+            $(pub unsafe fn $name($(_: $type),*) -> $answer { panic!("{MISSING}") })*
+        };
+    }
+
+    #[rustfmt::skip]
+    missing! {
+        wirescript_format(*const u8, usize, *const u8, usize, u64, u64, u64, u64, *mut u8, usize, *mut u8, usize) -> Answer;
+        wirescript_text_kind_at(*const u8, usize, u64, u64, *mut u8, usize) -> Kind;
+        wirescript_indent_with(*const u8, usize, u64, u64, u64, u64, u64, u64, *mut u8, usize) -> Settings;
+        wirescript_editorconfig(
+            *const u8, usize, u64, u64, u64, u64, u64, u64, u64, u64, u64, u64, u64, u64, u64, *mut u8, usize) -> Settings;
+    }
+}
+
+/// Formats `source` into `output`.
+#[must_use]
+pub fn format(source: &[u8], s: Choices, output: &mut [u8], scratch: &mut [u8]) -> Answer {
+    // SAFETY: the pointers and lengths are those of slices; the two that are written are
+    // lent alone, and the function is proved to stay inside them for any arguments.
+    unsafe {
+        linked::wirescript_format(
+            source.as_ptr(),
+            source.len(),
+            s.indent.as_ptr(),
+            s.indent.len(),
+            s.width_set,
+            s.width,
+            s.line_ending,
+            s.final_newline,
+            output.as_mut_ptr(),
+            output.len(),
+            scratch.as_mut_ptr(),
+            scratch.len(),
+        )
+    }
+}
+
+/// The text kind at a line and a character column, both from 0.
+#[must_use]
+pub fn text_kind_at(source: &[u8], line: u64, column: u64, scratch: &mut [u8]) -> Kind {
+    // SAFETY: as for `format`.
+    unsafe {
+        linked::wirescript_text_kind_at(
+            source.as_ptr(),
+            source.len(),
+            line,
+            column,
+            scratch.as_mut_ptr(),
+            scratch.len(),
+        )
+    }
+}
+
+/// One tab (`tabs` 1), or `size` spaces (`tabs` 0), as the indent.
+#[must_use]
+pub fn indent_with(s: Choices, tabs: u64, size: u64, output: &mut [u8]) -> Settings {
+    // SAFETY: as for `format`.
+    unsafe {
+        linked::wirescript_indent_with(
+            s.indent.as_ptr(),
+            s.indent.len(),
+            s.width_set,
+            s.width,
+            s.line_ending,
+            s.final_newline,
+            tabs,
+            size,
+            output.as_mut_ptr(),
+            output.len(),
+        )
+    }
+}
+
+/// The options overridden by resolved values of .editorconfig.
+#[must_use]
+pub fn editorconfig(s: Choices, r: Resolved, output: &mut [u8]) -> Settings {
+    // SAFETY: as for `format`.
+    unsafe {
+        linked::wirescript_editorconfig(
+            s.indent.as_ptr(),
+            s.indent.len(),
+            s.width_set,
+            s.width,
+            s.line_ending,
+            s.final_newline,
+            r.style,
+            r.size_kind,
+            r.size,
+            r.tab_set,
+            r.tab,
+            r.max_kind,
+            r.max,
+            r.ending,
+            r.newline,
+            output.as_mut_ptr(),
+            output.len(),
+        )
+    }
+}

@@ -1,0 +1,123 @@
+//! The crate over the linked library.
+#![cfg(not(wirescript_missing))]
+
+use wirescript_format::{
+    EditorConfig, EndOfLine, Formatter, IndentSize, IndentStyle, LineEnding, MAX_SOURCE,
+    MaxLineLength, Options, Refusal, TextKind, format, text_kind_at,
+};
+
+fn text(source: &str, options: &Options) -> String {
+    format(source, options).expect("accepted").text
+}
+
+#[test]
+fn formats() {
+    let options = Options::new();
+    assert_eq!(text("", &options), "\n");
+    assert_eq!(text("f(a ,b)", &options), "f(a, b)\n");
+    assert_eq!(text("}\nelse {", &options), "} else {\n");
+    assert_eq!(text("{\na", &options.clone().indent("\t")), "{\n\ta\n");
+    assert_eq!(text("a", &options.clone().final_newline(false)), "a");
+    let crlf = options.clone().line_ending(LineEnding::Crlf);
+    assert_eq!(text("a\nb", &crlf), "a\r\nb\r\n");
+    assert_eq!(
+        text("a + b*c", &options.clone().width(Some(6))),
+        "a\n  + b*c\n"
+    );
+    assert_eq!(text("a + b*c", &options.width(None)), "a + b*c\n");
+}
+
+#[test]
+fn counts_imports_and_blank_names() {
+    let formatted = format("import {a,,b} from \"l\"", &Options::new().width(Some(10)));
+    let formatted = formatted.expect("accepted");
+    assert_eq!(formatted.text, "import {\n  a, b,\n} from \"l\"\n");
+    assert_eq!((formatted.imports_split, formatted.blank_names), (1, 1));
+}
+
+#[test]
+fn refuses() {
+    let options = Options::new();
+    let long = "a".repeat(MAX_SOURCE + 1);
+    assert_eq!(format(long, &options), Err(Refusal::SourceTooLong));
+    assert_eq!(
+        format("a", &options.clone().indent("q")),
+        Err(Refusal::BadOption)
+    );
+    assert_eq!(
+        format(b"a\xff", &options),
+        Err(Refusal::NotUtf8 { prefix: 1 })
+    );
+    let mut small = Formatter::new().most(3);
+    assert_eq!(
+        small.format("abc", &options),
+        Err(Refusal::OutputShort { needed: 4 })
+    );
+    assert_eq!(small.format("ab", &options).map(|f| f.text), Ok("ab\n"));
+}
+
+/// A text much longer than its source, between short ones, in the same buffers.
+#[test]
+fn buffers_are_reused() {
+    let options = Options::new();
+    let mut formatter = Formatter::new();
+    let deep = "(\n".repeat(300);
+    let rest: usize = (0..300).map(|level| 2 * level + 2).sum();
+    for _ in 0..2 {
+        assert_eq!(
+            formatter.format("a ,b", &options).map(|f| f.text),
+            Ok("a, b\n")
+        );
+        let length = formatter.format(&deep, &options).map(|f| f.text.len());
+        assert_eq!(length, Ok(rest));
+    }
+}
+
+#[test]
+fn tells_text_kinds() {
+    let source = "a \"s${b}\" // c";
+    let at = |column| text_kind_at(source, 0, column);
+    assert_eq!(at(0), Ok(TextKind::Code));
+    assert_eq!(at(3), Ok(TextKind::Str));
+    assert_eq!(at(4), Ok(TextKind::Str));
+    assert_eq!(at(5), Ok(TextKind::Code));
+    assert_eq!(at(10), Ok(TextKind::Comment));
+    assert_eq!(at(99), Ok(TextKind::Code));
+    assert_eq!(
+        text_kind_at(b"\xff", 0, 0),
+        Err(Refusal::NotUtf8 { prefix: 0 })
+    );
+}
+
+#[test]
+fn setting_steps() {
+    let options = Options::new();
+    assert_eq!(
+        options.clone().indent_with(true, 8),
+        Ok(options.clone().indent("\t"))
+    );
+    assert_eq!(
+        options.clone().indent_with(false, 3),
+        Ok(options.clone().indent("   "))
+    );
+    assert_eq!(
+        options.clone().indent_with(true, 65),
+        Err(Refusal::BadOption)
+    );
+    let config = EditorConfig {
+        indent_style: Some(IndentStyle::Spaces),
+        indent_size: Some(IndentSize::Tab),
+        tab_width: Some(4),
+        max_line_length: Some(MaxLineLength::Off),
+        end_of_line: Some(EndOfLine::Crlf),
+        insert_final_newline: Some(false),
+    };
+    let wanted = Options::new()
+        .indent("    ")
+        .width(None)
+        .line_ending(LineEnding::Crlf)
+        .final_newline(false);
+    assert_eq!(options.clone().with_editorconfig(config), Ok(wanted));
+    let unset = EditorConfig::default();
+    assert_eq!(options.clone().with_editorconfig(unset), Ok(options));
+}

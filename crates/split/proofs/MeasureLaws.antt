@@ -1,11 +1,11 @@
 -- Laws on columns and on parts of a line.
 use Prim.Native.Nat.{ℕ, zero, suc, _+_, _-_, _*_, _^_, _≤_, _<_}
-use mathlib.Core.Bool.{Bool, true, false, _&&_}
+use mathlib.Core.Bool.{true}
 use mathlib.Core.List.{List, [], _∷_, _++_}
 use mathlib.Core.Path.{_≡_, refl, sym, ap, _∙_, subst}
 use native.Mathlib.Omega.{arith}
-use native.Mathlib.Nat.{mul-le-mul, suc-mul}
-use lib.ListN.{length, take, drop, length-append, length-take, length-drop}
+use native.Mathlib.Nat.{mul-le-mul}
+use lib.ListN.{length, take, drop, length-drop}
 use lib.Seq.{take-nil, take-take, length-take-le, drop-drop}
 use lib.Dec.{eqb, ltb}
 use borrow.Author.Tests.{eqb-true, lt-ltb}
@@ -13,14 +13,13 @@ use Rattle.buffer.specs.Buffer.{part}
 use Rattle.buffer.specs.Repeat.{times}
 use Rattle.buffer.proofs.RegionLaws.{part-from}
 use Rattle.buffer.proofs.RepeatLaws.{length-times}
-use Rattle.unicode.specs.Unicode.{decode, encode, WellFormed, Scalars, units, width, trim, trimStart, trimEnd}
+use Rattle.unicode.specs.Unicode.{decode, WellFormed, units, width, trim, trimEnd}
 use Rattle.unicode.specs.Places.{unitsOf, TrimmedStart, TrimmedEnd}
 use Rattle.unicode.proofs.Tests.{by-test, and-left, and-right}
 use Rattle.unicode.proofs.Bytewise.{total, width-bytes, width-append}
-use Rattle.unicode.proofs.Decode.{Ascii, decode-ascii}
+use Rattle.unicode.proofs.Decode.{Ascii}
 use Rattle.rules.specs.Basics.{isBlank}
-use Rattle.rules.specs.Options.{Options, allBlank, indentOf, measure, overWide}
-use Rattle.split.specs.declared.Part.{Part}
+use Rattle.rules.specs.Options.{Options, allBlank, indentOf, measure}
 use Rattle.split.specs.Measure.{Measurable, Measured, Indent, IndentMeasured, Within, Trimmed}
 
 -- ---- columns

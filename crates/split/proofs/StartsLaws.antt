@@ -1,6 +1,6 @@
 -- The loop of `starts_with`: its invariant, a record, and what a turn and the end make of it.
-use Prim.Native.Nat.{ℕ, suc, _+_, _<_, _≤_, zero-le}
-use mathlib.Core.Bool.{Bool, true, false, and-true}
+use Prim.Native.Nat.{ℕ, _+_, _<_, _≤_, zero-le}
+use mathlib.Core.Bool.{true, false, and-true}
 use mathlib.Core.Path.{_≡_, refl, sym, _∙_}
 use mathlib.Core.List.{List, [], _∷_}
 use native.Mathlib.Numerals.{add-one}

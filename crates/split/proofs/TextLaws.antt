@@ -1,21 +1,20 @@
 -- Laws of lines in a text.
-use Prim.Native.Nat.{ℕ, suc, _+_, _-_, _*_, _^_, _≤_, _<_}
-use mathlib.Core.Bool.{Bool, true, false, not, _||_}
+use Prim.Native.Nat.{ℕ, _+_, _-_, _*_, _^_, _≤_, _<_}
 use mathlib.Core.List.{List, [], _∷_, _++_, map, reverse, reverseAux, append-nil, append-assoc}
 use mathlib.Core.Path.{_≡_, refl, sym, ap, _∙_}
 use native.Mathlib.Nat.{mul-le-mul}
 use native.Mathlib.Omega.{arith}
-use lib.ListN.{length, length-append}
+use lib.ListN.{length}
 use Rattle.buffer.specs.Buffer.{Appended}
 use Rattle.buffer.specs.Repeat.{times}
 use Rattle.buffer.proofs.RepeatLaws.{length-times}
 use Rattle.buffer.proofs.WriteLaws.{appended-append}
-use Rattle.unicode.specs.Unicode.{encode, decode, size, Scalars, WellFormed}
+use Rattle.unicode.specs.Unicode.{encode, decode, Scalars}
 use Rattle.unicode.proofs.Decode.{encode-nil, encode-append, encode-ascii, decode-encode, wf-encode}
 use Rattle.rules.specs.Options.{Options, indentOf}
 use Rattle.rules.specs.Assembly.{joined}
 use Rattle.split.specs.Measure.{Indent}
-use Rattle.split.specs.Text.{lay, AllWell, following, lastOf, newest, LineRoom, LineWritten, Written, Fits, lineRoom}
+use Rattle.split.specs.Text.{lay, AllWell, following, lastOf, newest, LineRoom, LineWritten, Written, Fits}
 use Rattle.split.proofs.MeasureLaws.{blank-all-ascii, ascii-times}
 
 -- ---- parts of a well-formed text

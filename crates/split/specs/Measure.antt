@@ -1,9 +1,9 @@
 -- Columns and parts of a line.
-use Prim.Native.Nat.{ℕ, _+_, _-_, _*_, _^_, _≤_, _<_}
+use Prim.Native.Nat.{ℕ, _+_, _*_, _^_, _≤_, _<_}
 use mathlib.Core.Bool.{true}
 use mathlib.Core.List.{List}
 use mathlib.Core.Path.{_≡_}
-use lib.ListN.{length, take, drop}
+use lib.ListN.{length}
 use Rattle.buffer.specs.Buffer.{part}
 use Rattle.unicode.specs.Unicode.{decode, WellFormed, trim}
 use Rattle.rules.specs.Options.{Options, allBlank, indentOf, measure}

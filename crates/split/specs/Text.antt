@@ -1,6 +1,6 @@
 -- Lines in a text, one after another.
-use Prim.Native.Nat.{ℕ, suc, _+_, _*_, _^_, _≤_, _<_}
-use mathlib.Core.Bool.{Bool, true}
+use Prim.Native.Nat.{ℕ, _+_, _*_, _^_, _≤_, _<_}
+use mathlib.Core.Bool.{true}
 use mathlib.Core.List.{List, [], _∷_, _++_, reverse}
 use mathlib.Core.Path.{_≡_}
 use lib.ListN.{length}

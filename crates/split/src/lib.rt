@@ -1,7 +1,5 @@
-// What breaking a line by its import and by its operators share: what a part of it measures, its parts without the white space around them, and tests.
+// What the splits by import and by operators share: columns, parts without the white space around them, a line written after others, tests.
 ghost use mathlib.Core.Path.{_≡_};
-ghost use Prim.Native.Nat.{ℕ, _+_, _≤_, _<_};
-ghost use lib.ListN.{length};
 ghost use Rattle.unicode.specs.Unicode.{within};
 ghost use Rattle.rules.specs.Basics.{startsWith, isIdent};
 ghost use Rattle.split.specs.Measure.{Measurable, Measured, Indent, IndentMeasured, Within, Trimmed};

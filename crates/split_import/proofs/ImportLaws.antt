@@ -1,44 +1,43 @@
 -- Laws of the import and its braces.
-use Prim.Native.Nat.{ℕ, zero, suc, _+_, _-_, _*_, _^_, _≤_, _<_, zero-le}
+use Prim.Native.Nat.{ℕ, suc, _+_, _-_, _^_, _≤_, _<_}
 use Prim.Native.Char.{Char, code}
-use mathlib.Core.Bool.{Bool, true, false, not, _&&_, _||_, and-false}
+use mathlib.Core.Bool.{Bool, true, false, _&&_}
 use mathlib.Core.List.{List, [], _∷_, _++_, map, map-append, foldl, reverse, append-nil, append-assoc}
-use mathlib.Core.Option.{Option, none, some}
+use mathlib.Core.Option.{Option, none}
 use mathlib.Core.Path.{_≡_, refl, sym, ap, _∙_, subst}
 use native.Mathlib.Numerals.{add-one}
 use native.Mathlib.Omega.{arith}
-use lib.Dec.{eqb, leb, ltb}
+use lib.Dec.{eqb, ltb}
 use lib.ListN.{length, getD, take, drop, length-append, length-drop, length-take, drop-of-length-le}
-use lib.Seq.{drop-cons, drop-drop, drop-length, length-take-le, take-take}
+use lib.Seq.{drop-cons, drop-drop, length-take-le}
 use borrow.Author.Tests.{eq-eqb, ne-eqb, eqb-true, le-leb, lt-leb, ltb-true}
 use Rattle.buffer.specs.Buffer.{part, Appended}
 use Rattle.buffer.specs.Repeat.{times}
 use Rattle.buffer.proofs.RegionLaws.{part-from}
 use Rattle.buffer.proofs.WriteLaws.{appended-append}
-use Rattle.unicode.specs.Unicode.{encodeChar, encode, decode, Scalars, WellFormed, trimEnd}
+use Rattle.unicode.specs.Unicode.{encodeChar, encode, decode, Scalars, trimEnd}
 use Rattle.unicode.specs.Places.{TrimmedEnd}
-use Rattle.unicode.proofs.Tests.{by-test, and-left, and-right}
+use Rattle.unicode.proofs.Tests.{and-right}
 use Rattle.unicode.proofs.Table.{encodeChar-1, Bytes, single, several}
 use Rattle.unicode.proofs.Table.{bytes as bytes-of}
 use Rattle.unicode.proofs.Decode.{encode-nil, encode-append, encode-ascii, decode-encode, decode-scalars, wf-encode}
 use Rattle.rules.specs.declared.Carry.{Carry}
-use Rattle.rules.specs.Basics.{choose, codes, startsWith, firstIs, startsThen, isEmpty, isIdent, pieces, splitOn}
+use Rattle.rules.specs.Basics.{choose, codes, startsWith, firstIs, startsThen, isIdent}
 use Rattle.rules.specs.Options.{Options, indentOf, measure, overWide}
-use Rattle.rules.specs.Scan.{Cell, cell, charsOf, classify, isCode}
-use Rattle.rules.specs.ClassBytes.{classOf, classBytes, cellsOf}
-use Rattle.rules.specs.SplitImport.{Laid, codeIs, beforeCode, fromCode, namesOf, blanksOf, addName, fillNames, importLines, importParts, closedImport, openedImport, startsImport, splitImport}
-use Rattle.rules.proofs.Choose.{choose-case, choose-true, choose-false}
-use Rattle.rules.proofs.ScanBytes.{label, encodeCells, encodeCells-cons, chars-label, chars-classify, chars-encodeCells, before, from}
+use Rattle.rules.specs.Scan.{Cell, charsOf, classify, isCode}
+use Rattle.rules.specs.ClassBytes.{classOf, cellsOf}
+use Rattle.rules.specs.SplitImport.{Laid, codeIs, beforeCode, fromCode, namesOf, addName, fillNames, importLines, importParts, closedImport, openedImport, startsImport, splitImport}
+use Rattle.rules.proofs.Choose.{choose-true, choose-false}
+use Rattle.rules.proofs.ScanBytes.{label, encodeCells, encodeCells-cons, chars-classify, chars-encodeCells, before, from}
 use Rattle.rules.proofs.CellsLaws.{code-byte, cells-bytes, chars-cells, drop-cells, length-classBytes, length-classify, Found, Finding, find-start, find-more, find-stop, find-end}
 use Rattle.rules.proofs.WordsBytes.{import-encode, beforeCode-before, fromCode-from, beforeCode-encode, fromCode-encode}
-use Rattle.split.specs.Measure.{Indent}
 use Rattle.split.specs.declared.NewLine.{NewLine}
-use Rattle.split.specs.Text.{indented, lay, following, lastOf, LineRoom, LineWritten, Written, Fits}
-use Rattle.split.proofs.TextLaws.{following-append, last-append, following-encode, written-lines, lay-encode, indent-short, level-fits, deeper-fits}
+use Rattle.split.specs.Text.{indented, lay, following, lastOf, LineRoom, LineWritten}
+use Rattle.split.proofs.TextLaws.{following-append, last-append, written-lines, lay-encode, indent-short, level-fits, deeper-fits}
 use Rattle.split_import.specs.declared.Names.{Names}
 use Rattle.split_import.specs.declared.ImportSplit.{ImportSplit}
 use Rattle.split_import.specs.Names.{codeByte, parts, Countable, Counted, namesText, NamesFit, NamesWritten}
-use Rattle.split_import.specs.Import.{NotSplit, Split, Given, ImportFits, HeadFits, headLine, HeadWritten, Braces, partsOf}
+use Rattle.split_import.specs.Import.{Given, ImportFits, HeadFits, headLine, HeadWritten, Braces, partsOf}
 
 -- ---- the word
 

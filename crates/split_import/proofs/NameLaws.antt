@@ -1,13 +1,13 @@
 -- Laws of the names of an import.
-use Prim.Native.Nat.{ℕ, zero, suc, _+_, _-_, _*_, _^_, _≤_, _<_, zero-le}
-use mathlib.Core.Bool.{Bool, true, false, not, _&&_}
+use Prim.Native.Nat.{ℕ, _+_, _-_, _*_, _^_, _≤_, _<_, zero-le}
+use mathlib.Core.Bool.{Bool, true, false}
 use mathlib.Core.List.{List, [], _∷_, _++_, map, map-append, foldl, reverse, reverse-cons, append-nil, append-assoc}
 use mathlib.Core.Path.{_≡_, refl, sym, ap, _∙_, subst}
 use native.Mathlib.Numerals.{add-one}
 use native.Mathlib.Omega.{arith}
-use lib.Dec.{eqb, leb, ltb}
+use lib.Dec.{leb, ltb}
 use lib.ListN.{length, getD, take, drop, length-append, length-drop, drop-of-length-le}
-use lib.Seq.{drop-cons, drop-drop, take-suc, take-all}
+use lib.Seq.{drop-cons, drop-drop, take-suc}
 use borrow.Author.Tests.{eq-eqb, ne-eqb, le-leb, lt-leb, leb-true, leb-false, le-ltb, lt-ltb}
 use Rattle.buffer.specs.Buffer.{part, Appended}
 use Rattle.buffer.specs.Repeat.{times}
@@ -27,9 +27,8 @@ use Rattle.split.specs.Measure.{Measurable, Measured, Indent, IndentMeasured, W
 use Rattle.split.specs.Text.{indented, lay, AllWell, following, lineRoom}
 use Rattle.split.proofs.MeasureLaws.{measure-append, part-length, ascii-times, blank-all-ascii}
 use Rattle.split.proofs.TextLaws.{AllScalars, all-well, all-decode, following-append, indent-short}
-use Rattle.split_import.specs.declared.Names.{Names}
 use Rattle.split_import.specs.declared.Filled.{Filled}
-use Rattle.split_import.specs.Names.{left, NameLen, parts, Countable, Counted, Place, Named, NameMeasured, reached, Column, NameFits, namesText, OnNewLine, addIf, AddedTo, Added, NamesFit, NamesWritten}
+use Rattle.split_import.specs.Names.{left, NameLen, parts, Countable, Counted, Place, NameMeasured, Column, NameFits, namesText, OnNewLine, addIf, AddedTo, Added, NamesFit, NamesWritten}
 
 -- ---- pieces between commas
 

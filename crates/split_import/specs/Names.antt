@@ -1,6 +1,6 @@
 -- The names of an import, in bytes: pieces between commas, counted and filled into lines.
 use Prim.Native.Nat.{ℕ, _+_, _*_, _^_, _≤_, _<_}
-use mathlib.Core.Bool.{Bool, true, false, not, _&&_}
+use mathlib.Core.Bool.{Bool, true, not, _&&_}
 use mathlib.Core.List.{List, [], _∷_, _++_, map, reverse}
 use mathlib.Core.Path.{_≡_}
 use lib.Dec.{eqb, leb}

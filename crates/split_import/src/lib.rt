@@ -1,8 +1,8 @@
 // split_import: the names of an over-wide import, refilled over lines.
 ghost use mathlib.Core.Path.{_≡_};
 ghost use mathlib.Core.Bool.{false, _&&_};
-ghost use mathlib.Core.List.{[], _∷_, _++_, reverse};
-ghost use Prim.Native.Nat.{ℕ, _+_, _≤_, _<_, _^_};
+ghost use mathlib.Core.List.{[], _∷_, _++_};
+ghost use Prim.Native.Nat.{_+_, _≤_, _<_, _^_};
 ghost use lib.Dec.{eqb};
 ghost use lib.ListN.{length};
 ghost use Rattle.buffer.specs.Buffer.{Appended};
@@ -14,7 +14,7 @@ ghost use Rattle.rules.specs.SplitImport.{splitImport, startsImport};
 ghost use Rattle.rules.specs.declared.Carry.{Carry};
 ghost use Rattle.rules.proofs.CellsLaws.{Found};
 ghost use Rattle.split.specs.Text.{lay};
-ghost use Rattle.split_import.specs.Names.{codeByte, NameLen, Countable, Counted, Place, Named, NameMeasured, Column, NameFits, OnNewLine, Added, NamesFit, NamesWritten};
+ghost use Rattle.split_import.specs.Names.{codeByte, NameLen, Countable, Counted, Place, Named, NameMeasured, NameFits, OnNewLine, Added, NamesFit, NamesWritten};
 ghost use Rattle.split_import.specs.Import.{HeadFits, HeadWritten, Braces, partsOf, Given, ImportFits};
 use split::indent_column;
 use split::is_ident;

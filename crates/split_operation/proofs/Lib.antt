@@ -1,5 +1,4 @@
 -- The laws that this crate's proofs share.
-pub mod MarkLaws
-pub mod OperatorLaws
 pub mod PassLaws
+pub mod IdentLaws
 pub mod OperationLaws

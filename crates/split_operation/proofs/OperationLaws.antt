@@ -1,29 +1,27 @@
 -- Laws of split_operation: its pieces found and written in bytes, round by round.
 use Prim.Native.Nat.{ℕ, zero, suc, _+_, _-_, _*_, _^_, _≤_, _<_, zero-le}
-use mathlib.Core.Bool.{Bool, true, false, not, _&&_, _||_, or-assoc, or-true, or-false}
+use mathlib.Core.Bool.{Bool, true, false, not, _||_, or-true, or-false}
 use mathlib.Core.List.{List, [], _∷_, _++_, map, map-append, append-nil, append-assoc}
 use mathlib.Core.Option.{Option, none, some}
 use mathlib.Core.Path.{_≡_, refl, sym, ap, _∙_, subst}
-use native.Mathlib.Nat.{mul-le-mul}
 use native.Mathlib.Numerals.{add-one}
 use native.Mathlib.Omega.{arith}
 use lib.Dec.{eqb, ltb}
-use lib.ListN.{length, getD, take, drop, length-append, length-drop}
+use lib.ListN.{length, getD, drop, length-append}
 use lib.Seq.{drop-cons}
 use borrow.Author.Tests.{eq-eqb, ne-eqb, lt-ltb, le-ltb}
 use Rattle.buffer.specs.Buffer.{part, Appended}
 use Rattle.buffer.specs.Repeat.{times}
 use Rattle.buffer.proofs.WriteLaws.{appended-nil, appended-append}
 use Rattle.unicode.specs.Unicode.{encode, decode, Scalars, WellFormed, trim}
-use Rattle.unicode.proofs.Tests.{by-test}
-use Rattle.unicode.proofs.Decode.{decode-encode, decode-scalars, wf-encode, scalars-append, scalars-left, scalars-right}
+use Rattle.unicode.proofs.Decode.{decode-encode, decode-scalars, wf-encode}
 use Rattle.rules.specs.declared.Carry.{Carry}
 use Rattle.rules.specs.declared.Mark.{Mark}
 use Rattle.rules.specs.Basics.{choose, isEmpty, Pieces}
 use Rattle.rules.specs.Scan.{Cell, charsOf, classify}
 use Rattle.rules.specs.Options.{Options, indentOf, measure, overWide}
 use Rattle.rules.specs.SplitOperation.{Ops, OpMark, opStep, noOps, marksFrom, topLevelOps, hasWord, isBalanced, keywords, loosest, atMark, cutBefore, trimmed, breakAt, splitOnce, nextBreak, breakOn, breakFirst, layPieces, splitOperation}
-use Rattle.rules.proofs.Choose.{choose-case, choose-true, choose-false}
+use Rattle.rules.proofs.Choose.{choose-true, choose-false}
 use Rattle.rules.proofs.ScanBytes.{encodeCells, classify-encode, chars-classify}
 use Rattle.rules.proofs.WordsBytes.{encodePieces, balanced-encode, keywords-encode}
 use Rattle.rules.proofs.OperatorsBytes.{byteMarks, encodeMarks, marks-encode, loosest-encode, cut-encode}
@@ -32,10 +30,10 @@ use Rattle.split_operation.specs.declared.pass.Reading.{Reading}
 use Rattle.split.specs.declared.Part.{Part}
 use Rattle.split.specs.declared.NewLine.{NewLine}
 use Rattle.split_operation.specs.declared.OperationSplit.{OperationSplit}
-use Rattle.split_operation.specs.Marks.{depthOf}
-use Rattle.split_operation.specs.Operators.{opsOf}
+use Rattle.operators.specs.Marks.{depthOf}
+use Rattle.operators.specs.Operators.{opsOf}
 use Rattle.split.specs.Measure.{Measured, Indent, IndentMeasured, Within, Trimmed}
-use Rattle.split.specs.Text.{indented, lay, AllWell, following, lastOf, LineRoom, LineWritten, Written, Fits, lineRoom}
+use Rattle.split.specs.Text.{indented, lay, AllWell, following, lastOf, LineRoom, LineWritten, Fits, lineRoom}
 use Rattle.split_operation.specs.Pass.{Begins, Sound, Cutting, breakStrength, restFrom, cutsAt, NextOp}
 use Rattle.split_operation.specs.Operation.{Broken, trimBytes, restLines, RestFits, After, RestWritten, LineFits, roundStrength, firstLine, otherLines, PiecesWritten, brokenIn, FirstBroken}
 use Rattle.split.proofs.MeasureLaws.{measure-append, part-length}
@@ -300,8 +298,8 @@ writing-start {first = first} out f =
 
 module _ {table : List ℕ} {strength : ℕ} {line : List ℕ} {cut : Cut} {indent : List ℕ} {level : ℕ} {eol out₀ : List ℕ} {first : OperationSplit} {out : List ℕ} {c : Cut} {r : OperationSplit}
     (w : Writing table strength line cut indent level eol out₀ first out c r) where
-  pub writing-cut : c .place < length line → Cutting line (c .place + 1) (c .after)
-  writing-cut h = record { within = omega arith; short = w .fits .short; sound = w .sound h }
+  pub writing-cut : c .place < length line → Cutting strength line (c .place + 1) (c .after)
+  writing-cut h = record { some = w .fits .some; within = omega arith; short = w .fits .short; sound = w .sound h }
 
   pub writing-within : (d : Cut) → c .place < length line → NextOp table strength line (c .place + 1) (c .after) d → Within line (c .place) (d .place)
   writing-within d h q =
@@ -422,6 +420,7 @@ module _ (table line indent : List ℕ) (level : ℕ) (eol : List ℕ) (max roun
         pub rest-fits : RestFits table p line c indent (level + 1) eol first
         rest-fits =
             record {
+              some = z;
               within = q .fits;
               short = pre .size;
               sound = q .sound;
@@ -497,12 +496,12 @@ all-broken {table} {line} {indent} {level} {eol} {max} {at} {out} {out′} {r} n
 
 -- ---- what the calls of `break_first` ask
 
-pub begin-cut : {line indent : List ℕ} {level : ℕ} {eol : List ℕ} {at : ℕ} {s : Reading} → Fits line indent level eol at → Begins s → Cutting line 0 s
-begin-cut {s = s} f b =
+pub begin-cut : {line indent : List ℕ} {level : ℕ} {eol : List ℕ} {at p : ℕ} {s : Reading} → Fits line indent level eol at → (p ≡ 0 → ⊥) → Begins s → Cutting p line 0 s
+begin-cut {s = s} f z b =
     let o : opsOf (s .ops) .opened ≡ 0 = ap (λ (x : Ops). x .opened) (b .ops) in
     let k : opsOf (s .ops) .closed ≡ 0 = ap (λ (x : Ops). x .closed) (b .ops) in
     let d : depthOf (s .mark .mode) ≡ 0 = ap (λ (x : Mark). depthOf (x .mode)) (b .mark) in
-    record { within = zero-le; short = f .size; sound = record { opened = omega arith; closed = omega arith; depth = omega arith } }
+    record { some = z; within = zero-le; short = f .size; sound = record { opened = omega arith; closed = omega arith; depth = omega arith } }
 
 pub some-rounds : (rounds : ℕ) → (rounds ≡ 0 → ⊥) → 1 ≤ rounds
 some-rounds rounds h = omega arith

@@ -1,40 +1,35 @@
 -- Laws of the passes over a line's bytes.
 use Prim.Native.Nat.{ℕ, zero, suc, _+_, _-_, _^_, _≤_, _<_, zero-le, min}
 use mathlib.Core.Bool.{Bool, true, false, not, _&&_, _||_, or-assoc, or-true, or-false, and-false}
-use mathlib.Core.List.{List, [], _∷_, _++_, map, foldl, reverse, reverse-append, reverse-reverse, append-nil, append-assoc}
+use mathlib.Core.List.{List, [], _∷_, _++_, foldl, reverse, reverse-append, reverse-reverse, append-nil, append-assoc}
 use mathlib.Core.Option.{Option, none, some}
 use mathlib.Core.Path.{_≡_, refl, sym, ap, _∙_, subst}
 use native.Mathlib.Nat.{suc-min-suc, min-eq-left, min-eq-right}
 use native.Mathlib.Numerals.{add-one}
-use native.Mathlib.Omega.{arith, min-cases}
-use lib.Dec.{eqb, ltb}
-use lib.ListN.{length, getD, take, drop, length-drop, drop-of-length-le}
-use lib.Seq.{drop-cons, getD-drop, drop-drop, take-all, take-nil}
+use native.Mathlib.Omega.{arith}
+use lib.Dec.{eqb}
+use lib.ListN.{length, getD, take, drop, drop-of-length-le}
+use lib.Seq.{getD-drop, drop-drop}
 use borrow.Author.Tests.{eq-eqb, ne-eqb, eqb-true, eqb-false, lt-ltb, le-ltb}
 use Rattle.buffer.specs.Buffer.{part}
 use Rattle.buffer.proofs.RegionLaws.{part-from, part-more}
-use Rattle.unicode.specs.Unicode.{tail}
 use Rattle.unicode.proofs.Tests.{by-test}
 use Rattle.rules.specs.declared.Carry.{Carry}
-use Rattle.rules.specs.declared.Class.{Class}
 use Rattle.rules.specs.declared.Mark.{Mark}
-use Rattle.rules.specs.Basics.{choose, same, oneOf, startsWith, Pieces, isOpener, isCloser, isIdent}
-use Rattle.rules.specs.Scan.{Cell, cell, charsOf, begin, next, scan, classify, isCode, isStr}
-use Rattle.rules.specs.Words.{operators}
-use Rattle.rules.specs.SplitOperation.{Ops, OpStep, OpMark, opMark, noOps, token, operator, escape, bracket, oneCharStep, twoCharStep, codeStep, freshStep, opStepAt, opStep, deeper, shallower, balanceStep, isZero, isBalanced, inWord, wordOn, hasWordFrom, hasWord, keywords, looser, loosest, atMark, cutBefore}
-use Rattle.rules.proofs.Choose.{choose-case, choose-true, choose-false}
+use Rattle.rules.specs.Basics.{choose, same, oneOf, startsWith, Pieces, isOpener, isCloser}
+use Rattle.rules.specs.Scan.{Cell, cell, charsOf, next, scan, classify, isCode}
+use Rattle.rules.specs.SplitOperation.{Ops, OpStep, OpMark, opMark, noOps, token, operator, escape, bracket, oneCharStep, twoCharStep, codeStep, freshStep, opStepAt, deeper, shallower, balanceStep, isZero, isBalanced, inWord, wordOn, hasWordFrom, hasWord, keywords, looser, loosest, atMark, cutBefore}
+use Rattle.rules.proofs.Choose.{choose-true, choose-false}
 use Rattle.rules.proofs.OperatorsBytes.{byteStep, byteMarks}
-use Rattle.split_operation.specs.declared.operators.OpState.{OpState}
-use Rattle.split_operation.specs.declared.operators.OpFound.{OpFound}
+use Rattle.operators.specs.declared.OpFound.{OpFound}
 use Rattle.split_operation.specs.declared.pass.Reading.{Reading}
 use Rattle.split_operation.specs.declared.pass.Read.{Read}
 use Rattle.split_operation.specs.declared.pass.Word.{Word}
 use Rattle.split_operation.specs.declared.pass.Pass.{Pass}
-use Rattle.split_operation.specs.declared.pass.Cut.{Cut}
-use Rattle.split_operation.specs.Marks.{depthOf}
-use Rattle.split_operation.specs.Operators.{opsOf, stepOf}
-use Rattle.split_operation.specs.Pass.{marksAt, Begins, Sound, Readable, ReadOne, breakStrength, depthAs, Balances, WordStep, Passing, cutsAt, restFrom, Cutting, NextOp}
-use Rattle.split_operation.proofs.MarkLaws.{next-shallow}
+use Rattle.operators.specs.Marks.{depthOf}
+use Rattle.operators.specs.Operators.{opsOf, stepOf}
+use Rattle.split_operation.specs.Pass.{marksAt, Begins, Sound, ReadOne, breakStrength, depthAs, Balances, WordStep, Passing, cutsAt, restFrom, Cutting, NextOp}
+use Rattle.operators.proofs.MarkLaws.{next-shallow}
 
 -- ---- one byte
 
@@ -117,16 +112,18 @@ pub record ReadAt (table : List ℕ) (r : Reading) (line : List ℕ) (i : ℕ) (
   pub marks : marksAt table r (drop i line) ≡ opMark (getD line i 0) (s .strength) ∷ marksAt table (s .after) (drop (i + 1) line)
   pub sound : Sound r i → Sound (s .after) (i + 1)
 
-pub read-at : {table : List ℕ} {r : Reading} (line : List ℕ) (i : ℕ) {s : Read} → ReadOne table r (take (length line - i) (drop i line)) s → ReadAt table r line i s
-read-at {table} {r} line i {s} q =
-    let p : take (length line - i) (drop i line) ≡ drop i line = part-from line i in
+pub read-drop : {table : List ℕ} {r : Reading} (line : List ℕ) (i : ℕ) {s : Read} → ReadOne table r (drop i line) s → ReadAt table r line i s
+read-drop {table} {r} line i {s} q =
     let g : getD (drop i line) 0 0 ≡ getD line i 0 = getD-drop i line 0 0 ∙ (let z : i + 0 ≡ i = omega arith in rw z) in
     let d : drop 1 (drop i line) ≡ drop (i + 1) line = drop-drop 1 i line in
     record {
-      cells = rw (p, g, d) at (q .cells);
-      marks = rw (p, g, d) at (q .marks);
+      cells = rw (g, d) at (q .cells);
+      marks = rw (g, d) at (q .marks);
       sound = q .sound i;
     }
+
+pub read-at : {table : List ℕ} {r : Reading} (line : List ℕ) (i : ℕ) {s : Read} → ReadOne table r (take (length line - i) (drop i line)) s → ReadAt table r line i s
+read-at line i q = read-drop line i (rw part-from at q)
 
 -- ---- strengths
 
@@ -160,7 +157,7 @@ looser-suc a b = suc-min-suc a b
 min-assoc : (a b c : ℕ) → min (min a b) c ≡ min a (min b c)
 min-assoc a b c = omega arith
 
-looser-zero : (a : ℕ) → looser a 0 ≡ a
+pub looser-zero : (a : ℕ) → looser a 0 ≡ a
 unfolding looser
 looser-zero zero = refl
 looser-zero (suc a) = refl
@@ -231,7 +228,7 @@ module _ (depth : ℕ) (x : Cell) (some : depth ≡ 0 → ⊥) (r : Bool) (p : r
 
 -- ---- words
 
-eqb-swap : (m n : ℕ) → eqb m n ≡ eqb n m
+pub eqb-swap : (m n : ℕ) → eqb m n ≡ eqb n m
 eqb-swap m n =
     by-test (eqb n m) (λ e. eq-eqb m n (sym (eqb-true n m e)) ∙ sym e) (λ e. ne-eqb m n (λ (h : m ≡ n). eqb-false n m e (sym h)) ∙ sym e)
 
@@ -304,12 +301,11 @@ loosest-cons : (m : OpMark) (ms : List OpMark) → loosest (m ∷ ms) ≡ looser
 unfolding loosest
 loosest-cons m ms = refl
 
-pub passing-more : (table line : List ℕ) (p : Pass) (i : ℕ) (s : Read) (word : Word) (d l : ℕ) → Passing table line p i → i < length line
-    → ReadOne table (p .reading) (take (length line - i) (drop i line)) s → WordStep line (p .word) i (cell (getD line i 0) (s .after .mark .class)) word
+pub passing-read : (table line : List ℕ) (p : Pass) (i : ℕ) (s : Read) (word : Word) (d l : ℕ) → Passing table line p i → i < length line
+    → ReadAt table (p .reading) line i s → WordStep line (p .word) i (cell (getD line i 0) (s .after .mark .class)) word
     → Balances (p .depth) (cell (getD line i 0) (s .after .mark .class)) d → l ≡ looser (p .loosest) (s .strength)
     → Passing table line (record { reading = s .after; word = word; depth = d; loosest = l }) (i + 1)
-passing-more table line p i s word d l q h r w b e =
-    let t : ReadAt table (p .reading) line i s = read-at line i r in
+passing-read table line p i s word d l q h t w b e =
     let x : Cell = cell (getD line i 0) (s .after .mark .class) in
     record {
       within = omega arith;
@@ -327,6 +323,12 @@ passing-more table line p i s word d l q h r w b e =
           ∙ ap (λ (o : Option ℕ). isZero (foldl balanceStep o (scan (s .after .mark) (drop (i + 1) line)))) (sym (b .is));
       loosest = q .loosest ∙ ap (λ (ms : List OpMark). looser (p .loosest) (loosest ms)) (t .marks) ∙ rw (loosest-cons, ← looser-assoc, ← e);
     }
+
+pub passing-more : (table line : List ℕ) (p : Pass) (i : ℕ) (s : Read) (word : Word) (d l : ℕ) → Passing table line p i → i < length line
+    → ReadOne table (p .reading) (take (length line - i) (drop i line)) s → WordStep line (p .word) i (cell (getD line i 0) (s .after .mark .class)) word
+    → Balances (p .depth) (cell (getD line i 0) (s .after .mark .class)) d → l ≡ looser (p .loosest) (s .strength)
+    → Passing table line (record { reading = s .after; word = word; depth = d; loosest = l }) (i + 1)
+passing-more table line p i s word d l q h r w b e = passing-read table line p i s word d l q h (read-at line i r) w b e
 
 module _ (table line : List ℕ) (p : Pass) (i : ℕ) (q : Passing table line p i) (h : length line ≤ i) where
   at-end : i ≡ length line
@@ -375,6 +377,7 @@ module _ (table line : List ℕ) (p : Pass) (i : ℕ) (q : Passing table line p 
 -- ---- the next operator: none of the strength stands before i
 
 pub record Seeking (table : List ℕ) (strength : ℕ) (line : List ℕ) (from : ℕ) (start r : Reading) (i : ℕ) : Type 0 where
+  pub some : strength ≡ 0 → ⊥
   pub after : from ≤ i
   pub within : i ≤ length line
   pub short : length line < 2 ^ 31
@@ -382,22 +385,21 @@ pub record Seeking (table : List ℕ) (strength : ℕ) (line : List ℕ) (from :
   pub first : cutsAt table strength start (drop from line) .first ≡ part line from i ++ cutsAt table strength r (drop i line) .first
   pub rest : cutsAt table strength start (drop from line) .rest ≡ cutsAt table strength r (drop i line) .rest
 
-pub seek-start : (table : List ℕ) (strength : ℕ) (line : List ℕ) (from : ℕ) (start : Reading) → Cutting line from start → Seeking table strength line from start start from
+pub seek-start : (table : List ℕ) (strength : ℕ) (line : List ℕ) (from : ℕ) (start : Reading) → Cutting strength line from start → Seeking table strength line from start start from
 seek-start table strength line from start c =
-    record { after = omega arith; within = c .within; short = c .short; sound = c .sound; first = rw (part-none line from); rest = refl }
+    record { some = c .some; after = omega arith; within = c .within; short = c .short; sound = c .sound; first = rw (part-none line from); rest = refl }
 
 module _ {table : List ℕ} {strength : ℕ} {line : List ℕ} {from : ℕ} {start r : Reading} {i : ℕ} (q : Seeking table strength line from start r i) where
   cuts : (s : Read) → ReadAt table r line i s → cutsAt table strength r (drop i line) ≡ atMark (eqb (s .strength) strength) (getD line i 0) (cutsAt table strength (s .after) (drop (i + 1) line))
   unfolding cutBefore
   cuts s t = ap (cutBefore strength) (t .marks)
 
-  pub seek-more : (s : Read) → i < length line → ReadOne table r (take (length line - i) (drop i line)) s → (s .strength ≡ strength → ⊥)
-      → Seeking table strength line from start (s .after) (i + 1)
+  pub seek-read : (s : Read) → i < length line → ReadAt table r line i s → (s .strength ≡ strength → ⊥) → Seeking table strength line from start (s .after) (i + 1)
   unfolding atMark
-  seek-more s h t n =
-      let a : ReadAt table r line i s = read-at line i t in
+  seek-read s h a n =
       let e : cutsAt table strength r (drop i line) ≡ atMark false (getD line i 0) (cutsAt table strength (s .after) (drop (i + 1) line)) = rw (ne-eqb (s .strength) strength n) at (cuts s a) in
       record {
+        some = q .some;
         after = omega (arith, q .after);
         within = omega arith;
         short = q .short;
@@ -405,6 +407,10 @@ module _ {table : List ℕ} {strength : ℕ} {line : List ℕ} {from : ℕ} {sta
         first = q .first ∙ ap (λ (p : Pieces). part line from i ++ p .first) e ∙ rw (part-more line from i (q .after) h, append-assoc);
         rest = q .rest ∙ ap (λ (p : Pieces). p .rest) e;
       }
+
+  pub seek-more : (s : Read) → i < length line → ReadOne table r (take (length line - i) (drop i line)) s → (s .strength ≡ strength → ⊥)
+      → Seeking table strength line from start (s .after) (i + 1)
+  seek-more s h t n = seek-read s h (read-at line i t) n
 
   pub seek-found : (s : Read) → i < length line → ReadOne table r (take (length line - i) (drop i line)) s → s .strength ≡ strength
       → NextOp table strength line from start (record { place = i; after = s .after })

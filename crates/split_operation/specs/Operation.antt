@@ -1,17 +1,17 @@
 -- What split_operation gives.
 use Prim.Native.Nat.{ℕ, suc, _+_, _-_, _*_, _^_, _≤_, _<_}
-use mathlib.Core.Bool.{Bool, true, not, _||_}
-use mathlib.Core.List.{List, [], _∷_, _++_, map}
+use mathlib.Core.Bool.{not, _||_}
+use mathlib.Core.List.{List, [], _++_, map}
 use mathlib.Core.Path.{_≡_}
 use lib.Dec.{ltb, eqb}
 use lib.ListN.{length}
 use Rattle.buffer.specs.Buffer.{Appended}
 use Rattle.unicode.specs.Unicode.{encode, decode, WellFormed, trim}
 use Rattle.rules.specs.Basics.{choose, isEmpty, Pieces}
-use Rattle.rules.specs.Options.{Options, indentOf, overWide}
+use Rattle.rules.specs.Options.{indentOf, overWide}
 use Rattle.rules.specs.SplitOperation.{breakFirst}
 use Rattle.split.specs.Measure.{Indent}
-use Rattle.split.specs.Text.{indented, lay, AllWell, following, lastOf, Written, Fits, lineRoom}
+use Rattle.split.specs.Text.{indented, lay, AllWell, following, lastOf, Written, lineRoom}
 use Rattle.split_operation.specs.Pass.{breakStrength, restFrom, Sound}
 use Rattle.split_operation.specs.declared.pass.Cut.{Cut}
 use Rattle.split_operation.specs.declared.OperationSplit.{OperationSplit}
@@ -30,6 +30,7 @@ abbrev pub restLines : List ℕ → ℕ → List (List ℕ) → List (List ℕ)
 restLines indent level ps = map (λ (p : List ℕ). lay indent level (trimBytes p)) ps
 
 pub record RestFits (table : List ℕ) (strength : ℕ) (line : List ℕ) (cut : Cut) (indent : List ℕ) (level : ℕ) (eol : List ℕ) (first : OperationSplit) : Type 0 where
+  pub some : strength ≡ 0 → ⊥
   pub within : cut .place ≤ length line
   pub short : length line < 2 ^ 31
   pub sound : cut .place < length line → Sound (cut .after) (cut .place + 1)

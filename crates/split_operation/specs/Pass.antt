@@ -1,20 +1,21 @@
 -- What the passes over a line's bytes find: the strength that the line is broken at, and its pieces.
-use Prim.Native.Nat.{ℕ, zero, suc, _+_, _-_, _^_, _≤_, _<_}
+use Prim.Native.Nat.{ℕ, zero, suc, _+_, _^_, _≤_, _<_}
 use mathlib.Core.Bool.{Bool, true, false, not, _&&_, _||_}
 use mathlib.Core.List.{List, [], _∷_, foldl, reverse}
 use mathlib.Core.Option.{Option, none, some}
 use mathlib.Core.Path.{_≡_}
 use lib.Dec.{ltb}
-use lib.ListN.{length, getD, take, drop}
+use lib.ListN.{length, getD, drop}
 use Rattle.buffer.specs.Buffer.{part}
 use Rattle.rules.specs.declared.Carry.{Carry}
 use Rattle.rules.specs.declared.Class.{Class}
-use Rattle.rules.specs.Basics.{choose, oneOf, Pieces}
-use Rattle.rules.specs.Scan.{Cell, cell, begin, scan, classify}
+use Rattle.rules.specs.declared.Mode.{Mode}
+use Rattle.rules.specs.Basics.{choose, isIdent, oneOf, Pieces}
+use Rattle.rules.specs.Scan.{one, Cell, cell, begin, scan, classify}
 use Rattle.rules.specs.SplitOperation.{OpMark, opMark, noOps, balanceStep, isZero, isBalanced, inWord, wordOn, hasWordFrom, hasWord, keywords, looser, loosest, cutBefore}
 use Rattle.rules.proofs.OperatorsBytes.{byteMarks}
-use Rattle.split_operation.specs.Marks.{depthOf}
-use Rattle.split_operation.specs.Operators.{opsOf}
+use Rattle.operators.specs.Marks.{depthOf}
+use Rattle.operators.specs.Operators.{opsOf}
 use Rattle.split_operation.specs.declared.pass.Reading.{Reading}
 use Rattle.split_operation.specs.declared.pass.Read.{Read}
 use Rattle.split_operation.specs.declared.pass.Word.{Word}
@@ -47,6 +48,38 @@ pub record ReadOne (table : List ℕ) (r : Reading) (l : List ℕ) (s : Read) : 
   pub cells : scan (r .mark) l ≡ cell (getD l 0 0) (s .after .mark .class) ∷ scan (s .after .mark) (drop 1 l)
   pub marks : marksAt table r l ≡ opMark (getD l 0 0) (s .strength) ∷ marksAt table (s .after) (drop 1 l)
   pub sound : (n : ℕ) → Sound r n → Sound (s .after) (n + 1)
+
+-- ---- a run of letters, digits and underscores
+
+-- in code, with nothing pending
+pub record Plain (r : Reading) : Type 0 where
+  pub more : r .mark .more ≡ 0
+  pub mode : r .mark .mode ≡ Mode.Code
+  pub skip : r .ops .skip ≡ 0
+  pub esc : r .ops .esc ≡ false
+
+pub record PlainTest (r : Reading) (b : Bool) : Type 0 where
+  pub yes : b ≡ true → Plain r
+
+pub record IdentLen (s : List ℕ) (n : ℕ) : Type 0 where
+  pub fits : n ≤ length s
+  pub idents : (k : ℕ) → k < n → isIdent (getD s k 0) ≡ true
+
+pub record IdentRun (line : List ℕ) (from : ℕ) (r : Reading) (n : ℕ) : Type 0 where
+  pub fits : from + n ≤ length line
+  pub plain : 0 < n → Plain r
+  pub idents : (k : ℕ) → k < n → isIdent (getD line (from + k) 0) ≡ true
+
+-- after such a run
+abbrev pub pastIdent : Reading → Reading
+pastIdent r =
+    record {
+      mark = one Class.Code Mode.Code;
+      ops = record { opened = r .ops .opened; closed = r .ops .closed; operand = true; esc = false; skip = 0 };
+    }
+
+abbrev pub pastIdents : Pass → Pass
+pastIdents p = record { reading = pastIdent (p .reading); word = p .word; depth = p .depth; loosest = p .loosest }
 
 -- ---- the strength that a line is broken at
 
@@ -96,7 +129,8 @@ restFrom table strength line c =
     ∷ cutsAt table strength (c .after) (drop (c .place + 1) line) .rest)
     []
 
-pub record Cutting (line : List ℕ) (from : ℕ) (start : Reading) : Type 0 where
+pub record Cutting (strength : ℕ) (line : List ℕ) (from : ℕ) (start : Reading) : Type 0 where
+  pub some : strength ≡ 0 → ⊥
   pub within : from ≤ length line
   pub short : length line < 2 ^ 31
   pub sound : Sound start from

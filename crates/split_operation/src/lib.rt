@@ -1,6 +1,4 @@
 // split_operation: an over-wide expression broken before its loosest operators.
-mod marks;
-mod operators;
 mod pass;
 
 ghost use mathlib.Core.Path.{_≡_};

@@ -1,16 +1,18 @@
 // The passes over a line's bytes: the strength that it is broken at, and its next operator of a strength.
 ghost use mathlib.Core.Path.{_≡_};
-ghost use Prim.Native.Nat.{ℕ, _+_, _≤_, _<_, _^_};
+ghost use mathlib.Core.Bool.{true};
+ghost use Prim.Native.Nat.{_+_, _≤_, _<_, _^_};
 ghost use lib.ListN.{length, getD};
+ghost use Rattle.rules.specs.declared.Mode.{Mode};
 ghost use Rattle.rules.specs.Basics.{same, oneOf};
 ghost use Rattle.rules.specs.Scan.{cell, isCode};
 ghost use Rattle.rules.specs.SplitOperation.{looser, inWord, keywords};
-ghost use Rattle.split_operation.specs.Pass.{Begins, Readable, ReadOne, breakStrength, Balances, WordStep, Passing, Cutting, NextOp};
-use super::marks::next_mark;
-use super::operators::OpState;
-use super::operators::is_closer;
-use super::operators::is_opener;
-use super::operators::op_step;
+ghost use Rattle.split_operation.specs.Pass.{Begins, Readable, ReadOne, PlainTest, IdentLen, IdentRun, pastIdent, pastIdents, breakStrength, Balances, WordStep, Passing, Cutting, NextOp};
+use operators::OpState;
+use operators::is_closer;
+use operators::is_opener;
+use operators::marks::next_mark;
+use operators::op_step;
 use rules::Class;
 use rules::Mark;
 use rules::Mode;
@@ -63,6 +65,85 @@ fn read_byte(table: &[u8; 21], l: &[u8], r: Reading) -> Read
     Read {
         strength: f.strength,
         after: Reading { mark, ops },
+    }
+}
+
+fn is_code_mode(m: Mode) -> bool
+    ensures { λ r. ⌜ (r ≡ true → m ≡ Mode.Code) ⌝ }
+{
+    match m {
+        Mode::Code => true,
+        Mode::Quoted(_) => false,
+        Mode::Interp(_, _) => false,
+        Mode::Inner(_, _, _) => false,
+        Mode::Line => false,
+        Mode::Block(_) => false,
+        Mode::Prefab => false,
+    }
+}
+
+// Whether the next byte is in code, with nothing pending.
+fn is_plain(r: Reading) -> bool
+    ensures { λ b. ⌜ PlainTest r b ⌝ }
+{
+    let t = r.mark;
+    let s = r.ops;
+    if t.more != 0 {
+        return false;
+    }
+    if s.skip != 0 {
+        return false;
+    }
+    if s.esc {
+        return false;
+    }
+    let m = t.mode;
+    is_code_mode(m)
+}
+
+// How many letters, digits and underscores s starts with.
+fn ident_len(s: &[u8]) -> usize
+    ensures { λ r. ⌜ IdentLen (now (s .entry)) r ⌝ }
+{
+    let mut i = 0;
+    while i < s.len() {
+        if is_ident(s[i]) {
+            i += 1;
+        } else {
+            return i;
+        }
+    }
+    i
+}
+
+// How many of them stand from a place on, if they are code with nothing pending: the passes step over them.
+fn ident_run(line: &[u8], from: usize, r: Reading) -> usize
+    requires { ⌜ from ≤ length (now line) ⌝ }
+    ensures { λ n. ⌜ IdentRun (now (line .entry)) from r n ⌝ }
+{
+    if is_plain(r) {
+        return ident_len(&line[from..]);
+    }
+    0
+}
+
+fn past_ident(r: Reading) -> Reading
+    ensures { λ q. ⌜ q ≡ pastIdent r ⌝ }
+{
+    let s = r.ops;
+    Reading {
+        mark: Mark {
+            more: 0,
+            class: Class::Code,
+            mode: Mode::Code,
+        },
+        ops: OpState {
+            opened: s.opened,
+            closed: s.closed,
+            operand: true,
+            esc: false,
+            skip: 0,
+        },
     }
 }
 
@@ -201,6 +282,19 @@ fn pass_step(table: &[u8; 21], line: &[u8], i: usize, p: Pass) -> Pass
     }
 }
 
+fn past_idents(p: Pass) -> Pass
+    ensures { λ r. ⌜ r ≡ pastIdents p ⌝ }
+{
+    let q = p.reading;
+    let word = p.word;
+    Pass {
+        reading: past_ident(q),
+        word,
+        depth: p.depth,
+        loosest: p.loosest,
+    }
+}
+
 // The strength that the line is broken at, or 0 where it isn't: one pass for its words, its brackets and its operators.
 pub fn break_strength(table: &[u8; 21], line: &[u8]) -> u8
     requires { ⌜ length (now line) < 2 ^ 31 ⌝ }
@@ -217,8 +311,15 @@ pub fn break_strength(table: &[u8; 21], line: &[u8]) -> u8
     };
     let mut i = 0;
     while i < line.len() {
-        p = pass_step(table, line, i, p);
-        i += 1;
+        let q = p.reading;
+        let n = ident_run(line, i, q);
+        if 0 < n {
+            p = past_idents(p);
+            i += n;
+        } else {
+            p = pass_step(table, line, i, p);
+            i += 1;
+        }
     }
     let w = p.word;
     if w.found {
@@ -242,18 +343,24 @@ pub struct Cut {
 
 // The next operator of a strength, from a place on.
 pub fn next_op(table: &[u8; 21], line: &[u8], strength: u8, from: usize, start: Reading) -> Cut
-    requires { ⌜ Cutting (now line) from start ⌝ }
+    requires { ⌜ Cutting strength (now line) from start ⌝ }
     ensures { λ c. ⌜ NextOp (now (table .entry)) strength (now (line .entry)) from start c ⌝ }
 {
     let mut r = start;
     let mut i = from;
     while i < line.len() {
-        let f = read_byte(table, &line[i..], r);
-        r = f.after;
-        if f.strength == strength {
-            return Cut { place: i, after: r };
+        let n = ident_run(line, i, r);
+        if 0 < n {
+            r = past_ident(r);
+            i += n;
+        } else {
+            let f = read_byte(table, &line[i..], r);
+            r = f.after;
+            if f.strength == strength {
+                return Cut { place: i, after: r };
+            }
+            i += 1;
         }
-        i += 1;
     }
     Cut { place: i, after: r }
 }

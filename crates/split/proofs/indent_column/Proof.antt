@@ -1,14 +1,10 @@
 use Rattle.split.proofs.MeasureLaws.{indent-room, indent-measured}
 use Rattle.split.proofs.indent_column.Statement.{statement}
 use Rattle.split.proofs.indent_column.Tie as tie
-use Rattle.split.proofs.indent_column.Reads as reads
-use Rattle.split.proofs.indent_column.Lts as lts
 
--- src/measure.rt:22:17
 mul-t4 : tie.Need-mul-t4
 mul-t4 c = record { fits = indent-room _ _ (c .pre) }
 
--- src/measure.rt:18:1
 returns : tie.Need-returns
 returns c = indent-measured _ _ (c .pre)
 

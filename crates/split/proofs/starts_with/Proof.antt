@@ -1,14 +1,10 @@
 -- `split::marks::starts_with` meets its contract. The invariant: what is left of p starts what is left of s just if p starts s.
-use Prim.Native.Nat.{_≤_, _-_}
-use mathlib.Core.Path.{_≡_, refl, sym, _∙_}
+use Prim.Native.Nat.{_-_}
 use native.Mathlib.Omega.{arith}
-use borrow.Author.Needs.{needs}
-use lib.ListN.{length, drop, drop-of-length-le}
+use lib.ListN.{length}
 use Rattle.split.proofs.StartsLaws.{Left, left-start, left-past, left-differ, left-more, left-end}
 use Rattle.split.proofs.starts_with.Statement.{statement}
 use Rattle.split.proofs.starts_with.Tie as tie
-use Rattle.split.proofs.starts_with.Reads as reads
-use Rattle.split.proofs.starts_with.Lts as lts
 
 abbrev Inv-loop : tie.InvT-loop
 Inv-loop s p k₀ k = Left p s k
@@ -16,39 +12,30 @@ Inv-loop s p k₀ k = Left p s k
 abbrev μ-loop : tie.MeasureT-loop
 μ-loop s p k₀ k = length p - k
 
--- src/lib.rt:47:5
 loop-holds : tie.Need-loop-holds Inv-loop μ-loop
 loop-holds c = left-start _ _
 
--- src/lib.rt:49:13
 returns : tie.Need-returns Inv-loop μ-loop
 returns c = left-past (c .before .before .loop .inv) (omega arith) (omega arith)
 
--- src/lib.rt:51:12
 shared-slice-read-if2 : tie.Need-shared-slice-read-if2 Inv-loop μ-loop
 shared-slice-read-if2 c = omega arith
 
--- src/lib.rt:51:20
 shared-slice-read-if2-2 : tie.Need-shared-slice-read-if2-2 Inv-loop μ-loop
 shared-slice-read-if2-2 c = omega arith
 
--- src/lib.rt:52:13
 returns-2 : tie.Need-returns-2 Inv-loop μ-loop
 returns-2 c = left-differ (c .before .before .before .before .before .loop .inv) (omega arith) (omega arith) (c .if2 .taken)
 
--- src/lib.rt:54:9
 add-k : tie.Need-add-k Inv-loop μ-loop
 add-k c = omega arith
 
--- src/lib.rt:47:5
 loop-less : tie.Need-loop-less Inv-loop μ-loop
 loop-less c = omega arith
 
--- src/lib.rt:47:5
 loop-again : tie.Need-loop-again Inv-loop μ-loop
 loop-again c = left-more (c .before .before .before .before .before .loop .inv) (omega arith) (omega arith) (c .if2 .left)
 
--- src/lib.rt:43:1
 returns-3 : tie.Need-returns-3 Inv-loop μ-loop
 returns-3 c = left-end (c .before .loop .inv) (omega arith)
 

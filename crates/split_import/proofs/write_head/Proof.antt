@@ -5,37 +5,25 @@ use mathlib.Core.Path.{sym}
 use Rattle.split_import.proofs.ImportLaws.{head-room, brace-room, head-written}
 use Rattle.split_import.proofs.write_head.Statement.{statement}
 use Rattle.split_import.proofs.write_head.Tie as tie
-use Rattle.split_import.proofs.write_head.Reads as reads
-use Rattle.split_import.proofs.write_head.Lts as lts
-use Rattle.buffer.proofs.append.Reads as append-reads
-use Rattle.buffer.proofs.append_indented.Reads as append-indented-reads
-use Rattle.unicode.proofs.trim_end.Reads as trim-end-reads
 
--- src/lib.rt:254:9
 trim-end-requires : tie.Need-trim-end-requires
 trim-end-requires c κs = search needs
 
--- src/lib.rt:255:61
 slice-aggregate-append-indented : tie.Need-slice-aggregate-append-indented
 slice-aggregate-append-indented c = sym (length-take-le _ _ (omega arith))
 
--- src/lib.rt:255:9
 append-indented-requires : tie.Need-append-indented-requires
 append-indented-requires c κs = search (needs, head-room)
 
--- src/lib.rt:256:28
 slice-aggregate-append : tie.Need-slice-aggregate-append
 slice-aggregate-append c = search needs
 
--- src/lib.rt:256:5
 append-requires : tie.Need-append-requires
 append-requires c κs = search (needs, brace-room)
 
--- src/lib.rt:250:1
 same-length : tie.Need-same-length
 same-length c = search needs
 
--- src/lib.rt:250:1
 returns : tie.Need-returns
 returns c = search (needs, head-written)
 

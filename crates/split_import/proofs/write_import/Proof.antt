@@ -5,79 +5,55 @@ use lib.Seq.{length-take-le}
 use mathlib.Core.Path.{sym}
 use Rattle.split_import.proofs.write_import.Statement.{statement}
 use Rattle.split_import.proofs.write_import.Tie as tie
-use Rattle.split_import.proofs.write_import.Reads as reads
-use Rattle.split_import.proofs.write_import.Lts as lts
-use Rattle.split.proofs.write_line.Reads as write-line-reads
-use Rattle.split_import.proofs.count_names.Reads as count-names-reads
-use Rattle.split_import.proofs.not_split.Reads as not-split-reads
-use Rattle.split_import.proofs.write_head.Reads as write-head-reads
-use Rattle.split_import.proofs.write_names.Reads as write-names-reads
 
--- src/lib.rt:275:13
 add-a : tie.Need-add-a
 add-a c = search needs
 
--- src/lib.rt:276:13
 sub-s : tie.Need-sub-s
 sub-s c = search needs
 
--- src/lib.rt:276:13
 part-s-start : tie.Need-part-s-start
 part-s-start c = search needs
 
--- src/lib.rt:276:13
 part-s-end : tie.Need-part-s-end
 part-s-end c = search needs
 
--- src/lib.rt:277:9
 count-names-requires : tie.Need-count-names-requires
 count-names-requires c κs = search (needs, inside-countable)
 
--- src/lib.rt:279:9
 not-split-requires : tie.Need-not-split-requires
 not-split-requires c κs = search needs
 
--- src/lib.rt:279:9
 returns : tie.Need-returns
 returns c = search (needs, parts-none)
 
--- src/lib.rt:281:48
 slice-aggregate-write-head : tie.Need-slice-aggregate-write-head
 slice-aggregate-write-head c = sym (length-take-le _ _ (omega arith))
 
--- src/lib.rt:281:9
 write-head-requires : tie.Need-write-head-requires
 write-head-requires c κs = search (needs, head-fits)
 
--- src/lib.rt:282:36
 add-write-names : tie.Need-add-write-names
 add-write-names c = search needs
 
--- src/lib.rt:282:9
 write-names-requires : tie.Need-write-names-requires
 write-names-requires c κs = search (needs, names-fit)
 
--- src/lib.rt:283:52
 sub-write-line : tie.Need-sub-write-line
 sub-write-line c = search needs
 
--- src/lib.rt:283:52
 part-write-line-start : tie.Need-part-write-line-start
 part-write-line-start c = search needs
 
--- src/lib.rt:283:52
 part-write-line-end : tie.Need-part-write-line-end
 part-write-line-end c = search needs
 
--- src/lib.rt:283:9
 write-line-requires : tie.Need-write-line-requires
 write-line-requires c κs = tail-room (c .before .before .before .before .before .before .before .before .before .before .before .before .before .before .before .before .before .before .before .pre) (c .before .before .before .before .before .before .before .before .write-head .ensures) _ (c .before .before .before .before .write-names .ensures)
 
--- src/lib.rt:260:1
 same-length : tie.Need-same-length
 same-length c = search needs
 
--- src/lib.rt:260:1
 returns-2 : tie.Need-returns-2
 returns-2 c = search (needs, parts-some)
 

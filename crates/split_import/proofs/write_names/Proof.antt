@@ -1,15 +1,9 @@
 use borrow.Author.Needs.{needs}
-use native.Mathlib.Omega.{arith}
 use Prim.Native.Nat.{_+_, _-_}
 use lib.ListN.{length}
-use Rattle.split_import.proofs.NameLaws.{Filling, filling-start, filling-room, filling-more, filling-end, piece-within, name-fits}
+use Rattle.split_import.proofs.NameLaws.{Filling, filling-start, filling-room, filling-more, filling-end, piece-within}
 use Rattle.split_import.proofs.write_names.Statement.{statement}
 use Rattle.split_import.proofs.write_names.Tie as tie
-use Rattle.split_import.proofs.write_names.Reads as reads
-use Rattle.split_import.proofs.write_names.Lts as lts
-use Rattle.split.proofs.trim_part.Reads as trim-part-reads
-use Rattle.split_import.proofs.add_name.Reads as add-name-reads
-use Rattle.split_import.proofs.name_len.Reads as name-len-reads
 
 abbrev Inv-loop : tie.InvT-loop
 Inv-loop s indent level eol max out₀ at f₀ a₀ out f a = Filling s indent level eol max out₀ at out f a
@@ -17,67 +11,51 @@ Inv-loop s indent level eol max out₀ at f₀ a₀ out f a = Filling s indent l
 abbrev μ-loop : tie.MeasureT-loop
 μ-loop s indent level eol max out₀ at f₀ a₀ out f a = length s + 1 - a
 
--- src/lib.rt:226:5
 loop-holds : tie.Need-loop-holds Inv-loop μ-loop
 loop-holds c = search (needs, filling-start)
 
--- src/lib.rt:227:30
 sub-name-len : tie.Need-sub-name-len Inv-loop μ-loop
 sub-name-len c = search needs
 
--- src/lib.rt:227:30
 part-name-len-start : tie.Need-part-name-len-start Inv-loop μ-loop
 part-name-len-start c = search needs
 
--- src/lib.rt:227:30
 part-name-len-end : tie.Need-part-name-len-end Inv-loop μ-loop
 part-name-len-end c = search needs
 
--- src/lib.rt:227:21
 name-len-requires : tie.Need-name-len-requires Inv-loop μ-loop
 name-len-requires c κs = search needs
 
--- src/lib.rt:227:17
 add-e : tie.Need-add-e Inv-loop μ-loop
 add-e c = search needs
 
--- src/lib.rt:228:13
 trim-part-requires : tie.Need-trim-part-requires Inv-loop μ-loop
 trim-part-requires c κs = search (needs, piece-within)
 
--- src/lib.rt:231:55
 sub-add-name : tie.Need-sub-add-name Inv-loop μ-loop
 sub-add-name c = search needs
 
--- src/lib.rt:231:55
 part-add-name-start : tie.Need-part-add-name-start Inv-loop μ-loop
 part-add-name-start c = search needs
 
--- src/lib.rt:231:55
 part-add-name-end : tie.Need-part-add-name-end Inv-loop μ-loop
 part-add-name-end c = search needs
 
--- src/lib.rt:231:9
 add-name-requires : tie.Need-add-name-requires Inv-loop μ-loop
 add-name-requires c κs = search (needs, filling-room)
 
--- src/lib.rt:232:13
 add-a : tie.Need-add-a Inv-loop μ-loop
 add-a c = search needs
 
--- src/lib.rt:226:5
 loop-less : tie.Need-loop-less Inv-loop μ-loop
 loop-less c = search needs
 
--- src/lib.rt:226:5
 loop-again : tie.Need-loop-again Inv-loop μ-loop
 loop-again c = search (needs, filling-more)
 
--- src/lib.rt:208:1
 same-length : tie.Need-same-length Inv-loop μ-loop
 same-length c = search needs
 
--- src/lib.rt:208:1
 returns : tie.Need-returns Inv-loop μ-loop
 returns c = search (needs, filling-end)
 

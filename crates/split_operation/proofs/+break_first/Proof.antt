@@ -27,7 +27,6 @@ abbrev break-first-below : ℕ → In 5 break-first-kinds.ps
 break-first-below t =
     and 5 break-first-kinds.ps (falls 5 break-first-kinds.ps _<_ μ-break-first t) break-first.Pre
 
--- src/operation.rt:118:9
 break-first-round-strength-requires : (t : ℕ) → break-first-lts.Need-round-strength-requires (
   round-strength-reads.Asked,
   round-strength-reads.Learnt,
@@ -46,7 +45,6 @@ break-first-round-strength-requires : (t : ℕ) → break-first-lts.Need-round-s
 ) (break-first-at t) break-first.Post
 break-first-round-strength-requires t c κs = line-fits (c .before .before .before .before .pre .1)
 
--- src/operation.rt:120:13
 break-first-append-indented-requires : (t : ℕ) → break-first-lts.Need-append-indented-requires (
   round-strength-reads.Asked,
   round-strength-reads.Learnt,
@@ -65,7 +63,6 @@ break-first-append-indented-requires : (t : ℕ) → break-first-lts.Need-append
 ) (break-first-at t) break-first.Post
 break-first-append-indented-requires t c κs = whole-room (c .before .before .before .before .before .before .before .pre .1)
 
--- src/operation.rt:121:9
 break-first-same-length : (t : ℕ) → break-first-lts.Need-same-length (
   round-strength-reads.Asked,
   round-strength-reads.Learnt,
@@ -84,7 +81,6 @@ break-first-same-length : (t : ℕ) → break-first-lts.Need-same-length (
 ) (break-first-at t) break-first.Post
 break-first-same-length t c = search needs
 
--- src/operation.rt:121:9
 break-first-returns : (t : ℕ) → break-first-lts.Need-returns (
   round-strength-reads.Asked,
   round-strength-reads.Learnt,
@@ -103,7 +99,6 @@ break-first-returns : (t : ℕ) → break-first-lts.Need-returns (
 ) (break-first-at t) break-first.Post
 break-first-returns t c = first-whole _ _ _ _ _ _ _ _ (c .before .before .before .before .before .before .before .before .before .before .pre .1) _ _ _ _ (c .before .before .before .before .before .round-strength .ensures) (c .before .before .before .before .if1 .taken) (c .before .before .append-indented .ensures)
 
--- src/operation.rt:127:49
 break-first-begin-requires : (t : ℕ) → break-first-lts.Need-begin-requires (
   round-strength-reads.Asked,
   round-strength-reads.Learnt,
@@ -122,7 +117,6 @@ break-first-begin-requires : (t : ℕ) → break-first-lts.Need-begin-requires (
 ) (break-first-at t) break-first.Post
 break-first-begin-requires t c κs = search needs
 
--- src/operation.rt:127:9
 break-first-next-op-requires : (t : ℕ) → break-first-lts.Need-next-op-requires (
   round-strength-reads.Asked,
   round-strength-reads.Learnt,
@@ -139,9 +133,8 @@ break-first-next-op-requires : (t : ℕ) → break-first-lts.Need-next-op-requir
   write-rest-reads.Asked,
   write-rest-reads.Learnt,
 ) (break-first-at t) break-first.Post
-break-first-next-op-requires t c κs = begin-cut (c .before .before .before .before .before .before .before .pre .1) (c .begin .ensures)
+break-first-next-op-requires t c κs = begin-cut (c .before .before .before .before .before .before .before .pre .1) (c .before .if1 .left) (c .begin .ensures)
 
--- src/operation.rt:128:9
 break-first-trim-part-requires : (t : ℕ) → break-first-lts.Need-trim-part-requires (
   round-strength-reads.Asked,
   round-strength-reads.Learnt,
@@ -160,7 +153,6 @@ break-first-trim-part-requires : (t : ℕ) → break-first-lts.Need-trim-part-re
 ) (break-first-at t) break-first.Post
 break-first-trim-part-requires t c κs = first-within _ _ _ _ _ _ _ _ (c .before .before .before .before .before .before .before .before .pre .1) _ (c .before .before .before .round-strength .ensures) (c .before .before .if1 .left) _ _ (c .before .begin .ensures) (c .next-op .ensures)
 
--- src/operation.rt:133:9
 break-first-sub-break-first : (t : ℕ) → break-first-lts.Need-sub-break-first (
   round-strength-reads.Asked,
   round-strength-reads.Learnt,
@@ -179,7 +171,6 @@ break-first-sub-break-first : (t : ℕ) → break-first-lts.Need-sub-break-first
 ) (break-first-at t) break-first.Post
 break-first-sub-break-first t c = search needs
 
--- src/operation.rt:133:9
 break-first-part-break-first-start : (t : ℕ) → break-first-lts.Need-part-break-first-start (
   round-strength-reads.Asked,
   round-strength-reads.Learnt,
@@ -198,7 +189,6 @@ break-first-part-break-first-start : (t : ℕ) → break-first-lts.Need-part-bre
 ) (break-first-at t) break-first.Post
 break-first-part-break-first-start t c = search needs
 
--- src/operation.rt:133:9
 break-first-part-break-first-end : (t : ℕ) → break-first-lts.Need-part-break-first-end (
   round-strength-reads.Asked,
   round-strength-reads.Learnt,
@@ -217,7 +207,6 @@ break-first-part-break-first-end : (t : ℕ) → break-first-lts.Need-part-break
 ) (break-first-at t) break-first.Post
 break-first-part-break-first-end t c = search needs
 
--- src/operation.rt:138:9
 break-first-sub-break-first-2 : (t : ℕ) → break-first-lts.Need-sub-break-first-2 (
   round-strength-reads.Asked,
   round-strength-reads.Learnt,
@@ -236,7 +225,6 @@ break-first-sub-break-first-2 : (t : ℕ) → break-first-lts.Need-sub-break-fir
 ) (break-first-at t) break-first.Post
 break-first-sub-break-first-2 t c = some-rounds _ (rounds-left _ _ _ _ _ _ _ (c .before .before .before .before .before .round-strength .ensures) (c .before .before .before .before .if1 .left))
 
--- src/operation.rt:131:9
 break-first-break-first-requires : (t : ℕ) → break-first-lts.Need-break-first-requires (
   round-strength-reads.Asked,
   round-strength-reads.Learnt,
@@ -255,7 +243,6 @@ break-first-break-first-requires : (t : ℕ) → break-first-lts.Need-break-firs
 ) (break-first-at t) break-first.Post
 break-first-break-first-requires t c κs = (fewer-rounds (c .before .before .before .before .before .before .before .before .before .before .before .pre .0) (rounds-left _ _ _ _ _ _ _ (c .before .before .before .before .before .before .round-strength .ensures) (c .before .before .before .before .before .if1 .left)), first-fits _ _ _ _ _ _ _ _ (c .before .before .before .before .before .before .before .before .before .before .before .pre .1) _ (c .before .before .before .before .before .before .round-strength .ensures) (c .before .before .before .before .before .if1 .left) _ _ (c .before .before .before .before .begin .ensures) (c .before .before .before .next-op .ensures) _ (c .before .before .trim-part .ensures))
 
--- src/operation.rt:148:9
 break-first-add-write-rest : (t : ℕ) → break-first-lts.Need-add-write-rest (
   round-strength-reads.Asked,
   round-strength-reads.Learnt,
@@ -274,7 +261,6 @@ break-first-add-write-rest : (t : ℕ) → break-first-lts.Need-add-write-rest (
 ) (break-first-at t) break-first.Post
 break-first-add-write-rest t c = record { fits = omega (arith, c .before .before .before .before .before .before .before .before .before .before .before .before .before .before .pre .1 .flat) }
 
--- src/operation.rt:142:5
 break-first-write-rest-requires : (t : ℕ) → break-first-lts.Need-write-rest-requires (
   round-strength-reads.Asked,
   round-strength-reads.Learnt,
@@ -293,7 +279,6 @@ break-first-write-rest-requires : (t : ℕ) → break-first-lts.Need-write-rest-
 ) (break-first-at t) break-first.Post
 break-first-write-rest-requires t c κs = rest-fits _ _ _ _ _ _ _ _ (c .before .before .before .before .before .before .before .before .before .before .before .before .before .before .before .pre .1) _ (c .before .before .before .before .before .before .before .before .before .before .round-strength .ensures) (c .before .before .before .before .before .before .before .before .before .if1 .left) _ _ (c .before .before .before .before .before .before .before .before .begin .ensures) (c .before .before .before .before .before .before .before .next-op .ensures) _ (c .before .before .before .before .before .before .trim-part .ensures) _ _ _ (c .before .before .before .break-first .ensures)
 
--- src/operation.rt:104:1
 break-first-same-length-2 : (t : ℕ) → break-first-lts.Need-same-length-2 (
   round-strength-reads.Asked,
   round-strength-reads.Learnt,
@@ -312,7 +297,6 @@ break-first-same-length-2 : (t : ℕ) → break-first-lts.Need-same-length-2 (
 ) (break-first-at t) break-first.Post
 break-first-same-length-2 t c = search needs
 
--- src/operation.rt:104:1
 break-first-returns-2 : (t : ℕ) → break-first-lts.Need-returns-2 (
   round-strength-reads.Asked,
   round-strength-reads.Learnt,

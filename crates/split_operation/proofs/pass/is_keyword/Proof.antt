@@ -1,74 +1,55 @@
 use borrow.Author.Needs.{needs}
-use native.Mathlib.Omega.{arith}
 use Rattle.split.proofs.TestLaws.{bools}
 use Rattle.rules.specs.Basics.{oneOf}
 use Rattle.split_operation.proofs.pass.is_keyword.Statement.{statement}
 use Rattle.split_operation.proofs.pass.is_keyword.Tie as tie
-use Rattle.split_operation.proofs.pass.is_keyword.Reads as reads
-use Rattle.split_operation.proofs.pass.is_keyword.Lts as lts
-use Rattle.split_operation.proofs.pass.same.Reads as same-reads
 
--- src/pass.rt:127:16
 slice-aggregate-same : tie.Need-slice-aggregate-same
 slice-aggregate-same c = search needs
 
--- src/pass.rt:127:8
 same-requires : tie.Need-same-requires
 same-requires c κs = search needs
 
--- src/pass.rt:128:9
 returns : tie.Need-returns
 unfolding oneOf
 returns c = search bools depth 20
 
--- src/pass.rt:130:16
 slice-aggregate-same-2 : tie.Need-slice-aggregate-same-2
 slice-aggregate-same-2 c = search needs
 
--- src/pass.rt:130:8
 same-requires-2 : tie.Need-same-requires-2
 same-requires-2 c κs = search needs
 
--- src/pass.rt:131:9
 returns-2 : tie.Need-returns-2
 unfolding oneOf
 returns-2 c = search bools depth 20
 
--- src/pass.rt:133:16
 slice-aggregate-same-3 : tie.Need-slice-aggregate-same-3
 slice-aggregate-same-3 c = search needs
 
--- src/pass.rt:133:8
 same-requires-3 : tie.Need-same-requires-3
 same-requires-3 c κs = search needs
 
--- src/pass.rt:134:9
 returns-3 : tie.Need-returns-3
 unfolding oneOf
 returns-3 c = search bools depth 20
 
--- src/pass.rt:136:16
 slice-aggregate-same-4 : tie.Need-slice-aggregate-same-4
 slice-aggregate-same-4 c = search needs
 
--- src/pass.rt:136:8
 same-requires-4 : tie.Need-same-requires-4
 same-requires-4 c κs = search needs
 
--- src/pass.rt:137:9
 returns-4 : tie.Need-returns-4
 unfolding oneOf
 returns-4 c = search bools depth 20
 
--- src/pass.rt:139:13
 slice-aggregate-same-5 : tie.Need-slice-aggregate-same-5
 slice-aggregate-same-5 c = search needs
 
--- src/pass.rt:139:5
 same-requires-5 : tie.Need-same-requires-5
 same-requires-5 c κs = search needs
 
--- src/pass.rt:124:1
 returns-5 : tie.Need-returns-5
 unfolding oneOf
 returns-5 c = search bools depth 20

@@ -1,0 +1,298 @@
+-- Laws of one step of top_level_ops.
+use Prim.Native.Nat.{ℕ, zero, suc, _+_, _-_, _≤_, _<_, zero-le}
+use mathlib.Core.Bool.{Bool, true, false, not, _&&_, _||_, and-true, and-false}
+use mathlib.Core.List.{List, [], _∷_}
+use mathlib.Core.Path.{_≡_, refl, sym, ap, _∙_}
+use native.Mathlib.Omega.{arith}
+use native.Mathlib.Numerals.{add-one}
+use lib.Dec.{eqb, ltb}
+use lib.ListN.{length, getD, take, drop, length-drop, drop-of-length-le}
+use lib.Seq.{drop-cons}
+use borrow.Author.Tests.{ne-eqb, eq-eqb, eqb-true, le-ltb, lt-ltb, ltb-true, ltb-false}
+use Rattle.rules.specs.Basics.{choose, is, codes, at, same, oneOf, startsWith, firstIs, isBlank, isOpener, isCloser}
+use Rattle.rules.specs.Scan.{Cell}
+use Rattle.rules.specs.Words.{operators}
+use Rattle.rules.specs.SplitOperation.{Ops, OpStep, lookup, precedence, endsOperand, atomLen, token, operator, bracket, isSign, oneCharStep, twoCharStep, codeStep, freshStep, opStepAt}
+use Rattle.rules.proofs.OperatorsBytes.{byteStep}
+use Rattle.rules.proofs.Choose.{choose-true, choose-false}
+use Rattle.unicode.specs.Unicode.{tail}
+use Rattle.unicode.proofs.Tests.{by-test}
+use Rattle.buffer.proofs.RegionLaws.{part-from}
+use Rattle.operators.specs.Operators.{indexIn, atomChar, AtomLen, AtomAt, signStep}
+
+-- ---- the list of operators
+
+lookup-index : (ks : List (List ℕ)) (ns w : List ℕ) → indexIn ks w < length ks → lookup ks ns w ≡ getD ns (indexIn ks w) 0
+unfolding lookup indexIn choose
+lookup-index [] ns w h = absurd (omega arith)
+lookup-index (k ∷ ks) [] w h = refl
+lookup-index (k ∷ ks) (n ∷ ns) w h = go (same k w) h (lookup-index ks ns w)
+  where
+    go : (t : Bool) → choose t 0 (suc (indexIn ks w)) < suc (length ks) → (indexIn ks w < length ks → lookup ks ns w ≡ getD ns (indexIn ks w) 0)
+        → choose t n (lookup ks ns w) ≡ getD (n ∷ ns) (choose t 0 (suc (indexIn ks w))) 0
+    go true h r = refl
+    go false h r = r (omega arith)
+
+-- the table's strength of the operator that has the place k
+pub strength-index : (table w : List ℕ) (k : ℕ) → k ≡ indexIn operators w → k < 21 → getD table k 0 ≡ precedence table w
+unfolding precedence
+strength-index table w k e h = sym (lookup-index operators table w (rw (← e) h) ∙ rw (← e))
+
+-- a text is one of the list if it has a place there
+ltb-suc : (m n : ℕ) → ltb (suc m) (suc n) ≡ ltb m n
+ltb-suc m n =
+    by-test (ltb m n) (λ e. lt-ltb (suc m) (suc n) (omega (arith, ltb-true m n e)) ∙ sym e)
+    (λ e. le-ltb (suc m) (suc n) (omega (arith, ltb-false m n e)) ∙ sym e)
+
+pub one-of-index : (ks : List (List ℕ)) (w : List ℕ) → oneOf ks w ≡ ltb (indexIn ks w) (length ks)
+unfolding oneOf indexIn choose
+one-of-index [] w = refl
+one-of-index (k ∷ ks) w = go (same k w) (one-of-index ks w)
+  where
+    go : (t : Bool) → oneOf ks w ≡ ltb (indexIn ks w) (length ks) → (t || oneOf ks w) ≡ ltb (choose t 0 (suc (indexIn ks w))) (suc (length ks))
+    go true r = sym (lt-ltb 0 (suc (length ks)) (omega arith))
+    go false r = r ∙ sym (ltb-suc (indexIn ks w) (length ks))
+
+pub is-operator : (w : List ℕ) (k : ℕ) → k ≡ indexIn operators w → k < 21 → oneOf operators w ≡ true
+is-operator w k e h = one-of-index operators w ∙ rw (← e) (lt-ltb k 21 h)
+
+pub no-operator : (w : List ℕ) (k : ℕ) → k ≡ indexIn operators w → 21 ≤ k → oneOf operators w ≡ false
+no-operator w k e h = one-of-index operators w ∙ rw (← e) (le-ltb k 21 h)
+
+-- ---- the places of the operators
+
+-- the constant stands first in the definitions' comparison, second in the code's
+off : (k a : ℕ) → (a ≡ k → ⊥) → eqb k a ≡ false
+off k a h = ne-eqb k a (λ e. h (sym e))
+
+pub double-none : (a : ℕ) → (a ≡ 124 → ⊥) → (a ≡ 94 → ⊥) → (a ≡ 38 → ⊥) → (a ≡ 61 → ⊥) → (a ≡ 60 → ⊥) → (a ≡ 62 → ⊥) → (a ≡ 46 → ⊥) → (a ≡ 42 → ⊥)
+    → 21 ≡ indexIn operators (a ∷ a ∷ [])
+unfolding indexIn same choose
+double-none a h1 h2 h3 h4 h5 h6 h7 h8 =
+    simp (off 124 a h1, off 94 a h2, off 38 a h3, off 61 a h4, off 60 a h5, off 62 a h6, off 46 a h7, off 42 a h8, and-false)
+
+pub equals-none : (a : ℕ) → (a ≡ 61 → ⊥) → (a ≡ 33 → ⊥) → (a ≡ 60 → ⊥) → (a ≡ 62 → ⊥) → 21 ≡ indexIn operators (a ∷ 61 ∷ [])
+unfolding indexIn same choose
+equals-none a h1 h2 h3 h4 = simp (off 61 a h1, off 33 a h2, off 60 a h3, off 62 a h4, and-false)
+
+pub two-none : (a b : ℕ) → (a ≡ b → ⊥) → (b ≡ 61 → ⊥) → 21 ≡ indexIn operators (a ∷ b ∷ [])
+unfolding indexIn same choose
+two-none a b h k =
+    simp (apart 124, apart 94, apart 38, apart 60, apart 62, apart 46, apart 42, off 61 b k, and-false)
+  where
+    apart : (n : ℕ) → eqb n a && (eqb n b && true) ≡ false
+    apart n = by-test (eqb n a) (λ e. let q : n ≡ a = eqb-true n a e in rw (e, ne-eqb n b (λ r. h (sym q ∙ r)))) (λ e. rw e)
+
+pub one-none : (a : ℕ) → (a ≡ 43 → ⊥) → (a ≡ 45 → ⊥) → (a ≡ 42 → ⊥) → (a ≡ 47 → ⊥) → (a ≡ 37 → ⊥) → (a ≡ 124 → ⊥) → (a ≡ 94 → ⊥) → (a ≡ 38 → ⊥) → (a ≡ 60 → ⊥) → (a ≡ 62 → ⊥)
+    → 21 ≡ indexIn operators (a ∷ [])
+unfolding indexIn same choose
+one-none a h1 h2 h3 h4 h5 h6 h7 h8 h9 h10 =
+    simp (off 43 a h1, off 45 a h2, off 42 a h3, off 47 a h4, off 37 a h5, off 124 a h6, off 94 a h7, off 38 a h8, off 60 a h9, off 62 a h10, and-false)
+
+-- ---- an operator of two characters at the head of l, by the place that was found
+
+abbrev Two : List ℕ → ℕ → Type 0
+Two l k = k ≡ choose (eqb (length (take 2 l)) 2) (indexIn operators (take 2 l)) 21
+
+abbrev isTwo : List ℕ → Bool
+isTwo l = eqb (length (take 2 l)) 2 && oneOf operators (take 2 l)
+
+two-cases : (l : List ℕ) (k : ℕ) → Two l k → (isTwo l ≡ ltb k 21) × (k < 21 → k ≡ indexIn operators (take 2 l))
+unfolding choose
+two-cases l k e =
+    by-test (eqb (length (take 2 l)) 2)
+    (λ h. let f : k ≡ indexIn operators (take 2 l) = rw h at e in (rw (h, one-of-index operators (take 2 l), f), λ _. f))
+    (λ h. let f : k ≡ 21 = rw h at e in (rw (h, f), λ p. absurd (omega arith)))
+
+pub two-short : (l : List ℕ) → length l < 2 → 21 ≡ choose (eqb (length (take 2 l)) 2) (indexIn operators (take 2 l)) 21
+unfolding choose
+two-short [] h = refl
+two-short (a ∷ []) h = refl
+two-short (a ∷ b ∷ l) h = absurd (omega arith)
+
+pub two-long : (l : List ℕ) (k : ℕ) → 2 ≤ length l → k ≡ indexIn operators (getD l 0 0 ∷ getD l 1 0 ∷ []) → Two l k
+unfolding choose
+two-long [] k h e = absurd (omega arith)
+two-long (a ∷ []) k h e = absurd (omega arith)
+two-long (a ∷ b ∷ l) k h e = e
+
+module _ (x y z : OpStep) (l : List ℕ) (k : ℕ) (e : Two l k) where
+  pub pick-two : k < 21 → x ≡ y → x ≡ choose (isTwo l) y z
+  pick-two h f = f ∙ sym (choose-true (isTwo l) y z (two-cases l k e .0 ∙ lt-ltb k 21 h))
+
+  pub pick-one : 21 ≤ k → x ≡ z → x ≡ choose (isTwo l) y z
+  pick-one h f = f ∙ sym (choose-false (isTwo l) y z (two-cases l k e .0 ∙ le-ltb k 21 h))
+
+-- `<<=` and `>>=`
+factor : (p q r s e : Bool) → (p && (q && (e && true))) || (r && (s && (e && true))) ≡ ((p && (q && true)) || (r && (s && true))) && e
+factor p q r s true = simp (and-true)
+factor p q r s false = simp (and-false)
+
+none-starts : (p q r s : Bool) → (p && (q && false)) || (r && (s && false)) ≡ ((p && (q && true)) || (r && (s && true))) && false
+none-starts p q r s = simp (and-false)
+
+pub shift-assign : (l : List ℕ) → (at l "<<=" || at l ">>=") ≡ ((same (take 2 l) (codes "<<") || same (take 2 l) (codes ">>")) && firstIs (is "=") (drop 2 l))
+unfolding startsWith same firstIs
+shift-assign [] = refl
+shift-assign (a ∷ []) = simp (and-false)
+shift-assign (a ∷ b ∷ []) = none-starts (eqb a 60) (eqb b 60) (eqb a 62) (eqb b 62)
+shift-assign (a ∷ b ∷ c ∷ l) = factor (eqb a 60) (eqb b 60) (eqb a 62) (eqb b 62) (eqb c 61)
+
+module _ (table : List ℕ) (s : Ops) (l : List ℕ) (x : OpStep) where
+  pub two-token : (r : Bool) → r ≡ (at l "<<=" || at l ">>=") → r ≡ true → x ≡ token s false 2 → x ≡ twoCharStep table s (take 2 l) (drop 2 l)
+  unfolding twoCharStep
+  two-token r p q f = f ∙ sym (choose-true _ _ _ (sym (shift-assign l) ∙ sym p ∙ q))
+
+  pub two-operator : (r : Bool) (k n : ℕ) → r ≡ (at l "<<=" || at l ">>=") → r ≡ false → Two l k → k < 21 → n ≡ getD table k 0 → x ≡ operator s n 1
+      → x ≡ twoCharStep table s (take 2 l) (drop 2 l)
+  unfolding twoCharStep
+  two-operator r k n p q e h g f =
+      f ∙ ap (λ (m : ℕ). operator s m 1) (g ∙ strength-index table (take 2 l) k (two-cases l k e .1 h) h)
+      ∙ sym (choose-false _ _ _ (sym (shift-assign l) ∙ sym p ∙ q))
+
+-- ---- an operator of one character
+
+module _ (table : List ℕ) (s : Ops) (l : List ℕ) (x : OpStep) (k : ℕ) (e : k ≡ indexIn operators (getD l 0 0 ∷ [])) where
+  pub one-token : (b : Bool) → 21 ≤ k → b ≡ endsOperand (getD l 0 0) → x ≡ token s b 0 → x ≡ oneCharStep table s (getD l 0 0) (drop 1 l)
+  unfolding oneCharStep
+  one-token b h g f =
+      f ∙ ap (λ (v : Bool). token s v 0) g
+      ∙ sym (choose-true _ _ _ (ap not (no-operator (getD l 0 0 ∷ []) k e h)))
+
+  abbrev signed : OpStep
+  signed =
+      choose (firstIs (is "=") (drop 1 l)) (token s false 1)
+      (choose (isSign (getD l 0 0) && not (s .operand)) (token s false 0)
+      (operator s (precedence table (getD l 0 0 ∷ [])) 0))
+
+  pub one-operator : k < 21 → x ≡ signed → x ≡ oneCharStep table s (getD l 0 0) (drop 1 l)
+  unfolding oneCharStep
+  one-operator h f = f ∙ sym (choose-false _ _ _ (ap not (is-operator (getD l 0 0 ∷ []) k e h)))
+
+pub operator-strength : (table : List ℕ) (s : Ops) (w : List ℕ) (x : OpStep) (k n m : ℕ) → k ≡ indexIn operators w → k < 21 → n ≡ getD table k 0 → x ≡ operator s n m → x ≡ operator s (precedence table w) m
+operator-strength table s w x k n m e h g f = f ∙ ap (λ (i : ℕ). operator s i m) (g ∙ strength-index table w k e h)
+
+pub assign-short : (l : List ℕ) → length l < 2 → false ≡ firstIs (is "=") (drop 1 l)
+unfolding firstIs
+assign-short [] h = refl
+assign-short (a ∷ []) h = refl
+assign-short (a ∷ b ∷ l) h = absurd (omega arith)
+
+pub assign-long : (l : List ℕ) → 2 ≤ length l → eqb (getD l 1 0) 61 ≡ firstIs (is "=") (drop 1 l)
+unfolding firstIs
+assign-long [] h = absurd (omega arith)
+assign-long (a ∷ []) h = absurd (omega arith)
+assign-long (a ∷ b ∷ l) h = refl
+
+pub unary-operand : (b v : Bool) → v ≡ true → false ≡ (b && not v)
+unary-operand b v e = rw e (sym (and-false b))
+
+pub unary-sign : (b v r : Bool) → v ≡ false → r ≡ b → r ≡ (b && not v)
+unary-sign b v r e f = rw e (f ∙ sym (and-true b))
+
+-- ---- an atom's name: the scan is at i
+
+pub record AtomScan (s : List ℕ) (i : ℕ) : Type 0 where
+  pub within : i ≤ length s
+  pub sum : atomLen s ≡ i + atomLen (drop i s)
+
+atom-cons : (s : List ℕ) (i : ℕ) → i < length s → atomLen (drop i s) ≡ choose (atomChar (getD s i 0)) (suc (atomLen (drop (i + 1) s))) 0
+unfolding atomLen
+atom-cons s i h = rw (add-one, drop-cons s i 0)
+
+pub atom-begin : (s : List ℕ) → AtomScan s 0
+atom-begin s = record { within = zero-le; sum = omega arith }
+
+module _ (s : List ℕ) (i : ℕ) (q : AtomScan s i) where
+  pub atom-more : (r : Bool) → i < length s → r ≡ atomChar (getD s i 0) → r ≡ true → AtomScan s (i + 1)
+  atom-more r h p e =
+      let k : atomLen (drop i s) ≡ suc (atomLen (drop (i + 1) s)) = atom-cons s i h ∙ choose-true _ _ _ (sym p ∙ e) in
+      record { within = omega arith; sum = omega (arith, q .sum) }
+
+  pub atom-stop : (r : Bool) → i < length s → r ≡ atomChar (getD s i 0) → r ≡ false → AtomLen s i
+  atom-stop r h p e =
+      let k : atomLen (drop i s) ≡ 0 = atom-cons s i h ∙ choose-false _ _ _ (sym p ∙ e) in
+      record { is = omega (arith, q .sum); fits = q .within }
+
+  pub atom-end : length s ≤ i → AtomLen s i
+  unfolding atomLen
+  atom-end h =
+      let k : atomLen (drop i s) ≡ 0 = rw (drop-of-length-le s {i = i} h) in
+      record { is = omega (arith, q .sum); fits = q .within }
+
+module _ (operand : Bool) (l : List ℕ) (some : 0 < length l) where
+  pub atom-operand : operand ≡ true → AtomAt operand l 0
+  atom-operand e = record { is = sym (choose-false _ _ _ (rw e (and-false (is ":" (getD l 0 0))))); fits = some }
+
+  pub atom-colon : (r : ℕ) → getD l 0 0 ≡ 58 → operand ≡ false → AtomLen (take (length l - 1) (drop 1 l)) r → AtomAt operand l r
+  atom-colon r h e q =
+      let d : take (length l - 1) (drop 1 l) ≡ drop 1 l = part-from l 1 in
+      record {
+        is = q .is ∙ ap atomLen d ∙ sym (choose-true _ _ _ (rw (h, e)));
+        fits = omega (arith, q .fits, ap length d, length-drop 1 l);
+      }
+
+  pub atom-other : (getD l 0 0 ≡ 58 → ⊥) → AtomAt operand l 0
+  atom-other h = record { is = sym (choose-false _ _ _ (rw (ne-eqb (getD l 0 0) 58 h))); fits = some }
+
+-- ---- a character of code
+
+abbrev plainStep : List ℕ → Ops → List ℕ → OpStep
+plainStep table s l =
+    choose (isBlank (getD l 0 0)) (token s (s .operand) 0)
+    (choose (isOpener (getD l 0 0)) (bracket (suc (s .opened)) (s .closed) false)
+    (choose (isCloser (getD l 0 0)) (bracket (s .opened) (suc (s .closed)) (endsOperand (getD l 0 0)))
+    (signStep table s l)))
+
+code-cases : (table : List ℕ) (s : Ops) (l : List ℕ) → 0 < length l
+    → codeStep table s (getD l 0 0) (drop 1 l)
+    ≡ choose (is ":" (getD l 0 0) && not (s .operand) && not (eqb (atomLen (drop 1 l)) 0))
+    (token s (endsOperand (getD l (atomLen (drop 1 l)) 0)) (atomLen (drop 1 l))) (plainStep table s l)
+unfolding codeStep signStep
+code-cases table s [] h = absurd (omega arith)
+code-cases table s (c ∷ cs) h = refl
+
+module _ (table : List ℕ) (s : Ops) (l : List ℕ) (some : 0 < length l) (x : OpStep) (n : ℕ) (q : AtomAt (s .operand) l n) where
+  abbrev colon : Bool
+  colon = is ":" (getD l 0 0) && not (s .operand)
+
+  pub code-atom : (b : Bool) → 0 < n → b ≡ endsOperand (getD l n 0) → x ≡ token s b n → x ≡ codeStep table s (getD l 0 0) (drop 1 l)
+  code-atom b h g f =
+      let yes : colon ≡ true = by-test colon (λ t. t) (λ t. absurd (omega (arith, q .is ∙ choose-false _ _ _ t))) in
+      let e : n ≡ atomLen (drop 1 l) = q .is ∙ choose-true _ _ _ yes in
+      let z : eqb (atomLen (drop 1 l)) 0 ≡ false = ne-eqb (atomLen (drop 1 l)) 0 (λ (y : atomLen (drop 1 l) ≡ 0). omega arith) in
+      f ∙ ap (λ (v : Bool). token s v n) g ∙ ap (λ (m : ℕ). token s (endsOperand (getD l m 0)) m) e
+      ∙ sym (code-cases table s l some ∙ choose-true _ _ _ (rw (yes, z)))
+
+  pub code-plain : n ≤ 0 → x ≡ plainStep table s l → x ≡ codeStep table s (getD l 0 0) (drop 1 l)
+  code-plain h f =
+      let no : (colon && not (eqb (atomLen (drop 1 l)) 0)) ≡ false = by-test colon (λ t. rw (t, eq-eqb (atomLen (drop 1 l)) 0 (omega (arith, q .is ∙ choose-true _ _ _ t)))) (λ t. rw t) in
+      f ∙ sym (code-cases table s l some ∙ choose-false _ _ _ no)
+
+pub opens : (x : OpStep) (m n : ℕ) → x ≡ bracket (m + 1) n false → x ≡ bracket (suc m) n false
+opens x m n e = rw (← add-one m) e
+
+pub closes : (x : OpStep) (m n c : ℕ) (b : Bool) → b ≡ endsOperand c → x ≡ bracket m (n + 1) b → x ≡ bracket m (suc n) (endsOperand c)
+closes x m n c b g e = rw (← g, ← add-one n) e
+
+-- ---- a byte
+
+pub byte-stays : (table : List ℕ) (s : Ops) (x : Cell) (cs : List ℕ) (r : Bool) → r ≡ tail (x .ch) → r ≡ true → record { strength = 0; after = s } ≡ byteStep table s x cs
+byte-stays table s x cs r p e = sym (choose-true _ _ _ (sym p ∙ e))
+
+skip-on : (n : ℕ) (table : List ℕ) (s : Ops) (x : Cell) (cs : List ℕ) → 0 < n → token s (s .operand) (n - 1) ≡ opStepAt n table s x cs
+unfolding opStepAt
+skip-on zero table s x cs h = absurd (omega arith)
+skip-on (suc n) table s x cs h = let e : suc n - 1 ≡ n = omega arith in rw e
+
+skip-none : (n : ℕ) (table : List ℕ) (s : Ops) (x : Cell) (cs : List ℕ) → n ≤ 0 → freshStep table s x cs ≡ opStepAt n table s x cs
+unfolding opStepAt
+skip-none zero table s x cs h = refl
+skip-none (suc n) table s x cs h = absurd (omega arith)
+
+module _ (table : List ℕ) (s : Ops) (x : Cell) (cs : List ℕ) (r : Bool) (p : r ≡ tail (x .ch)) (e : r ≡ false) (y : OpStep) where
+  pub byte-skips : 0 < s .skip → y ≡ token s (s .operand) (s .skip - 1) → y ≡ byteStep table s x cs
+  byte-skips h f = f ∙ skip-on (s .skip) table s x cs h ∙ sym (choose-false _ _ _ (sym p ∙ e))
+
+  pub byte-fresh : s .skip ≤ 0 → y ≡ freshStep table s x cs → y ≡ byteStep table s x cs
+  byte-fresh h f = f ∙ skip-none (s .skip) table s x cs h ∙ sym (choose-false _ _ _ (sym p ∙ e))

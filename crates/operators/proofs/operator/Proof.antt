@@ -1,0 +1,16 @@
+use Rattle.rules.specs.SplitOperation.{operator}
+use Rattle.rules.proofs.Choose.{choose-true, choose-false}
+use borrow.Author.Tests.{eq-eqb, ne-eqb}
+use Rattle.operators.proofs.operator.Statement.{statement}
+use Rattle.operators.proofs.operator.Tie as tie
+
+returns : tie.Need-returns
+unfolding operator
+returns c = rw (choose-true _ _ _ (eq-eqb _ _ (c .if1 .taken)))
+
+returns-2 : tie.Need-returns-2
+unfolding operator
+returns-2 c = rw (choose-false _ _ _ (ne-eqb _ _ (c .if1 .left)))
+
+pub operator-spec : {M : Type 1} → statement M
+operator-spec = tie.close (tie.spec returns returns-2)

@@ -1,0 +1,215 @@
+-- The loop over the lines: `Reached` before the line that starts at `at`.
+use Prim.Native.Nat.{ℕ, suc, _+_, _-_, _*_, _≤_, _<_, zero-le}
+use native.Mathlib.Omega.{arith}
+use mathlib.Core.List.{List, [], _∷_, map}
+use mathlib.Core.Logic.{_⊎_, inl, inr}
+use mathlib.Core.Path.{_≡_, refl, sym, ap, subst, _∙_}
+use lib.ListN.{length, take, drop, length-take, length-drop}
+use lib.Seq.{drop-drop, take-all}
+use Rattle.unicode.specs.Unicode.{encode, decode, WellFormed}
+use Rattle.unicode.proofs.Tests.{split}
+use Rattle.buffer.specs.Buffer.{part}
+use Rattle.buffer.proofs.AgreeLaws.{agree-nil}
+use Rattle.rules.specs.Basics.{choose, startsWith, lastIs}
+use Rattle.rules.specs.Lines.{asStr, dropCr, linesOf}
+use Rattle.rules.specs.Options.{Options}
+use Rattle.rules.specs.Line.{Formatter, start, formatLine, dropBlank}
+use Rattle.rules.specs.Assembly.{formatLines, joined, dropEmpty}
+use Rattle.rules.specs.declared.LineEnding.{LineEnding}
+use Rattle.rules.specs.declared.EndOfLine.{EndOfLine}
+use Rattle.rules.specs.declared.FinalNewline.{FinalNewline}
+use Rattle.rules.specs.declared.PrintWidth.{PrintWidth}
+use Rattle.scan.specs.Classified.{carryDepth}
+use Rattle.format.specs.Stack.{stacked}
+use Rattle.format.specs.Words.{declarationOf}
+use Rattle.text.specs.Text.{Text, Ordered, trimNewest, lastOf, nothing}
+use Rattle.line.specs.Holds.{Holds, Ready, Stepped, Uses, begin}
+use Rattle.line.specs.declared.state.State.{State}
+use Rattle.call.specs.Formatted.{LineEnd, Passed, LinesDone}
+use Rattle.call.proofs.LineCuts.{Last, More, whole, part-of, cr-fits}
+use Rattle.call.proofs.LineChars.{AllWell, lines-well, lines-decode}
+
+-- ---- the line that starts at `at` and those after it
+
+record Next (source : List ℕ) (at e : ℕ) : Type 0 where
+  rest : List (List ℕ)
+  is : linesOf (drop at source) ≡ dropCr (part source at e) ∷ rest
+  here : e + 1 ≤ length source → rest ≡ linesOf (drop (e + 1) source)
+  none : length source < e + 1 → rest ≡ []
+
+last-line : (s : List ℕ) → Last s → linesOf s ≡ dropCr s ∷ []
+unfolding linesOf
+last-line s e = rw e
+
+more-lines : (s : List ℕ) (k : ℕ) → More s k → linesOf s ≡ dropCr (take k s) ∷ linesOf (drop (suc k) s)
+unfolding linesOf
+more-lines s k e = rw e
+
+next-line : (source : List ℕ) (at e : ℕ) → LineEnd source at e → Next source at e
+next-line source at e q = go (split e (length source))
+  where
+    go : (e < length source) ⊎ (length source ≤ e) → Next source at e
+    go (inl h) =
+        let n : at + suc (e - at) ≡ e + 1 = omega (arith, q .from) in
+        record {
+          rest = linesOf (drop (e + 1) source);
+          is = more-lines (drop at source) (e - at) (part-of source at e q h) ∙ rw (drop-drop, n);
+          here = λ k. refl;
+          none = λ k. absurd (omega arith);
+        }
+    go (inr h) =
+        record {
+          rest = [];
+          is = last-line (drop at source) (whole source at e q h) ∙ ap (λ (l : List ℕ). dropCr l ∷ []) (sym (take-all (e - at) (drop at source) (omega (arith, q .from, length-drop at source))));
+          here = λ k. absurd (omega arith);
+          none = λ k. refl;
+        }
+
+-- ---- the invariant
+
+-- options with this indent and this width
+abbrev someOptions : List ℕ → PrintWidth → Options
+someOptions indent width =
+    record { indent = indent; printWidth = width; endOfLine = EndOfLine.Kept; finalNewline = FinalNewline.Always }
+
+-- the lines `left` are still to come, after the definition's record f
+pub record Running (o : Options) (source eol : List ℕ) (left : List (List ℕ)) (st : State) (out scratch : List ℕ) : Type 0 where
+  pub f : Formatter
+  pub same : formatLines o (linesOf (decode source)) start ≡ formatLines o (map decode left) f
+  pub holds : Holds eol (length source) f st out scratch
+
+pub record Reached (source indent : List ℕ) (width : PrintWidth) (ending : LineEnding) (out₀ scratch₀ out scratch : List ℕ) (st : State) (at : ℕ) : Type 0 where
+  pub within : at ≤ length source + 1
+  pub left : List (List ℕ)
+  pub here : at ≤ length source → left ≡ linesOf (drop at source)
+  pub none : length source < at → left ≡ []
+  pub well : AllWell left
+  pub run : (o : Options) → Uses o indent width → Running o source (asStr ending) left st out scratch
+  pub ordered : Ordered (st .text)
+  pub place : st .text .at .0 ≤ at * 536870912
+  pub depth : st .depth ≤ at
+  pub carry : carryDepth (st .carry) ≤ 2 * at
+  pub imports : st .imports ≤ at
+  pub blanks : st .blanks ≤ 2 * at
+  pub as-long : length out ≡ length out₀
+  pub as-wide : length scratch ≡ length scratch₀
+
+start-text : (eol out : List ℕ) → Text eol [] nothing out
+unfolding joined dropEmpty dropBlank trimNewest lastOf encode
+start-text eol out =
+    record { at = refl; holds = agree-nil out; cut = refl; full = refl; last = refl; below = refl; alone = refl }
+
+start-holds : (eol : List ℕ) (unit : ℕ) (out scratch : List ℕ) → Holds eol unit start begin out scratch
+unfolding stacked declarationOf lastIs startsWith choose
+start-holds eol unit out scratch =
+    record {
+      text = start-text eol out;
+      stack = refl;
+      blank = refl;
+      decl = refl;
+      brace = refl;
+      ignore = refl;
+      carry = refl;
+      imports = refl;
+      blanks = refl;
+    }
+
+pub reached-start : (source indent : List ℕ) (width : PrintWidth) (ending : LineEnding) (out scratch : List ℕ) (st : State) → Passed source indent scratch → st ≡ begin
+    → Reached source indent width ending out scratch out scratch st 0
+reached-start source indent width ending out scratch st p e =
+    rw e
+    (record {
+      within = zero-le;
+      left = linesOf source;
+      here = λ h. refl;
+      none = λ h. absurd (omega arith);
+      well = lines-well source (p .well);
+      run = λ o u. record {
+        f = start;
+        same = ap (λ (ls : List (List ℕ)). formatLines o ls start) (sym (lines-decode source (p .well)));
+        holds = start-holds (asStr ending) (length source) out scratch;
+      };
+      ordered = record { cut = omega arith; full = omega arith; below = omega arith };
+      place = zero-le;
+      depth = zero-le;
+      carry = zero-le;
+      imports = zero-le;
+      blanks = zero-le;
+      as-long = refl;
+      as-wide = refl;
+    })
+
+module _
+    {source indent : List ℕ} {width : PrintWidth} {ending : LineEnding} {out₀ scratch₀ out scratch : List ℕ} {st : State} {at : ℕ}
+    (r : Reached source indent width ending out₀ scratch₀ out scratch st at) (p : Passed source indent scratch₀) (more : at ≤ length source)
+    {e : ℕ} (q : LineEnd source at e) {raw : List ℕ} (l : raw ≡ dropCr (part source at e))
+  where
+    raw-long : length raw ≤ e - at
+    raw-long = omega (arith, ap length l, cr-fits (part source at e), length-take (e - at) (drop at source))
+
+    pub reached-ready : Ready st scratch (length source) (length raw)
+    reached-ready =
+        record {
+          small = record { ordered = r .ordered; at = omega (arith, r .place, p .limit) };
+          depth = omega (arith, r .depth, raw-long, q .from, q .fits);
+          carry = omega (arith, r .carry, raw-long, q .from, q .fits);
+          imports = omega (arith, r .imports);
+          blanks = omega (arith, r .blanks, raw-long, q .from, q .fits);
+          limit = p .limit;
+          room = omega (arith, p .room, r .as-wide);
+        }
+
+    lines-left : (n : Next source at e) → r .left ≡ raw ∷ n .rest
+    lines-left n = r .here more ∙ n .is ∙ rw l
+
+    all-well : (n : Next source at e) → AllWell (raw ∷ n .rest)
+    all-well n = subst AllWell (lines-left n) (r .well)
+
+    pub reached-well : WellFormed raw
+    reached-well = all-well (next-line source at e q) .0
+
+    module _ {st′ : State} {out′ scratch′ : List ℕ}
+        (w : (o : Options) → Uses o indent width → Stepped (λ f. formatLine o f (decode raw)) (length raw) (length source) (asStr ending) st out scratch st′ out′ scratch′)
+      where
+        run-on : (n : Next source at e) (o : Options) → Uses o indent width → Running o source (asStr ending) (n .rest) st′ out′ scratch′
+        unfolding formatLines
+        run-on n o u =
+            let k = r .run o u in
+            record {
+              f = formatLine o (k .f) (decode raw);
+              same = k .same ∙ ap (λ (ls : List (List ℕ)). formatLines o (map decode ls) (k .f)) (lines-left n);
+              holds = w o u .holds (k .f) (k .holds);
+            }
+
+        pub reached-more : length out′ ≡ length out → length scratch′ ≡ length scratch → Reached source indent width ending out₀ scratch₀ out′ scratch′ st′ (e + 1)
+        reached-more eo es =
+            let n = next-line source at e q in
+            let s = w (someOptions indent width) (record { indents = refl; breaks = refl }) in
+            record {
+              within = omega (arith, q .fits);
+              left = n .rest;
+              here = n .here;
+              none = n .none;
+              well = all-well n .1;
+              run = run-on n;
+              ordered = s .ordered;
+              place = omega (arith, s .at, r .place, raw-long, q .from);
+              depth = omega (arith, s .depth, r .depth, raw-long, q .from);
+              carry = omega (arith, s .carry, r .carry, raw-long, q .from);
+              imports = omega (arith, s .imports, r .imports, q .from);
+              blanks = omega (arith, s .blanks, r .blanks, raw-long, q .from);
+              as-long = eo ∙ r .as-long;
+              as-wide = es ∙ r .as-wide;
+            }
+
+pub reached-end : {source indent : List ℕ} {width : PrintWidth} {ending : LineEnding} {out₀ scratch₀ out scratch : List ℕ} {st : State} {at : ℕ}
+    → Reached source indent width ending out₀ scratch₀ out scratch st at → Passed source indent scratch₀ → length source < at
+    → LinesDone source indent width (asStr ending) st out scratch
+unfolding formatLines
+reached-end {source = source} {ending = ending} {out = out} {scratch = scratch} {st = st} r p h =
+    record {
+      holds = λ o u. (let k = r .run o u in
+          let e : formatLines o (linesOf (decode source)) start ≡ k .f = k .same ∙ ap (λ (ls : List (List ℕ)). formatLines o (map decode ls) (k .f)) (r .none h) in
+          subst (λ (f : Formatter). Holds (asStr ending) (length source) f st out scratch) (sym e) (k .holds));
+      small = record { ordered = r .ordered; at = omega (arith, r .place, r .within, p .limit) };
+    }

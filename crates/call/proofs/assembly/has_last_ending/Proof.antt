@@ -1,0 +1,23 @@
+use borrow.Author.Needs.{needs}
+use Rattle.call.proofs.CallLaws.{last-source, last-always}
+use Rattle.call.proofs.assembly.has_last_ending.Statement.{statement}
+use Rattle.call.proofs.assembly.has_last_ending.Tie as tie
+
+enum-told : tie.Need-enum-told
+enum-told c = search needs
+
+ends-in-lf-requires : tie.Need-ends-in-lf-requires
+ends-in-lf-requires c κs = search needs
+
+enum-told-2 : tie.Need-enum-told-2
+enum-told-2 c = search needs
+
+returns : tie.Need-returns
+returns c = search (needs, last-source)
+
+returns-2 : tie.Need-returns-2
+returns-2 c = search (needs, last-always)
+
+pub has-last-ending-spec : {M : Type 1} → statement M
+has-last-ending-spec =
+    tie.close (tie.spec enum-told ends-in-lf-requires enum-told-2 returns returns-2)

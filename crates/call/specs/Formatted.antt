@@ -1,0 +1,60 @@
+-- What the loop over the lines and the finish give.
+use Prim.Native.Nat.{ℕ, _+_, _*_, _≤_}
+use mathlib.Core.List.{List}
+use mathlib.Core.Path.{_≡_}
+use lib.Dec.{ltb}
+use lib.ListN.{length, drop, replicate}
+use Rattle.unicode.specs.Unicode.{encode, size, decode, WellFormed}
+use Rattle.rules.specs.Basics.{choose, splitOn}
+use Rattle.rules.specs.Lines.{linesOf}
+use Rattle.rules.specs.Options.{Options}
+use Rattle.rules.specs.Line.{start}
+use Rattle.rules.specs.Assembly.{Formatted, formatLines}
+use Rattle.rules.specs.Call.{outputFor}
+use Rattle.rules.specs.declared.PrintWidth.{PrintWidth}
+use Rattle.rules.specs.declared.Refusal.{Refusal}
+use Rattle.rules.specs.declared.Outcome.{Outcome}
+use Rattle.options.specs.declared.FormatOptions.{FormatOptions}
+use Rattle.line.specs.Holds.{Holds, Small, Uses, ValidIndent}
+use Rattle.line.specs.declared.state.State.{State}
+
+-- the piece that starts at `at` ends at e
+pub record LineEnd (s : List ℕ) (at e : ℕ) : Type 0 where
+  pub is : e ≡ at + length (splitOn "\n" (drop at s) .first)
+  pub from : at ≤ e
+  pub fits : e ≤ length s
+
+-- what refusals 1 to 4 leave: a well-formed source, a valid indent, and room in scratch
+pub record Passed (source indent scratch : List ℕ) : Type 0 where
+  pub limit : length source ≤ 1048576
+  pub well : WellFormed source
+  pub indents : ValidIndent indent
+  pub room : 7 * length source ≤ length scratch
+
+-- all lines of the source are formatted: the state and the output hold the definition's record
+pub record LinesDone (source indent : List ℕ) (width : PrintWidth) (eol : List ℕ) (st : State) (out scratch : List ℕ) : Type 0 where
+  pub holds : (o : Options) → Uses o indent width → Holds eol (length source) (formatLines o (linesOf (decode source)) start) st out scratch
+  pub small : Small st
+
+-- the options that a struct holds, with the indent as it was lent
+abbrev pub optionsWith : List ℕ → FormatOptions → Options
+optionsWith indent s =
+    record { indent = indent; printWidth = s .width; endOfLine = s .ending; finalNewline = s .newline }
+
+-- what a finished text comes to in an output of n bytes
+abbrev pub outcomeIn : ℕ → Formatted → Outcome
+outcomeIn n t =
+    choose (ltb n (size (t .text))) (Outcome.Refused (Refusal.OutputShort (size (t .text))))
+    (Outcome.Formatted (size (t .text)) (t .importsSplit) (t .blankNames))
+
+-- the text t went to an output of n bytes; the scratch of m bytes is cleared
+pub record Fitted (t : Formatted) (n m : ℕ) (r : Outcome) (out scratch : List ℕ) : Type 0 where
+  pub outcome : r ≡ outcomeIn n t
+  pub output : out ≡ outputFor r n (encode (t .text))
+  pub cleared : scratch ≡ replicate m 0
+
+-- a refusal: both buffers are cleared
+pub record RefusedCall (why : Refusal) (n m : ℕ) (r : Outcome) (out scratch : List ℕ) : Type 0 where
+  pub outcome : r ≡ Outcome.Refused why
+  pub zeros : out ≡ replicate n 0
+  pub cleared : scratch ≡ replicate m 0

@@ -1,0 +1,3 @@
+-- What the contracts cite besides the rules.
+pub mod Formatted
+pub mod Answered

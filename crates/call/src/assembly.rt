@@ -1,0 +1,64 @@
+// Assembly: all lines of a source, the ending that they get, and the finish.
+ghost use mathlib.Core.Path.{_≡_};
+ghost use mathlib.Core.List.{List, []};
+ghost use Prim.Native.Nat.{ℕ};
+ghost use lib.ListN.{length};
+ghost use Rattle.unicode.specs.Unicode.{decode, WellFormed};
+ghost use Rattle.rules.specs.Basics.{choose};
+ghost use Rattle.rules.specs.Assembly.{endingOf, lastEnding, formatWith};
+ghost use Rattle.call.specs.Formatted.{Passed, Fitted, optionsWith};
+use crate::lines;
+use options::FormatOptions;
+use rules::EndOfLine;
+use rules::FinalNewline;
+use rules::LineEnding;
+use rules::Outcome;
+use rules::Refusal;
+
+// The ending that the text's lines get: set, or the one that most of the source's lines have.
+fn ending_of(end_of_line: EndOfLine, source: &[u8]) -> LineEnding
+    requires { ⌜ WellFormed (now source) ⌝ }
+    ensures { λ r. ⌜ r ≡ endingOf «end_of_line» (decode (now (source .entry))) ⌝ }
+{
+    match end_of_line {
+        EndOfLine::Kept => options::ending::dominant_in(source),
+        EndOfLine::Set(ending) => ending,
+    }
+}
+
+// Whether one more ending follows the text: always, or if the source ends in LF.
+fn has_last_ending(newline: FinalNewline, source: &[u8]) -> bool
+    requires { ⌜ WellFormed (now source) ⌝ }
+    ensures { λ r. ⌜ ((eol : List ℕ) → choose r eol [] ≡ lastEnding newline (decode (now (source .entry))) eol) ⌝ }
+{
+    match newline {
+        FinalNewline::AsSource => options::ending::ends_in_lf(source),
+        FinalNewline::Always => true,
+    }
+}
+
+// The source's text goes to the output, if it fits. The indent is lent as the host lends it; the struct's own is the same.
+pub fn format_with(
+    source: &[u8],
+    indent: &[u8],
+    chosen: FormatOptions,
+    output: &mut [u8],
+    scratch: &mut [u8],
+) -> Outcome
+    requires { ⌜ Passed (now source) (now indent) (now scratch) ⌝ }
+    ensures { λ r. ⌜ Fitted (formatWith (optionsWith (now (indent .entry)) chosen) (decode (now (source .entry)))) (length (now (output .entry))) (length (now (scratch .entry))) r (now (output .exit)) (now (scratch .exit)) ⌝ }
+{
+    let width = chosen.width;
+    let end_of_line = chosen.ending;
+    let newline = chosen.newline;
+    let ending = ending_of(end_of_line, source);
+    let st = lines::format_lines(source, indent, width, ending, output, scratch);
+    buffer::zero(scratch);
+    let t = st.text;
+    let last = has_last_ending(newline, source);
+    let n = text::finish_text(output, t, ending, last);
+    if output.len() < n {
+        return Outcome::Refused(Refusal::OutputShort(n));
+    }
+    Outcome::Formatted(n, st.imports, st.blanks)
+}

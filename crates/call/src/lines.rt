@@ -1,0 +1,63 @@
+// The lines of a source, one after the other.
+ghost use mathlib.Core.Path.{_≡_};
+ghost use Prim.Native.Nat.{_≤_};
+ghost use lib.ListN.{length};
+ghost use Rattle.rules.specs.Lines.{asStr, dropCr};
+ghost use Rattle.call.specs.Formatted.{LineEnd, Passed, LinesDone};
+use line::state::State;
+use rules::LineEnding;
+use rules::PrintWidth;
+use step::line_step;
+
+// The place of the first LF from `at` on, or the source's end.
+pub fn line_end(source: &[u8], at: usize) -> usize
+    requires { ⌜ at ≤ length (now source) ⌝ }
+    ensures { λ r. ⌜ LineEnd (now (source .entry)) at r ⌝ }
+{
+    let mut i = at;
+    while i < source.len() {
+        if source[i] == b'\n' {
+            return i;
+        }
+        i += 1;
+    }
+    i
+}
+
+// Without one CR at its end.
+pub fn without_cr(line: &[u8]) -> &[u8]
+    ensures { λ r. ⌜ now r ≡ dropCr (now (line .entry)) ⌝ }
+{
+    let n = line.len();
+    if n == 0 {
+        return line;
+    }
+    if line[n - 1] == b'\r' {
+        return &line[..n - 1];
+    }
+    line
+}
+
+// Every line of the source goes to the output. After the last LF stands one more line.
+pub fn format_lines(
+    source: &[u8],
+    indent: &[u8],
+    width: PrintWidth,
+    ending: LineEnding,
+    out: &mut [u8],
+    scratch: &mut [u8],
+) -> State
+    requires { ⌜ Passed (now source) (now indent) (now scratch) ⌝ }
+    ensures { λ r. ⌜ LinesDone (now (source .entry)) (now (indent .entry)) width (asStr ending) r (now (out .exit)) (now (scratch .exit)) ⌝ }
+{
+    let unit = source.len();
+    let mut st = State::new();
+    let mut at = 0;
+    while at <= unit {
+        let end = line_end(source, at);
+        let raw = without_cr(&source[at..end]);
+        st = line_step(raw, indent, width, ending, out, scratch, unit, st);
+        at = end + 1;
+    }
+    st
+}

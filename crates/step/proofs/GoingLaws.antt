@@ -1,0 +1,140 @@
+-- The line that goes on: spacing, its class bytes, and its brackets.
+use Prim.Native.Nat.{ℕ, zero, suc, _+_, _-_, _*_, _≤_}
+use native.Mathlib.Omega.{arith}
+use mathlib.Core.Bool.{Bool, true, false}
+use mathlib.Core.List.{List}
+use mathlib.Core.Path.{_≡_, refl, sym, ap, _∙_, subst}
+use lib.ListN.{length, take, drop}
+use lib.Seq.{length-take-le}
+use Rattle.unicode.specs.Unicode.{encode, decode, WellFormed}
+use Rattle.buffer.specs.Buffer.{part}
+use Rattle.rules.specs.Basics.{choose}
+use Rattle.rules.specs.Scan.{classify, carryAfter}
+use Rattle.rules.specs.ClassBytes.{classBytes, cellsOf}
+use Rattle.rules.specs.Spacing.{normalizeSpacing}
+use Rattle.rules.specs.Brackets.{leadingClosers, scanBrackets, countBrackets}
+use Rattle.rules.specs.declared.Carry.{Carry}
+use Rattle.rules.proofs.Choose.{choose-true, choose-false}
+use Rattle.rules.proofs.SpacedLine.{respaced, spaced-bytes, height-spaced, length-size}
+use Rattle.scan.specs.Classified.{ClassRoom, ClassifiedAt}
+use Rattle.format.specs.Region.{Only}
+use Rattle.format.specs.Respaced.{Place, Normalized, Unchanged}
+use Rattle.format.specs.Stack.{stacked, Closers, Fits, Settled}
+use Rattle.format.proofs.OnlyLaws.{only-same, only-wider, only-then, only-part-before, length-part}
+use Rattle.line.specs.Holds.{Classes}
+use Rattle.line.proofs.HoldsLaws.{stack-counted}
+use Rattle.step.specs.declared.Going.{Going}
+use Rattle.step.specs.Going.{spacedText, Room, goingLine, Goes, Went, Counts}
+
+-- ---- the line that goes on
+
+-- a line and its class bytes from the front of scratch on
+pub front-part : (scratch : List ℕ) (n : ℕ) → part scratch 0 (0 + n) ≡ take n scratch
+front-part scratch n = let e : 0 + n - 0 ≡ n = omega arith in rw e
+
+module _ (line scratch : List ℕ) (unit : ℕ) (after : Carry) (well : WellFormed line) (room : Room scratch unit (length line)) (classes : Classes Carry.Code line scratch 0 after) where
+  pub goes-own : (r : Bool) → Unchanged line (take (length line) scratch) r → r ≡ true
+      → Went line scratch scratch unit (record { own = true; len = length line; «class_at» = 0; carry = after })
+  unfolding choose
+  goes-own r u e =
+      let b : take (length line) scratch ≡ classBytes (classify Carry.Code line) = sym (front-part scratch (length line)) ∙ classes .bytes in
+      let s = spaced-bytes line well in
+      let k : line ≡ encode (respaced (decode line)) = sym (u .yes e) ∙ ap (λ (ks : List ℕ). normalizeSpacing (cellsOf line ks)) b ∙ s .bytes in
+      record {
+        goes = record {
+          long = refl;
+          well = well;
+          text = ap decode k ∙ s .chars;
+          classes = classes .bytes;
+          leaves = classes .leaves;
+          depth = omega (arith, classes .depth);
+          most = omega arith;
+          fits = omega (arith, room .short);
+        };
+        only = only-same scratch _ _;
+      }
+
+  pub goes-spaced : (mid last : List ℕ) (len : ℕ) (carry : Carry)
+      → Normalized (cellsOf line (part scratch 0 (0 + length line))) scratch mid unit (length line) len → ClassifiedAt mid unit len (3 * unit) last carry
+      → Went line scratch last unit (record { own = false; len = len; «class_at» = 3 * unit; carry = carry })
+  unfolding choose
+  goes-spaced mid last len carry n c =
+      let s = spaced-bytes line well in
+      let o : Only mid last (3 * unit) (3 * unit + len) = record { long = c .long; front = c .front; back = c .back } in
+      let p : part last unit (unit + len) ≡ part mid unit (unit + len) = only-part-before o unit (unit + len) (omega arith) (omega (arith, n .most, room .short)) in
+      let k : part last unit (unit + len) ≡ encode (respaced (decode line)) =
+      p ∙ n .is ∙ ap (λ (ks : List ℕ). normalizeSpacing (cellsOf line ks)) (classes .bytes) ∙ s .bytes in
+      record {
+        goes = record {
+          long = length-part last unit len (omega (arith, c .long, n .only .long, n .most, room .short, room .room));
+          well = subst WellFormed (sym k) (s .well);
+          text = ap decode k ∙ s .chars;
+          classes = c .bytes ∙ ap (λ (l : List ℕ). classBytes (classify Carry.Code l)) (sym p);
+          leaves = c .carry ∙ ap (carryAfter Carry.Code) (sym p);
+          depth = c .depth;
+          most = n .most;
+          fits = omega (arith, n .most, room .short);
+        };
+        only = only-then (only-wider 0 (5 * unit) (n .only) (omega arith) (omega (arith, room .short))) (only-wider 0 (5 * unit) o (omega arith) (omega (arith, n .most, room .short)));
+      }
+
+-- the class bytes are lent to `is_spaced`
+pub front-fits : (line scratch : List ℕ) (unit : ℕ) → Room scratch unit (length line) → length line ≡ length (take (length line) scratch)
+front-fits line scratch unit r = sym (length-take-le (length line) scratch (omega (arith, r .short, r .room)))
+
+pub front-has : (line scratch : List ℕ) (unit : ℕ) → Room scratch unit (length line) → length line ≤ length (take (length line) scratch)
+front-has line scratch unit r = omega (arith, front-fits line scratch unit r)
+
+-- ---- its brackets
+
+length-stacked : (buf : List ℕ) (base n : ℕ) → length (stacked buf base n) ≡ n
+unfolding stacked
+length-stacked buf base zero = refl
+length-stacked buf base (suc n) = ap suc (length-stacked buf base n)
+
+module _ (line scratch scratch′ : List ℕ) (unit : ℕ) (g : Going) (depth closers left deep : ℕ) (well : WellFormed line) (goes : Goes line scratch unit g) (l : left ≡ depth - closers) where
+  counts : (L : List ℕ) → goingLine line scratch unit g ≡ L → Closers L closers
+      → Settled scratch scratch′ (5 * unit) left (length L)
+      (scanBrackets (drop closers (cellsOf L (part scratch (g .«class_at») (g .«class_at» + length L)))) (stacked scratch (5 * unit) left)) deep
+      → Counts (spacedText (decode line)) scratch scratch′ (5 * unit) depth (length line) deep
+  counts L e k w =
+      let n : g .len ≡ length L = sym (goes .long) ∙ ap length e in
+      let classes : Classes Carry.Code L scratch (g .«class_at») (g .carry) =
+      record {
+        bytes = ap (λ (m : ℕ). part scratch (g .«class_at») (g .«class_at» + m)) (sym n) ∙ goes .classes ∙ ap (λ (s : List ℕ). classBytes (classify Carry.Code s)) e;
+        leaves = goes .leaves ∙ ap (carryAfter Carry.Code) e;
+        depth = omega (arith, goes .depth, n);
+      } in
+      let t : decode L ≡ spacedText (decode line) = ap decode (sym e) ∙ goes .text in
+      let s : stacked scratch′ (5 * unit) deep ≡ countBrackets (leadingClosers (spacedText (decode line))) (classify Carry.Code (spacedText (decode line))) (stacked scratch (5 * unit) depth) =
+      rw t at (stack-counted (subst WellFormed e (goes .well)) classes depth k l w refl) in
+      record {
+        stack = s;
+        most = omega (arith, length-stacked scratch′ (5 * unit) deep, ap length s, length-stacked scratch (5 * unit) depth, height-spaced (decode line) (leadingClosers (spacedText (decode line))) (stacked scratch (5 * unit) depth), length-size (decode line), ap length well);
+        long = w .only .long;
+      }
+
+  pub counts-own : g .own ≡ true → Closers line closers
+      → Settled scratch scratch′ (5 * unit) left (length line)
+      (scanBrackets (drop closers (cellsOf line (part scratch (g .«class_at») (g .«class_at» + length line)))) (stacked scratch (5 * unit) left)) deep
+      → Counts (spacedText (decode line)) scratch scratch′ (5 * unit) depth (length line) deep
+  counts-own e k w = counts line (choose-true (g .own) line _ e) k w
+
+  pub counts-spaced : g .own ≡ false → Closers (part scratch unit (unit + g .len)) closers
+      → Settled scratch scratch′ (5 * unit) left (g .len)
+      (scanBrackets (drop closers (cellsOf (part scratch unit (unit + g .len)) (part scratch (g .«class_at») (g .«class_at» + g .len)))) (stacked scratch (5 * unit) left)) deep
+      → Counts (spacedText (decode line)) scratch scratch′ (5 * unit) depth (length line) deep
+  counts-spaced e k w =
+      let p : goingLine line scratch unit g ≡ part scratch unit (unit + g .len) = choose-false (g .own) line _ e in
+      let n : length (part scratch unit (unit + g .len)) ≡ g .len = ap length (sym p) ∙ goes .long in
+      counts (part scratch unit (unit + g .len)) p k
+      (subst (λ (m : ℕ). Settled scratch scratch′ (5 * unit) left m
+      (scanBrackets (drop closers (cellsOf (part scratch unit (unit + g .len)) (part scratch (g .«class_at») (g .«class_at» + m)))) (stacked scratch (5 * unit) left)) deep) (sym n) w)
+
+-- there is room for the stack
+pub count-room : (line scratch : List ℕ) (unit : ℕ) (g : Going) (depth left n : ℕ) → Room scratch unit (length line) → Goes line scratch unit g
+    → depth + length line ≤ unit → left ≤ depth → n ≡ g .len → Fits scratch (g .«class_at») n (5 * unit) left
+count-room line scratch unit g depth left n r w h k e = record { classes = omega (arith, w .fits); stack = omega (arith, w .most, r .room, r .short) }
+
+pub own-length : (line scratch : List ℕ) (unit : ℕ) (g : Going) → Goes line scratch unit g → g .own ≡ true → length line ≡ g .len
+own-length line scratch unit g w e = ap length (sym (choose-true (g .own) line (part scratch unit (unit + g .len)) e)) ∙ w .long

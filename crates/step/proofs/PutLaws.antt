@@ -1,0 +1,99 @@
+-- The line that goes on, put into the text.
+use Prim.Native.Nat.{ℕ, _+_, _*_, _≤_}
+use native.Mathlib.Omega.{arith}
+use mathlib.Core.Bool.{Bool, false}
+use mathlib.Core.List.{List, [], _∷_}
+use mathlib.Core.Path.{_≡_, sym, ap, _∙_, subst}
+use lib.ListN.{length}
+use Rattle.unicode.specs.Unicode.{decode, WellFormed, trimEnd}
+use Rattle.buffer.specs.Buffer.{part}
+use Rattle.rules.specs.Basics.{is, isEmpty, lastIs}
+use Rattle.rules.specs.Scan.{classify}
+use Rattle.rules.specs.ClassBytes.{classBytes}
+use Rattle.rules.specs.Line.{Formatter}
+use Rattle.rules.specs.Options.{Options}
+use Rattle.rules.specs.declared.Carry.{Carry}
+use Rattle.rules.specs.declared.PrintWidth.{PrintWidth}
+use Rattle.rules.proofs.SpacedLine.{spaced-trimmed, length-size}
+use Rattle.format.specs.Words.{declarationOf}
+use Rattle.format.specs.declared.words.Declaration.{Declaration}
+use Rattle.place.specs.Placing.{GoesOn, Knows, Asks, Puts, spacedBy}
+use Rattle.place.specs.Placing as P
+use Rattle.place.specs.declared.Before.{Before}
+use Rattle.place.specs.declared.Placed.{Placed}
+use Rattle.line.specs.Holds.{Holds, Ready, Uses, ValidIndent}
+use Rattle.line.specs.declared.state.State.{State}
+use Rattle.line.proofs.HoldsLaws.{declaration-bytes, brace-bytes}
+use Rattle.step.specs.declared.Going.{Going}
+use Rattle.step.specs.Going.{spacedText, SolidLine, goingLine, Goes, PutOn}
+
+-- what is known before the line
+abbrev pub beforeOf : State → ℕ → Before
+beforeOf st unit = record { text = st .text; base = 5 * unit; depth = st .depth; decl = st .decl; brace = st .brace }
+
+knows : {eol : List ℕ} {unit : ℕ} {f : Formatter} {st : State} {out scratch : List ℕ} → Holds eol unit f st out scratch → Knows eol f (beforeOf st unit) out scratch
+knows h = record { text = h .text; stack = h .stack; decl = h .decl; brace = h .brace }
+
+some-length : (l : List ℕ) → isEmpty l ≡ false → 1 ≤ length l
+some-length [] e = let z : _≡_ {A = ℕ} 0 1 = cc in absurd (omega arith)
+some-length (c ∷ l) e = omega arith
+
+-- a line of characters has some bytes
+pub some-bytes : (line : List ℕ) → WellFormed line → isEmpty (decode line) ≡ false → 1 ≤ length line
+some-bytes line w e = omega (arith, some-length (decode line) e, length-size (decode line), ap length w)
+
+pub indent-as : (indent : List ℕ) → ValidIndent indent → P.ValidIndent indent
+indent-as indent v = record { blank = v .blank; short = v .short }
+
+module _ (line scratch : List ℕ) (unit : ℕ) (st : State) (ready : Ready st scratch unit (length line)) (solid : SolidLine line) where
+  pub asks : Asks (beforeOf st unit) scratch
+  asks =
+      let n = some-bytes line (solid .well) (solid .some) in
+      record {
+        ordered = ready .small .ordered;
+        small = ready .small .at;
+        depth = omega (arith, ready .depth, ready .limit);
+        fits = omega (arith, ready .depth, ready .room);
+      }
+
+  module _ (g : Going) (goes : Goes line scratch unit g) (L : List ℕ) (e : L ≡ goingLine line scratch unit g) where
+    going-text : decode L ≡ spacedText (decode line)
+    going-text = ap decode e ∙ goes .text
+
+    going-well : WellFormed L
+    going-well = subst WellFormed (sym e) (goes .well)
+
+    going-long : length L ≡ g .len
+    going-long = ap length e ∙ goes .long
+
+    pub goes-on : GoesOn L (part scratch (g .«class_at») (g .«class_at» + g .len))
+    goes-on =
+        let t = spaced-trimmed (decode line) (solid .trimmed) (solid .some) in
+        record {
+          well = going-well;
+          some = some-bytes L going-well (ap isEmpty going-text ∙ t .1);
+          short = omega (arith, going-long, goes .most, ready .depth, ready .limit);
+          trimmed = ap trimEnd going-text ∙ t .0 ∙ sym going-text;
+          classes = goes .classes ∙ ap (λ (s : List ℕ). classBytes (classify Carry.Code s)) (sym e);
+        }
+
+    pub put-on : (marker : Bool) (indent : List ℕ) (width : PrintWidth) (eol out out′ : List ℕ) (p : Placed) (decl : Declaration) (brace : Bool)
+        → Puts (spacedBy marker (decode L)) indent width eol (length L) (beforeOf st unit) out scratch p out′
+        → decl ≡ declarationOf L → brace ≡ lastIs (is "}") L
+        → PutOn marker (spacedText (decode line)) indent width eol (length line) unit st out scratch
+        (record { text = p .text; imports = p .imports; blanks = p .blanks; decl = decl; brace = brace }) out′
+    put-on marker indent width eol out out′ p decl brace w ed eb =
+        let v : Puts (spacedBy marker (spacedText (decode line))) indent width eol (length L) (beforeOf st unit) out scratch p out′ =
+        subst (λ (l : List ℕ). Puts (spacedBy marker l) indent width eol (length L) (beforeOf st unit) out scratch p out′) going-text w in
+        let uses : (o : Options) → Uses o indent width → P.Uses o indent width = λ o u. record { indents = u .indents; breaks = u .breaks } in
+        record {
+          text = λ o f u h. v .text o f (uses o u) (knows h);
+          imports = λ o f u h. v .imports o f (uses o u) (knows h);
+          blanks = λ o f u h. v .blanks o f (uses o u) (knows h);
+          decl = ed ∙ declaration-bytes L going-well ∙ ap declarationOf going-text;
+          brace = eb ∙ brace-bytes L going-well ∙ ap (lastIs (is "}")) going-text;
+          ordered = v .ordered;
+          at = omega (arith, v .at, going-long, goes .most);
+          few = v .few;
+          fewer = omega (arith, v .fewer, going-long, goes .most);
+        }

@@ -1,0 +1,286 @@
+-- The step of a line in code, and of any line.
+use Prim.Native.Nat.{ℕ, _+_, _-_, _*_, _≤_}
+use native.Mathlib.Omega.{arith}
+use mathlib.Core.Bool.{Bool, true, false, _&&_, _||_, or-true}
+use mathlib.Core.List.{List, _++_}
+use mathlib.Core.Path.{_≡_, refl, sym, ap, _∙_, subst}
+use lib.ListN.{length, take, drop, length-drop}
+use lib.Seq.{length-take-le}
+use Rattle.unicode.specs.Unicode.{chars, decode, trimEnd, trim}
+use Rattle.unicode.specs.Places.{TrimmedStart, TrimmedEnd}
+use Rattle.unicode.proofs.Tests.{and-left}
+use Rattle.unicode.proofs.Trim.{trim-trimEnd}
+use Rattle.rules.specs.Basics.{choose, is, isEmpty, lastIs}
+use Rattle.rules.specs.Scan.{classify, carryAfter}
+use Rattle.rules.specs.ClassBytes.{classBytes}
+use Rattle.rules.specs.Brackets.{leadingClosers, countBrackets}
+use Rattle.rules.specs.Words.{isMarker, hasCode}
+use Rattle.rules.specs.Else.{isPlainElse, canJoin}
+use Rattle.rules.specs.Options.{Options}
+use Rattle.rules.specs.Line.{Formatter, elseLine, placedLine, spacedLine, protects, protectedLine, codeLine, inCodeNow, blankLine, formatLine}
+use Rattle.rules.specs.declared.Carry.{Carry}
+use Rattle.rules.specs.declared.Ignore.{Ignore}
+use Rattle.rules.specs.declared.PrintWidth.{PrintWidth}
+use Rattle.rules.proofs.Choose.{choose-true, choose-false, choose-case}
+use Rattle.scan.specs.Classified.{Classified}
+use Rattle.format.specs.Region.{Only}
+use Rattle.format.specs.Words.{declarationOf}
+use Rattle.format.proofs.OnlyLaws.{only-same}
+use Rattle.format.proofs.StackLaws.{stacked-past}
+use Rattle.format.proofs.ElseLaws.{decode-some}
+use Rattle.line.specs.Holds.{Holds, Ready, Stepped, TrimmedLine, Classes, Uses, insideOf, protectedOf}
+use Rattle.line.specs.declared.state.State.{State}
+use Rattle.line.proofs.HoldsLaws.{carry-bytes, classes-front, front-only, line-room, trimmed-line, start-within}
+use Rattle.step.specs.declared.Going.{Going}
+use Rattle.step.specs.declared.Marker.{Marker}
+use Rattle.step.specs.declared.Put.{Put}
+use Rattle.step.specs.Going.{markerIn, spacedText, SolidLine, Marks, Room, goingLine, Went, Counts, PutOn, spacedOf, codeOf, formatOf, ignoreOf}
+use Rattle.step.proofs.MarkerLaws.{Found, found, else-closers, alone-other}
+use Rattle.step.proofs.GoingLaws.{front-part}
+
+-- ---- what is ready for a line is ready for a shorter one, in a scratch as long
+
+pub ready-as : {st : State} {scratch : List ℕ} {unit n : ℕ} (scratch′ : List ℕ) (m : ℕ) → Ready st scratch unit n → length scratch′ ≡ length scratch → m ≤ n → Ready st scratch′ unit m
+ready-as scratch′ m r e h =
+    record {
+      small = r .small;
+      depth = omega (arith, r .depth);
+      carry = omega (arith, r .carry);
+      imports = r .imports;
+      blanks = omega (arith, r .blanks);
+      limit = r .limit;
+      room = omega (arith, r .room);
+    }
+
+pub ready-room : {st : State} {scratch : List ℕ} {unit n : ℕ} (scratch′ : List ℕ) → Ready st scratch unit n → length scratch′ ≡ length scratch → Room scratch′ unit n
+ready-room scratch′ r e = record { short = omega (arith, r .depth); limit = r .limit; room = omega (arith, r .room) }
+
+-- ---- a step that starts after scratch was used before the stack
+
+holds-past : {eol : List ℕ} {unit : ℕ} {f : Formatter} {st : State} {out s₀ s₁ : List ℕ} {m : ℕ} → Only s₀ s₁ 0 m → m ≤ 5 * unit
+    → Holds eol unit f st out s₀ → Holds eol unit f st out s₁
+holds-past {unit = unit} {st = st} o k h =
+    record {
+      text = h .text;
+      stack = stacked-past o (5 * unit) (st .depth) k ∙ h .stack;
+      blank = h .blank;
+      decl = h .decl;
+      brace = h .brace;
+      ignore = h .ignore;
+      carry = h .carry;
+      imports = h .imports;
+      blanks = h .blanks;
+    }
+
+stepped-as : {g : Formatter → Formatter} {n unit : ℕ} {eol : List ℕ} {st st′ : State} {out s₁ out′ s₂ : List ℕ} (g′ : Formatter → Formatter) (n′ : ℕ) (s₀ : List ℕ) {m : ℕ}
+    → Only s₀ s₁ 0 m → m ≤ 5 * unit → n ≤ n′ → ((f : Formatter) → Holds eol unit f st out s₀ → g f ≡ g′ f)
+    → Stepped g n unit eol st out s₁ st′ out′ s₂ → Stepped g′ n′ unit eol st out s₀ st′ out′ s₂
+stepped-as {g} {n} {unit} {eol} {st} {st′} {out} {s₁} {out′} {s₂} g′ n′ s₀ o k h e w =
+    record {
+      holds = λ f x. subst (λ (y : Formatter). Holds eol unit y st′ out′ s₂) (e f x) (w .holds f (holds-past o k x));
+      ordered = w .ordered;
+      at = omega (arith, w .at);
+      depth = omega (arith, w .depth);
+      carry = omega (arith, w .carry);
+      imports = w .imports;
+      blanks = omega (arith, w .blanks);
+    }
+
+-- ---- a line that is spaced
+
+-- what it leaves, joined or placed
+record Leaves (marker : Bool) (l : List ℕ) (f r : Formatter) : Type 0 where
+  stack : r .stack ≡ countBrackets (leadingClosers l) (classify Carry.Code l) (f .stack)
+  blank : r .prevBlank ≡ false
+  prev : r .prev ≡ l
+  ignore : r .ignore ≡ ignoreOf marker
+  carry : r .carry ≡ carryAfter Carry.Code l
+
+leaves : (o : Options) (f : Formatter) (marker : Bool) (l : List ℕ) → (marker ≡ true → isPlainElse l ≡ false) → Leaves marker l f (spacedLine o f marker l)
+unfolding spacedLine elseLine placedLine countBrackets choose
+leaves o f marker l n = choose-case (Leaves marker l f) (λ h. joined marker n h) (λ h. record { stack = refl; blank = refl; prev = refl; ignore = refl; carry = refl })
+  where
+    joined : (m : Bool) → (m ≡ true → isPlainElse l ≡ false) → isPlainElse l && canJoin (f .lines) ≡ true → Leaves m l f (elseLine f l)
+    joined true n h =
+        let z : _≡_ {A = Bool} true false = sym (and-left (isPlainElse l) (canJoin (f .lines)) h) ∙ n refl in
+        let y : _≡_ {A = ℕ} 0 1 = cc in absurd (omega arith)
+    joined false n h = record { stack = rw (else-closers l (and-left (isPlainElse l) (canJoin (f .lines)) h)); blank = refl; prev = refl; ignore = refl; carry = refl }
+
+pub spaced-step : (line eol out out′ s₀ s₁ s₂ indent : List ℕ) (width : PrintWidth) (unit : ℕ) (marker : Bool) (st : State) (g : Going) (p : Put) (deep : ℕ) (ignore : Ignore)
+    → Marks marker line → Went line s₀ s₁ unit g
+    → PutOn marker (spacedText (decode line)) indent width eol (length line) unit st out s₁ p out′
+    → Counts (spacedText (decode line)) s₁ s₂ (5 * unit) (st .depth) (length line) deep → ignore ≡ ignoreOf marker
+    → (o : Options) → Uses o indent width
+    → Stepped (spacedOf o marker (spacedText (decode line))) (length line) unit eol st out s₀
+    (record {
+      text = p .text;
+      depth = deep;
+      blank = false;
+      decl = p .decl;
+      brace = p .brace;
+      ignore = ignore;
+      carry = g .carry;
+      imports = st .imports + p .imports;
+      blanks = st .blanks + p .blanks;
+    }) out′ s₂
+spaced-step line eol out out′ s₀ s₁ s₂ indent width unit marker st g p deep ignore n w q v e o u =
+    record {
+      holds = λ f h₀.
+          (let h : Holds eol unit f st out s₁ = holds-past (w .only) (omega arith) h₀ in
+          let k = leaves o f marker (spacedText (decode line)) (n .other) in
+          record {
+            text = q .text o f u h;
+            stack = v .stack ∙ ap (countBrackets (leadingClosers (spacedText (decode line))) (classify Carry.Code (spacedText (decode line)))) (h .stack) ∙ sym (k .stack);
+            blank = sym (k .blank);
+            decl = q .decl ∙ ap declarationOf (sym (k .prev));
+            brace = q .brace ∙ ap (lastIs (is "}")) (sym (k .prev));
+            ignore = e ∙ sym (k .ignore);
+            carry = w .goes .leaves ∙ carry-bytes Carry.Code (goingLine line s₁ unit g) (w .goes .well) ∙ ap (carryAfter Carry.Code) (w .goes .text) ∙ sym (k .carry);
+            imports = ap (λ (m : ℕ). m + p .imports) (h .imports) ∙ sym (q .imports o f u h);
+            blanks = ap (λ (m : ℕ). m + p .blanks) (h .blanks) ∙ sym (q .blanks o f u h);
+          });
+      ordered = q .ordered;
+      at = omega (arith, q .at);
+      depth = v .most;
+      carry = omega (arith, w .goes .depth, w .goes .most);
+      imports = omega (arith, q .few);
+      blanks = omega (arith, q .fewer);
+    }
+
+-- ---- a line in code that is not blank
+
+code-not : (o : Options) (f : Formatter) (raw l : List ℕ) (marker : Bool) → l ≡ trim raw → protects (f .ignore) ≡ false
+    → isMarker (classify Carry.Code l) ≡ marker → (isMarker (classify Carry.Code l) && hasCode (classify Carry.Code l)) ≡ false
+    → spacedLine o f marker (spacedText l) ≡ codeLine o f raw
+unfolding codeLine
+code-not o f raw l marker e p m q =
+    rw (← e, ← m) (sym (choose-false _ _ _ (ap (λ (b : Bool). b || (isMarker (classify Carry.Code l) && hasCode (classify Carry.Code l))) p ∙ q)))
+
+code-kept : (o : Options) (f : Formatter) (raw l : List ℕ) → l ≡ trim raw
+    → (protects (f .ignore) || (isMarker (classify Carry.Code l) && hasCode (classify Carry.Code l))) ≡ true → protectedLine f raw ≡ codeLine o f raw
+unfolding codeLine
+code-kept o f raw l e q = rw (← e) (sym (choose-true _ _ _ q))
+
+module _
+    {st : State} {s₀ : List ℕ} {unit : ℕ} {raw line : List ℕ} (w : List ℕ) (after : Carry)
+    (ready : Ready st s₀ unit (length raw)) (t : TrimmedLine raw line) (c : Classified Carry.Code line (take (length line) s₀) w after)
+  where
+    room : length line ≤ length s₀
+    room = line-room ready line (t .short)
+
+    pub code-classes : Classes Carry.Code line (w ++ drop (length line) s₀) 0 after
+    code-classes = classes-front line s₀ w room c
+
+    pub code-bytes : take (length line) (w ++ drop (length line) s₀) ≡ classBytes (classify Carry.Code line)
+    code-bytes = sym (front-part (w ++ drop (length line) s₀) (length line)) ∙ code-classes .bytes
+
+    only : Only s₀ (w ++ drop (length line) s₀) 0 (length line)
+    only = front-only line s₀ w room c
+
+    pub code-long : length (w ++ drop (length line) s₀) ≡ length s₀
+    code-long = only .long
+
+    pub code-ready : Ready st (w ++ drop (length line) s₀) unit (length raw)
+    code-ready = ready-as _ _ ready code-long (omega arith)
+
+    pub line-ready : Ready st (w ++ drop (length line) s₀) unit (length line)
+    line-ready = ready-as _ _ ready code-long (t .short)
+
+    within : length line ≤ 5 * unit
+    within = omega (arith, t .short, ready .depth)
+
+    module _ {eol out out′ s₂ : List ℕ} {r : State} where
+      kept : ((f : Formatter) → st .ignore ≡ f .ignore → (protects (f .ignore) || (isMarker (classify Carry.Code (decode line)) && hasCode (classify Carry.Code (decode line)))) ≡ true)
+          → Stepped (protectedOf (decode raw)) (length raw) unit eol st out (w ++ drop (length line) s₀) r out′ s₂
+          → (o : Options) → Stepped (codeOf o (decode raw)) (length raw) unit eol st out s₀ r out′ s₂
+      kept q v o = stepped-as _ _ s₀ only within (omega arith) (λ f h. code-kept o f (decode raw) (decode line) (t .text) (q f (h .ignore))) v
+
+      -- after a pending marker
+      pub code-protected : (b : Bool) → b ≡ protects (st .ignore) → b ≡ true
+          → Stepped (protectedOf (decode raw)) (length raw) unit eol st out (w ++ drop (length line) s₀) r out′ s₂
+          → (o : Options) → Stepped (codeOf o (decode raw)) (length raw) unit eol st out s₀ r out′ s₂
+      code-protected b e q v o =
+          kept (λ f h. ap (λ (x : Bool). x || (isMarker (classify Carry.Code (decode line)) && hasCode (classify Carry.Code (decode line)))) (ap protects (sym h) ∙ sym e ∙ q)) v o
+
+      -- with a marker after code
+      pub code-marked : (m : Marker) → m ≡ markerIn (decode line) → m ≡ Marker.AfterCode
+          → Stepped (protectedOf (decode raw)) (length raw) unit eol st out (w ++ drop (length line) s₀) r out′ s₂
+          → (o : Options) → Stepped (codeOf o (decode raw)) (length raw) unit eol st out s₀ r out′ s₂
+      code-marked m e k v o =
+          let x : Found (decode line) true true = found (decode line) Marker.AfterCode (sym k ∙ e) in
+          kept (λ f h. ap (λ (b : Bool). protects (f .ignore) || b) (rw (x .marks) (x .code (x .marks))) ∙ or-true (protects (f .ignore))) v o
+
+      open-line : (marker b : Bool) → b ≡ protects (st .ignore) → b ≡ false → isMarker (classify Carry.Code (decode line)) ≡ marker
+          → (isMarker (classify Carry.Code (decode line)) && hasCode (classify Carry.Code (decode line))) ≡ false
+          → (o : Options) → Stepped (spacedOf o marker (spacedText (decode line))) (length line) unit eol st out (w ++ drop (length line) s₀) r out′ s₂
+          → Stepped (codeOf o (decode raw)) (length raw) unit eol st out s₀ r out′ s₂
+      open-line marker b e q m a o v =
+          stepped-as _ _ s₀ only within (t .short) (λ f h. code-not o f (decode raw) (decode line) marker (t .text) (ap protects (sym (h .ignore)) ∙ sym e ∙ q) m a) v
+
+      -- without a marker
+      pub code-plain : {indent : List ℕ} {width : PrintWidth} (b : Bool) (m : Marker) → b ≡ protects (st .ignore) → b ≡ false → m ≡ markerIn (decode line) → m ≡ Marker.Nothing
+          → ((o : Options) → Uses o indent width → Stepped (spacedOf o false (spacedText (decode line))) (length line) unit eol st out (w ++ drop (length line) s₀) r out′ s₂)
+          → (o : Options) → Uses o indent width → Stepped (codeOf o (decode raw)) (length raw) unit eol st out s₀ r out′ s₂
+      code-plain b m e q d k v o u =
+          let x : Found (decode line) false false = found (decode line) Marker.Nothing (sym k ∙ d) in
+          open-line false b e q (x .marks) (rw (x .marks)) o (v o u)
+
+      -- with a marker that stands alone
+      pub code-alone : {indent : List ℕ} {width : PrintWidth} (b : Bool) (m : Marker) → b ≡ protects (st .ignore) → b ≡ false → m ≡ markerIn (decode line) → m ≡ Marker.Alone
+          → ((o : Options) → Uses o indent width → Stepped (spacedOf o true (spacedText (decode line))) (length line) unit eol st out (w ++ drop (length line) s₀) r out′ s₂)
+          → (o : Options) → Uses o indent width → Stepped (codeOf o (decode raw)) (length raw) unit eol st out s₀ r out′ s₂
+      code-alone b m e q d k v o u =
+          let x : Found (decode line) true false = found (decode line) Marker.Alone (sym k ∙ d) in
+          open-line true b e q (x .marks) (rw (x .marks) (x .code (x .marks))) o (v o u)
+
+-- what `spaced_line` asks
+pub solid : (raw line : List ℕ) → TrimmedLine raw line → isEmpty (decode line) ≡ false → SolidLine line
+solid raw line t e = record { well = t .well; trimmed = ap trimEnd (t .text) ∙ trim-trimEnd (decode raw) ∙ sym (t .text); some = e }
+
+pub marks-none : (line : List ℕ) → Marks false line
+marks-none line = record { other = λ h. let y : _≡_ {A = ℕ} 0 1 = cc in absurd (omega arith) }
+
+pub marks-alone : (line : List ℕ) (m : Marker) → m ≡ markerIn (decode line) → m ≡ Marker.Alone → Marks true line
+marks-alone line m d k =
+    let x : Found (decode line) true false = found (decode line) Marker.Alone (sym k ∙ d) in
+    record { other = λ h. alone-other (decode line) (x .marks) (x .code (x .marks)) }
+
+-- ---- any line
+
+module _ {st : State} {s₀ out eol : List ℕ} {unit : ℕ} (b : Bool) (e : b ≡ inCodeNow (st .carry)) where
+  in-now : {f : Formatter} → Holds eol unit f st out s₀ → inCodeNow (f .carry) ≡ b
+  in-now h = ap inCodeNow (sym (h .carry)) ∙ sym e
+
+  module _ {r : State} {out′ s₂ : List ℕ} (raw : List ℕ) (o : Options) where
+    pub format-inside : b ≡ false → Stepped (insideOf (decode raw)) (length raw) unit eol st out s₀ r out′ s₂ → Stepped (formatOf o (decode raw)) (length raw) unit eol st out s₀ r out′ s₂
+    unfolding formatLine
+    format-inside q v = stepped-as _ _ s₀ (only-same s₀ 0 0) (omega arith) (omega arith) (λ f h. sym (choose-false _ _ _ (in-now h ∙ q))) v
+
+    pub format-code : b ≡ true → isEmpty (trim (decode raw)) ≡ false → Stepped (codeOf o (decode raw)) (length raw) unit eol st out s₀ r out′ s₂
+        → Stepped (formatOf o (decode raw)) (length raw) unit eol st out s₀ r out′ s₂
+    unfolding formatLine
+    format-code q z v =
+        stepped-as _ _ s₀ (only-same s₀ 0 0) (omega arith) (omega arith) (λ f h. sym (choose-true _ _ _ (in-now h ∙ q) ∙ choose-false _ _ _ z)) v
+
+    pub format-blank : b ≡ true → isEmpty (trim (decode raw)) ≡ true → Stepped blankLine 0 unit eol st out s₀ r out′ s₂
+        → Stepped (formatOf o (decode raw)) (length raw) unit eol st out s₀ r out′ s₂
+    unfolding formatLine
+    format-blank q z v =
+        stepped-as _ _ s₀ (only-same s₀ 0 0) (omega arith) (omega arith) (λ f h. sym (choose-true _ _ _ (in-now h ∙ q) ∙ choose-true _ _ _ z)) v
+
+-- a trimmed line, blank or not
+module _ (raw : List ℕ) (tail start : ℕ) (e : TrimmedEnd raw tail) (s : TrimmedStart (take tail raw) start) where
+  pub blank-trim : start ≡ tail → isEmpty (trim (decode raw)) ≡ true
+  unfolding chars
+  blank-trim h =
+      let n : tail - start ≡ 0 = omega arith in
+      ap isEmpty (sym (trimmed-line raw tail start e s .text)) ∙ rw n
+
+  pub some-line : (start ≡ tail → ⊥) → isEmpty (decode (take (tail - start) (drop start raw))) ≡ false
+  some-line h = decode-some _ (trimmed-line raw tail start e s .well) (λ z. h (omega (arith, z, long, start-within raw tail start e s)))
+    where
+      long : length (take (tail - start) (drop start raw)) ≡ tail - start
+      long = length-take-le (tail - start) (drop start raw) (omega (arith, length-drop start raw, e .fits))
+
+  pub some-trim : (start ≡ tail → ⊥) → isEmpty (trim (decode raw)) ≡ false
+  some-trim h = ap isEmpty (sym (trimmed-line raw tail start e s .text)) ∙ some-line h

@@ -1,0 +1,62 @@
+use Rattle.step.proofs.StepLaws.{ready-as, ready-room, spaced-step}
+use mathlib.Core.Path.{refl, _∙_}
+use native.Mathlib.Nat.{le-refl}
+use native.Mathlib.Omega.{arith}
+use borrow.Author.Needs.{needs}
+use Rattle.step.proofs.spaced_line.Statement.{statement}
+use Rattle.step.proofs.spaced_line.Tie as tie
+
+go-on-requires : tie.Need-go-on-requires
+go-on-requires c κs =
+    let s = c .before .before .before .before .before .pre in
+    (s .1 .0 .well, (ready-room _ (s .0) refl, s .1 .1 .1 .0))
+
+put-going-requires : tie.Need-put-going-requires
+put-going-requires c κs =
+    let s = c .before .before .before .before .before .before .before .before .before .before .pre in
+    let w = c .before .before .before .before .go-on .ensures in
+    (ready-as _ _ (s .0) (w .only .long) (le-refl _), (s .1 .0, (w .goes, s .1 .1 .1 .1)))
+
+count-going-requires : tie.Need-count-going-requires
+count-going-requires c κs =
+    let s = c .before .before .before .before .before .before .before .before .before .before .before .before .before .before .pre in
+    let w = c .before .before .before .before .before .before .before .before .go-on .ensures in
+    (s .1 .0 .well, (ready-room _ (s .0) (w .only .long), (w .goes, s .0 .depth)))
+
+ignore-of-requires : tie.Need-ignore-of-requires
+ignore-of-requires c κs = search needs
+
+add-t27 : tie.Need-add-t27
+add-t27 c =
+    let s = c .before .before .before .before .before .before .before .before .before .before .before .before .before .before .before .before .before .before .before .before .before .pre .0 in
+    record { fits = omega (arith, s .imports, s .limit, c .before .before .before .before .before .before .before .before .before .before .put-going .ensures .few) }
+
+add-t28 : tie.Need-add-t28
+add-t28 c =
+    let s = c .before .before .before .before .before .before .before .before .before .before .before .before .before .before .before .before .before .before .before .before .before .before .before .pre .0 in
+    record { fits = omega (arith, s .blanks, s .limit, c .before .before .before .before .before .before .before .before .before .before .before .before .put-going .ensures .fewer) }
+
+same-length : tie.Need-same-length
+same-length c = c .before .before .before .before .before .before .before .before .count-going .ensures .long ∙ c .before .before .before .before .before .before .before .before .before .before .before .before .before .before .before .before .before .go-on .ensures .only .long
+
+same-length-2 : tie.Need-same-length-2
+same-length-2 c = c .before .before .before .before .before .before .before .before .before .before .before .out .given
+
+returns : tie.Need-returns
+returns c =
+    let s = c .before .before .before .before .before .before .before .before .before .before .before .before .before .before .before .before .before .before .before .before .before .before .before .pre in
+    spaced-step _ _ _ _ _ _ _ _ _ _ _ _ _ _ _ _ (s .1 .1 .0) (c .before .before .before .before .before .before .before .before .before .before .before .before .before .before .before .before .before .go-on .ensures) (c .before .before .before .before .before .before .before .before .before .before .before .before .put-going .ensures) (c .before .before .before .before .before .before .before .before .count-going .ensures) (c .before .before .before .before .ignore-of .ensures)
+
+pub spaced-line-spec : {M : Type 1} → statement M
+spaced-line-spec =
+    tie.close
+    (tie.spec
+    go-on-requires
+    put-going-requires
+    count-going-requires
+    ignore-of-requires
+    add-t27
+    add-t28
+    same-length
+    same-length-2
+    returns)

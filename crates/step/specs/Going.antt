@@ -1,0 +1,109 @@
+-- A line of code on its way: whether it holds a marker, how it goes on after spacing, and what it leaves.
+use Prim.Native.Nat.{ℕ, _+_, _*_, _≤_}
+use mathlib.Core.Bool.{Bool, true, false}
+use mathlib.Core.List.{List}
+use mathlib.Core.Path.{_≡_}
+use lib.ListN.{length}
+use Rattle.unicode.specs.Unicode.{decode, trimEnd, WellFormed}
+use Rattle.buffer.specs.Buffer.{part}
+use Rattle.rules.specs.Basics.{choose, is, isEmpty, lastIs}
+use Rattle.rules.specs.Scan.{classify, carryAfter}
+use Rattle.rules.specs.ClassBytes.{classBytes}
+use Rattle.rules.specs.Spacing.{normalizeSpacing}
+use Rattle.rules.specs.Brackets.{leadingClosers, countBrackets}
+use Rattle.rules.specs.Words.{isMarker, hasCode}
+use Rattle.rules.specs.Else.{isPlainElse}
+use Rattle.rules.specs.Options.{Options}
+use Rattle.rules.specs.Line.{Formatter, spacedLine, codeLine, formatLine}
+use Rattle.rules.specs.declared.Carry.{Carry}
+use Rattle.rules.specs.declared.Ignore.{Ignore}
+use Rattle.rules.specs.declared.PrintWidth.{PrintWidth}
+use Rattle.scan.specs.Classified.{carryDepth}
+use Rattle.format.specs.Region.{Only}
+use Rattle.format.specs.Stack.{stacked}
+use Rattle.format.specs.Words.{declarationOf}
+use Rattle.text.specs.Text.{Text, Ordered}
+use Rattle.line.specs.Holds.{Holds, Uses}
+use Rattle.line.specs.declared.state.State.{State}
+use Rattle.step.specs.declared.Going.{Going}
+use Rattle.step.specs.declared.Marker.{Marker}
+use Rattle.step.specs.declared.Put.{Put}
+
+-- the marker of a line, and whether code stands before it
+abbrev pub markerOf : Bool → Bool → Marker
+markerOf marks code = choose marks (choose code Marker.AfterCode Marker.Alone) Marker.Nothing
+
+-- of the line of characters l
+abbrev pub markerIn : List ℕ → Marker
+markerIn l = markerOf (isMarker (classify Carry.Code l)) (hasCode (classify Carry.Code l))
+
+abbrev pub spacedText : List ℕ → List ℕ
+spacedText l = normalizeSpacing (classify Carry.Code l)
+
+-- a line of code that is not blank, trimmed at its end
+pub record SolidLine (line : List ℕ) : Type 0 where
+  pub well : WellFormed line
+  pub trimmed : trimEnd (decode line) ≡ decode line
+  pub some : isEmpty (decode line) ≡ false
+
+-- a marker that stands alone is no plain else
+pub record Marks (marker : Bool) (line : List ℕ) : Type 0 where
+  pub other : marker ≡ true → isPlainElse (spacedText (decode line)) ≡ false
+
+-- room for a line of n bytes
+pub record Room (scratch : List ℕ) (unit n : ℕ) : Type 0 where
+  pub short : n ≤ unit
+  pub limit : unit ≤ 1048576
+  pub room : 7 * unit ≤ length scratch
+
+-- the bytes of the line that goes on
+abbrev pub goingLine : List ℕ → List ℕ → ℕ → Going → List ℕ
+goingLine line scratch unit g = choose (g .own) line (part scratch unit (unit + g .len))
+
+-- the line that goes on, and its class bytes in scratch
+pub record Goes (line scratch : List ℕ) (unit : ℕ) (g : Going) : Type 0 where
+  pub long : length (goingLine line scratch unit g) ≡ g .len
+  pub well : WellFormed (goingLine line scratch unit g)
+  pub text : decode (goingLine line scratch unit g) ≡ spacedText (decode line)
+  pub classes : part scratch (g .«class_at») (g .«class_at» + g .len) ≡ classBytes (classify Carry.Code (goingLine line scratch unit g))
+  pub leaves : g .carry ≡ carryAfter Carry.Code (goingLine line scratch unit g)
+  pub depth : carryDepth (g .carry) ≤ g .len
+  pub most : g .len ≤ 2 * length line
+  pub fits : g .«class_at» + g .len ≤ 5 * unit
+
+-- and the stack is as it was
+pub record Went (line before after : List ℕ) (unit : ℕ) (g : Going) : Type 0 where
+  pub goes : Goes line after unit g
+  pub only : Only before after 0 (5 * unit)
+
+-- the brackets of a line of n bytes, which goes on as the characters l, were counted: r are open
+pub record Counts (l before after : List ℕ) (base depth n r : ℕ) : Type 0 where
+  pub stack : stacked after base r ≡ countBrackets (leadingClosers l) (classify Carry.Code l) (stacked before base depth)
+  pub most : r ≤ depth + n
+  pub long : length after ≡ length before
+
+-- the step of a line that is spaced, with a marker or not
+abbrev pub spacedOf : Options → Bool → List ℕ → Formatter → Formatter
+spacedOf o marker l f = spacedLine o f marker l
+
+abbrev pub codeOf : Options → List ℕ → Formatter → Formatter
+codeOf o raw f = codeLine o f raw
+
+abbrev pub formatOf : Options → List ℕ → Formatter → Formatter
+formatOf o raw f = formatLine o f raw
+
+-- what a marker protects
+abbrev pub ignoreOf : Bool → Ignore
+ignoreOf marker = choose marker Ignore.NextLine Ignore.Nothing
+
+-- a line of n bytes, which goes on as the characters l, was put into the text
+pub record PutOn (marker : Bool) (l indent : List ℕ) (width : PrintWidth) (eol : List ℕ) (n unit : ℕ) (st : State) (out scratch : List ℕ) (r : Put) (out′ : List ℕ) : Type 0 where
+  pub text : (o : Options) (f : Formatter) → Uses o indent width → Holds eol unit f st out scratch → Text eol (spacedOf o marker l f .lines) (r .text) out′
+  pub imports : (o : Options) (f : Formatter) → Uses o indent width → Holds eol unit f st out scratch → spacedOf o marker l f .importsSplit ≡ f .importsSplit + r .imports
+  pub blanks : (o : Options) (f : Formatter) → Uses o indent width → Holds eol unit f st out scratch → spacedOf o marker l f .blankNames ≡ f .blankNames + r .blanks
+  pub decl : r .decl ≡ declarationOf l
+  pub brace : r .brace ≡ lastIs (is "}") l
+  pub ordered : Ordered (r .text)
+  pub at : r .text .at .0 ≤ st .text .at .0 + (2 * n + 1) * 268435456
+  pub few : r .imports ≤ 1
+  pub fewer : r .blanks ≤ 2 * n

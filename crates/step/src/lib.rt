@@ -1,0 +1,327 @@
+// One line of the source, of any kind.
+ghost use mathlib.Core.Path.{_≡_};
+ghost use mathlib.Core.Bool.{false};
+ghost use Prim.Native.Nat.{_+_, _*_, _≤_};
+ghost use lib.ListN.{length};
+ghost use Rattle.unicode.specs.Unicode.{decode, WellFormed};
+ghost use Rattle.rules.specs.Basics.{isEmpty};
+ghost use Rattle.rules.specs.Lines.{asStr};
+ghost use Rattle.rules.specs.Line.{protects, inCodeNow};
+ghost use Rattle.rules.specs.Options.{Options};
+ghost use Rattle.rules.specs.Scan.{classify};
+ghost use Rattle.rules.specs.ClassBytes.{classBytes};
+ghost use Rattle.rules.specs.declared.Carry.{Carry};
+ghost use Rattle.line.specs.Holds.{Classes, Ready, Stepped, TrimmedLine, Uses, ValidIndent};
+ghost use Rattle.step.specs.Going.{markerIn, spacedText, SolidLine, Marks, Room, Goes, Went, Counts, PutOn, spacedOf, codeOf, formatOf, ignoreOf};
+use format::words::Declaration;
+use line::state::State;
+use place::Before;
+use rules::Carry;
+use rules::Ignore;
+use rules::LineEnding;
+use rules::PrintWidth;
+use text::Written;
+
+// A marker in the line's comment: none, one that stands alone, one with code before it.
+pub enum Marker {
+    Nothing,
+    Alone,
+    AfterCode,
+}
+
+// The line that goes on: the source's own, or the respaced one, `len` bytes in scratch; where its class bytes start, and what it leaves open.
+pub struct Going {
+    pub own: bool,
+    pub len: usize,
+    pub class_at: usize,
+    pub carry: Carry,
+}
+
+// The text after the line, what the line adds to the counts, and what the next line asks of it.
+pub struct Put {
+    pub text: Written,
+    pub imports: usize,
+    pub blanks: usize,
+    pub decl: Declaration,
+    pub brace: bool,
+}
+
+// Spacing: the source's own line goes on if it is spaced already, else the respaced one in scratch, classified anew.
+fn go_on(line: &[u8], scratch: &mut [u8], unit: usize, after: Carry) -> Going
+    requires { ⌜ WellFormed (now line) ⌝ }
+    requires { ⌜ Room (now scratch) unit (length (now line)) ⌝ }
+    requires { ⌜ Classes Carry.Code (now line) (now scratch) 0 after ⌝ }
+    ensures { λ r. ⌜ Went (now (line .entry)) (now (scratch .entry)) (now (scratch .exit)) unit r ⌝ }
+{
+    let n = line.len();
+    if format::spacing::is_spaced(line, &scratch[..n]) {
+        return Going {
+            own: true,
+            len: n,
+            class_at: 0,
+            carry: after,
+        };
+    }
+    let len = format::spacing::normalize_spacing(line, scratch, 0, unit);
+    let class_at = 3 * unit;
+    let carry = scan::within::classify_at(scratch, unit, len, class_at);
+    Going {
+        own: false,
+        len,
+        class_at,
+        carry,
+    }
+}
+
+// Its brackets, the leading closers popped first.
+fn count_going(line: &[u8], scratch: &mut [u8], unit: usize, g: Going, depth: usize) -> usize
+    requires { ⌜ WellFormed (now line) ⌝ }
+    requires { ⌜ Room (now scratch) unit (length (now line)) ⌝ }
+    requires { ⌜ Goes (now line) (now scratch) unit g ⌝ }
+    requires { ⌜ depth + length (now line) ≤ unit ⌝ }
+    ensures { λ r. ⌜ Counts (spacedText (decode (now (line .entry)))) (now (scratch .entry)) (now (scratch .exit)) (5 * unit) depth (length (now (line .entry))) r ⌝ }
+{
+    let len = g.len;
+    let class_at = g.class_at;
+    let base = 5 * unit;
+    if g.own {
+        let closers = format::brackets::leading_closers(line);
+        let left = format::brackets::pop_closers(depth, closers);
+        return format::brackets::scan_brackets(line, scratch, class_at, base, left, closers);
+    }
+    let end = unit + len;
+    let closers = format::brackets::leading_closers(&scratch[unit..end]);
+    let left = format::brackets::pop_closers(depth, closers);
+    format::brackets::scan_brackets_at(scratch, unit, len, class_at, base, left, closers)
+}
+
+// The line that goes on, put into the text.
+fn put_going<'a>(
+    line: &'a [u8],
+    scratch: &'a [u8],
+    unit: usize,
+    g: Going,
+    marker: bool,
+    indent: &[u8],
+    width: PrintWidth,
+    ending: LineEnding,
+    out: &mut [u8],
+    st: State,
+) -> Put
+    requires { ⌜ Ready st (now scratch) unit (length (now line)) ⌝ }
+    requires { ⌜ SolidLine (now line) ⌝ }
+    requires { ⌜ Goes (now line) (now scratch) unit g ⌝ }
+    requires { ⌜ ValidIndent (now indent) ⌝ }
+    ensures { λ r. ⌜ PutOn marker (spacedText (decode (now (line .entry)))) (now (indent .entry)) width (asStr ending) (length (now (line .entry))) unit st (now (out .entry)) (now (scratch .entry)) r (now (out .exit)) ⌝ }
+{
+    let own = g.own;
+    let len = g.len;
+    let class_at = g.class_at;
+    let end = class_at + len;
+    let l = format::spacing::line_that_goes_on(line, scratch, own, unit, len);
+    let class = &scratch[class_at..end];
+    let t = st.text;
+    let before = st.decl;
+    let b = Before {
+        text: t,
+        base: 5 * unit,
+        depth: st.depth,
+        decl: before,
+        brace: st.brace,
+    };
+    let p = place::place_line(l, class, marker, indent, width, ending, out, scratch, b);
+    let text = p.text;
+    let decl = format::words::declaration_of(l);
+    Put {
+        text,
+        imports: p.imports,
+        blanks: p.blanks,
+        decl,
+        brace: format::else_line::ends_in_brace(l),
+    }
+}
+
+// What a marker protects.
+fn ignore_of(marker: bool) -> Ignore
+    ensures { λ r. ⌜ r ≡ ignoreOf marker ⌝ }
+{
+    if marker {
+        return Ignore::NextLine;
+    }
+    Ignore::Nothing
+}
+
+// A line of code that is not protected; its class bytes stand at the front of scratch, and it leaves `after` open.
+fn spaced_line(
+    line: &[u8],
+    scratch: &mut [u8],
+    unit: usize,
+    after: Carry,
+    marker: bool,
+    indent: &[u8],
+    width: PrintWidth,
+    ending: LineEnding,
+    out: &mut [u8],
+    st: State,
+) -> State
+    requires { ⌜ Ready st (now scratch) unit (length (now line)) ⌝ }
+    requires { ⌜ SolidLine (now line) ⌝ }
+    requires { ⌜ Marks marker (now line) ⌝ }
+    requires { ⌜ Classes Carry.Code (now line) (now scratch) 0 after ⌝ }
+    requires { ⌜ ValidIndent (now indent) ⌝ }
+    ensures { λ r. ⌜ ((o : Options) → Uses o (now (indent .entry)) width → Stepped (spacedOf o marker (spacedText (decode (now (line .entry))))) (length (now (line .entry))) unit (asStr ending) st (now (out .entry)) (now (scratch .entry)) r (now (out .exit)) (now (scratch .exit))) ⌝ }
+{
+    let g = go_on(line, scratch, unit, after);
+    let p = put_going(
+        line,
+        scratch,
+        unit,
+        g,
+        marker,
+        indent,
+        width,
+        ending,
+        out,
+        st,
+    );
+    let depth = st.depth;
+    let deep = count_going(line, scratch, unit, g, depth);
+    let text = p.text;
+    let decl = p.decl;
+    let ignore = ignore_of(marker);
+    let carry = g.carry;
+    State {
+        text,
+        depth: deep,
+        blank: false,
+        decl,
+        brace: p.brace,
+        ignore,
+        carry,
+        imports: st.imports + p.imports,
+        blanks: st.blanks + p.blanks,
+    }
+}
+
+// The marker of a line with its class bytes.
+fn marker_in(line: &[u8], class: &[u8]) -> Marker
+    requires { ⌜ WellFormed (now line) ⌝ }
+    requires { ⌜ now class ≡ classBytes (classify Carry.Code (now line)) ⌝ }
+    ensures { λ r. ⌜ r ≡ markerIn (decode (now (line .entry))) ⌝ }
+{
+    let e = scan::code_end(class);
+    if format::marker::is_marker(&line[e..]) {
+        if format::marker::has_code(&line[..e]) {
+            return Marker::AfterCode;
+        }
+        return Marker::Alone;
+    }
+    Marker::Nothing
+}
+
+// Whether a marker is pending.
+fn protects_next(ignore: Ignore) -> bool
+    ensures { λ r. ⌜ r ≡ protects ignore ⌝ }
+{
+    match ignore {
+        Ignore::Nothing => false,
+        Ignore::NextLine => true,
+    }
+}
+
+// A line that starts in code and is not blank. line is raw trimmed.
+fn code_line(
+    raw: &[u8],
+    line: &[u8],
+    scratch: &mut [u8],
+    unit: usize,
+    indent: &[u8],
+    width: PrintWidth,
+    ending: LineEnding,
+    out: &mut [u8],
+    st: State,
+) -> State
+    requires { ⌜ Ready st (now scratch) unit (length (now raw)) ⌝ }
+    requires { ⌜ WellFormed (now raw) ⌝ }
+    requires { ⌜ TrimmedLine (now raw) (now line) ⌝ }
+    requires { ⌜ isEmpty (decode (now line)) ≡ false ⌝ }
+    requires { ⌜ ValidIndent (now indent) ⌝ }
+    ensures { λ r. ⌜ ((o : Options) → Uses o (now (indent .entry)) width → Stepped (codeOf o (decode (now (raw .entry)))) (length (now (raw .entry))) unit (asStr ending) st (now (out .entry)) (now (scratch .entry)) r (now (out .exit)) (now (scratch .exit))) ⌝ }
+{
+    let n = line.len();
+    let after = scan::classify(line, Carry::Code, &mut scratch[..n]);
+    let ignore = st.ignore;
+    if protects_next(ignore) {
+        return line::kept::protected_line(raw, line, out, scratch, unit, ending, after, st);
+    }
+    let marker = marker_in(line, &scratch[..n]);
+    match marker {
+        Marker::Nothing => spaced_line(
+            line,
+            scratch,
+            unit,
+            after,
+            false,
+            indent,
+            width,
+            ending,
+            out,
+            st,
+        ),
+        Marker::Alone => spaced_line(
+            line,
+            scratch,
+            unit,
+            after,
+            true,
+            indent,
+            width,
+            ending,
+            out,
+            st,
+        ),
+        Marker::AfterCode => {
+            line::kept::protected_line(raw, line, out, scratch, unit, ending, after, st)
+        }
+    }
+}
+
+// Whether nothing is open.
+fn in_code(carry: Carry) -> bool
+    ensures { λ r. ⌜ r ≡ inCodeNow carry ⌝ }
+{
+    match carry {
+        Carry::Code => true,
+        Carry::Block(_) => false,
+        Carry::Prefab => false,
+    }
+}
+
+// One line, of any kind.
+pub fn line_step(
+    raw: &[u8],
+    indent: &[u8],
+    width: PrintWidth,
+    ending: LineEnding,
+    out: &mut [u8],
+    scratch: &mut [u8],
+    unit: usize,
+    st: State,
+) -> State
+    requires { ⌜ Ready st (now scratch) unit (length (now raw)) ⌝ }
+    requires { ⌜ WellFormed (now raw) ⌝ }
+    requires { ⌜ ValidIndent (now indent) ⌝ }
+    ensures { λ r. ⌜ ((o : Options) → Uses o (now (indent .entry)) width → Stepped (formatOf o (decode (now (raw .entry)))) (length (now (raw .entry))) unit (asStr ending) st (now (out .entry)) (now (scratch .entry)) r (now (out .exit)) (now (scratch .exit))) ⌝ }
+{
+    let carry = st.carry;
+    if in_code(carry) {
+        let tail = unicode::trim_end(raw);
+        let start = unicode::trim_start(&raw[..tail]);
+        if start == tail {
+            return line::kept::blank_line(out, ending, st);
+        }
+        let line = &raw[start..tail];
+        return code_line(raw, line, scratch, unit, indent, width, ending, out, st);
+    }
+    line::kept::inside_line(raw, out, scratch, unit, ending, st)
+}

@@ -16,9 +16,9 @@ use Rattle.rules.specs.Brackets.{leadingClosers, scanBrackets, countBrackets}
 use Rattle.rules.specs.declared.Carry.{Carry}
 use Rattle.rules.proofs.Choose.{choose-true, choose-false}
 use Rattle.rules.proofs.SpacedLine.{respaced, spaced-bytes, height-spaced, length-size}
-use Rattle.scan.specs.Classified.{ClassRoom, ClassifiedAt}
+use Rattle.scan.specs.Classified.{ClassifiedAt}
 use Rattle.format.specs.Region.{Only}
-use Rattle.format.specs.Respaced.{Place, Normalized, Unchanged}
+use Rattle.format.specs.Respaced.{Normalized, Unchanged}
 use Rattle.format.specs.Stack.{stacked, Closers, Fits, Settled}
 use Rattle.format.proofs.OnlyLaws.{only-same, only-wider, only-then, only-part-before, length-part}
 use Rattle.line.specs.Holds.{Classes}

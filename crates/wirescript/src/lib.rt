@@ -4,7 +4,10 @@ mod kind;
 mod number;
 pub mod settings;
 
+ghost use lib.ListN.{length};
+ghost use Rattle.call.specs.Answered.{callOf, FormatAnswered};
 ghost use Rattle.wirescript.specs.Kind.{KindAnswered};
+use rules::Answer;
 use rules::Kind;
 use unicode::CharColumn;
 
@@ -21,4 +24,30 @@ pub extern "C" fn wirescript_text_kind_at(
     let answer = kind::answer(source, line as usize, CharColumn(column as usize), scratch);
     buffer::zero(scratch);
     answer
+}
+
+// The text of a source. width_set: 0 no width, 1 the width given. line_ending: 0 kept, 1 LF, 2 CRLF. final_newline: 0 as the source, 1 always.
+#[no_mangle]
+pub extern "C" fn wirescript_format(
+    source: &[u8],
+    indent: &[u8],
+    width_set: u64,
+    width: u64,
+    line_ending: u64,
+    final_newline: u64,
+    output: &mut [u8],
+    scratch: &mut [u8],
+) -> Answer
+    ensures { λ r. ⌜ FormatAnswered (callOf (now (source .entry)) (now (indent .entry)) «width_set» width «line_ending» «final_newline» (length (now (output .entry))) (length (now (scratch .entry)))) r (now (output .exit)) (now (scratch .exit)) ⌝ }
+{
+    call::format_call(
+        source,
+        indent,
+        width_set,
+        width,
+        line_ending,
+        final_newline,
+        output,
+        scratch,
+    )
 }

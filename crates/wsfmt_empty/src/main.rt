@@ -1,0 +1,4 @@
+// wsfmt, run on an empty input.
+fn main() {
+    wsfmt_run::run();
+}

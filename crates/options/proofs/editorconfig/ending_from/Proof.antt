@@ -6,11 +6,9 @@ use Rattle.options.proofs.editorconfig.ending_from.Tie as tie
 enum-told : tie.Need-enum-told
 enum-told c = search needs
 
--- /work/h/options/target/rlib/rules.rlib/interface/lang/src/lib.rt:9:29
 enum-told-2 : tie.Need-enum-told-2
 enum-told-2 c = search needs
 
--- /work/h/options/target/rlib/rules.rlib/interface/lang/src/lib.rt:10:31
 enum-told-3 : tie.Need-enum-told-3
 enum-told-3 c = search needs
 

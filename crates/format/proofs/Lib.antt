@@ -5,7 +5,6 @@ pub mod StackLaws
 pub mod SpacingLaws
 pub mod KeptLaws
 pub mod StartsLaws
-pub mod IdentLaws
 pub mod BoolPicks
 pub mod WordLaws
 pub mod ElseLaws

@@ -8,8 +8,8 @@ ghost use Rattle.rules.specs.Scan.{cell};
 ghost use Rattle.rules.specs.ClassBytes.{classOf, cellsOf};
 ghost use Rattle.rules.specs.Brackets.{bracketStep, scanBrackets};
 ghost use Rattle.format.specs.Stack.{entryOf, stacked, opens, closes, Closers, Room, Turned, Fits, Settled, Levels};
-use crate::basics::is_closer;
-use crate::basics::is_opener;
+use basics::is_closer;
+use basics::is_opener;
 
 // The stack within a line: how many brackets are open, 1 less the line's net added count, and whether the next character is escaped.
 pub struct Tally {

@@ -4,9 +4,9 @@ ghost use Rattle.unicode.specs.Unicode.{decode, WellFormed};
 ghost use Rattle.rules.specs.Basics.{is, lastIs};
 ghost use Rattle.rules.specs.Else.{startsIf, isPlainElse};
 ghost use Rattle.format.specs.Else.{ifWord, plainRest, Facts};
-use crate::basics::is_ident;
-use crate::basics::starts_with;
 use crate::words::starts_white_or;
+use basics::is_ident;
+use basics::starts_with;
 
 // The word `if`: no ASCII letter, digit or underscore follows.
 fn starts_with_if(text: &[u8]) -> bool

@@ -1,5 +1,4 @@
 // The leaves of the line step, a module for each of document 01's stations.
-pub mod basics;
 pub mod brackets;
 pub mod else_line;
 pub mod marker;

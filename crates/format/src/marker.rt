@@ -4,7 +4,7 @@ ghost use mathlib.Core.Bool.{not};
 ghost use Rattle.unicode.specs.Unicode.{decode, WellFormed, trim, trimStart};
 ghost use Rattle.rules.specs.Basics.{codes, same, isEmpty};
 ghost use Rattle.rules.specs.Words.{isMarkerText};
-use crate::basics::starts_with;
+use basics::starts_with;
 
 fn is_same(a: &[u8], b: &[u8]) -> bool
     ensures { λ r. ⌜ r ≡ same (now (a .entry)) (now (b .entry)) ⌝ }

@@ -11,8 +11,8 @@ ghost use Rattle.rules.specs.Scan.{cell, isCode};
 ghost use Rattle.rules.specs.ClassBytes.{classOf, cellsOf};
 ghost use Rattle.rules.specs.Spacing.{spaced, putPlain, putAfterComma, putAt};
 ghost use Rattle.format.specs.Respaced.{textAt, Trimmed, Wrote, Place, Normalized, InCode, KeptAt, NoBlank, Unchanged};
-use crate::basics::is_blank;
-use crate::basics::is_closer;
+use basics::is_blank;
+use basics::is_closer;
 use rules::Gap;
 
 // The length of the text so far, and what its last character was.

@@ -8,8 +8,8 @@ ghost use Rattle.rules.specs.Basics.{codes, is, at, firstIs};
 ghost use Rattle.rules.specs.Words.{startsWithWord, operators, startsWithBinaryOp};
 ghost use Rattle.format.specs.Stack.{Closers};
 ghost use Rattle.format.specs.Words.{whiteOr, ones, pairs, follows, declarationOf, sameOf, Continues};
-use crate::basics::is_blank;
-use crate::basics::starts_with;
+use basics::is_blank;
+use basics::starts_with;
 
 // A space, a tab or nothing follows the word.
 pub fn starts_with_word(line: &[u8], word: &[u8]) -> bool

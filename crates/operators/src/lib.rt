@@ -7,16 +7,19 @@ ghost use mathlib.Core.List.{[], _∷_};
 ghost use Prim.Native.Nat.{_<_};
 ghost use lib.Dec.{eqb};
 ghost use lib.ListN.{length, getD, drop, take};
-ghost use Rattle.unicode.specs.Unicode.{tail};
-ghost use Rattle.rules.specs.Basics.{choose, is, at, firstIs, isBlank, isOpener, isCloser};
+ghost use Rattle.rules.specs.Basics.{choose, is, at, firstIs};
 ghost use Rattle.rules.specs.Scan.{isStr, cell};
 ghost use Rattle.rules.specs.Words.{operators};
 ghost use Rattle.rules.specs.SplitOperation.{endsOperand, token, operator, escape, bracket, isSign, oneCharStep, codeStep, freshStep};
 ghost use Rattle.rules.proofs.OperatorsBytes.{byteStep};
 ghost use Rattle.operators.specs.Operators.{opsOf, stepOf, indexIn, atomChar, AtomLen, AtomAt, signStep, Ready};
+use basics::is_blank;
+use basics::is_closer;
+use basics::is_ident;
+use basics::is_opener;
+use basics::starts_with;
 use rules::Class;
-use split::in_range;
-use split::is_ident;
+use unicode::is_tail;
 
 // Before a byte: the brackets opened and closed so far, whether an operand ends here, an escape, and how many more bytes belong to the token before.
 pub struct OpState {
@@ -31,39 +34,6 @@ pub struct OpState {
 pub struct OpFound {
     pub strength: u8,
     pub after: OpState,
-}
-
-fn is_blank(c: u8) -> bool
-    ensures { λ r. ⌜ r ≡ isBlank c ⌝ }
-{
-    if c == b' ' {
-        return true;
-    }
-    c == b'\t'
-}
-
-pub fn is_opener(c: u8) -> bool
-    ensures { λ r. ⌜ r ≡ isOpener c ⌝ }
-{
-    if c == b'{' {
-        return true;
-    }
-    if c == b'(' {
-        return true;
-    }
-    c == b'['
-}
-
-pub fn is_closer(c: u8) -> bool
-    ensures { λ r. ⌜ r ≡ isCloser c ⌝ }
-{
-    if c == b'}' {
-        return true;
-    }
-    if c == b')' {
-        return true;
-    }
-    c == b']'
 }
 
 fn is_sign(c: u8) -> bool
@@ -313,19 +283,19 @@ fn atom_at(s: OpState, l: &[u8]) -> usize
 fn is_arrow(l: &[u8]) -> bool
     ensures { λ r. ⌜ r ≡ (at (now (l .entry)) "->" || at (now (l .entry)) "=>") ⌝ }
 {
-    if split::starts_with(l, b"->") {
+    if starts_with(l, b"->") {
         return true;
     }
-    split::starts_with(l, b"=>")
+    starts_with(l, b"=>")
 }
 
 fn is_shift_assign(l: &[u8]) -> bool
     ensures { λ r. ⌜ r ≡ (at (now (l .entry)) "<<=" || at (now (l .entry)) ">>=") ⌝ }
 {
-    if split::starts_with(l, b"<<=") {
+    if starts_with(l, b"<<=") {
         return true;
     }
-    split::starts_with(l, b">>=")
+    starts_with(l, b">>=")
 }
 
 // Whether `=` stands after the first byte.
@@ -370,7 +340,7 @@ fn sign_step(table: &[u8; 21], s: OpState, l: &[u8]) -> OpFound
     requires { ⌜ 0 < length (now l) ⌝ }
     ensures { λ r. ⌜ stepOf r ≡ signStep (now (table .entry)) (opsOf s) (now (l .entry)) ⌝ }
 {
-    if split::starts_with(l, b"...") {
+    if starts_with(l, b"...") {
         return token(s, false, 2);
     }
     if is_arrow(l) {
@@ -405,12 +375,6 @@ fn code_step(table: &[u8; 21], s: OpState, l: &[u8]) -> OpFound
         return bracket(s.opened, s.closed + 1, ends_operand(c));
     }
     sign_step(table, s, l)
-}
-
-fn is_tail(c: u8) -> bool
-    ensures { λ r. ⌜ r ≡ tail c ⌝ }
-{
-    in_range(0x80, 0xBF, c)
 }
 
 fn is_str(k: Class) -> bool

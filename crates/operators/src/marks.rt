@@ -61,13 +61,13 @@ fn in_code(s: &[u8]) -> Mark
     if first_is(s, b'\'') {
         return one_mark(Class::Str, Mode::Quoted(false));
     }
-    if split::starts_with(s, b"//") {
+    if basics::starts_with(s, b"//") {
         return one_mark(Class::LineComment, Mode::Line);
     }
-    if split::starts_with(s, b"/*") {
+    if basics::starts_with(s, b"/*") {
         return long_mark(1, Class::BlockComment, Mode::Block(1));
     }
-    if split::starts_with(s, b"$```") {
+    if basics::starts_with(s, b"$```") {
         return long_mark(3, Class::Prefab, Mode::Prefab);
     }
     one_mark(Class::Code, Mode::Code)
@@ -79,7 +79,7 @@ fn in_quoted(s: &[u8], q: bool) -> Mark
     if first_is(s, b'\\') {
         return long_mark(1, Class::Str, Mode::Quoted(q));
     }
-    if split::starts_with(s, b"${") {
+    if basics::starts_with(s, b"${") {
         return long_mark(1, Class::Str, Mode::Interp(q, 1));
     }
     if closes(s, q) {
@@ -129,10 +129,10 @@ fn in_block(s: &[u8], d: u32) -> Mark
     requires { ⌜ d + 1 < 2 ^ 32 ⌝ }
     ensures { λ r. ⌜ r ≡ inBlock d (now (s .entry)) ⌝ }
 {
-    if split::starts_with(s, b"/*") {
+    if basics::starts_with(s, b"/*") {
         return long_mark(1, Class::BlockComment, Mode::Block(d + 1));
     }
-    if split::starts_with(s, b"*/") {
+    if basics::starts_with(s, b"*/") {
         if d <= 1 {
             return long_mark(1, Class::BlockComment, Mode::Code);
         }
@@ -144,7 +144,7 @@ fn in_block(s: &[u8], d: u32) -> Mark
 fn in_prefab(s: &[u8]) -> Mark
     ensures { λ r. ⌜ r ≡ inPrefab (now (s .entry)) ⌝ }
 {
-    if split::starts_with(s, b"```") {
+    if basics::starts_with(s, b"```") {
         return long_mark(2, Class::Prefab, Mode::Code);
     }
     one_mark(Class::Prefab, Mode::Prefab)

@@ -1,4 +1,3 @@
-pub mod PrefixLaws
 pub mod NextLaws
 pub mod StartsLaws
 pub mod MarkLaws

@@ -5,27 +5,11 @@ ghost use Prim.Native.Nat.{_+_, _<_, _^_};
 ghost use Rattle.rules.specs.Basics.{startsWith};
 ghost use Rattle.rules.specs.Scan.{inCode, inQuoted, inInterp, inInner, inBlock, inPrefab, markAt, next, quote, atQuote, long, one, modeOf, begin};
 ghost use Rattle.scan.specs.Classified.{depthOf};
+use basics::starts_with;
 use rules::Carry;
 use rules::Class;
 use rules::Mark;
 use rules::Mode;
-
-// Whether s starts with p.
-fn starts_with(s: &[u8], p: &[u8]) -> bool
-    ensures { λ r. ⌜ r ≡ startsWith (now (s .entry)) (now (p .entry)) ⌝ }
-{
-    let mut k = 0;
-    while k < p.len() {
-        if k >= s.len() {
-            return false;
-        }
-        if s[k] != p[k] {
-            return false;
-        }
-        k += 1;
-    }
-    true
-}
 
 // Whether s starts with c.
 fn first_is(s: &[u8], c: u8) -> bool

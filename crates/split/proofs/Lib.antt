@@ -1,5 +1,4 @@
 -- The laws that this crate's proofs and the crates above share.
 pub mod TestLaws
 pub mod MeasureLaws
-pub mod StartsLaws
 pub mod TextLaws

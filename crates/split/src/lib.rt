@@ -1,7 +1,5 @@
-// What the splits by import and by operators share: columns, parts without the white space around them, a line written after others, tests.
+// What the splits by import and by operators share: columns, parts without the white space around them, a line written after others.
 ghost use mathlib.Core.Path.{_≡_};
-ghost use Rattle.unicode.specs.Unicode.{within};
-ghost use Rattle.rules.specs.Basics.{startsWith, isIdent};
 ghost use Rattle.split.specs.Measure.{Measurable, Measured, Indent, IndentMeasured, Within, Trimmed};
 ghost use Rattle.split.specs.Text.{lay, LineRoom, LineWritten};
 use unicode::Utf16Column;
@@ -64,44 +62,4 @@ pub fn write_line(
     let start = buffer::append(out, at, eol);
     let next = buffer::append_indented(out, start, indent, level, line);
     NewLine { start, next }
-}
-
-// Whether s starts with p.
-pub fn starts_with(s: &[u8], p: &[u8]) -> bool
-    ensures { λ r. ⌜ r ≡ startsWith (now (s .entry)) (now (p .entry)) ⌝ }
-{
-    let mut k = 0;
-    while k < p.len() {
-        if k >= s.len() {
-            return false;
-        }
-        if s[k] != p[k] {
-            return false;
-        }
-        k += 1;
-    }
-    true
-}
-
-// Whether lo ≤ c ≤ hi.
-pub fn in_range(lo: u8, hi: u8, c: u8) -> bool
-    ensures { λ r. ⌜ r ≡ within lo hi c ⌝ }
-{
-    lo <= c && c <= hi
-}
-
-// An ASCII letter, digit or underscore.
-pub fn is_ident(c: u8) -> bool
-    ensures { λ r. ⌜ r ≡ isIdent c ⌝ }
-{
-    if in_range(b'0', b'9', c) {
-        return true;
-    }
-    if in_range(b'A', b'Z', c) {
-        return true;
-    }
-    if in_range(b'a', b'z', c) {
-        return true;
-    }
-    c == b'_'
 }

@@ -8,16 +8,16 @@ ghost use Rattle.rules.specs.Basics.{same, oneOf};
 ghost use Rattle.rules.specs.Scan.{cell, isCode};
 ghost use Rattle.rules.specs.SplitOperation.{looser, inWord, keywords};
 ghost use Rattle.split_operation.specs.Pass.{Begins, Readable, ReadOne, PlainTest, IdentLen, IdentRun, pastIdent, pastIdents, breakStrength, Balances, WordStep, Passing, Cutting, NextOp};
+use basics::is_closer;
+use basics::is_ident;
+use basics::is_opener;
+use basics::starts_with;
 use operators::OpState;
-use operators::is_closer;
-use operators::is_opener;
 use operators::marks::next_mark;
 use operators::op_step;
 use rules::Class;
 use rules::Mark;
 use rules::Mode;
-use split::is_ident;
-use split::starts_with;
 
 // Before a byte: the mark of the byte before, and the state of the operators.
 pub struct Reading {

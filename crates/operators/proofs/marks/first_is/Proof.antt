@@ -1,5 +1,5 @@
 use borrow.Author.Needs.{needs}
-use Rattle.split.proofs.StartsLaws.{is-none, is-first}
+use Rattle.basics.proofs.StartsLaws.{is-none, is-first}
 use Rattle.operators.proofs.marks.first_is.Statement.{statement}
 use Rattle.operators.proofs.marks.first_is.Tie as tie
 

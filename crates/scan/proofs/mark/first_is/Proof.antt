@@ -1,7 +1,7 @@
 use mathlib.Core.Path.{_≡_, refl, sym, _∙_}
 use native.Mathlib.Omega.{arith}
 use borrow.Author.Needs.{needs}
-use Rattle.scan.proofs.PrefixLaws.{is-none, is-first}
+use Rattle.basics.proofs.StartsLaws.{is-none, is-first}
 use Rattle.scan.proofs.mark.first_is.Statement.{statement}
 use Rattle.scan.proofs.mark.first_is.Tie as tie
 

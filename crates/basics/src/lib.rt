@@ -1,4 +1,4 @@
-// Tests of a byte, and of what a line starts with.
+// Tests of a byte, and of what a slice starts with.
 ghost use mathlib.Core.Path.{_≡_};
 ghost use Rattle.rules.specs.Basics.{isBlank, isOpener, isCloser, isIdent, startsWith};
 

@@ -1,9 +1,9 @@
 use borrow.Author.Needs.{needs}
 use Prim.Native.Nat.{_-_}
 use lib.ListN.{length}
-use Rattle.format.proofs.StartsLaws.{Left, left-start, left-past, left-differ, left-more, left-end}
-use Rattle.format.proofs.basics.starts_with.Statement.{statement}
-use Rattle.format.proofs.basics.starts_with.Tie as tie
+use Rattle.basics.proofs.StartsLaws.{Left, left-start, left-past, left-differ, left-more, left-end}
+use Rattle.basics.proofs.starts_with.Statement.{statement}
+use Rattle.basics.proofs.starts_with.Tie as tie
 
 abbrev Inv-loop : tie.InvT-loop
 Inv-loop line word k₀ k = Left line word k

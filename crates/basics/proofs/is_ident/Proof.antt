@@ -1,7 +1,7 @@
 use borrow.Author.Needs.{needs}
-use Rattle.format.proofs.IdentLaws.{idents}
-use Rattle.format.proofs.basics.is_ident.Statement.{statement}
-use Rattle.format.proofs.basics.is_ident.Tie as tie
+use Rattle.basics.proofs.IdentLaws.{idents}
+use Rattle.basics.proofs.is_ident.Statement.{statement}
+use Rattle.basics.proofs.is_ident.Tie as tie
 
 returns : tie.Need-returns
 returns c = search (needs, idents)

@@ -1,2 +1,3 @@
 -- What the contracts cite.
 pub mod Held
+pub mod Endings

@@ -48,7 +48,36 @@ fn import(size: usize) -> String {
     format!("import {{ {names}}} from \"lib\"\n")
 }
 
+/// Whether a line after the source stands at the margin.
+fn closes(source: &str) -> bool {
+    format_with(&format!("{source}\nx\n"), &FormatOptions::default()).ends_with("\nx\n")
+}
+
+/// The sources in the Rust project's own tests, as string literals of several lines: what builders
+/// write. They are read from the folder of its source.
+fn tests_of_the_rust(size: usize) -> String {
+    let folder = std::env::var("WIRESCRIPT_SRC").unwrap_or_else(|_| {
+        concat!(env!("CARGO_MANIFEST_DIR"), "/../../../shared/docs/src").into()
+    });
+    let path = format!("{folder}/crates/wirescript/src/layout_tests/code.rs");
+    let code = std::fs::read_to_string(&path).unwrap_or_else(|e| panic!("{path}: {e}"));
+    let sources: String = code
+        .lines()
+        .filter_map(|line| line.split_once('"')?.1.rsplit_once('"'))
+        .filter(|(literal, _)| literal.matches("\\n").count() > 1)
+        .map(|(literal, _)| literal.replace("\\n", "\n").replace("\\\"", "\"") + "\n\n")
+        .filter(|source| closes(source))
+        .collect();
+    repeated(&sources, size.max(sources.len()))
+}
+
 const INPUTS: &[Input] = &[
+    Input {
+        name: "the Rust's test sources",
+        indent: "  ",
+        width: hundred,
+        make: tests_of_the_rust,
+    },
     Input {
         name: "realistic",
         indent: "  ",

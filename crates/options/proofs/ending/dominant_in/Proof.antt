@@ -1,42 +1,46 @@
 use borrow.Author.Needs.{needs}
 use Prim.Native.Nat.{_-_}
 use lib.ListN.{length}
-use mathlib.Core.Logic.{⊎-elim}
-use Rattle.options.proofs.EndingLaws.{Counting, counting-start, counting-other, counting-lf, counting-crlf, dominant-crlf, dominant-lf}
+use Rattle.options.specs.Endings.{Counted}
+use Rattle.options.proofs.EndingLaws.{counted-none, counted-more, dominant-crlf, dominant-lf}
 use Rattle.options.proofs.ending.dominant_in.Statement.{statement}
 use Rattle.options.proofs.ending.dominant_in.Tie as tie
 
 abbrev Inv-loop : tie.InvT-loop
-Inv-loop source lf₀ crlf₀ last₀ i₀ lf crlf last i = Counting source lf crlf last i
+Inv-loop source lf₀ crlf₀ last₀ i₀ lf crlf last i = Counted source 0 0 lf crlf last i
 
 abbrev μ-loop : tie.MeasureT-loop
 μ-loop source lf₀ crlf₀ last₀ i₀ lf crlf last i = length source - i
 
 loop-holds : tie.Need-loop-holds Inv-loop μ-loop
-loop-holds c = search (needs, counting-start)
+loop-holds c = search (needs, counted-none)
 
-shared-slice-read-b : tie.Need-shared-slice-read-b Inv-loop μ-loop
-shared-slice-read-b c = search needs
+block-end-requires : tie.Need-block-end-requires Inv-loop μ-loop
+block-end-requires c κs = search needs
+
+count-endings-requires : tie.Need-count-endings-requires Inv-loop μ-loop
+count-endings-requires c κs = search needs
+
+cast-lf : tie.Need-cast-lf Inv-loop μ-loop
+cast-lf c = search needs
 
 add-lf : tie.Need-add-lf Inv-loop μ-loop
 add-lf c = search needs
 
+cast-crlf : tie.Need-cast-crlf Inv-loop μ-loop
+cast-crlf c = search needs
+
 add-crlf : tie.Need-add-crlf Inv-loop μ-loop
 add-crlf c = search needs
-
-add-i : tie.Need-add-i Inv-loop μ-loop
-add-i c = search needs
 
 loop-less : tie.Need-loop-less Inv-loop μ-loop
 loop-less c = search needs
 
 loop-again : tie.Need-loop-again Inv-loop μ-loop
-loop-again c = ⊎-elim (λ w. rw (w .2, w .3) (search (needs, counting-crlf)))
-    (⊎-elim (λ w. rw (w .2, w .3) (search (needs, counting-lf))) (λ w. rw (w .1, w .2) (search (needs, counting-other))))
-    (c .if1 .came)
+loop-again c = search (needs, counted-more)
 
-sub-if3 : tie.Need-sub-if3 Inv-loop μ-loop
-sub-if3 c = search needs
+sub-if1 : tie.Need-sub-if1 Inv-loop μ-loop
+sub-if1 c = search needs
 
 returns : tie.Need-returns Inv-loop μ-loop
 returns c = search (needs, dominant-crlf)
@@ -51,12 +55,14 @@ dominant-in-spec =
     Inv-loop
     μ-loop
     loop-holds
-    shared-slice-read-b
+    block-end-requires
+    count-endings-requires
+    cast-lf
     add-lf
+    cast-crlf
     add-crlf
-    add-i
     loop-less
     loop-again
-    sub-if3
+    sub-if1
     returns
     returns-2)

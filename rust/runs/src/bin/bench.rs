@@ -73,25 +73,25 @@ fn tests_of_the_rust(size: usize) -> String {
 
 const INPUTS: &[Input] = &[
     Input {
-        name: "the Rust's test sources",
+        name: "realistic",
         indent: "  ",
         width: hundred,
         make: tests_of_the_rust,
     },
     Input {
-        name: "realistic",
+        name: "grammar, tidy",
         indent: "  ",
         width: hundred,
         make: |n| written(n, 0),
     },
     Input {
-        name: "hostile",
+        name: "grammar, hostile",
         indent: "  ",
         width: hundred,
         make: |n| written(n, 8),
     },
     Input {
-        name: "already formatted",
+        name: "grammar, formatted",
         indent: "  ",
         width: hundred,
         make: |n| format_with(&written(n, 0), &FormatOptions::default()),

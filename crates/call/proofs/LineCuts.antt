@@ -1,21 +1,24 @@
 -- Lines, cut on bytes.
---     Ending                        the loop of `line_end`, for the first LF
+--     Ending                        the loops of `past_blocks` and `line_end`, for the first LF
+--     LfAmong                       the loop of `has_lf`
 --     Last, More, whole, part-of    a text's pieces: all of it, or up to its first LF and from there on
 --     cr-none, cr-goes, cr-stays    one CR at a line's end; cr-fits
 use Prim.Native.Nat.{ℕ, zero, suc, _+_, _-_, _<_, _≤_, zero-le}
 use native.Mathlib.Omega.{arith}
-use native.Mathlib.Nat.{le-refl}
+use native.Mathlib.Nat.{le-refl, add-zero}
 use native.Mathlib.Numerals.{add-one}
+use mathlib.Core.Bool.{Bool, true, false, _||_, true≢false}
 use mathlib.Core.List.{List, [], _∷_}
 use mathlib.Core.Path.{_≡_, refl, sym, ap, subst, _∙_}
 use lib.Dec.{eqb}
+use borrow.Author.Count.{below-more}
 use borrow.Author.Tests.{eq-eqb, ne-eqb, eqb-true, eqb-false}
 use lib.ListN.{length, getD, take, drop, length-take, length-drop, drop-of-length-le}
 use lib.Seq.{drop-cons}
 use Rattle.unicode.proofs.Tests.{by-test}
 use Rattle.rules.specs.Basics.{choose, Pieces, pieces, atSep, splitOn}
 use Rattle.rules.specs.Lines.{consCr, dropCr}
-use Rattle.call.specs.Formatted.{LineEnd}
+use Rattle.call.specs.Formatted.{LfAmong, Ending, LineEnd}
 
 -- ---- the first piece of a text
 
@@ -34,12 +37,7 @@ piece-other : (b : ℕ) (s : List ℕ) → (b ≡ 10 → ⊥) → splitOn "\n" (
 unfolding splitOn atSep
 piece-other b s n = rw (ne-eqb b 10 n)
 
--- ---- where the piece that starts at `at` ends: none of the bytes from it up to i is an LF
-
-pub record Ending (s : List ℕ) (at i : ℕ) : Type 0 where
-  pub from : at ≤ i
-  pub within : i ≤ length s
-  pub same : at + length (firstPiece (drop at s)) ≡ i + length (firstPiece (drop i s))
+-- ---- where the piece that starts at `at` ends
 
 pub ending-start : (s : List ℕ) (at : ℕ) → at ≤ length s → Ending s at at
 ending-start s at h = record { from = le-refl at; within = h; same = refl }
@@ -60,6 +58,30 @@ module _ (s : List ℕ) (at i : ℕ) (r : Ending s at i) where
   ending-last h =
       let e : length (firstPiece (drop i s)) ≡ 0 = rw (drop-of-length-le s h) in
       record { is = omega (arith, r .same); from = r .from; fits = r .within }
+
+-- past n bytes of which none is an LF
+ending-none : (s : List ℕ) (at i : ℕ) → Ending s at i → (n : ℕ) → i + n ≤ length s → ((j : ℕ) → j < n → getD s (i + j) 0 ≡ 10 → ⊥) → Ending s at (i + n)
+ending-none s at i r zero h none = rw add-zero r
+ending-none s at i r (suc n) h none =
+    let q = ending-none s at i r n (omega arith) (λ j l. none j (omega arith)) in
+    let e : i + n + 1 ≡ i + suc n = omega arith in
+    rw e at (ending-more s at (i + n) q (omega arith) (none n (omega arith)))
+
+pub ending-block : {s : List ℕ} {at i : ℕ} {any : Bool} → Ending s at i → i + 16 ≤ length s → LfAmong s i 16 any → any ≡ false → Ending s at (i + 16)
+ending-block {s} {at} {i} r h a e = ending-none s at i r 16 h (a .none e)
+
+-- ---- the bytes of a block, one after the other
+
+pub among-start : (s : List ℕ) (at : ℕ) → LfAmong s at 0 false
+among-start s at = record { none = λ e j l. absurd (omega arith) }
+
+pub among-more : {s : List ℕ} {at k : ℕ} {any : Bool} → LfAmong s at k any → LfAmong s at (k + 1) (any || eqb (getD s (at + k) 0) 10)
+among-more {any = true} a = record { none = λ e. absurd (true≢false e) }
+among-more {s} {at} {k} {any = false} a =
+    record { none = λ e. below-more (λ (j : ℕ). getD s (at + j) 0 ≡ 10 → ⊥) k (a .none refl) (eqb-false _ _ e) }
+
+pub among-all : {s : List ℕ} {at k : ℕ} {any : Bool} → LfAmong s at k any → 16 ≤ k → LfAmong s at 16 any
+among-all a l = record { none = λ e j h. a .none e j (omega arith) }
 
 -- ---- the pieces of a text, by the length of the first
 

@@ -2,7 +2,8 @@
 use Prim.Native.Nat.{_-_}
 use borrow.Author.Needs.{needs}
 use lib.ListN.{length}
-use Rattle.call.proofs.LineCuts.{Ending, ending-start, ending-more, ending-lf, ending-last}
+use Rattle.call.specs.Formatted.{Ending}
+use Rattle.call.proofs.LineCuts.{ending-more, ending-lf, ending-last}
 use Rattle.call.proofs.lines.line_end.Statement.{statement}
 use Rattle.call.proofs.lines.line_end.Tie as tie
 
@@ -12,8 +13,11 @@ Inv-loop source at i₀ i = Ending source at i
 abbrev μ-loop : tie.MeasureT-loop
 μ-loop source at i₀ i = length source - i
 
+past-blocks-requires : tie.Need-past-blocks-requires Inv-loop μ-loop
+past-blocks-requires c κs = search needs
+
 loop-holds : tie.Need-loop-holds Inv-loop μ-loop
-loop-holds c = search (needs, ending-start)
+loop-holds c = search needs
 
 shared-slice-read-if1 : tie.Need-shared-slice-read-if1 Inv-loop μ-loop
 shared-slice-read-if1 c = search needs
@@ -39,6 +43,7 @@ line-end-spec =
     (tie.spec
     Inv-loop
     μ-loop
+    past-blocks-requires
     loop-holds
     shared-slice-read-if1
     returns

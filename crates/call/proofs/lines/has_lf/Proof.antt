@@ -1,0 +1,48 @@
+-- `call::lines::has_lf` meets its contract: the invariant is `LfAmong`, whose laws are in proofs/LineCuts.antt.
+use Prim.Native.Nat.{_-_}
+use native.Mathlib.Omega.{arith}
+use Rattle.call.specs.Formatted.{LfAmong}
+use Rattle.call.proofs.LineCuts.{among-start, among-more, among-all}
+use Rattle.call.proofs.lines.has_lf.Statement.{statement}
+use Rattle.call.proofs.lines.has_lf.Tie as tie
+
+abbrev Inv-loop : tie.InvT-loop
+Inv-loop source at any₀ k₀ any k = LfAmong source at k any
+
+abbrev μ-loop : tie.MeasureT-loop
+μ-loop source at any₀ k₀ any k = 16 - k
+
+loop-holds : tie.Need-loop-holds Inv-loop μ-loop
+loop-holds c = among-start _ _
+
+add-any : tie.Need-add-any Inv-loop μ-loop
+add-any c = omega arith
+
+shared-slice-read-any : tie.Need-shared-slice-read-any Inv-loop μ-loop
+shared-slice-read-any c = omega arith
+
+add-k : tie.Need-add-k Inv-loop μ-loop
+add-k c = omega arith
+
+loop-less : tie.Need-loop-less Inv-loop μ-loop
+loop-less c = omega arith
+
+loop-again : tie.Need-loop-again Inv-loop μ-loop
+loop-again c = among-more (c .before .before .loop .inv)
+
+returns : tie.Need-returns Inv-loop μ-loop
+returns c = among-all (c .before .loop .inv) (omega arith)
+
+pub has-lf-spec : {M : Type 1} → statement M
+has-lf-spec =
+    tie.close
+    (tie.spec
+    Inv-loop
+    μ-loop
+    loop-holds
+    add-any
+    shared-slice-read-any
+    add-k
+    loop-less
+    loop-again
+    returns)

@@ -59,6 +59,9 @@ module _ (s : List ℕ) (at i : ℕ) (r : Ending s at i) where
       let e : length (firstPiece (drop i s)) ≡ 0 = rw (drop-of-length-le s h) in
       record { is = omega (arith, r .same); from = r .from; fits = r .within }
 
+pub ending-here : (s : List ℕ) (at : ℕ) → at < length s → getD s at 0 ≡ 10 → LineEnd s at at
+ending-here s at h = ending-lf s at at (ending-start s at (omega arith)) h
+
 -- past n bytes of which none is an LF
 ending-none : (s : List ℕ) (at i : ℕ) → Ending s at i → (n : ℕ) → i + n ≤ length s → ((j : ℕ) → j < n → getD s (i + j) 0 ≡ 10 → ⊥) → Ending s at (i + n)
 ending-none s at i r zero h none = rw add-zero r

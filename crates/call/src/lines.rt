@@ -38,11 +38,16 @@ fn past_blocks(source: &[u8], at: usize) -> usize
     i
 }
 
-// The place of the first LF from `at` on, or the source's end.
+// The place of the first LF from `at` on, or the source's end. An empty line is told at once.
 pub fn line_end(source: &[u8], at: usize) -> usize
     requires { ⌜ at ≤ length (now source) ⌝ }
     ensures { λ r. ⌜ LineEnd (now (source .entry)) at r ⌝ }
 {
+    if at < source.len() {
+        if source[at] == b'\n' {
+            return at;
+        }
+    }
     let mut i = past_blocks(source, at);
     while i < source.len() {
         if source[i] == b'\n' {

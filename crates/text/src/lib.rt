@@ -243,7 +243,8 @@ pub fn finish_text(out: &mut [u8], t: Written, ending: LineEnding, newline: bool
 {
     let full = t.full;
     let n = separate(out, full, ending, !newline);
-    if out.len() < n {
+    let room = out.len();
+    if room < n {
         buffer::zero(out);
         return n;
     }

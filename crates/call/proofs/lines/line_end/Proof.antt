@@ -3,7 +3,7 @@ use Prim.Native.Nat.{_-_}
 use borrow.Author.Needs.{needs}
 use lib.ListN.{length}
 use Rattle.call.specs.Formatted.{Ending}
-use Rattle.call.proofs.LineCuts.{ending-more, ending-lf, ending-last}
+use Rattle.call.proofs.LineCuts.{ending-here, ending-more, ending-lf, ending-last}
 use Rattle.call.proofs.lines.line_end.Statement.{statement}
 use Rattle.call.proofs.lines.line_end.Tie as tie
 
@@ -13,17 +13,23 @@ Inv-loop source at i₀ i = Ending source at i
 abbrev μ-loop : tie.MeasureT-loop
 μ-loop source at i₀ i = length source - i
 
+shared-slice-read-if2 : tie.Need-shared-slice-read-if2 Inv-loop μ-loop
+shared-slice-read-if2 c = search needs
+
+returns : tie.Need-returns Inv-loop μ-loop
+returns c = search (needs, ending-here)
+
 past-blocks-requires : tie.Need-past-blocks-requires Inv-loop μ-loop
 past-blocks-requires c κs = search needs
 
 loop-holds : tie.Need-loop-holds Inv-loop μ-loop
 loop-holds c = search needs
 
-shared-slice-read-if1 : tie.Need-shared-slice-read-if1 Inv-loop μ-loop
-shared-slice-read-if1 c = search needs
+shared-slice-read-if3 : tie.Need-shared-slice-read-if3 Inv-loop μ-loop
+shared-slice-read-if3 c = search needs
 
-returns : tie.Need-returns Inv-loop μ-loop
-returns c = search (needs, ending-lf)
+returns-2 : tie.Need-returns-2 Inv-loop μ-loop
+returns-2 c = search (needs, ending-lf)
 
 add-i : tie.Need-add-i Inv-loop μ-loop
 add-i c = search needs
@@ -34,8 +40,8 @@ loop-less c = search needs
 loop-again : tie.Need-loop-again Inv-loop μ-loop
 loop-again c = search (needs, ending-more)
 
-returns-2 : tie.Need-returns-2 Inv-loop μ-loop
-returns-2 c = search (needs, ending-last)
+returns-3 : tie.Need-returns-3 Inv-loop μ-loop
+returns-3 c = search (needs, ending-last)
 
 pub line-end-spec : {M : Type 1} → statement M
 line-end-spec =
@@ -43,11 +49,13 @@ line-end-spec =
     (tie.spec
     Inv-loop
     μ-loop
+    shared-slice-read-if2
+    returns
     past-blocks-requires
     loop-holds
-    shared-slice-read-if1
-    returns
+    shared-slice-read-if3
+    returns-2
     add-i
     loop-less
     loop-again
-    returns-2)
+    returns-3)

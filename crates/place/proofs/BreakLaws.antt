@@ -1,6 +1,6 @@
 -- A line broken: an import first, otherwise at its operators.
 use Prim.Native.Nat.{ℕ, _+_, _*_, _≤_}
-use mathlib.Core.Bool.{Bool, true, false, true≢false}
+use mathlib.Core.Bool.{Bool, true, false, not, _&&_, true≢false}
 use mathlib.Core.List.{List, [], _∷_, reverse, reverseAux}
 use mathlib.Core.Option.{Option, none, some}
 use mathlib.Core.Path.{_≡_, refl, sym, ap, _∙_, subst}
@@ -32,8 +32,9 @@ use Rattle.text.specs.declared.Written.{Written}
 use Rattle.text.proofs.PadLaws.{some-size}
 use Rattle.text.proofs.StepLaws.{ending, grown-ordered, lines-done, lines-grown}
 use Rattle.place.specs.declared.Placed.{Placed}
-use Rattle.place.specs.Placing.{ValidIndent, GoesOn, Breaks, aloneIn}
-use Rattle.place.proofs.PlaceLaws.{brace-decode, facts-joinable}
+use Rattle.line.specs.Holds.{ValidIndent}
+use Rattle.line.proofs.HoldsLaws.{brace-bytes, line-told}
+use Rattle.place.specs.Placing.{GoesOn, Breaks, aloneIn}
 
 size-line : (m : List ℕ) → isEmpty m ≡ false → 1 ≤ size m
 size-line [] h = absurd (true≢false h)
@@ -128,7 +129,7 @@ module _
                 let same : broken o max level (decode line) ≡ laid = unfold broken orOperation in (rw q refl) in
                 subst (λ (x : Laid). Came x brace o2 (i .next) placed) (sym same)
                 (record {
-                  newest = rw (ends, brace-decode line (g .well)) (newest (r .lines));
+                  newest = rw (ends, brace-bytes line (g .well)) (newest (r .lines));
                   written = rw eq at (w .written .text);
                   fit = f .lines;
                   imports = sym (r .counted);
@@ -180,14 +181,14 @@ module _
             → Breaks max indent (decode line) level (asStr e) drops (length line) out t p o3
         several-breaks u p more reached is =
             operation-breaks brace u p
-            (λ o k. rw (ends, brace-decode line (g .well)) (newest (operation-several (operation-lines strengths o (blank-of o k) max level (decode line) (g .trimmed)) (sym (made o k .more) ∙ more))))
+            (λ o k. rw (ends, brace-bytes line (g .well)) (newest (operation-several (operation-lines strengths o (blank-of o k) max level (decode line) (g .trimmed)) (sym (made o k .more) ∙ more))))
             reached is
 
-        pub alone-breaks : (facts : LineFacts) (j : Bool) (u : Written) (p : Placed) → Facts line facts → j ≡ choose (facts .«else_first») false (facts .brace)
+        pub alone-breaks : (facts : LineFacts) (j : Bool) (u : Written) (p : Placed) → Facts line facts → j ≡ (facts .brace && not (facts .«else_first»))
             → r .more ≡ false → u ≡ afterLines (r .next) j → p ≡ aloneIn u → Breaks max indent (decode line) level (asStr e) drops (length line) out t p o3
         alone-breaks facts j u p w q more reached is =
             operation-breaks j u p
-            (λ o k. rw (operation-alone (operation-lines strengths o (blank-of o k) max level (decode line) (g .trimmed)) (sym (made o k .more) ∙ more), facts-joinable line facts j w q)
+            (λ o k. rw (operation-alone (operation-lines strengths o (blank-of o k) max level (decode line) (g .trimmed)) (sym (made o k .more) ∙ more), line-told line facts j (g .well) w q .takes)
             (newest-one (alone-line o (blank-of o k) level (decode line) (some-of (decode line) (omega (arith, long, g .some))) (g .trimmed))))
             reached is
           where

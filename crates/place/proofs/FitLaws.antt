@@ -24,7 +24,8 @@ use Rattle.text.specs.declared.Written.{Written}
 use Rattle.text.proofs.StepLaws.{grown-ordered}
 use Rattle.text.proofs.PadLaws.{indent-blanks, blanks-size}
 use Rattle.place.specs.declared.Placed.{Placed}
-use Rattle.place.specs.Placing.{ValidIndent, GoesOn, Wide, Lays, Breaks, aloneIn}
+use Rattle.line.specs.Holds.{ValidIndent}
+use Rattle.place.specs.Placing.{GoesOn, Wide, Lays, Breaks, aloneIn}
 use Rattle.place.proofs.PlaceLaws.{indent-small}
 
 -- the test of the class bytes is the test of the characters' classes

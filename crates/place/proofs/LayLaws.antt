@@ -30,7 +30,8 @@ use Rattle.text.proofs.LinesLaws.{kind-joinable}
 use Rattle.text.proofs.StepLaws.{grown-ordered}
 use Rattle.place.specs.declared.Before.{Before}
 use Rattle.place.specs.declared.Placed.{Placed}
-use Rattle.place.specs.Placing.{Uses, GoesOn, Knows, Puts, Level, Lays, spacedBy, placedBy, dropsBlank, breakWidth, aloneIn}
+use Rattle.line.specs.Holds.{Uses}
+use Rattle.place.specs.Placing.{GoesOn, Knows, Puts, Level, Lays, spacedBy, placedBy, dropsBlank, breakWidth, aloneIn}
 
 -- ---- tests in another order
 

@@ -1,6 +1,6 @@
 -- Laws of putting a line into the text.
 use Prim.Native.Nat.{ℕ, _+_, _≤_, _<_}
-use mathlib.Core.Bool.{Bool, true, false, not, _&&_}
+use mathlib.Core.Bool.{Bool, true, false}
 use mathlib.Core.List.{List, [], _∷_, _++_}
 use mathlib.Core.Path.{_≡_, refl, sym, ap, _∙_}
 use native.Mathlib.Omega.{arith}
@@ -14,15 +14,13 @@ use Rattle.unicode.proofs.Bytewise.{width-nil, width-cons, width-append}
 use Rattle.buffer.specs.Repeat.{times}
 use Rattle.buffer.proofs.RepeatLaws.{times-within}
 use Rattle.rules.specs.Basics.{choose, is, lastIs}
-use Rattle.rules.proofs.StartsBytes.{on-decode, last-encode, steady-is}
-use Rattle.rules.specs.Else.{joinable}
 use Rattle.rules.specs.Options.{defaults, withIndent, indentOf, measure, overWide}
 use Rattle.format.specs.Stack.{Levels}
-use Rattle.format.specs.Else.{Facts}
-use Rattle.format.specs.declared.else_line.LineFacts.{LineFacts}
-use Rattle.text.specs.Text.{Line, ElseLine}
+use Rattle.text.specs.Text.{ElseLine}
 use Rattle.split.specs.Measure.{Measured, IndentMeasured}
-use Rattle.place.specs.Placing.{ValidIndent, GoesOn, Level, Wide}
+use Rattle.line.specs.Holds.{ValidIndent}
+use Rattle.line.proofs.HoldsLaws.{brace-bytes}
+use Rattle.place.specs.Placing.{GoesOn, Level, Wide}
 
 -- ---- the level
 
@@ -34,19 +32,6 @@ module _ (scratch : List ℕ) (base left : ℕ) (continued : Bool) (n : ℕ) (w 
   pub level-same : continued ≡ false → Level scratch base left continued n
   unfolding choose
   level-same e = record { is = rw e (omega (arith, w .is)); small = omega (arith, w .most) }
-
--- ---- the facts of a line
-
-and-not : (a b : Bool) → choose b false a ≡ (a && not b)
-unfolding choose
-and-not true true = refl
-and-not true false = refl
-and-not false true = refl
-and-not false false = refl
-
-pub facts-joinable : (line : List ℕ) (r : LineFacts) (j : Bool) → Facts line r → j ≡ choose (r .«else_first») false (r .brace) → j ≡ joinable (decode line)
-unfolding joinable
-facts-joinable line r j w e = e ∙ and-not (r .brace) (r .«else_first») ∙ rw (w .brace, w .starts)
 
 -- ---- the width of an indented line
 
@@ -88,11 +73,6 @@ module _ (indent : List ℕ) (level : ℕ) (line : List ℕ) (max pad : ℕ) (p 
   unfolding overWide measure
   wide-measured end m = record { is = λ o. ap (ltb max) (omega (arith, whole, m .is o)) }
 
--- ---- the last byte of a line is its last character, where it is `}`
-
-pub brace-decode : (line : List ℕ) → WellFormed line → lastIs (is "}") line ≡ lastIs (is "}") (decode line)
-brace-decode line w = on-decode (lastIs (is "}")) (lastIs (is "}")) (last-encode (is "}") false (steady-is "}" refl)) line w
-
 -- ---- an else that goes on
 
 pub else-goes : (line class : List ℕ) (j : Bool) → GoesOn line class → j ≡ lastIs (is "}") line → ElseLine line j
@@ -101,11 +81,8 @@ else-goes line class j g e =
       well = g .well;
       trimmed = g .trimmed;
       some = g .some;
-      takes = e ∙ brace-decode line (g .well);
+      takes = e ∙ brace-bytes line (g .well);
     }
-
-pub facts-line : (line : List ℕ) (r : LineFacts) (j : Bool) → WellFormed line → Facts line r → j ≡ choose (r .«else_first») false (r .brace) → Line line (r .trimmed) j
-facts-line line r j w f e = record { well = w; trims = f .trimmed; takes = facts-joinable line r j f e }
 
 -- ---- an indent is small
 

@@ -10,7 +10,7 @@ use Rattle.buffer.specs.Repeat.{times}
 use Rattle.rules.specs.Basics.{choose, is, lastIs}
 use Rattle.rules.specs.Scan.{classify}
 use Rattle.rules.specs.ClassBytes.{classBytes}
-use Rattle.rules.specs.Options.{Options, allBlank, overWide}
+use Rattle.rules.specs.Options.{Options, overWide}
 use Rattle.rules.specs.Brackets.{levels}
 use Rattle.rules.specs.Line.{Formatter, dropBlank, broken, fitted, spacedLine, placedLine}
 use Rattle.rules.specs.declared.Carry.{Carry}
@@ -20,18 +20,9 @@ use Rattle.format.specs.Words.{declarationOf, sameOf}
 use Rattle.format.specs.declared.words.Declaration.{Declaration}
 use Rattle.text.specs.Text.{Text, Ordered}
 use Rattle.text.specs.declared.Written.{Written}
+use Rattle.line.specs.Holds.{Uses}
 use Rattle.place.specs.declared.Before.{Before}
 use Rattle.place.specs.declared.Placed.{Placed}
-
--- the options that a line is formatted by
-pub record Uses (o : Options) (indent : List ℕ) (width : PrintWidth) : Type 0 where
-  pub indents : o .indent ≡ indent
-  pub breaks : o .printWidth ≡ width
-
--- an indent of at most 64 spaces and tabs
-pub record ValidIndent (indent : List ℕ) : Type 0 where
-  pub blank : allBlank indent ≡ true
-  pub short : length indent ≤ 64
 
 -- a line that goes on: trimmed, not empty, with its class bytes
 pub record GoesOn (line class : List ℕ) : Type 0 where

@@ -12,9 +12,10 @@ ghost use Rattle.text.specs.Text.{Adds, Joins, Ordered};
 ghost use Rattle.rules.specs.Scan.{classify, allCodeOrStr};
 ghost use Rattle.rules.specs.declared.Carry.{Carry};
 ghost use Rattle.rules.specs.declared.PrintWidth.{PrintWidth};
-ghost use Rattle.place.specs.Placing.{ValidIndent, GoesOn, Asks, Puts, spacedBy, placedBy, Level, dropsBlank, Wide, aloneIn, breakWidth, Lays, Breaks};
-use format::else_line::LineFacts;
+ghost use Rattle.line.specs.Holds.{ValidIndent};
+ghost use Rattle.place.specs.Placing.{GoesOn, Asks, Puts, spacedBy, placedBy, Level, dropsBlank, Wide, aloneIn, breakWidth, Lays, Breaks};
 use format::words::Declaration;
+use line::kept::takes_else;
 use rules::LineEnding;
 use rules::PrintWidth;
 use text::Written;
@@ -34,16 +35,6 @@ pub struct Placed {
     pub text: Written,
     pub imports: usize,
     pub blanks: usize,
-}
-
-// Whether an else can be joined to a line with these facts.
-pub fn takes_else(facts: LineFacts) -> bool
-    ensures { λ r. ⌜ r ≡ choose (facts .«else_first») false (facts .brace) ⌝ }
-{
-    if facts.else_first {
-        return false;
-    }
-    facts.brace
 }
 
 // The levels left after the leading closers, and one more if the line continues the one before.

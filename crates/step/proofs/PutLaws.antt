@@ -11,17 +11,15 @@ use Rattle.rules.specs.Basics.{is, isEmpty, lastIs}
 use Rattle.rules.specs.Scan.{classify}
 use Rattle.rules.specs.ClassBytes.{classBytes}
 use Rattle.rules.specs.Line.{Formatter}
-use Rattle.rules.specs.Options.{Options}
 use Rattle.rules.specs.declared.Carry.{Carry}
 use Rattle.rules.specs.declared.PrintWidth.{PrintWidth}
 use Rattle.rules.proofs.SpacedLine.{spaced-trimmed, length-size}
 use Rattle.format.specs.Words.{declarationOf}
 use Rattle.format.specs.declared.words.Declaration.{Declaration}
 use Rattle.place.specs.Placing.{GoesOn, Knows, Asks, Puts, spacedBy}
-use Rattle.place.specs.Placing as P
 use Rattle.place.specs.declared.Before.{Before}
 use Rattle.place.specs.declared.Placed.{Placed}
-use Rattle.line.specs.Holds.{Holds, Ready, Uses, ValidIndent}
+use Rattle.line.specs.Holds.{Holds, Ready}
 use Rattle.line.specs.declared.state.State.{State}
 use Rattle.line.proofs.HoldsLaws.{declaration-bytes, brace-bytes}
 use Rattle.step.specs.declared.Going.{Going}
@@ -41,9 +39,6 @@ some-length (c ∷ l) e = omega arith
 -- a line of characters has some bytes
 pub some-bytes : (line : List ℕ) → WellFormed line → isEmpty (decode line) ≡ false → 1 ≤ length line
 some-bytes line w e = omega (arith, some-length (decode line) e, length-size (decode line), ap length w)
-
-pub indent-as : (indent : List ℕ) → ValidIndent indent → P.ValidIndent indent
-indent-as indent v = record { blank = v .blank; short = v .short }
 
 module _ (line scratch : List ℕ) (unit : ℕ) (st : State) (ready : Ready st scratch unit (length line)) (solid : SolidLine line) where
   pub asks : Asks (beforeOf st unit) scratch
@@ -85,11 +80,10 @@ module _ (line scratch : List ℕ) (unit : ℕ) (st : State) (ready : Ready st s
     put-on marker indent width eol out out′ p decl brace w ed eb =
         let v : Puts (spacedBy marker (spacedText (decode line))) indent width eol (length L) (beforeOf st unit) out scratch p out′ =
         subst (λ (l : List ℕ). Puts (spacedBy marker l) indent width eol (length L) (beforeOf st unit) out scratch p out′) going-text w in
-        let uses : (o : Options) → Uses o indent width → P.Uses o indent width = λ o u. record { indents = u .indents; breaks = u .breaks } in
         record {
-          text = λ o f u h. v .text o f (uses o u) (knows h);
-          imports = λ o f u h. v .imports o f (uses o u) (knows h);
-          blanks = λ o f u h. v .blanks o f (uses o u) (knows h);
+          text = λ o f u h. v .text o f u (knows h);
+          imports = λ o f u h. v .imports o f u (knows h);
+          blanks = λ o f u h. v .blanks o f u (knows h);
           decl = ed ∙ declaration-bytes L going-well ∙ ap declarationOf going-text;
           brace = eb ∙ brace-bytes L going-well ∙ ap (lastIs (is "}")) going-text;
           ordered = v .ordered;

@@ -1,5 +1,6 @@
 use native.Mathlib.Omega.{arith}
-use Rattle.place.proofs.PlaceLaws.{facts-line, indent-small}
+use Rattle.line.proofs.HoldsLaws.{line-told}
+use Rattle.place.proofs.PlaceLaws.{indent-small}
 use borrow.Author.Needs.{needs}
 use Rattle.place.proofs.push_one.Statement.{statement}
 use Rattle.place.proofs.push_one.Tie as tie
@@ -13,7 +14,7 @@ takes-else-requires c κs = search needs
 push-line-requires : tie.Need-push-line-requires
 push-line-requires c κs =
     let s = c .before .before .before .before .before .before in
-    (search needs, (search (needs, facts-line), (search needs, omega (arith, indent-small (s .args .indent .now) (s .args .level) (s .pre .0) (s .pre .1 .0)))))
+    (search needs, (search (needs, line-told), (search needs, omega (arith, indent-small (s .args .indent .now) (s .args .level) (s .pre .0) (s .pre .1 .0)))))
 
 same-length : tie.Need-same-length
 same-length c = search needs

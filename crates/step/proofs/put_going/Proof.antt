@@ -1,5 +1,5 @@
 use borrow.Author.Needs.{needs}
-use Rattle.step.proofs.PutLaws.{indent-as, asks, goes-on, put-on}
+use Rattle.step.proofs.PutLaws.{asks, goes-on, put-on}
 use Rattle.step.proofs.put_going.Statement.{statement}
 use Rattle.step.proofs.put_going.Tie as tie
 
@@ -24,7 +24,7 @@ mul-t24 c = search needs
 place-line-requires : tie.Need-place-line-requires
 place-line-requires c κs =
     let s = c .before .before .before .before .before .before .before .before .pre in
-    (indent-as _ (s .1 .1 .1), (goes-on _ _ _ _ (s .0) (s .1 .0) _ (s .1 .1 .0) _ (c .before .before .before .line-that-goes-on .ensures), asks _ _ _ _ (s .0) (s .1 .0)))
+    (s .1 .1 .1, (goes-on _ _ _ _ (s .0) (s .1 .0) _ (s .1 .1 .0) _ (c .before .before .before .line-that-goes-on .ensures), asks _ _ _ _ (s .0) (s .1 .0)))
 
 declaration-of-requires : tie.Need-declaration-of-requires
 declaration-of-requires c κs = search needs

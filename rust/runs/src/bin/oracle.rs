@@ -1,122 +1,101 @@
-//! The Rust's answers to stored cases, for a program that compares them with its own.
+//! Sources with the Rust's answers, as `crates/replay` reads them.
 //!
-//!     oracle cases SEED COUNT | oracle answer > FILE
+//!     oracle SEED COUNT
 //!
-//! A case is a line of eight decimal numbers, the lengths of source and indent, `width_set`,
-//! `width`, `line_ending`, `final_newline` and the lengths of output and scratch; then the
-//! source, the indent and LF. An answered case has five numbers more on its line, `refusal`,
-//! `place`, `length`, `imports_split` and `blank_names`, and the text before its last LF.
+//! A case is a line of seven decimal numbers: the lengths of source, indent and answer, then
+//! `width_set`, `width`, `line_ending` and `final_newline`. After it stand the source, the
+//! indent, the answer and LF. `list.sh` puts a header before the cases.
 
-use runs::call::{Call, Size};
+use runs::call::Call;
 use runs::compare::Check;
-use runs::{model, stages};
-use std::io::{self, BufRead, Read, Write};
+use runs::stages::{self, Stage};
+use std::collections::HashSet;
+use std::io::{self, Write};
 
-/// Sources longer than this are not stored.
-const LONGEST: usize = 2000;
+/// Longer sources and answers are not stored.
+const LONGEST_SOURCE: usize = 1000;
+const LONGEST_ANSWER: usize = 4000;
 
-fn header(call: &Call, room: usize) -> String {
-    let (s, scratch) = (call.choices(), call.scratch_length());
-    let lengths = (call.source.len(), call.indent.len());
-    format!(
-        "{} {} {} {} {} {} {room} {scratch}",
-        lengths.0, lengths.1, s.width_set, s.width, s.line_ending, s.final_newline
+/// A case, if the Rust has an answer to it and both are short enough.
+fn case(call: &Call) -> Option<Vec<u8>> {
+    let options = call.options()?;
+    let source = str::from_utf8(&call.source).ok()?;
+    if source.len() > LONGEST_SOURCE {
+        return None;
+    }
+    let answer = upstream::format_with(source, &options);
+    if answer.len() > LONGEST_ANSWER {
+        return None;
+    }
+    let numbers = [
+        call.source.len() as u64,
+        call.indent.len() as u64,
+        answer.len() as u64,
+        call.width_set,
+        call.width,
+        call.line_ending,
+        call.final_newline,
+    ];
+    // the program reads numbers of up to eight digits
+    if numbers.iter().any(|n| *n >= 100_000_000) {
+        return None;
+    }
+    let line = numbers.map(|n| n.to_string()).join(" ");
+    Some(
+        [
+            line.as_bytes(),
+            b"\n",
+            &call.source,
+            &call.indent,
+            answer.as_bytes(),
+            b"\n",
+        ]
+        .concat(),
     )
 }
 
-/// Cases of every stage that formats, the same number of each.
-fn cases(seed: u64, count: u64, out: &mut impl Write) -> io::Result<()> {
+/// How many cases of a stage stand in a row: the random stages have more.
+fn share(stage: &Stage) -> u64 {
+    if stage.count.is_some() { 1 } else { 6 }
+}
+
+/// The first `count` cases that differ from each other, some of every stage that formats.
+fn cases(seed: u64, count: usize, out: &mut impl Write) -> io::Result<()> {
     let stages = stages::all(seed);
-    let mut written = 0;
-    for number in 0.. {
-        for stage in &stages {
-            if stage.count.is_some_and(|n| number >= n) {
-                continue;
-            }
-            let Check::Format(call) = stage.check(number) else {
-                continue;
-            };
-            if call.source.len() > LONGEST {
-                continue;
-            }
-            let room = call.output.of(model::length(&model::text_of(&call)));
-            writeln!(out, "{}", header(&call, room))?;
-            out.write_all(&call.source)?;
-            out.write_all(&call.indent)?;
-            writeln!(out)?;
-            written += 1;
-            if written == count {
-                return Ok(());
+    let mut seen = HashSet::new();
+    for round in 0.. {
+        for stage in stages.iter().filter(|stage| stage.name != stages::LONG) {
+            for number in share(stage) * round..share(stage) * (round + 1) {
+                if seen.len() == count {
+                    return Ok(());
+                }
+                if stage.count.is_some_and(|n| number >= n) {
+                    continue;
+                }
+                let Check::Format(call) = stage.check(number) else {
+                    continue;
+                };
+                let Some(case) = case(&call) else {
+                    continue;
+                };
+                if seen.insert(case.clone()) {
+                    out.write_all(&case)?;
+                }
             }
         }
-    }
-    Ok(())
-}
-
-fn bytes(input: &mut impl Read, length: usize) -> io::Result<Vec<u8>> {
-    let mut bytes = vec![0; length];
-    input.read_exact(&mut bytes)?;
-    Ok(bytes)
-}
-
-fn answer(input: &mut impl BufRead, out: &mut impl Write) -> io::Result<()> {
-    let mut line = String::new();
-    while input.read_line(&mut line)? > 0 {
-        let numbers: Vec<u64> = line.split_whitespace().flat_map(str::parse).collect();
-        let [
-            source,
-            indent,
-            width_set,
-            width,
-            line_ending,
-            final_newline,
-            room,
-            scratch,
-        ] = numbers[..]
-        else {
-            return Err(io::Error::other(format!("not a case: {line:?}")));
-        };
-        let call = Call {
-            source: bytes(input, source as usize)?,
-            indent: bytes(input, indent as usize)?,
-            width_set,
-            width,
-            line_ending,
-            final_newline,
-            output: Size::Fixed(room as usize),
-            scratch: Size::Fixed(scratch as usize),
-        };
-        bytes(input, 1)?;
-        let outcome = model::outcome(&model::text_of(&call), room as usize);
-        let a = outcome.answer;
-        write!(
-            out,
-            "{} {} {}",
-            header(&call, room as usize),
-            a.refusal,
-            a.place
-        )?;
-        writeln!(out, " {} {} {}", a.length, a.imports_split, a.blank_names)?;
-        out.write_all(&call.source)?;
-        out.write_all(&call.indent)?;
-        out.write_all(&outcome.text)?;
-        writeln!(out)?;
-        line.clear();
     }
     Ok(())
 }
 
 fn main() -> io::Result<()> {
-    let arguments: Vec<String> = std::env::args().skip(1).collect();
-    let words: Vec<&str> = arguments.iter().map(String::as_str).collect();
-    let mut out = io::BufWriter::new(io::stdout().lock());
-    let number = |text: &str| text.parse().expect("a number");
-    match words[..] {
-        ["cases", seed, count] => cases(number(seed), number(count), &mut out),
-        ["answer"] => answer(&mut io::stdin().lock(), &mut out),
-        _ => {
-            eprintln!("oracle cases SEED COUNT | oracle answer > FILE");
-            std::process::exit(2);
-        }
-    }
+    let numbers: Vec<u64> = std::env::args().skip(1).flat_map(|n| n.parse()).collect();
+    let [seed, count] = numbers[..] else {
+        eprintln!("oracle SEED COUNT");
+        std::process::exit(2);
+    };
+    cases(
+        seed,
+        count as usize,
+        &mut io::BufWriter::new(io::stdout().lock()),
+    )
 }

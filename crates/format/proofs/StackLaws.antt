@@ -1,23 +1,25 @@
 -- Laws of the stack in scratch, and the loops over a line's brackets.
 use Prim.Native.Nat.{ℕ, zero, suc, _+_, _-_, _≤_, _<_, zero-le}
-use mathlib.Core.Bool.{Bool, true, false}
+use mathlib.Core.Bool.{Bool, true, false, not}
 use mathlib.Core.List.{List, _∷_, foldl}
-use mathlib.Core.Path.{_≡_, refl, sym, _∙_}
+use mathlib.Core.Path.{_≡_, refl, sym, ap, _∙_}
 use native.Mathlib.Nat.{zero-add}
 use native.Mathlib.Numerals.{add-one}
 use native.Mathlib.Omega.{arith}
-use borrow.Author.Tests.{ne-eqb}
+use borrow.Author.Tests.{ne-eqb, eqb-true}
+use lib.Dec.{eqb}
 use lib.ListN.{length, getD, drop, set, drop-of-length-le}
 use lib.Seq.{getD-set-same, getD-set-other, drop-cons}
 use Rattle.buffer.specs.Buffer.{part}
+use Rattle.unicode.proofs.Tests.{by-test}
 use Rattle.rules.specs.Basics.{choose, isCloser}
-use Rattle.rules.specs.Scan.{cell}
+use Rattle.rules.specs.Scan.{Cell, cell, isCode}
 use Rattle.rules.specs.ClassBytes.{classOf, cellsOf}
 use Rattle.rules.specs.Brackets.{Entry, Open, opened, push, pop, bracketStep, scanBrackets, leadingClosers, levels}
-use Rattle.rules.proofs.Choose.{choose-true, choose-false}
+use Rattle.rules.proofs.Choose.{choose-case, choose-true, choose-false}
 use Rattle.rules.proofs.CellsLaws.{drop-cells, cells-at, cells-end}
 use Rattle.format.specs.Region.{Only}
-use Rattle.format.specs.Stack.{entryOf, stacked, openOf, opens, closes, Closers, Levels, Room, Turned, Fits, Settled}
+use Rattle.format.specs.Stack.{entryOf, stacked, mayTurn, openOf, opens, closes, Closers, Among, Levels, Room, Turned, Fits, Settled}
 use Rattle.format.specs.declared.brackets.Tally.{Tally}
 use Rattle.format.proofs.OnlyLaws.{only-same, only-set, only-wider, only-then, only-past, length-part, read-now}
 
@@ -158,6 +160,24 @@ module _ (f : Open → Open) (buf : List ℕ) (base : ℕ) (t : Tally) where
   pub turn-by : (g : Open → Open) (after : List ℕ) (u : Tally) → Turned g buf base t after u → openOf after base u ≡ f (openOf buf base t) → Turned f buf base t after u
   turn-by g after u w e = record { is = e; depth = w .depth; room = w .room; only = w .only }
 
+-- a byte that is no bracket and no backslash
+
+not-turned : (b c : ℕ) → mayTurn b ≡ true → mayTurn c ≡ false → eqb c b ≡ false
+not-turned b c y n = by-test (eqb c b) (λ e. let z : true ≡ false = sym y ∙ ap mayTurn (sym (eqb-true c b e)) ∙ n in cc) (λ e. e)
+
+pub turn-idle : (x : Cell) (o : Open) (r : Bool) → o .esc ≡ false → r ≡ mayTurn (x .ch) → r ≡ false → o ≡ bracketStep o x
+unfolding bracketStep mayTurn
+turn-idle x o r e m n =
+    let no : (b : ℕ) → mayTurn b ≡ true → eqb (x .ch) b ≡ false = λ b y. not-turned b (x .ch) y (sym m ∙ n) in
+    go (not (isCode (x .class)))
+    (choose-false _ _ _ e
+    ∙ choose-false _ _ _ (no 92 refl)
+    ∙ choose-false _ _ _ (rw (no 123 refl, no 40 refl, no 91 refl))
+    ∙ choose-false _ _ _ (rw (no 125 refl, no 41 refl, no 93 refl)))
+  where
+    go : {x y : Open} (b : Bool) → y ≡ x → x ≡ choose b x y
+    go {x} b e = sym (choose-case (λ (z : Open). z ≡ x) (λ q. refl) (λ q. e))
+
 -- ---- the loop over a line's cells
 
 pub record Scanning (line ks : List ℕ) (n : ℕ) (buf₀ : List ℕ) (base depth skip : ℕ) (buf : List ℕ) (t : Tally) (i : ℕ) : Type 0 where
@@ -225,7 +245,35 @@ module _ (buf₀ : List ℕ) (at n class base depth skip : ℕ) (buf : List ℕ)
       → Settled buf₀ buf base depth n (scanBrackets (drop skip (cellsOf (part buf₀ at (at + n)) (part buf₀ class (class + n)))) (stacked buf₀ base depth)) (t .depth)
   scan-at-end h = scanning-end w (omega (arith, length-part buf₀ at n (omega arith)))
 
--- ---- the loop of `levels_of`, from the oldest entry on
+-- ---- the loops of `levels_of`, from the oldest entry on
+
+levels-next : (buf : List ℕ) (base i : ℕ) → levels (stacked buf base (i + 1)) ≡ choose (entryOf (getD buf (base + i) 0)) 1 0 + levels (stacked buf base i)
+unfolding stacked levels
+levels-next buf base i = rw (add-one i)
+
+-- of n entries from the i-th on, the first k
+pub record Summing (buf : List ℕ) (base i n sum k : ℕ) : Type 0 where
+  pub within : k ≤ n
+  pub is : levels (stacked buf base (i + k)) ≡ sum + levels (stacked buf base i)
+  pub most : sum ≤ k
+
+pub summing-start : (buf : List ℕ) (base i n : ℕ) → Summing buf base i n 0 0
+summing-start buf base i n =
+    let e : i + 0 ≡ i = omega arith in
+    record { within = zero-le; is = rw e (sym (zero-add (levels (stacked buf base i)))); most = zero-le }
+
+module _ (buf : List ℕ) (base i n sum k : ℕ) (w : Summing buf base i n sum k) where
+  pub summing-more : (r : ℕ) → k < n → (r ≡ choose (entryOf (getD buf (base + i + k) 0)) 1 0) × (r ≤ 1) → Summing buf base i n (sum + r) (k + 1)
+  summing-more r h e =
+      let a : base + (i + k) ≡ base + i + k = omega arith in
+      let b : i + (k + 1) ≡ i + k + 1 = omega arith in
+      let l : levels (stacked buf base (i + k + 1)) ≡ r + levels (stacked buf base (i + k)) = levels-next buf base (i + k) ∙ rw (a, ← e .0) in
+      record { within = omega arith; is = rw b (omega (arith, w .is)); most = omega (arith, w .most, e .1) }
+
+  pub summing-end : n ≤ k → Among buf base i n sum
+  summing-end h =
+      let e : k ≡ n = omega (arith, w .within) in
+      record { is = rw e at (w .is); most = omega (arith, w .most) }
 
 pub record Counting (buf : List ℕ) (base depth n i : ℕ) : Type 0 where
   pub within : i ≤ depth
@@ -236,17 +284,12 @@ pub counting-start : (buf : List ℕ) (base depth : ℕ) → Counting buf base d
 unfolding stacked levels
 counting-start buf base depth = record { within = zero-le; is = refl; most = zero-le }
 
-levels-next : (buf : List ℕ) (base i : ℕ) → levels (stacked buf base (i + 1)) ≡ choose (entryOf (getD buf (base + i) 0)) 1 0 + levels (stacked buf base i)
-unfolding stacked levels
-levels-next buf base i = rw (add-one i)
+module _ (buf : List ℕ) (base depth n i r : ℕ) (w : Counting buf base depth n i) where
+  pub counting-more : (k : ℕ) → i + k ≤ depth → Among buf base i k r → Counting buf base depth (n + r) (i + k)
+  counting-more k h v = record { within = h; is = omega (arith, w .is, v .is); most = omega (arith, w .most, v .most) }
 
-pub counting-more : (buf : List ℕ) (base depth n i r : ℕ) → Counting buf base depth n i → i < depth
-    → (r ≡ choose (entryOf (getD buf (base + i) 0)) 1 0) × (r ≤ 1) → Counting buf base depth (n + r) (i + 1)
-counting-more buf base depth n i r w h e =
-    let k = levels-next buf base i in
-    record { within = omega arith; is = omega (arith, w .is, e .0); most = omega (arith, w .most, e .1) }
-
-pub counting-end : (buf : List ℕ) (base depth n i : ℕ) → Counting buf base depth n i → depth ≤ i → Levels buf base depth n
-counting-end buf base depth n i w h =
-    let e : i ≡ depth = omega (arith, w .within) in
-    record { is = rw e at (w .is); most = omega (arith, w .most) }
+  pub counting-end : Among buf base i (depth - i) r → Levels buf base depth (n + r)
+  counting-end v =
+      let e : i + (depth - i) ≡ depth = omega (arith, w .within) in
+      let l : levels (stacked buf base depth) ≡ r + levels (stacked buf base i) = rw e at (v .is) in
+      record { is = omega (arith, w .is); most = omega (arith, w .most, w .within, v .most) }

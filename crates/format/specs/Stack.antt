@@ -1,10 +1,11 @@
 -- The stack of open brackets as it lies in scratch: from base on, the oldest first, one byte for each.
 use Prim.Native.Nat.{ℕ, zero, suc, _+_, _≤_, _<_, _^_}
-use mathlib.Core.Bool.{not}
+use mathlib.Core.Bool.{Bool, not, _||_}
 use mathlib.Core.List.{List, [], _∷_}
 use mathlib.Core.Path.{_≡_}
 use lib.Dec.{eqb}
 use lib.ListN.{length, getD}
+use Rattle.unicode.specs.Unicode.{within}
 use Rattle.rules.specs.Brackets.{Entry, Open, opened, push, pop, leadingClosers, levels}
 use Rattle.format.specs.Region.{Only}
 use Rattle.format.specs.declared.brackets.Tally.{Tally}
@@ -22,6 +23,10 @@ stacked buf base (suc n) = entryOf (getD buf (base + n) 0) ∷ stacked buf base 
 abbrev pub openOf : List ℕ → ℕ → Tally → Open
 openOf buf base t = opened (t .room) (t .esc) (stacked buf base (t .depth))
 
+-- the ranges that the brackets and the backslash stand in
+unfoldable pub mayTurn : ℕ → Bool
+mayTurn c = within 40 41 c || within 91 93 c || within 123 125 c
+
 -- an opener, a closer
 abbrev pub opens : Open → Open
 opens o = push (o .room) (o .stack)
@@ -38,6 +43,11 @@ pub record Closers (line : List ℕ) (r : ℕ) : Type 0 where
 pub record Levels (buf : List ℕ) (base depth r : ℕ) : Type 0 where
   pub is : r ≡ levels (stacked buf base depth)
   pub most : r ≤ depth
+
+-- r of n open brackets added a level, the oldest i being left out
+pub record Among (buf : List ℕ) (base i n r : ℕ) : Type 0 where
+  pub is : levels (stacked buf base (i + n)) ≡ r + levels (stacked buf base i)
+  pub most : r ≤ n
 
 -- there is room for one more
 pub record Room (buf : List ℕ) (base : ℕ) (t : Tally) : Type 0 where

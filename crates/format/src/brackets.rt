@@ -1,5 +1,6 @@
 // Brackets: leading closers, and the stack of open brackets in scratch, one byte for each: 1 if it added a level, else 0.
 ghost use mathlib.Core.Path.{_≡_};
+ghost use mathlib.Core.Bool.{false};
 ghost use Prim.Native.Nat.{_+_, _-_, _≤_};
 ghost use lib.ListN.{length, drop};
 ghost use Rattle.buffer.specs.Buffer.{part};
@@ -7,7 +8,7 @@ ghost use Rattle.rules.specs.Basics.{choose};
 ghost use Rattle.rules.specs.Scan.{cell};
 ghost use Rattle.rules.specs.ClassBytes.{classOf, cellsOf};
 ghost use Rattle.rules.specs.Brackets.{bracketStep, scanBrackets};
-ghost use Rattle.format.specs.Stack.{entryOf, stacked, opens, closes, Closers, Room, Turned, Fits, Settled, Levels};
+ghost use Rattle.format.specs.Stack.{entryOf, stacked, opens, closes, Closers, Room, Turned, Fits, Settled, Among, Levels, mayTurn};
 use basics::is_closer;
 use basics::is_opener;
 
@@ -41,10 +42,25 @@ pub fn pop_closers(depth: usize, n: usize) -> usize
 }
 
 // 1 for an entry that added a level, else 0.
-fn level_of(entry: u8) -> usize
+fn level_of(entry: u8) -> u8
     ensures { λ r. ⌜ (r ≡ choose (entryOf entry) 1 0) × (r ≤ 1) ⌝ }
 {
     if entry == 0 { 0 } else { 1 }
+}
+
+// How many of n open brackets added a level, the first i being left out. So few are counted that a byte holds the sum: many are added at once.
+fn levels_among(scratch: &[u8], base: usize, i: usize, n: usize) -> u8
+    requires { ⌜ (base + i + n ≤ length (now scratch)) × (n ≤ 192) ⌝ }
+    ensures { λ r. ⌜ Among (now (scratch .entry)) base i n r ⌝ }
+{
+    let at = base + i;
+    let mut sum: u8 = 0;
+    let mut k: usize = 0;
+    while k < n {
+        sum += level_of(scratch[at + k]);
+        k += 1;
+    }
+    sum
 }
 
 // How many of the open brackets added a level.
@@ -54,11 +70,11 @@ pub fn levels_of(scratch: &[u8], base: usize, depth: usize) -> usize
 {
     let mut n = 0;
     let mut i = 0;
-    while i < depth {
-        n += level_of(scratch[base + i]);
-        i += 1;
+    while depth - i > 192 {
+        n += levels_among(scratch, base, i, 192) as usize;
+        i += 192;
     }
-    n
+    n + levels_among(scratch, base, i, depth - i) as usize
 }
 
 // An opener: it adds a level while there is room.
@@ -114,18 +130,21 @@ fn pop(scratch: &[u8], base: usize, t: Tally) -> Tally
     }
 }
 
-// A byte c of class k.
-fn bracket_step(c: u8, k: u8, scratch: &mut [u8], base: usize, t: Tally) -> Tally
-    requires { ⌜ Room (now scratch) base t ⌝ }
+// Whether c may be a bracket or a backslash: two ranges are quicker to test than seven bytes.
+fn may_turn(c: u8) -> bool
+    ensures { λ r. ⌜ r ≡ mayTurn c ⌝ }
+{
+    ((40 <= c) & (c <= 41)) | ((91 <= c) & (c <= 93)) | ((123 <= c) & (c <= 125))
+}
+
+// A byte c of class k that is not escaped.
+fn turn(c: u8, k: u8, scratch: &mut [u8], base: usize, t: Tally) -> Tally
+    requires { ⌜ Room (now scratch) base t × (t .esc ≡ false) ⌝ }
     ensures { λ r. ⌜ Turned (λ o. bracketStep o (cell c (classOf k))) (now (scratch .entry)) base t (now (scratch .exit)) r ⌝ }
 {
     let mut u = t;
     if k != 0 {
         return t;
-    }
-    if t.esc {
-        u.esc = false;
-        return u;
     }
     if c == b'\\' {
         u.esc = true;
@@ -136,6 +155,25 @@ fn bracket_step(c: u8, k: u8, scratch: &mut [u8], base: usize, t: Tally) -> Tall
     }
     if is_closer(c) {
         return pop(scratch, base, t);
+    }
+    t
+}
+
+// A byte c of class k. Most bytes are no brackets, and of those the class is not looked at.
+fn bracket_step(c: u8, k: u8, scratch: &mut [u8], base: usize, t: Tally) -> Tally
+    requires { ⌜ Room (now scratch) base t ⌝ }
+    ensures { λ r. ⌜ Turned (λ o. bracketStep o (cell c (classOf k))) (now (scratch .entry)) base t (now (scratch .exit)) r ⌝ }
+{
+    let mut u = t;
+    if t.esc {
+        if k != 0 {
+            return t;
+        }
+        u.esc = false;
+        return u;
+    }
+    if may_turn(c) {
+        return turn(c, k, scratch, base, t);
     }
     t
 }

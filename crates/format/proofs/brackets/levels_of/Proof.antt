@@ -1,5 +1,6 @@
 use borrow.Author.Needs.{needs}
 use Prim.Native.Nat.{_-_}
+use native.Mathlib.Omega.{arith}
 use Rattle.format.proofs.StackLaws.{Counting, counting-start, counting-more, counting-end}
 use Rattle.format.proofs.brackets.levels_of.Statement.{statement}
 use Rattle.format.proofs.brackets.levels_of.Tie as tie
@@ -11,16 +12,16 @@ abbrev μ-loop : tie.MeasureT-loop
 μ-loop scratch base depth n₀ i₀ n i = depth - i
 
 loop-holds : tie.Need-loop-holds Inv-loop μ-loop
-loop-holds c = search (needs, counting-start)
+loop-holds c = counting-start _ _ _
 
-add-level-of : tie.Need-add-level-of Inv-loop μ-loop
-add-level-of c = search needs
+sub-loop : tie.Need-sub-loop Inv-loop μ-loop
+sub-loop c = search needs
 
-shared-slice-read-level-of : tie.Need-shared-slice-read-level-of Inv-loop μ-loop
-shared-slice-read-level-of c = search needs
+levels-among-requires : tie.Need-levels-among-requires Inv-loop μ-loop
+levels-among-requires c κs = search needs
 
-level-of-requires : tie.Need-level-of-requires Inv-loop μ-loop
-level-of-requires c κs = search needs
+cast-n : tie.Need-cast-n Inv-loop μ-loop
+cast-n c = search needs
 
 add-n : tie.Need-add-n Inv-loop μ-loop
 add-n c = search needs
@@ -34,6 +35,18 @@ loop-less c = search needs
 loop-again : tie.Need-loop-again Inv-loop μ-loop
 loop-again c = search (needs, counting-more)
 
+sub-levels-among : tie.Need-sub-levels-among Inv-loop μ-loop
+sub-levels-among c = search needs
+
+levels-among-requires-2 : tie.Need-levels-among-requires-2 Inv-loop μ-loop
+levels-among-requires-2 c κs = search needs
+
+cast-result : tie.Need-cast-result Inv-loop μ-loop
+cast-result c = search needs
+
+add-result : tie.Need-add-result Inv-loop μ-loop
+add-result c = search needs
+
 returns : tie.Need-returns Inv-loop μ-loop
 returns c = search (needs, counting-end)
 
@@ -44,11 +57,15 @@ levels-of-spec =
     Inv-loop
     μ-loop
     loop-holds
-    add-level-of
-    shared-slice-read-level-of
-    level-of-requires
+    sub-loop
+    levels-among-requires
+    cast-n
     add-n
     add-i
     loop-less
     loop-again
+    sub-levels-among
+    levels-among-requires-2
+    cast-result
+    add-result
     returns)

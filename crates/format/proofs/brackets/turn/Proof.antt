@@ -1,0 +1,62 @@
+use borrow.Author.Needs.{needs}
+use mathlib.Core.Path.{refl}
+use Rattle.rules.specs.Brackets.{bracketStep}
+use Rattle.rules.proofs.Choose.{picks}
+use Rattle.format.proofs.ClassPicks.{class-picks}
+use Rattle.format.proofs.StackLaws.{turn-still, turn-by}
+use Rattle.format.proofs.brackets.turn.Statement.{statement}
+use Rattle.format.proofs.brackets.turn.Tie as tie
+
+returns : tie.Need-returns
+unfolding bracketStep
+returns c = turn-still _ _ _ _ _ refl refl (search (picks, class-picks) depth 20)
+
+returns-2 : tie.Need-returns-2
+unfolding bracketStep
+returns-2 c = turn-still _ _ _ _ _ refl refl (search (picks, class-picks) depth 20)
+
+is-opener-requires : tie.Need-is-opener-requires
+is-opener-requires c κs = search needs
+
+push-requires : tie.Need-push-requires
+push-requires c κs = search needs
+
+same-length : tie.Need-same-length
+same-length c = search needs
+
+returns-3 : tie.Need-returns-3
+unfolding bracketStep
+returns-3 c = turn-by _ _ _ _ _ _ _ (c .before .before .push .ensures) (search (picks, class-picks) depth 20)
+
+is-closer-requires : tie.Need-is-closer-requires
+is-closer-requires c κs = search needs
+
+pop-requires : tie.Need-pop-requires
+pop-requires c κs = search needs
+
+same-length-2 : tie.Need-same-length-2
+same-length-2 c = search needs
+
+returns-4 : tie.Need-returns-4
+unfolding bracketStep
+returns-4 c = turn-by _ _ _ _ _ _ _ (c .pop .ensures) (search (picks, class-picks) depth 20)
+
+returns-5 : tie.Need-returns-5
+unfolding bracketStep
+returns-5 c = turn-still _ _ _ _ _ refl refl (search (picks, class-picks) depth 20)
+
+pub turn-spec : {M : Type 1} → statement M
+turn-spec =
+    tie.close
+    (tie.spec
+    returns
+    returns-2
+    is-opener-requires
+    push-requires
+    same-length
+    returns-3
+    is-closer-requires
+    pop-requires
+    same-length-2
+    returns-4
+    returns-5)

@@ -1,7 +1,7 @@
 -- Lines, cut on bytes.
 --     Ending                        the loops of `past_blocks` and `line_end`, for the first LF
 --     LfAmong                       the loop of `has_lf`
---     Last, More, whole, part-of    a text's pieces: all of it, or up to its first LF and from there on
+--     Last, More, cut, whole, part-of   a text's pieces: all of it, or up to its first LF and from there on
 --     cr-none, cr-goes, cr-stays    one CR at a line's end; cr-fits
 use Prim.Native.Nat.{ℕ, zero, suc, _+_, _-_, _<_, _≤_, zero-le}
 use native.Mathlib.Omega.{arith}
@@ -95,11 +95,11 @@ abbrev pub More : List ℕ → ℕ → Type 0
 More s k = splitOn "\n" s ≡ record { first = take k s; rest = pieces (splitOn "\n" (drop (suc k) s)) }
 
 -- there is no LF, or the first stands after k bytes
-data Cut (s : List ℕ) : Type 0 where
+pub data Cut (s : List ℕ) : Type 0 where
   last : Last s → Cut s
   more : (k : ℕ) → k < length s → More s k → Cut s
 
-cut : (s : List ℕ) → Cut s
+pub cut : (s : List ℕ) → Cut s
 cut [] = last piece-nil
 cut (b ∷ s) = by-test (eqb b 10) (λ e. more 0 (omega arith) (piece-lf b s (eqb-true b 10 e))) (λ e. on (eqb-false b 10 e) (cut s))
   where

@@ -23,11 +23,7 @@ use Rattle.line.specs.Holds.{Holds, Ready}
 use Rattle.line.specs.declared.state.State.{State}
 use Rattle.line.proofs.HoldsLaws.{declaration-bytes, brace-bytes}
 use Rattle.step.specs.declared.Going.{Going}
-use Rattle.step.specs.Going.{spacedText, SolidLine, goingLine, Goes, PutOn}
-
--- what is known before the line
-abbrev pub beforeOf : State → ℕ → Before
-beforeOf st unit = record { text = st .text; base = 5 * unit; depth = st .depth; decl = st .decl; brace = st .brace }
+use Rattle.step.specs.Going.{spacedText, SolidLine, goingLine, Goes, beforeOf, PutOn}
 
 knows : {eol : List ℕ} {unit : ℕ} {f : Formatter} {st : State} {out scratch : List ℕ} → Holds eol unit f st out scratch → Knows eol f (beforeOf st unit) out scratch
 knows h = record { text = h .text; stack = h .stack; decl = h .decl; brace = h .brace }
@@ -41,15 +37,16 @@ pub some-bytes : (line : List ℕ) → WellFormed line → isEmpty (decode line)
 some-bytes line w e = omega (arith, some-length (decode line) e, length-size (decode line), ap length w)
 
 module _ (line scratch : List ℕ) (unit : ℕ) (st : State) (ready : Ready st scratch unit (length line)) (solid : SolidLine line) where
-  pub asks : Asks (beforeOf st unit) scratch
-  asks =
+  pub asks : (b : Before) → b ≡ beforeOf st unit → Asks b scratch
+  asks b e =
       let n = some-bytes line (solid .well) (solid .some) in
-      record {
+      subst (λ (x : Before). Asks x scratch) (sym e)
+      (record {
         ordered = ready .small .ordered;
         small = ready .small .at;
         depth = omega (arith, ready .depth, ready .limit);
         fits = omega (arith, ready .depth, ready .room);
-      }
+      })
 
   module _ (g : Going) (goes : Goes line scratch unit g) (L : List ℕ) (e : L ≡ goingLine line scratch unit g) where
     going-text : decode L ≡ spacedText (decode line)
@@ -72,14 +69,16 @@ module _ (line scratch : List ℕ) (unit : ℕ) (st : State) (ready : Ready st s
           classes = goes .classes ∙ ap (λ (s : List ℕ). classBytes (classify Carry.Code s)) (sym e);
         }
 
-    pub put-on : (marker : Bool) (indent : List ℕ) (width : PrintWidth) (eol out out′ : List ℕ) (p : Placed) (decl : Declaration) (brace : Bool)
-        → Puts (spacedBy marker (decode L)) indent width eol (length L) (beforeOf st unit) out scratch p out′
+    pub put-on : (marker : Bool) (indent : List ℕ) (width : PrintWidth) (eol out out′ : List ℕ) (p : Placed) (decl : Declaration) (brace : Bool) (b : Before)
+        → b ≡ beforeOf st unit → Puts (spacedBy marker (decode L)) indent width eol (length L) b out scratch p out′
         → decl ≡ declarationOf L → brace ≡ lastIs (is "}") L
         → PutOn marker (spacedText (decode line)) indent width eol (length line) unit st out scratch
         (record { text = p .text; imports = p .imports; blanks = p .blanks; decl = decl; brace = brace }) out′
-    put-on marker indent width eol out out′ p decl brace w ed eb =
+    put-on marker indent width eol out out′ p decl brace b e′ w ed eb =
+        let x : Puts (spacedBy marker (decode L)) indent width eol (length L) (beforeOf st unit) out scratch p out′ =
+        subst (λ (y : Before). Puts (spacedBy marker (decode L)) indent width eol (length L) y out scratch p out′) e′ w in
         let v : Puts (spacedBy marker (spacedText (decode line))) indent width eol (length L) (beforeOf st unit) out scratch p out′ =
-        subst (λ (l : List ℕ). Puts (spacedBy marker l) indent width eol (length L) (beforeOf st unit) out scratch p out′) going-text w in
+        subst (λ (l : List ℕ). Puts (spacedBy marker l) indent width eol (length L) (beforeOf st unit) out scratch p out′) going-text x in
         record {
           text = λ o f u h. v .text o f u (knows h);
           imports = λ o f u h. v .imports o f u (knows h);

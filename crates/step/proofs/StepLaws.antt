@@ -1,7 +1,7 @@
 -- The step of a line in code, and of any line.
 use Prim.Native.Nat.{ℕ, _+_, _-_, _*_, _≤_}
 use native.Mathlib.Omega.{arith}
-use mathlib.Core.Bool.{Bool, true, false, _&&_, _||_, or-true}
+use mathlib.Core.Bool.{Bool, true, false, _&&_, _||_, or-true, true≢false, false≢true}
 use mathlib.Core.List.{List, _++_}
 use mathlib.Core.Path.{_≡_, refl, sym, ap, _∙_, subst}
 use lib.ListN.{length, take, drop, length-drop}
@@ -34,8 +34,8 @@ use Rattle.line.proofs.HoldsLaws.{carry-bytes, classes-front, front-only, line-
 use Rattle.step.specs.declared.Going.{Going}
 use Rattle.step.specs.declared.Marker.{Marker}
 use Rattle.step.specs.declared.Put.{Put}
-use Rattle.step.specs.Going.{markerIn, spacedText, SolidLine, Marks, Room, goingLine, Went, Counts, PutOn, spacedOf, codeOf, formatOf, ignoreOf}
-use Rattle.step.proofs.MarkerLaws.{Found, found, else-closers, alone-other}
+use Rattle.step.specs.Going.{markerIn, keptOf, aloneOf, spacedText, SolidLine, Marks, Room, goingLine, Went, Counts, PutOn, afterLine, spacedOf, codeOf, formatOf, ignoreOf}
+use Rattle.step.proofs.MarkerLaws.{found, else-closers, alone-other}
 use Rattle.step.proofs.GoingLaws.{front-part}
 
 -- ---- what is ready for a line is ready for a shorter one, in a scratch as long
@@ -106,25 +106,15 @@ leaves o f marker l n = choose-case (Leaves marker l f) (λ h. joined marker n h
         let y : _≡_ {A = ℕ} 0 1 = cc in absurd (omega arith)
     joined false n h = record { stack = rw (else-closers l (and-left (isPlainElse l) (canJoin (f .lines)) h)); blank = refl; prev = refl; ignore = refl; carry = refl }
 
-pub spaced-step : (line eol out out′ s₀ s₁ s₂ indent : List ℕ) (width : PrintWidth) (unit : ℕ) (marker : Bool) (st : State) (g : Going) (p : Put) (deep : ℕ) (ignore : Ignore)
+pub spaced-step : (line eol out out′ s₀ s₁ s₂ indent : List ℕ) (width : PrintWidth) (unit : ℕ) (marker : Bool) (st : State) (g : Going) (p : Put) (deep : ℕ) (ignore : Ignore) (r : State)
     → Marks marker line → Went line s₀ s₁ unit g
     → PutOn marker (spacedText (decode line)) indent width eol (length line) unit st out s₁ p out′
-    → Counts (spacedText (decode line)) s₁ s₂ (5 * unit) (st .depth) (length line) deep → ignore ≡ ignoreOf marker
+    → Counts (spacedText (decode line)) s₁ s₂ (5 * unit) (st .depth) (length line) deep → ignore ≡ ignoreOf marker → r ≡ afterLine st p deep ignore (g .carry)
     → (o : Options) → Uses o indent width
-    → Stepped (spacedOf o marker (spacedText (decode line))) (length line) unit eol st out s₀
+    → Stepped (spacedOf o marker (spacedText (decode line))) (length line) unit eol st out s₀ r out′ s₂
+spaced-step line eol out out′ s₀ s₁ s₂ indent width unit marker st g p deep ignore r n w q v i e o u =
+    subst (λ (x : State). Stepped (spacedOf o marker (spacedText (decode line))) (length line) unit eol st out s₀ x out′ s₂) (sym e)
     (record {
-      text = p .text;
-      depth = deep;
-      blank = false;
-      decl = p .decl;
-      brace = p .brace;
-      ignore = ignore;
-      carry = g .carry;
-      imports = st .imports + p .imports;
-      blanks = st .blanks + p .blanks;
-    }) out′ s₂
-spaced-step line eol out out′ s₀ s₁ s₂ indent width unit marker st g p deep ignore n w q v e o u =
-    record {
       holds = λ f h₀.
           (let h : Holds eol unit f st out s₁ = holds-past (w .only) (omega arith) h₀ in
           let k = leaves o f marker (spacedText (decode line)) (n .other) in
@@ -134,7 +124,7 @@ spaced-step line eol out out′ s₀ s₁ s₂ indent width unit marker st g p d
             blank = sym (k .blank);
             decl = q .decl ∙ ap declarationOf (sym (k .prev));
             brace = q .brace ∙ ap (lastIs (is "}")) (sym (k .prev));
-            ignore = e ∙ sym (k .ignore);
+            ignore = i ∙ sym (k .ignore);
             carry = w .goes .leaves ∙ carry-bytes Carry.Code (goingLine line s₁ unit g) (w .goes .well) ∙ ap (carryAfter Carry.Code) (w .goes .text) ∙ sym (k .carry);
             imports = ap (λ (m : ℕ). m + p .imports) (h .imports) ∙ sym (q .imports o f u h);
             blanks = ap (λ (m : ℕ). m + p .blanks) (h .blanks) ∙ sym (q .blanks o f u h);
@@ -145,7 +135,7 @@ spaced-step line eol out out′ s₀ s₁ s₂ indent width unit marker st g p d
       carry = omega (arith, w .goes .depth, w .goes .most);
       imports = omega (arith, q .few);
       blanks = omega (arith, q .fewer);
-    }
+    })
 
 -- ---- a line in code that is not blank
 
@@ -160,6 +150,24 @@ code-kept : (o : Options) (f : Formatter) (raw l : List ℕ) → l ≡ trim raw
     → (protects (f .ignore) || (isMarker (classify Carry.Code l) && hasCode (classify Carry.Code l))) ≡ true → protectedLine f raw ≡ codeLine o f raw
 unfolding codeLine
 code-kept o f raw l e q = rw (← e) (sym (choose-true _ _ _ q))
+
+-- whether it is kept as written, by its marker
+keeps : (l : List ℕ) (i : Ignore) (m : Marker) → m ≡ markerIn l → keptOf i m ≡ true → (protects i || (isMarker (classify Carry.Code l) && hasCode (classify Carry.Code l))) ≡ true
+keeps l i Marker.Nothing d e = rw e
+keeps l i Marker.Alone d e = rw e
+keeps l i Marker.AfterCode d e =
+    let x = found l Marker.AfterCode d in
+    ap (λ (b : Bool). protects i || b) (rw (x .marks) (x .code (x .marks))) ∙ or-true (protects i)
+
+record Opens (l : List ℕ) (i : Ignore) (alone : Bool) : Type 0 where
+  free : protects i ≡ false
+  marks : isMarker (classify Carry.Code l) ≡ alone
+  none : (isMarker (classify Carry.Code l) && hasCode (classify Carry.Code l)) ≡ false
+
+opens : (l : List ℕ) (i : Ignore) (m : Marker) → m ≡ markerIn l → keptOf i m ≡ false → Opens l i (aloneOf m)
+opens l i Marker.Nothing d e = let x = found l Marker.Nothing d in record { free = e; marks = x .marks; none = rw (x .marks) }
+opens l i Marker.Alone d e = let x = found l Marker.Alone d in record { free = e; marks = x .marks; none = rw (x .marks) (x .code (x .marks)) }
+opens l i Marker.AfterCode d e = absurd (true≢false e)
 
 module _
     {st : State} {s₀ : List ℕ} {unit : ℕ} {raw line : List ℕ} (w : List ℕ) (after : Carry)
@@ -190,60 +198,36 @@ module _
     within = omega (arith, t .short, ready .depth)
 
     module _ {eol out out′ s₂ : List ℕ} {r : State} where
-      kept : ((f : Formatter) → st .ignore ≡ f .ignore → (protects (f .ignore) || (isMarker (classify Carry.Code (decode line)) && hasCode (classify Carry.Code (decode line)))) ≡ true)
+      -- kept as written
+      pub code-protected : (m : Marker) (b : Bool) → m ≡ markerIn (decode line) → b ≡ keptOf (st .ignore) m → b ≡ true
           → Stepped (protectedOf (decode raw)) (length raw) unit eol st out (w ++ drop (length line) s₀) r out′ s₂
           → (o : Options) → Stepped (codeOf o (decode raw)) (length raw) unit eol st out s₀ r out′ s₂
-      kept q v o = stepped-as _ _ s₀ only within (omega arith) (λ f h. code-kept o f (decode raw) (decode line) (t .text) (q f (h .ignore))) v
+      code-protected m b d e q v o =
+          stepped-as _ _ s₀ only within (omega arith)
+          (λ f h. code-kept o f (decode raw) (decode line) (t .text) (rw (h .ignore) at (keeps (decode line) (st .ignore) m d (sym e ∙ q))))
+          v
 
-      -- after a pending marker
-      pub code-protected : (b : Bool) → b ≡ protects (st .ignore) → b ≡ true
-          → Stepped (protectedOf (decode raw)) (length raw) unit eol st out (w ++ drop (length line) s₀) r out′ s₂
-          → (o : Options) → Stepped (codeOf o (decode raw)) (length raw) unit eol st out s₀ r out′ s₂
-      code-protected b e q v o =
-          kept (λ f h. ap (λ (x : Bool). x || (isMarker (classify Carry.Code (decode line)) && hasCode (classify Carry.Code (decode line)))) (ap protects (sym h) ∙ sym e ∙ q)) v o
-
-      -- with a marker after code
-      pub code-marked : (m : Marker) → m ≡ markerIn (decode line) → m ≡ Marker.AfterCode
-          → Stepped (protectedOf (decode raw)) (length raw) unit eol st out (w ++ drop (length line) s₀) r out′ s₂
-          → (o : Options) → Stepped (codeOf o (decode raw)) (length raw) unit eol st out s₀ r out′ s₂
-      code-marked m e k v o =
-          let x : Found (decode line) true true = found (decode line) Marker.AfterCode (sym k ∙ e) in
-          kept (λ f h. ap (λ (b : Bool). protects (f .ignore) || b) (rw (x .marks) (x .code (x .marks))) ∙ or-true (protects (f .ignore))) v o
-
-      open-line : (marker b : Bool) → b ≡ protects (st .ignore) → b ≡ false → isMarker (classify Carry.Code (decode line)) ≡ marker
-          → (isMarker (classify Carry.Code (decode line)) && hasCode (classify Carry.Code (decode line))) ≡ false
-          → (o : Options) → Stepped (spacedOf o marker (spacedText (decode line))) (length line) unit eol st out (w ++ drop (length line) s₀) r out′ s₂
+      -- spaced, with or without a marker that stands alone
+      pub code-open : (m : Marker) (b a : Bool) → m ≡ markerIn (decode line) → b ≡ keptOf (st .ignore) m → b ≡ false → a ≡ aloneOf m → (o : Options)
+          → Stepped (spacedOf o a (spacedText (decode line))) (length line) unit eol st out (w ++ drop (length line) s₀) r out′ s₂
           → Stepped (codeOf o (decode raw)) (length raw) unit eol st out s₀ r out′ s₂
-      open-line marker b e q m a o v =
-          stepped-as _ _ s₀ only within (t .short) (λ f h. code-not o f (decode raw) (decode line) marker (t .text) (ap protects (sym (h .ignore)) ∙ sym e ∙ q) m a) v
-
-      -- without a marker
-      pub code-plain : {indent : List ℕ} {width : PrintWidth} (b : Bool) (m : Marker) → b ≡ protects (st .ignore) → b ≡ false → m ≡ markerIn (decode line) → m ≡ Marker.Nothing
-          → ((o : Options) → Uses o indent width → Stepped (spacedOf o false (spacedText (decode line))) (length line) unit eol st out (w ++ drop (length line) s₀) r out′ s₂)
-          → (o : Options) → Uses o indent width → Stepped (codeOf o (decode raw)) (length raw) unit eol st out s₀ r out′ s₂
-      code-plain b m e q d k v o u =
-          let x : Found (decode line) false false = found (decode line) Marker.Nothing (sym k ∙ d) in
-          open-line false b e q (x .marks) (rw (x .marks)) o (v o u)
-
-      -- with a marker that stands alone
-      pub code-alone : {indent : List ℕ} {width : PrintWidth} (b : Bool) (m : Marker) → b ≡ protects (st .ignore) → b ≡ false → m ≡ markerIn (decode line) → m ≡ Marker.Alone
-          → ((o : Options) → Uses o indent width → Stepped (spacedOf o true (spacedText (decode line))) (length line) unit eol st out (w ++ drop (length line) s₀) r out′ s₂)
-          → (o : Options) → Uses o indent width → Stepped (codeOf o (decode raw)) (length raw) unit eol st out s₀ r out′ s₂
-      code-alone b m e q d k v o u =
-          let x : Found (decode line) true false = found (decode line) Marker.Alone (sym k ∙ d) in
-          open-line true b e q (x .marks) (rw (x .marks) (x .code (x .marks))) o (v o u)
+      code-open m b a d e q k o v =
+          let x = opens (decode line) (st .ignore) m d (sym e ∙ q) in
+          stepped-as _ _ s₀ only within (t .short)
+          (λ f h. code-not o f (decode raw) (decode line) a (t .text) (rw (h .ignore) at (x .free)) (x .marks ∙ sym k) (x .none))
+          v
 
 -- what `spaced_line` asks
 pub solid : (raw line : List ℕ) → TrimmedLine raw line → isEmpty (decode line) ≡ false → SolidLine line
 solid raw line t e = record { well = t .well; trimmed = ap trimEnd (t .text) ∙ trim-trimEnd (decode raw) ∙ sym (t .text); some = e }
 
-pub marks-none : (line : List ℕ) → Marks false line
-marks-none line = record { other = λ h. let y : _≡_ {A = ℕ} 0 1 = cc in absurd (omega arith) }
-
-pub marks-alone : (line : List ℕ) (m : Marker) → m ≡ markerIn (decode line) → m ≡ Marker.Alone → Marks true line
-marks-alone line m d k =
-    let x : Found (decode line) true false = found (decode line) Marker.Alone (sym k ∙ d) in
-    record { other = λ h. alone-other (decode line) (x .marks) (x .code (x .marks)) }
+pub marks-of : (line : List ℕ) (m : Marker) (a : Bool) → m ≡ markerIn (decode line) → a ≡ aloneOf m → Marks a line
+marks-of line m a d k = record { other = λ h. go m d (sym k ∙ h) }
+  where
+    go : (m : Marker) → m ≡ markerIn (decode line) → aloneOf m ≡ true → isPlainElse (spacedText (decode line)) ≡ false
+    go Marker.Nothing d h = absurd (false≢true h)
+    go Marker.Alone d h = let x = found (decode line) Marker.Alone d in alone-other (decode line) (x .marks) (x .code (x .marks))
+    go Marker.AfterCode d h = absurd (false≢true h)
 
 -- ---- any line
 

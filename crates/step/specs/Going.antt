@@ -14,7 +14,7 @@ use Rattle.rules.specs.Brackets.{leadingClosers, countBrackets}
 use Rattle.rules.specs.Words.{isMarker, hasCode}
 use Rattle.rules.specs.Else.{isPlainElse}
 use Rattle.rules.specs.Options.{Options}
-use Rattle.rules.specs.Line.{Formatter, spacedLine, codeLine, formatLine}
+use Rattle.rules.specs.Line.{Formatter, protects, spacedLine, codeLine, formatLine}
 use Rattle.rules.specs.declared.Carry.{Carry}
 use Rattle.rules.specs.declared.Ignore.{Ignore}
 use Rattle.rules.specs.declared.PrintWidth.{PrintWidth}
@@ -23,6 +23,7 @@ use Rattle.format.specs.Region.{Only}
 use Rattle.format.specs.Stack.{stacked}
 use Rattle.format.specs.Words.{declarationOf}
 use Rattle.text.specs.Text.{Text, Ordered}
+use Rattle.place.specs.declared.Before.{Before}
 use Rattle.line.specs.Holds.{Holds, Uses}
 use Rattle.line.specs.declared.state.State.{State}
 use Rattle.step.specs.declared.Going.{Going}
@@ -36,6 +37,17 @@ markerOf marks code = choose marks (choose code Marker.AfterCode Marker.Alone) M
 -- of the line of characters l
 abbrev pub markerIn : List ℕ → Marker
 markerIn l = markerOf (isMarker (classify Carry.Code l)) (hasCode (classify Carry.Code l))
+
+-- whether a line with this marker is kept as written, where `pending` is pending
+abbrev pub keptOf : Ignore → Marker → Bool
+keptOf pending Marker.Nothing = protects pending
+keptOf pending Marker.Alone = protects pending
+keptOf pending Marker.AfterCode = true
+
+abbrev pub aloneOf : Marker → Bool
+aloneOf Marker.Nothing = false
+aloneOf Marker.Alone = true
+aloneOf Marker.AfterCode = false
 
 abbrev pub spacedText : List ℕ → List ℕ
 spacedText l = normalizeSpacing (classify Carry.Code l)
@@ -95,6 +107,25 @@ formatOf o raw f = formatLine o f raw
 -- what a marker protects
 abbrev pub ignoreOf : Bool → Ignore
 ignoreOf marker = choose marker Ignore.NextLine Ignore.Nothing
+
+-- what is known before the line
+abbrev pub beforeOf : State → ℕ → Before
+beforeOf st unit = record { text = st .text; base = 5 * unit; depth = st .depth; decl = st .decl; brace = st .brace }
+
+-- the record after the line
+abbrev pub afterLine : State → Put → ℕ → Ignore → Carry → State
+afterLine st p deep ignore carry =
+    record {
+      text = p .text;
+      depth = deep;
+      blank = false;
+      decl = p .decl;
+      brace = p .brace;
+      ignore = ignore;
+      carry = carry;
+      imports = st .imports + p .imports;
+      blanks = st .blanks + p .blanks;
+    }
 
 -- a line of n bytes, which goes on as the characters l, was put into the text
 pub record PutOn (marker : Bool) (l indent : List ℕ) (width : PrintWidth) (eol : List ℕ) (n unit : ℕ) (st : State) (out scratch : List ℕ) (r : Put) (out′ : List ℕ) : Type 0 where

@@ -1,7 +1,7 @@
 // One line of the source, of any kind.
 ghost use mathlib.Core.Path.{_≡_};
 ghost use mathlib.Core.Bool.{false};
-ghost use Prim.Native.Nat.{_+_, _*_, _≤_};
+ghost use Prim.Native.Nat.{_+_, _*_, _≤_, _<_, _^_};
 ghost use lib.ListN.{length};
 ghost use Rattle.unicode.specs.Unicode.{decode, WellFormed};
 ghost use Rattle.rules.specs.Basics.{isEmpty};
@@ -12,7 +12,7 @@ ghost use Rattle.rules.specs.Scan.{classify};
 ghost use Rattle.rules.specs.ClassBytes.{classBytes};
 ghost use Rattle.rules.specs.declared.Carry.{Carry};
 ghost use Rattle.line.specs.Holds.{Classes, Ready, Stepped, TrimmedLine, Uses, ValidIndent};
-ghost use Rattle.step.specs.Going.{markerIn, spacedText, SolidLine, Marks, Room, Goes, Went, Counts, PutOn, spacedOf, codeOf, formatOf, ignoreOf};
+ghost use Rattle.step.specs.Going.{markerIn, keptOf, aloneOf, spacedText, SolidLine, Marks, Room, Goes, Went, Counts, beforeOf, PutOn, afterLine, spacedOf, codeOf, formatOf, ignoreOf};
 use format::words::Declaration;
 use line::state::State;
 use place::Before;
@@ -95,6 +95,22 @@ fn count_going(line: &[u8], scratch: &mut [u8], unit: usize, g: Going, depth: us
     format::brackets::scan_brackets_at(scratch, unit, len, class_at, base, left, closers)
 }
 
+// What is known before the line.
+fn before_of(st: State, unit: usize) -> Before
+    requires { ⌜ unit ≤ 1048576 ⌝ }
+    ensures { λ r. ⌜ r ≡ beforeOf st unit ⌝ }
+{
+    let text = st.text;
+    let decl = st.decl;
+    Before {
+        text,
+        base: 5 * unit,
+        depth: st.depth,
+        decl,
+        brace: st.brace,
+    }
+}
+
 // The line that goes on, put into the text.
 fn put_going<'a>(
     line: &'a [u8],
@@ -120,15 +136,7 @@ fn put_going<'a>(
     let end = class_at + len;
     let l = format::spacing::line_that_goes_on(line, scratch, own, unit, len);
     let class = &scratch[class_at..end];
-    let t = st.text;
-    let before = st.decl;
-    let b = Before {
-        text: t,
-        base: 5 * unit,
-        depth: st.depth,
-        decl: before,
-        brace: st.brace,
-    };
+    let b = before_of(st, unit);
     let p = place::place_line(l, class, marker, indent, width, ending, out, scratch, b);
     let text = p.text;
     let decl = format::words::declaration_of(l);
@@ -149,6 +157,27 @@ fn ignore_of(marker: bool) -> Ignore
         return Ignore::NextLine;
     }
     Ignore::Nothing
+}
+
+// The record after a line that was put into the text, with `deep` brackets open, that protects `ignore` and leaves `carry` open.
+fn after_line(st: State, p: Put, deep: usize, ignore: Ignore, carry: Carry) -> State
+    requires { ⌜ st .imports + p .imports < 2 ^ 64 ⌝ }
+    requires { ⌜ st .blanks + p .blanks < 2 ^ 64 ⌝ }
+    ensures { λ r. ⌜ r ≡ afterLine st p deep ignore carry ⌝ }
+{
+    let text = p.text;
+    let decl = p.decl;
+    State {
+        text,
+        depth: deep,
+        blank: false,
+        decl,
+        brace: p.brace,
+        ignore,
+        carry,
+        imports: st.imports + p.imports,
+        blanks: st.blanks + p.blanks,
+    }
 }
 
 // A line of code that is not protected; its class bytes stand at the front of scratch, and it leaves `after` open.
@@ -186,21 +215,8 @@ fn spaced_line(
     );
     let depth = st.depth;
     let deep = count_going(line, scratch, unit, g, depth);
-    let text = p.text;
-    let decl = p.decl;
-    let ignore = ignore_of(marker);
     let carry = g.carry;
-    State {
-        text,
-        depth: deep,
-        blank: false,
-        decl,
-        brace: p.brace,
-        ignore,
-        carry,
-        imports: st.imports + p.imports,
-        blanks: st.blanks + p.blanks,
-    }
+    after_line(st, p, deep, ignore_of(marker), carry)
 }
 
 // The marker of a line with its class bytes.
@@ -229,6 +245,28 @@ fn protects_next(ignore: Ignore) -> bool
     }
 }
 
+// Whether the line is kept as written: a marker is pending, or one stands after its code.
+fn is_kept(pending: Ignore, marker: Marker) -> bool
+    ensures { λ r. ⌜ r ≡ keptOf pending marker ⌝ }
+{
+    match marker {
+        Marker::Nothing => protects_next(pending),
+        Marker::Alone => protects_next(pending),
+        Marker::AfterCode => true,
+    }
+}
+
+// Whether a marker stands alone.
+fn is_alone(marker: Marker) -> bool
+    ensures { λ r. ⌜ r ≡ aloneOf marker ⌝ }
+{
+    match marker {
+        Marker::Nothing => false,
+        Marker::Alone => true,
+        Marker::AfterCode => false,
+    }
+}
+
 // A line that starts in code and is not blank. line is raw trimmed.
 fn code_line(
     raw: &[u8],
@@ -250,40 +288,24 @@ fn code_line(
 {
     let n = line.len();
     let after = scan::classify(line, Carry::Code, &mut scratch[..n]);
-    let ignore = st.ignore;
-    if protects_next(ignore) {
+    let pending = st.ignore;
+    let marker = marker_in(line, &scratch[..n]);
+    if is_kept(pending, marker) {
         return line::kept::protected_line(raw, line, out, scratch, unit, ending, after, st);
     }
-    let marker = marker_in(line, &scratch[..n]);
-    match marker {
-        Marker::Nothing => spaced_line(
-            line,
-            scratch,
-            unit,
-            after,
-            false,
-            indent,
-            width,
-            ending,
-            out,
-            st,
-        ),
-        Marker::Alone => spaced_line(
-            line,
-            scratch,
-            unit,
-            after,
-            true,
-            indent,
-            width,
-            ending,
-            out,
-            st,
-        ),
-        Marker::AfterCode => {
-            line::kept::protected_line(raw, line, out, scratch, unit, ending, after, st)
-        }
-    }
+    let alone = is_alone(marker);
+    spaced_line(
+        line,
+        scratch,
+        unit,
+        after,
+        alone,
+        indent,
+        width,
+        ending,
+        out,
+        st,
+    )
 }
 
 // Whether nothing is open.

@@ -2,7 +2,7 @@
 use Prim.Native.Nat.{ℕ, _+_, _≤_, _<_, _^_}
 use mathlib.Core.List.{List, [], _∷_}
 use mathlib.Core.Path.{_≡_}
-use lib.ListN.{length, drop, replicate}
+use lib.ListN.{length, replicate}
 use Rattle.unicode.specs.Unicode.{tail, WellFormed}
 use Rattle.rules.specs.Basics.{choose, pieces, splitOn}
 use Rattle.rules.specs.Scan.{next}
@@ -30,11 +30,6 @@ firstOf (l ∷ ls) = l
 -- the first of a text's lines, as Rust's `lines` cuts them, or nothing
 unfoldable pub lineAt : List ℕ → List ℕ
 lineAt s = firstOf (rustLines (pieces (splitOn "\n" s)))
-
--- the piece that starts at `at` ends at e
-pub record LineEnd (s : List ℕ) (at e : ℕ) : Type 0 where
-  pub is : e ≡ at + length (splitOn "\n" (drop at s) .first)
-  pub fits : e ≤ length s
 
 -- a well-formed source: the classes of its lines fit into the scratch, and the depth of its comments and braces into 32 bits
 pub record SourceFits (source scratch : List ℕ) : Type 0 where

@@ -3,13 +3,15 @@ ghost use mathlib.Core.Path.{_≡_};
 ghost use Prim.Native.Nat.{_+_, _≤_, _<_, _^_};
 ghost use lib.ListN.{length, getD, drop};
 ghost use Rattle.unicode.specs.Unicode.{decode};
-ghost use Rattle.rules.specs.Lines.{dropCr};
 ghost use Rattle.rules.specs.Scan.{begin};
-ghost use Rattle.rules.specs.Call.{numberOf, placeOf};
 ghost use Rattle.rules.specs.TextKind.{inInterpolation, kindOf, textKindAt, kindOutcomeOf, kindNumber, kindAnswer};
 ghost use Rattle.scan.specs.Classified.{carryDepth};
-ghost use Rattle.wirescript.specs.Kind.{byteKinds, lineAt, LineEnd, SourceFits};
-use crate::number;
+ghost use Rattle.wirescript.specs.Kind.{byteKinds, lineAt, SourceFits};
+use call::MAX_SOURCE;
+use call::answer::number_of;
+use call::answer::place_of;
+use call::lines::line_end;
+use call::lines::without_cr;
 use rules::Carry;
 use rules::Class;
 use rules::Kind;
@@ -18,8 +20,6 @@ use rules::Mode;
 use rules::Refusal;
 use rules::TextKind;
 use unicode::CharColumn;
-
-const MAX_SOURCE: usize = 1048576;
 
 // Whether a character before which the mode is m is inside `${..}`.
 fn in_interpolation(m: Mode) -> bool
@@ -81,35 +81,6 @@ fn kind_in_line(line: &[u8], carry: Carry, column: CharColumn) -> TextKind
         i += 1;
     }
     TextKind::Code
-}
-
-// The place of the first LF from `at` on, or the source's end.
-fn line_end(source: &[u8], at: usize) -> usize
-    requires { ⌜ at ≤ length (now source) ⌝ }
-    ensures { λ r. ⌜ LineEnd (now (source .entry)) at r ⌝ }
-{
-    let mut i = at;
-    while i < source.len() {
-        if source[i] == b'\n' {
-            return i;
-        }
-        i += 1;
-    }
-    i
-}
-
-// Without one CR at its end.
-fn without_cr(line: &[u8]) -> &[u8]
-    ensures { λ r. ⌜ now r ≡ dropCr (now (line .entry)) ⌝ }
-{
-    let n = line.len();
-    if n == 0 {
-        return line;
-    }
-    if line[n - 1] == b'\r' {
-        return &line[..n - 1];
-    }
-    line
 }
 
 // The line that starts at `at`: a CR goes only before an LF.
@@ -184,8 +155,8 @@ fn kind_answer(o: KindOutcome) -> Kind
             kind: kind_number(k),
         },
         KindOutcome::Refused(r) => Kind {
-            refusal: number::refusal(r),
-            place: number::place(r),
+            refusal: number_of(r),
+            place: place_of(r),
             kind: 0,
         },
     }

@@ -1,12 +1,10 @@
-// The numbers of options and of refusals.
+// The numbers of options.
 ghost use mathlib.Core.Path.{_≡_};
-ghost use Rattle.rules.specs.Call.{numberOf, placeOf};
 ghost use Rattle.wirescript.specs.Settings.{widthSet, columns, lineEnding, finalNewline};
 use rules::EndOfLine;
 use rules::FinalNewline;
 use rules::LineEnding;
 use rules::PrintWidth;
-use rules::Refusal;
 
 pub fn width_set(width: PrintWidth) -> u64
     ensures { λ r. ⌜ r ≡ widthSet width ⌝ }
@@ -44,29 +42,5 @@ pub fn final_newline(newline: FinalNewline) -> u64
     match newline {
         FinalNewline::AsSource => 0,
         FinalNewline::Always => 1,
-    }
-}
-
-pub fn refusal(refusal: Refusal) -> u64
-    ensures { λ r. ⌜ r ≡ numberOf refusal ⌝ }
-{
-    match refusal {
-        Refusal::SourceTooLong => 1,
-        Refusal::BadOption => 2,
-        Refusal::ScratchShort(_) => 3,
-        Refusal::NotUtf8(_) => 4,
-        Refusal::OutputShort(_) => 5,
-    }
-}
-
-pub fn place(refusal: Refusal) -> u64
-    ensures { λ r. ⌜ r ≡ placeOf refusal ⌝ }
-{
-    match refusal {
-        Refusal::SourceTooLong => 1048576,
-        Refusal::BadOption => 0,
-        Refusal::ScratchShort(needed) => needed as u64,
-        Refusal::NotUtf8(prefix) => prefix as u64,
-        Refusal::OutputShort(needed) => needed as u64,
     }
 }

@@ -6,6 +6,8 @@ ghost use Rattle.wirescript.specs.Config.{Config, config, validConfig, r
 ghost use Rattle.wirescript.specs.Settings.{Setting, Settled, fitted, settingOf, indentSetting, configSetting};
 use crate::config;
 use crate::number;
+use call::answer::number_of;
+use call::answer::place_of;
 use options::Changed;
 use options::FormatOptions;
 use rules::Refusal;
@@ -29,8 +31,8 @@ fn refuse(refusal: Refusal, output: &mut [u8]) -> Settings
 {
     buffer::zero(output);
     Settings {
-        refusal: number::refusal(refusal),
-        place: number::place(refusal),
+        refusal: number_of(refusal),
+        place: place_of(refusal),
         indent_len: 0,
         width_set: 0,
         width: 0,

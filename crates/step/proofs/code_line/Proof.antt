@@ -1,4 +1,4 @@
-use Rattle.step.proofs.StepLaws.{code-classes, code-bytes, code-ready, line-ready, solid, marks-none, marks-alone, code-protected, code-marked, code-plain, code-alone}
+use Rattle.step.proofs.StepLaws.{code-classes, code-bytes, code-ready, line-ready, solid, marks-of, code-protected, code-open}
 use Rattle.line.proofs.HoldsLaws.{front-size, classify-room}
 use Rattle.rules.specs.declared.Carry.{Carry}
 use native.Mathlib.Omega.{arith}
@@ -19,14 +19,30 @@ classify-requires c κs =
     let s = c .before .before .before .before .before .before in
     classify-room (s .pre .0) Carry.Code (s .args .line .now) (s .pre .1 .1 .0 .short) (omega arith)
 
-protects-next-requires : tie.Need-protects-next-requires
-protects-next-requires c κs = search needs
+slice-reshare-prefix-marker-in : tie.Need-slice-reshare-prefix-marker-in
+slice-reshare-prefix-marker-in c = search needs
+
+slice-aggregate-marker-in : tie.Need-slice-aggregate-marker-in
+slice-aggregate-marker-in c =
+    let s = c .before .before .before .before .before .before .before .before .before .before in
+    let t = s .pre .1 .1 .0 in
+    front-size (code-ready _ _ (s .pre .0) t (c .before .before .before .classify .ensures)) (s .args .line .now) (t .short)
+
+marker-in-requires : tie.Need-marker-in-requires
+marker-in-requires c κs =
+    let s = c .before .before .before .before .before .before .before .before .before .before .pre in
+    let t = s .1 .1 .0 in
+    (t .well, code-bytes _ _ (s .0) t (c .before .before .before .classify .ensures))
+
+is-kept-requires : tie.Need-is-kept-requires
+is-kept-requires c κs = search needs
 
 protected-line-requires : tie.Need-protected-line-requires
 protected-line-requires c κs =
-    let s = c .before .before .before .before .before .before .before .before .before .before .before .before .before .pre in
-    let k = c .before .before .before .before .before .before .classify .ensures in
-    (code-ready _ _ (s .0) (s .1 .1 .0) k, (s .1 .0, (s .1 .1 .0, code-classes _ _ (s .0) (s .1 .1 .0) k)))
+    let s = c .before .before .before .before .before .before .before .before .before .before .before .before .before .before .before .pre in
+    let t = s .1 .1 .0 in
+    let k = c .before .before .before .before .before .before .before .before .classify .ensures in
+    (code-ready _ _ (s .0) t k, (s .1 .0, (t, code-classes _ _ (s .0) t k)))
 
 same-length : tie.Need-same-length
 same-length c = search needs
@@ -36,52 +52,18 @@ same-length-2 c = search needs
 
 returns : tie.Need-returns
 returns c =
-    let s = c .before .before .before .before .before .before .before .before .before .before .before .before .before .before .before .before .before .before .pre in
-    λ o u. code-protected _ _ (s .0) (s .1 .1 .0) (c .before .before .before .before .before .before .before .before .before .before .before .classify .ensures) _ (c .before .before .before .before .before .before .before .before .protects-next .ensures) (c .before .before .before .before .before .before .before .if1 .taken) (c .before .before .before .before .protected-line .ensures) o
+    let s = c .before .before .before .before .before .before .before .before .before .before .before .before .before .before .before .before .before .before .before .before .pre in
+    λ o u. code-protected _ _ (s .0) (s .1 .1 .0) (c .before .before .before .before .before .before .before .before .before .before .before .before .before .classify .ensures) _ _ (c .before .before .before .before .before .before .before .before .before .marker-in .ensures) (c .before .before .before .before .before .before .before .before .is-kept .ensures) (c .before .before .before .before .before .before .before .if1 .taken) (c .before .before .before .before .protected-line .ensures) o
 
-slice-reshare-prefix-marker-in : tie.Need-slice-reshare-prefix-marker-in
-slice-reshare-prefix-marker-in c = search needs
-
-slice-aggregate-marker-in : tie.Need-slice-aggregate-marker-in
-slice-aggregate-marker-in c =
-    let s = c .before .before .before .before .before .before .before .before .before .before .before .before in
-    let t = s .pre .1 .1 .0 in
-    front-size (code-ready _ _ (s .pre .0) t (c .before .before .before .before .before .classify .ensures)) (s .args .line .now) (t .short)
-
-marker-in-requires : tie.Need-marker-in-requires
-marker-in-requires c κs =
-    let s = c .before .before .before .before .before .before .before .before .before .before .before .before .pre in
-    let t = s .1 .1 .0 in
-    (t .well, code-bytes _ _ (s .0) t (c .before .before .before .before .before .classify .ensures))
-
-enum-told : tie.Need-enum-told
-enum-told c = search needs
+is-alone-requires : tie.Need-is-alone-requires
+is-alone-requires c κs = search needs
 
 spaced-line-requires : tie.Need-spaced-line-requires
 spaced-line-requires c κs =
-    let s = c .before .before .before .before .before .before .before .before .before .before .before .before .before .before .before .before .before .pre in
+    let s = c .before .before .before .before .before .before .before .before .before .before .before .before .before .before .before .before .pre in
     let t = s .1 .1 .0 in
-    let k = c .before .before .before .before .before .before .before .before .before .before .classify .ensures in
-    (line-ready _ _ (s .0) t k, (solid _ _ t (s .1 .1 .1 .0), (marks-none _, (code-classes _ _ (s .0) t k, s .1 .1 .1 .1))))
-
-enum-told-2 : tie.Need-enum-told-2
-enum-told-2 c = search needs
-
-spaced-line-requires-2 : tie.Need-spaced-line-requires-2
-spaced-line-requires-2 c κs =
-    let s = c .before .before .before .before .before .before .before .before .before .before .before .before .before .before .before .before .before .pre in
-    let t = s .1 .1 .0 in
-    let k = c .before .before .before .before .before .before .before .before .before .before .classify .ensures in
-    (line-ready _ _ (s .0) t k, (solid _ _ t (s .1 .1 .1 .0), (marks-alone _ _ (c .before .before .before .before .marker-in .ensures) (c .before .before .enum-told2 .given .1), (code-classes _ _ (s .0) t k, s .1 .1 .1 .1))))
-
-enum-told-3 : tie.Need-enum-told-3
-enum-told-3 c = search needs
-
-protected-line-requires-2 : tie.Need-protected-line-requires-2
-protected-line-requires-2 c κs =
-    let s = c .before .before .before .before .before .before .before .before .before .before .before .before .before .before .before .before .before .pre in
-    let k = c .before .before .before .before .before .before .before .before .before .before .classify .ensures in
-    (code-ready _ _ (s .0) (s .1 .1 .0) k, (s .1 .0, (s .1 .1 .0, code-classes _ _ (s .0) (s .1 .1 .0) k)))
+    let k = c .before .before .before .before .before .before .before .before .before .classify .ensures in
+    (line-ready _ _ (s .0) t k, (solid _ _ t (s .1 .1 .1 .0), (marks-of _ _ _ (c .before .before .before .before .before .marker-in .ensures) (c .before .before .is-alone .ensures), (code-classes _ _ (s .0) t k, s .1 .1 .1 .1))))
 
 same-length-3 : tie.Need-same-length-3
 same-length-3 c = search needs
@@ -91,30 +73,8 @@ same-length-4 c = search needs
 
 returns-2 : tie.Need-returns-2
 returns-2 c =
-    let s = c .before .before .before .before .before .before .before .before .before .before .before .before .before .before .before .before .before .before .before .before .before .before .pre in
-    code-plain _ _ (s .0) (s .1 .1 .0) (c .before .before .before .before .before .before .before .before .before .before .before .before .before .before .before .classify .ensures) _ _ (c .before .before .before .before .before .before .before .before .before .before .before .before .protects-next .ensures) (c .before .before .before .before .before .before .before .before .before .before .before .if1 .left) (c .before .before .before .before .before .before .before .before .before .marker-in .ensures) (c .before .before .before .before .before .before .before .enum-told .given .1) (c .before .before .before .before .spaced-line .ensures)
-
-same-length-5 : tie.Need-same-length-5
-same-length-5 c = search needs
-
-same-length-6 : tie.Need-same-length-6
-same-length-6 c = search needs
-
-returns-3 : tie.Need-returns-3
-returns-3 c =
-    let s = c .before .before .before .before .before .before .before .before .before .before .before .before .before .before .before .before .before .before .before .before .before .before .pre in
-    code-alone _ _ (s .0) (s .1 .1 .0) (c .before .before .before .before .before .before .before .before .before .before .before .before .before .before .before .classify .ensures) _ _ (c .before .before .before .before .before .before .before .before .before .before .before .before .protects-next .ensures) (c .before .before .before .before .before .before .before .before .before .before .before .if1 .left) (c .before .before .before .before .before .before .before .before .before .marker-in .ensures) (c .before .before .before .before .before .before .before .enum-told2 .given .1) (c .before .before .before .before .spaced-line2 .ensures)
-
-same-length-7 : tie.Need-same-length-7
-same-length-7 c = search needs
-
-same-length-8 : tie.Need-same-length-8
-same-length-8 c = search needs
-
-returns-4 : tie.Need-returns-4
-returns-4 c =
-    let s = c .before .before .before .before .before .before .before .before .before .before .before .before .before .before .before .before .before .before .before .before .before .before .pre in
-    λ o u. code-marked _ _ (s .0) (s .1 .1 .0) (c .before .before .before .before .before .before .before .before .before .before .before .before .before .before .before .classify .ensures) _ (c .before .before .before .before .before .before .before .before .before .marker-in .ensures) (c .before .before .before .before .before .before .before .enum-told3 .given .1) (c .before .before .before .before .protected-line2 .ensures) o
+    let s = c .before .before .before .before .before .before .before .before .before .before .before .before .before .before .before .before .before .before .before .before .before .pre in
+    λ o u. code-open _ _ (s .0) (s .1 .1 .0) (c .before .before .before .before .before .before .before .before .before .before .before .before .before .before .classify .ensures) _ _ _ (c .before .before .before .before .before .before .before .before .before .before .marker-in .ensures) (c .before .before .before .before .before .before .before .before .before .is-kept .ensures) (c .before .before .before .before .before .before .before .before .if1 .left) (c .before .before .before .before .before .before .before .is-alone .ensures) o (c .before .before .before .before .spaced-line .ensures o u)
 
 pub code-line-spec : {M : Type 1} → statement M
 code-line-spec =
@@ -123,26 +83,16 @@ code-line-spec =
     slice-relend-prefix-classify
     slice-aggregate-classify
     classify-requires
-    protects-next-requires
+    slice-reshare-prefix-marker-in
+    slice-aggregate-marker-in
+    marker-in-requires
+    is-kept-requires
     protected-line-requires
     same-length
     same-length-2
     returns
-    slice-reshare-prefix-marker-in
-    slice-aggregate-marker-in
-    marker-in-requires
-    enum-told
+    is-alone-requires
     spaced-line-requires
-    enum-told-2
-    spaced-line-requires-2
-    enum-told-3
-    protected-line-requires-2
     same-length-3
     same-length-4
-    returns-2
-    same-length-5
-    same-length-6
-    returns-3
-    same-length-7
-    same-length-8
-    returns-4)
+    returns-2)

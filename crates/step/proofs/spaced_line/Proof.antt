@@ -26,26 +26,22 @@ count-going-requires c κs =
 ignore-of-requires : tie.Need-ignore-of-requires
 ignore-of-requires c κs = search needs
 
-add-t27 : tie.Need-add-t27
-add-t27 c =
-    let s = c .before .before .before .before .before .before .before .before .before .before .before .before .before .before .before .before .before .before .before .before .before .pre .0 in
-    record { fits = omega (arith, s .imports, s .limit, c .before .before .before .before .before .before .before .before .before .before .put-going .ensures .few) }
-
-add-t28 : tie.Need-add-t28
-add-t28 c =
-    let s = c .before .before .before .before .before .before .before .before .before .before .before .before .before .before .before .before .before .before .before .before .before .before .before .pre .0 in
-    record { fits = omega (arith, s .blanks, s .limit, c .before .before .before .before .before .before .before .before .before .before .before .before .put-going .ensures .fewer) }
+after-line-requires : tie.Need-after-line-requires
+after-line-requires c κs =
+    let s = c .before .before .before .before .before .before .before .before .before .before .before .before .before .before .before .before .before .before .pre .0 in
+    let p = c .before .before .before .before .before .before .before .put-going .ensures in
+    (omega (arith, s .imports, s .limit, p .few), omega (arith, s .blanks, s .limit, p .fewer))
 
 same-length : tie.Need-same-length
-same-length c = c .before .before .before .before .before .before .before .before .count-going .ensures .long ∙ c .before .before .before .before .before .before .before .before .before .before .before .before .before .before .before .before .before .go-on .ensures .only .long
+same-length c = search needs
 
 same-length-2 : tie.Need-same-length-2
-same-length-2 c = c .before .before .before .before .before .before .before .before .before .before .before .out .given
+same-length-2 c = search needs
 
 returns : tie.Need-returns
 returns c =
-    let s = c .before .before .before .before .before .before .before .before .before .before .before .before .before .before .before .before .before .before .before .before .before .before .before .pre in
-    spaced-step _ _ _ _ _ _ _ _ _ _ _ _ _ _ _ _ (s .1 .1 .0) (c .before .before .before .before .before .before .before .before .before .before .before .before .before .before .before .before .before .go-on .ensures) (c .before .before .before .before .before .before .before .before .before .before .before .before .put-going .ensures) (c .before .before .before .before .before .before .before .before .count-going .ensures) (c .before .before .before .before .ignore-of .ensures)
+    let s = c .before .before .before .before .before .before .before .before .before .before .before .before .before .before .before .before .before .before .before .pre in
+    spaced-step _ _ _ _ _ _ _ _ _ _ _ _ _ _ _ _ _ (s .1 .1 .0) (c .before .before .before .before .before .before .before .before .before .before .before .before .before .go-on .ensures) (c .before .before .before .before .before .before .before .before .put-going .ensures) (c .before .before .before .before .count-going .ensures) (c .before .ignore-of .ensures) (c .after-line .ensures)
 
 pub spaced-line-spec : {M : Type 1} → statement M
 spaced-line-spec =
@@ -55,8 +51,7 @@ spaced-line-spec =
     put-going-requires
     count-going-requires
     ignore-of-requires
-    add-t27
-    add-t28
+    after-line-requires
     same-length
     same-length-2
     returns)

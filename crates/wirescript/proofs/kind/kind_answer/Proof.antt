@@ -11,17 +11,17 @@ kind-number-requires c κs = search needs
 enum-known-o-2 : tie.Need-enum-known-o-2
 enum-known-o-2 c = search needs
 
-refusal-requires : tie.Need-refusal-requires
-refusal-requires c κs = search needs
+number-of-requires : tie.Need-number-of-requires
+number-of-requires c κs = search needs
 
-place-requires : tie.Need-place-requires
-place-requires c κs = search needs
+place-of-requires : tie.Need-place-of-requires
+place-of-requires c κs = search needs
 
 returns : tie.Need-returns
 returns c = rw (c .before .before .o .given .1, c .kind-number .ensures)
 
 returns-2 : tie.Need-returns-2
-returns-2 c = rw (c .before .before .before .o2 .given .1, c .before .refusal .ensures, c .place .ensures)
+returns-2 c = rw (c .before .before .before .o2 .given .1, c .before .number-of .ensures, c .place-of .ensures)
 
 pub kind-answer-spec : {M : Type 1} → statement M
 kind-answer-spec =
@@ -30,7 +30,7 @@ kind-answer-spec =
     enum-known-o
     kind-number-requires
     enum-known-o-2
-    refusal-requires
-    place-requires
+    number-of-requires
+    place-of-requires
     returns
     returns-2)

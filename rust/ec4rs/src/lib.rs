@@ -5,66 +5,29 @@
 use std::cell::Cell;
 use std::path::Path;
 
-pub mod property {
-    //! The properties that a formatter reads.
-
-    #[derive(Clone, Copy, Debug, PartialEq, Eq)]
-    pub enum IndentStyle {
-        Tabs,
-        Spaces,
-    }
-
-    #[derive(Clone, Copy, Debug, PartialEq, Eq)]
-    pub enum IndentSize {
-        UseTabWidth,
-        Value(usize),
-    }
-
-    #[derive(Clone, Copy, Debug, PartialEq, Eq)]
-    pub enum TabWidth {
-        Value(usize),
-    }
-
-    #[derive(Clone, Copy, Debug, PartialEq, Eq)]
-    pub enum MaxLineLen {
-        Value(usize),
-        Off,
-    }
-
-    #[derive(Clone, Copy, Debug, PartialEq, Eq)]
-    pub enum EndOfLine {
-        Lf,
-        CrLf,
-        Cr,
-    }
-
-    #[derive(Clone, Copy, Debug, PartialEq, Eq)]
-    pub enum FinalNewline {
-        Value(bool),
-    }
-}
-
-use property::{EndOfLine, FinalNewline, IndentSize, IndentStyle, MaxLineLen, TabWidth};
-
-/// The resolved values; `None` is unset.
-#[derive(Clone, Copy, Debug, Default, PartialEq, Eq)]
-pub struct Properties {
-    pub style: Option<IndentStyle>,
-    pub size: Option<IndentSize>,
-    pub tab: Option<TabWidth>,
-    pub max: Option<MaxLineLen>,
-    pub ending: Option<EndOfLine>,
-    pub newline: Option<FinalNewline>,
-}
-
 /// A property that [`Properties`] holds.
 pub trait Property: Sized {
     fn of(properties: &Properties) -> Option<Self>;
 }
 
-macro_rules! property {
-    ($($type:ty: $field:ident),*) => {
-        $(impl Property for $type {
+/// Each property: its type, the field that holds it, and its values.
+macro_rules! properties {
+    ($($name:ident $field:ident { $($value:ident $(($of:ty))?),* })*) => {
+        pub mod property {
+            //! The properties that a formatter reads.
+            $(
+                #[derive(Clone, Copy, Debug, PartialEq, Eq)]
+                pub enum $name { $($value $(($of))?),* }
+            )*
+        }
+
+        /// The resolved values; `None` is unset.
+        #[derive(Clone, Copy, Debug, Default, PartialEq, Eq)]
+        pub struct Properties {
+            $(pub $field: Option<property::$name>,)*
+        }
+
+        $(impl Property for property::$name {
             fn of(properties: &Properties) -> Option<Self> {
                 properties.$field
             }
@@ -72,8 +35,14 @@ macro_rules! property {
     };
 }
 
-property!(IndentStyle: style, IndentSize: size, TabWidth: tab);
-property!(MaxLineLen: max, EndOfLine: ending, FinalNewline: newline);
+properties! {
+    IndentStyle style { Tabs, Spaces }
+    IndentSize size { UseTabWidth, Value(usize) }
+    TabWidth tab { Value(usize) }
+    MaxLineLen max { Value(usize), Off }
+    EndOfLine ending { Lf, CrLf, Cr }
+    FinalNewline newline { Value(bool) }
+}
 
 /// The property is unset.
 #[derive(Clone, Copy, Debug, PartialEq, Eq)]
@@ -89,9 +58,7 @@ impl Properties {
 }
 
 thread_local! {
-    static CURRENT: Cell<Properties> = const { Cell::new(Properties {
-        style: None, size: None, tab: None, max: None, ending: None, newline: None,
-    }) };
+    static CURRENT: Cell<Properties> = Cell::default();
 }
 
 /// What [`properties_of`] gives on this thread from now on.

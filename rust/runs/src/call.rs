@@ -37,22 +37,38 @@ pub fn scratch_needed(source: &[u8]) -> usize {
     8 * source.len() + 256
 }
 
+/// The Rust's options as numbers.
+pub fn choices_of(options: &FormatOptions) -> Choices<'_> {
+    Choices {
+        indent: options.indent.as_bytes(),
+        width_set: u64::from(options.print_width.is_some()),
+        width: options.print_width.unwrap_or(0) as u64,
+        line_ending: match options.end_of_line {
+            None => 0,
+            Some(LineEnding::Lf) => 1,
+            Some(LineEnding::Crlf) => 2,
+        },
+        final_newline: u64::from(options.insert_final_newline),
+    }
+}
+
 impl Call {
     /// A call with what it needs.
     pub fn new(source: impl Into<Vec<u8>>, options: &FormatOptions) -> Self {
+        let needed = Size::Needed(0);
+        Self::of(source.into(), choices_of(options), needed, needed)
+    }
+
+    pub fn of(source: Vec<u8>, s: Choices, output: Size, scratch: Size) -> Self {
         Self {
-            source: source.into(),
-            indent: options.indent.clone().into_bytes(),
-            width_set: u64::from(options.print_width.is_some()),
-            width: options.print_width.unwrap_or(0) as u64,
-            line_ending: match options.end_of_line {
-                None => 0,
-                Some(LineEnding::Lf) => 1,
-                Some(LineEnding::Crlf) => 2,
-            },
-            final_newline: u64::from(options.insert_final_newline),
-            output: Size::Needed(0),
-            scratch: Size::Needed(0),
+            source,
+            indent: s.indent.into(),
+            width_set: s.width_set,
+            width: s.width,
+            line_ending: s.line_ending,
+            final_newline: s.final_newline,
+            output,
+            scratch,
         }
     }
 

@@ -1,6 +1,6 @@
 //! One comparison with the Rust: answers, every byte lent, and the bytes around them.
 
-use crate::call::{Call, scratch_needed};
+use crate::call::{Call, Outcome, scratch_needed};
 use crate::library::Library;
 use crate::model;
 use std::fmt::Debug;
@@ -18,13 +18,7 @@ pub enum Check {
         indent: usize,
         output: usize,
     },
-    /// The kind at one place, with a scratch of so many bytes more than needed.
-    Kind {
-        source: Vec<u8>,
-        line: u64,
-        column: u64,
-        scratch: isize,
-    },
+    Kind(Place),
     /// The kinds at every place of a source, and at some past its end.
     Kinds(Vec<u8>),
     /// `indent_with` on a call's options and output.
@@ -38,6 +32,15 @@ pub enum Check {
         call: Call,
         values: Resolved,
     },
+}
+
+/// A place of a source whose kind is asked for, with a scratch of so many bytes more than needed.
+#[derive(Clone, Debug, PartialEq, Eq)]
+pub struct Place {
+    pub source: Vec<u8>,
+    pub line: u64,
+    pub column: u64,
+    pub scratch: isize,
 }
 
 /// Lent buffers, with bytes before and after them that no call may change.
@@ -79,14 +82,9 @@ impl Buffers {
     pub fn check(&mut self, library: &dyn Library, check: &Check) -> Option<String> {
         match check {
             Check::Format(call) => self.format(library, call),
-            Check::Kind {
-                source,
-                line,
-                column,
-                scratch,
-            } => {
-                let length = scratch_needed(source).saturating_add_signed(*scratch);
-                self.kind(library, source, *line, *column, length)
+            Check::Kind(place) => {
+                let length = scratch_needed(&place.source).saturating_add_signed(place.scratch);
+                self.kind(library, &place.source, place.line, place.column, length)
             }
             Check::Kinds(source) => self.kinds(library, source),
             Check::Far {
@@ -137,7 +135,17 @@ impl Buffers {
     fn format(&mut self, library: &dyn Library, call: &Call) -> Option<String> {
         let found = model::text_of(call);
         let room = call.output.of(model::length(&found));
-        let rust = model::outcome(&found, room);
+        self.outcome(library, call, room, &model::outcome(&found, room))
+    }
+
+    /// Calls with an output of `room` bytes.
+    fn outcome(
+        &mut self,
+        library: &dyn Library,
+        call: &Call,
+        room: usize,
+        must: &Outcome,
+    ) -> Option<String> {
         let output = lend(&mut self.output, room);
         let scratch = lend(&mut self.scratch, call.scratch_length());
         let answer = library.format(
@@ -146,13 +154,13 @@ impl Buffers {
             &mut self.output[output.clone()],
             &mut self.scratch[scratch.clone()],
         );
-        if answer != rust.answer {
-            return Some(differ("the answer", answer, rust.answer));
+        if answer != must.answer {
+            return Some(differ("the answer", answer, must.answer));
         }
-        let (text, rest) = self.output[output.clone()].split_at(rust.text.len());
-        if text != rust.text {
+        let (text, rest) = self.output[output.clone()].split_at(must.text.len());
+        if text != must.text {
             let show = |bytes: &[u8]| String::from_utf8_lossy(bytes).into_owned();
-            return Some(differ("the text", show(text), show(&rust.text)));
+            return Some(differ("the text", show(text), show(&must.text)));
         }
         if !zeros(rest) {
             return Some("the output is not zero after the text".into());
@@ -183,24 +191,17 @@ impl Buffers {
             ..FormatOptions::default()
         };
         let call = Call::new(source, &options);
-        let output = lend(&mut self.output, output);
-        let scratch = lend(&mut self.scratch, call.scratch_length());
-        let ours = library.format(
-            &call.source,
-            call.choices(),
-            &mut self.output[output.clone()],
-            &mut self.scratch[scratch],
-        );
-        let must = Answer {
+        let answer = Answer {
             refusal: 5,
             // a bracket and an ending to a line, and one level more at each
             place: 2 * lines + indent.len() as u64 * (lines * (lines - 1) / 2),
             ..Answer::default()
         };
-        if ours != must {
-            return Some(differ("the answer", ours, must));
-        }
-        (!zeros(&self.output[output])).then(|| "the output is not zero".into())
+        let must = Outcome {
+            answer,
+            text: Vec::new(),
+        };
+        self.outcome(library, &call, output, &must)
     }
 
     fn kind(

@@ -92,16 +92,7 @@ impl Standin {
     }
 
     fn call(source: &[u8], s: Choices, output: usize, scratch: usize) -> Call {
-        Call {
-            source: source.into(),
-            indent: s.indent.into(),
-            width_set: s.width_set,
-            width: s.width,
-            line_ending: s.line_ending,
-            final_newline: s.final_newline,
-            output: Size::Fixed(output),
-            scratch: Size::Fixed(scratch),
-        }
+        Call::of(source.into(), s, Size::Fixed(output), Size::Fixed(scratch))
     }
 
     fn settle(&self, options: Option<&FormatOptions>, output: &mut [u8]) -> Settings {

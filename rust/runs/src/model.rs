@@ -1,10 +1,10 @@
 //! What each call must come to: the Rust's answers, and the refusals that the Rust
 //! doesn't have.
 
-use crate::call::{Call, Outcome, Settled, scratch_needed};
+use crate::call::{Call, Outcome, Settled, choices_of, scratch_needed};
 use ec4rs::Properties;
 use ec4rs::property::{EndOfLine, FinalNewline, IndentSize, IndentStyle, MaxLineLen, TabWidth};
-use upstream::{FormatOptions, LineEnding, TextKind};
+use upstream::{FormatOptions, TextKind};
 use wirescript_format::raw::{Answer, Kind, Resolved, Settings};
 
 const MAX_SOURCE: usize = 1_048_576;
@@ -126,21 +126,18 @@ pub fn settled(options: Option<&FormatOptions>, room: usize) -> Settled {
     if length > room {
         return refused(5, length);
     }
+    let s = choices_of(options);
     Settled {
         answer: Settings {
             refusal: 0,
             place: 0,
             indent_len: length as u64,
-            width_set: u64::from(options.print_width.is_some()),
-            width: options.print_width.unwrap_or(0) as u64,
-            line_ending: match options.end_of_line {
-                None => 0,
-                Some(LineEnding::Lf) => 1,
-                Some(LineEnding::Crlf) => 2,
-            },
-            final_newline: u64::from(options.insert_final_newline),
+            width_set: s.width_set,
+            width: s.width,
+            line_ending: s.line_ending,
+            final_newline: s.final_newline,
         },
-        indent: options.indent.clone().into_bytes(),
+        indent: s.indent.into(),
     }
 }
 

@@ -1,7 +1,7 @@
 //! A smaller check that still differs.
 
 use crate::call::{Call, Size};
-use crate::compare::{Buffers, Check};
+use crate::compare::{Buffers, Check, Place};
 use crate::library::Library;
 
 /// Makes a check that differs as small as it gets: the first smaller one that differs
@@ -68,22 +68,16 @@ fn sources(source: &[u8], take: &mut dyn FnMut(Vec<u8>) -> bool) -> bool {
 fn candidates(check: &Check, take: &mut dyn FnMut(Check) -> bool) -> bool {
     match check {
         Check::Kinds(source) => sources(source, &mut |s| take(Check::Kinds(s))),
-        Check::Kind {
-            source,
-            line,
-            column,
-            scratch,
-        } => {
-            let (line, column) = (*line, *column);
-            let with = |source: Vec<u8>, line, column| Check::Kind {
-                source,
-                line,
-                column,
-                scratch: *scratch,
+        Check::Kind(place) => {
+            let with = |change: &dyn Fn(&mut Place)| {
+                let mut other = place.clone();
+                change(&mut other);
+                Check::Kind(other)
             };
-            sources(source, &mut |s| take(with(s, line, column)))
-                || (line > 0 && take(with(source.clone(), line - 1, column)))
-                || (column > 0 && take(with(source.clone(), line, column - 1)))
+            sources(&place.source, &mut |s| {
+                take(with(&|p| p.source.clone_from(&s)))
+            }) || (place.line > 0 && take(with(&|p| p.line -= 1)))
+                || (place.column > 0 && take(with(&|p| p.column -= 1)))
         }
         Check::Format(call) => {
             sources(&call.source, &mut |source| {

@@ -2,7 +2,7 @@
 //! seed and number give the same check.
 
 use crate::call::{Call, Size};
-use crate::compare::Check;
+use crate::compare::{Check, Place};
 use crate::grammar;
 use crate::random::Random;
 use crate::sources::{self, ALPHABETS};
@@ -99,12 +99,12 @@ pub fn all(seed: u64) -> Vec<Stage> {
                     .split('\n')
                     .nth(line)
                     .map_or(0, |l| l.chars().count());
-                Check::Kind {
+                Check::Kind(Place {
                     source: source.into(),
                     line: line as u64,
                     column: r.below(width + 2) as u64,
                     scratch: [0, 0, 0, -1, 1][r.below(5)],
-                }
+                })
             }
         }
     }));
@@ -313,12 +313,12 @@ fn limits() -> Vec<Check> {
         (0, 1),
         (1, 0),
     ] {
-        checks.push(Check::Kind {
+        checks.push(Check::Kind(Place {
             source: b"// a\n// b".into(),
             line,
             column,
             scratch: 0,
-        });
+        }));
     }
     checks.extend(ill_formed());
     checks
@@ -347,12 +347,12 @@ fn long_sources() -> Vec<Check> {
         checks.push(format_check(source.clone(), |c| {
             c.output = Size::Needed(-1);
         }));
-        checks.push(Check::Kind {
+        checks.push(Check::Kind(Place {
             source,
             line: 0,
             column: 3,
             scratch: 0,
-        });
+        }));
     }
     checks
 }

@@ -6,6 +6,6 @@ include!(concat!(env!("OUT_DIR"), "/upstream.rs"));
 
 pub use format::reach::{
     Carry, Class, Counted, Prepared, TextKind, classify, format_counted, normalize_spacing,
-    scan_brackets, split_import, split_operation, text_kind_at, with_resolved,
+    scan_brackets, text_kind_at, with_resolved,
 };
 pub use format::{DEFAULT_PRINT_WIDTH, FormatOptions, LineEnding, format_with};

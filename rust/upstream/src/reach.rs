@@ -109,28 +109,6 @@ impl Prepared {
     }
 }
 
-pub fn split_import(
-    line: &str,
-    class: &[Class],
-    level: usize,
-    indent: &str,
-    max: usize,
-) -> Option<Vec<String>> {
-    let chars: Vec<char> = line.chars().collect();
-    split::split_import(&chars, &classes(class), level, indent, max)
-}
-
-pub fn split_operation(
-    line: &str,
-    class: &[Class],
-    level: usize,
-    indent: &str,
-    max: usize,
-) -> Option<Vec<String>> {
-    let chars: Vec<char> = line.chars().collect();
-    split::split_operation(&chars, &classes(class), level, indent, max)
-}
-
 pub fn text_kind_at(source: &str, line: usize, column: usize) -> TextKind {
     match super::text_kind_at(source, line, column) {
         super::TextKind::Code => TextKind::Code,

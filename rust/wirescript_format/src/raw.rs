@@ -119,25 +119,35 @@ mod linked {
     }
 }
 
+/// Calls an exported function: what stands before the options, the options, what stands after.
+macro_rules! with_choices {
+    ($name:ident, ($($before:expr),*), $s:ident, ($($after:expr),*)) => {
+        linked::$name(
+            $($before,)*
+            $s.indent.as_ptr(),
+            $s.indent.len(),
+            $s.width_set,
+            $s.width,
+            $s.line_ending,
+            $s.final_newline,
+            $($after),*
+        )
+    };
+}
+
 /// Formats `source` into `output`.
 #[must_use]
 pub fn format(source: &[u8], s: Choices, output: &mut [u8], scratch: &mut [u8]) -> Answer {
+    let (text, room) = (output.as_mut_ptr(), output.len());
+    let (work, left) = (scratch.as_mut_ptr(), scratch.len());
     // SAFETY: the pointers and lengths are those of slices; the two that are written are
     // lent alone, and the function is proved to stay inside them for any arguments.
     unsafe {
-        linked::wirescript_format(
-            source.as_ptr(),
-            source.len(),
-            s.indent.as_ptr(),
-            s.indent.len(),
-            s.width_set,
-            s.width,
-            s.line_ending,
-            s.final_newline,
-            output.as_mut_ptr(),
-            output.len(),
-            scratch.as_mut_ptr(),
-            scratch.len(),
+        with_choices!(
+            wirescript_format,
+            (source.as_ptr(), source.len()),
+            s,
+            (text, room, work, left)
         )
     }
 }
@@ -145,62 +155,31 @@ pub fn format(source: &[u8], s: Choices, output: &mut [u8], scratch: &mut [u8]) 
 /// The text kind at a line and a character column, both from 0.
 #[must_use]
 pub fn text_kind_at(source: &[u8], line: u64, column: u64, scratch: &mut [u8]) -> Kind {
+    let (work, left) = (scratch.as_mut_ptr(), scratch.len());
     // SAFETY: as for `format`.
     unsafe {
-        linked::wirescript_text_kind_at(
-            source.as_ptr(),
-            source.len(),
-            line,
-            column,
-            scratch.as_mut_ptr(),
-            scratch.len(),
-        )
+        linked::wirescript_text_kind_at(source.as_ptr(), source.len(), line, column, work, left)
     }
 }
 
 /// One tab (`tabs` 1), or `size` spaces (`tabs` 0), as the indent.
 #[must_use]
 pub fn indent_with(s: Choices, tabs: u64, size: u64, output: &mut [u8]) -> Settings {
+    let (indent, room) = (output.as_mut_ptr(), output.len());
     // SAFETY: as for `format`.
-    unsafe {
-        linked::wirescript_indent_with(
-            s.indent.as_ptr(),
-            s.indent.len(),
-            s.width_set,
-            s.width,
-            s.line_ending,
-            s.final_newline,
-            tabs,
-            size,
-            output.as_mut_ptr(),
-            output.len(),
-        )
-    }
+    unsafe { with_choices!(wirescript_indent_with, (), s, (tabs, size, indent, room)) }
 }
 
 /// The options overridden by resolved values of .editorconfig.
 #[must_use]
+#[rustfmt::skip]
 pub fn editorconfig(s: Choices, r: Resolved, output: &mut [u8]) -> Settings {
+    let (indent, room) = (output.as_mut_ptr(), output.len());
     // SAFETY: as for `format`.
     unsafe {
-        linked::wirescript_editorconfig(
-            s.indent.as_ptr(),
-            s.indent.len(),
-            s.width_set,
-            s.width,
-            s.line_ending,
-            s.final_newline,
-            r.style,
-            r.size_kind,
-            r.size,
-            r.tab_set,
-            r.tab,
-            r.max_kind,
-            r.max,
-            r.ending,
-            r.newline,
-            output.as_mut_ptr(),
-            output.len(),
-        )
+        with_choices!(wirescript_editorconfig, (), s, (
+            r.style, r.size_kind, r.size, r.tab_set, r.tab, r.max_kind, r.max, r.ending, r.newline,
+            indent, room
+        ))
     }
 }

@@ -91,17 +91,13 @@ fn show(check: &Check) -> String {
             c.output,
             c.scratch
         ),
-        Check::Kind {
-            source,
-            line,
-            column,
-            scratch,
-        } => {
-            format!(
-                "kind at line {line}, column {column}, scratch {scratch:+}: {}",
-                text(source)
-            )
-        }
+        Check::Kind(place) => format!(
+            "kind at line {}, column {}, scratch {:+}: {}",
+            place.line,
+            place.column,
+            place.scratch,
+            text(&place.source)
+        ),
         Check::Kinds(source) => format!("kinds of {}", text(source)),
         other => format!("{other:?}"),
     }

@@ -2,47 +2,14 @@
 //! text: nanoseconds a byte, the least of 40 runs. The Rust's lines are decoded and, but for
 //! `classify`, classified before its time is taken. `parts` compares the answers.
 
+#[path = "../wrappers.rs"]
+mod wrappers;
+
 use runs::texts;
 use std::hint::black_box;
 use std::time::Instant;
 use upstream::Prepared;
-
-#[repr(C)]
-#[derive(Clone, Copy)]
-struct Open {
-    carry: u64,
-    depth: u64,
-}
-
-unsafe extern "C" {
-    fn wirescript_test_classify(
-        line: *const u8,
-        line_length: usize,
-        carry: u64,
-        depth: u32,
-        classes: *mut u8,
-        classes_length: usize,
-    ) -> Open;
-    fn wirescript_test_normalize_spacing(
-        line: *const u8,
-        line_length: usize,
-        scratch: *mut u8,
-        scratch_length: usize,
-    ) -> u64;
-    fn wirescript_test_is_spaced(
-        line: *const u8,
-        line_length: usize,
-        classes: *const u8,
-        classes_length: usize,
-    ) -> bool;
-    fn wirescript_test_scan_brackets(
-        line: *const u8,
-        line_length: usize,
-        scratch: *mut u8,
-        scratch_length: usize,
-        depth: u64,
-    ) -> u64;
-}
+use wrappers::{Open, classify, is_spaced, normalize_spacing, scan_brackets};
 
 /// A line's bytes, and a buffer of its own whose front holds its class bytes.
 struct Line<'a> {
@@ -50,48 +17,15 @@ struct Line<'a> {
     scratch: Vec<u8>,
 }
 
-fn classify(line: &[u8], open: Open, classes: &mut [u8]) -> Open {
-    // SAFETY: pointers and lengths of slices; only `classes` is written.
-    unsafe {
-        wirescript_test_classify(
-            line.as_ptr(),
-            line.len(),
-            open.carry,
-            open.depth as u32,
-            classes.as_mut_ptr(),
-            classes.len(),
-        )
-    }
-}
-
 fn space(line: &mut Line) -> u64 {
-    let (bytes, scratch) = (line.bytes, &mut line.scratch);
-    // SAFETY: pointers and lengths of slices; only `scratch` is written.
-    unsafe {
-        if wirescript_test_is_spaced(bytes.as_ptr(), bytes.len(), scratch.as_ptr(), scratch.len()) {
-            return bytes.len() as u64;
-        }
-        wirescript_test_normalize_spacing(
-            bytes.as_ptr(),
-            bytes.len(),
-            scratch.as_mut_ptr(),
-            scratch.len(),
-        )
+    if is_spaced(line.bytes, &line.scratch) {
+        return line.bytes.len() as u64;
     }
+    normalize_spacing(line.bytes, &mut line.scratch)
 }
 
 fn brackets(line: &mut Line) -> u64 {
-    let (bytes, scratch) = (line.bytes, &mut line.scratch);
-    // SAFETY: pointers and lengths of slices; only `scratch` is written.
-    unsafe {
-        wirescript_test_scan_brackets(
-            bytes.as_ptr(),
-            bytes.len(),
-            scratch.as_mut_ptr(),
-            scratch.len(),
-            0,
-        )
-    }
+    scan_brackets(line.bytes, &mut line.scratch, 0)
 }
 
 fn least(bytes: usize, mut run: impl FnMut() -> u64) -> f64 {

@@ -1,107 +1,34 @@
 //! Inner functions beside the Rust's: `classify`, `normalize_spacing` and `scan_brackets`. They are
-//! reached through test wrappers in `libwirescript_parts.a` (feature `parts`; the archive
-//! is looked for where `libwirescript.a` is).
+//! reached through the test wrappers of `src/wrappers.rs`.
 //!
 //!     parts [SOURCES]
+
+#[path = "../wrappers.rs"]
+mod wrappers;
 
 use runs::random::Random;
 use runs::{grammar, sources};
 use upstream::Carry;
-
-/// What is open: 0 code, 1 a block comment of this depth, 2 a prefab.
-#[repr(C)]
-#[derive(Clone, Copy, Debug, PartialEq, Eq)]
-struct Open {
-    carry: u64,
-    depth: u64,
-}
-
-unsafe extern "C" {
-    /// Writes a class for each byte of the line: 0 code, 1 string, 2 line comment, 3 block
-    /// comment, 4 prefab.
-    fn wirescript_test_classify(
-        line: *const u8,
-        line_length: usize,
-        carry: u64,
-        depth: u32,
-        classes: *mut u8,
-        classes_length: usize,
-    ) -> Open;
-    /// `scratch` holds the line's class bytes, and takes the respaced line after them. Gives
-    /// its length.
-    fn wirescript_test_normalize_spacing(
-        line: *const u8,
-        line_length: usize,
-        scratch: *mut u8,
-        scratch_length: usize,
-    ) -> u64;
-    /// Whether respacing leaves the line as it is.
-    fn wirescript_test_is_spaced(
-        line: *const u8,
-        line_length: usize,
-        classes: *const u8,
-        classes_length: usize,
-    ) -> bool;
-    /// `scratch` holds the line's class bytes and then the stack. Gives its new depth.
-    fn wirescript_test_scan_brackets(
-        line: *const u8,
-        line_length: usize,
-        scratch: *mut u8,
-        scratch_length: usize,
-        depth: u64,
-    ) -> u64;
-}
+use wrappers::Open;
 
 fn classify(line: &str, open: Open) -> (Vec<u8>, Open) {
     let mut classes = vec![9; line.len()];
-    // SAFETY: pointers and lengths of slices; only `classes` is written.
-    let after = unsafe {
-        wirescript_test_classify(
-            line.as_ptr(),
-            line.len(),
-            open.carry,
-            open.depth as u32,
-            classes.as_mut_ptr(),
-            classes.len(),
-        )
-    };
+    let after = wrappers::classify(line.as_bytes(), open, &mut classes);
     (classes, after)
 }
 
 fn normalize_spacing(line: &str, classes: &[u8]) -> Vec<u8> {
     let mut scratch = classes.to_vec();
     scratch.resize(3 * line.len(), 0);
-    // SAFETY: pointers and lengths of slices; only `scratch` is written.
-    let length = unsafe {
-        wirescript_test_normalize_spacing(
-            line.as_ptr(),
-            line.len(),
-            scratch.as_mut_ptr(),
-            scratch.len(),
-        )
-    };
+    let length = wrappers::normalize_spacing(line.as_bytes(), &mut scratch);
     scratch[line.len()..line.len() + length as usize].to_vec()
-}
-
-fn is_spaced(line: &str, classes: &[u8]) -> bool {
-    // SAFETY: pointers and lengths of slices; nothing is written.
-    unsafe { wirescript_test_is_spaced(line.as_ptr(), line.len(), classes.as_ptr(), classes.len()) }
 }
 
 fn scan_brackets(line: &str, classes: &[u8], stack: &[bool]) -> Vec<bool> {
     let mut scratch = classes.to_vec();
     scratch.extend(stack.iter().map(|adds| u8::from(*adds)));
     scratch.resize(2 * line.len() + stack.len(), 0);
-    // SAFETY: pointers and lengths of slices; only `scratch` is written.
-    let depth = unsafe {
-        wirescript_test_scan_brackets(
-            line.as_ptr(),
-            line.len(),
-            scratch.as_mut_ptr(),
-            scratch.len(),
-            stack.len() as u64,
-        )
-    };
+    let depth = wrappers::scan_brackets(line.as_bytes(), &mut scratch, stack.len() as u64);
     scratch[line.len()..line.len() + depth as usize]
         .iter()
         .map(|adds| *adds != 0)
@@ -139,7 +66,7 @@ fn compare(source: &str) -> u64 {
             let respaced = normalize_spacing(line, &rust.0);
             let wanted = upstream::normalize_spacing(line, &classes);
             assert_eq!(respaced, wanted.as_bytes(), "normalize_spacing of {line:?}");
-            if is_spaced(line, &rust.0) {
+            if wrappers::is_spaced(line.as_bytes(), &rust.0) {
                 assert_eq!(line, wanted, "is_spaced of {line:?}");
             }
         }

@@ -316,6 +316,17 @@ fn numbered(word: &str, first: u64, count: usize) -> Vec<(u64, String)> {
         .collect()
 }
 
+type Make = fn(&mut Random) -> String;
+
+/// Kinds whose cases are made one by one: the name, how one is made, and the types.
+#[rustfmt::skip]
+const SINGLE: [(&str, Make, &str); 4] = [
+    ("call", call_case, CALL),
+    ("kind-call", kind_call_case, KIND_CALL),
+    ("config", config_case, CONFIG),
+    ("indent", indent_case, INDENT),
+];
+
 fn main() {
     let arguments: Vec<String> = std::env::args().skip(1).collect();
     let [kind, seed, count] = arguments.as_slice() else {
@@ -357,24 +368,11 @@ fn main() {
             }
             KINDS
         }
-        "call" => {
-            cases.extend((0..count).map(|_| call_case(&mut random)));
-            CALL
-        }
-        "kind-call" => {
-            cases.extend((0..count).map(|_| kind_call_case(&mut random)));
-            KIND_CALL
-        }
-        "config" => {
-            cases.extend((0..count).map(|_| config_case(&mut random)));
-            CONFIG
-        }
-        "indent" => {
-            cases.extend((0..count).map(|_| indent_case(&mut random)));
-            INDENT
-        }
         other => {
-            if let Some(lettered) = other.strip_prefix("kinds/") {
+            if let Some((_, make, types)) = SINGLE.iter().find(|single| single.0 == other) {
+                cases.extend((0..count).map(|_| make(&mut random)));
+                types
+            } else if let Some(lettered) = other.strip_prefix("kinds/") {
                 for (_, source) in numbered(lettered, seed, count) {
                     kind_cases(&source, &mut cases);
                 }

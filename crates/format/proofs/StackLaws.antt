@@ -1,6 +1,6 @@
 -- Laws of the stack in scratch, and the loops over a line's brackets.
 use Prim.Native.Nat.{ℕ, zero, suc, _+_, _-_, _≤_, _<_, zero-le}
-use mathlib.Core.Bool.{Bool, true, false, not}
+use mathlib.Core.Bool.{Bool, true, false, not, _||_, true≢false}
 use mathlib.Core.List.{List, _∷_, foldl}
 use mathlib.Core.Path.{_≡_, refl, sym, ap, _∙_}
 use native.Mathlib.Nat.{zero-add}
@@ -165,12 +165,19 @@ module _ (f : Open → Open) (buf : List ℕ) (base : ℕ) (t : Tally) where
 not-turned : (b c : ℕ) → mayTurn b ≡ true → mayTurn c ≡ false → eqb c b ≡ false
 not-turned b c y n = by-test (eqb c b) (λ e. let z : true ≡ false = sym y ∙ ap mayTurn (sym (eqb-true c b e)) ∙ n in cc) (λ e. e)
 
-pub turn-idle : (x : Cell) (o : Open) (r : Bool) → o .esc ≡ false → r ≡ mayTurn (x .ch) → r ≡ false → o ≡ bracketStep o x
+-- none of both
+neither : (a b r : Bool) → r ≡ not (a || b) → r ≡ true → (a ≡ false) × (b ≡ false)
+neither true b r e q = absurd (true≢false (sym q ∙ e))
+neither false true r e q = absurd (true≢false (sym q ∙ e))
+neither false false r e q = (refl, refl)
+
+turn-idle : (x : Cell) (o : Open) (r : Bool) → r ≡ not (o .esc || mayTurn (x .ch)) → r ≡ true → o ≡ bracketStep o x
 unfolding bracketStep mayTurn
-turn-idle x o r e m n =
-    let no : (b : ℕ) → mayTurn b ≡ true → eqb (x .ch) b ≡ false = λ b y. not-turned b (x .ch) y (sym m ∙ n) in
+turn-idle x o r e q =
+    let n = neither (o .esc) (mayTurn (x .ch)) r e q in
+    let no : (b : ℕ) → mayTurn b ≡ true → eqb (x .ch) b ≡ false = λ b y. not-turned b (x .ch) y (n .1) in
     go (not (isCode (x .class)))
-    (choose-false _ _ _ e
+    (choose-false _ _ _ (n .0)
     ∙ choose-false _ _ _ (no 92 refl)
     ∙ choose-false _ _ _ (rw (no 123 refl, no 40 refl, no 91 refl))
     ∙ choose-false _ _ _ (rw (no 125 refl, no 41 refl, no 93 refl)))
@@ -227,6 +234,11 @@ module _ (line buf₀ : List ℕ) (class base depth skip : ℕ) (buf : List ℕ)
   scan-more buf′ u h v =
       scanning-on w _ _ h refl (sym (length-part buf₀ class (length line) (omega arith))) refl (read-now class (length line) i (w .only) (f .classes) h) v
 
+  pub scan-skip : (r : Bool) → i < length line → r ≡ not (t .esc || mayTurn (getD line i 0)) → r ≡ true
+      → Scanning line (part buf₀ class (class + length line)) (length line) buf₀ base depth skip buf t (i + 1)
+  scan-skip r h e q =
+      scan-more buf t h (turn-still _ buf base t t refl refl (turn-idle (cell (getD line i 0) (classOf (getD buf (class + i) 0))) (openOf buf base t) r e q))
+
   pub scan-end : length line ≤ i
       → Settled buf₀ buf base depth (length line) (scanBrackets (drop skip (cellsOf line (part buf₀ class (class + length line)))) (stacked buf₀ base depth)) (t .depth)
   scan-end h = scanning-end w h
@@ -240,6 +252,11 @@ module _ (buf₀ : List ℕ) (at n class base depth skip : ℕ) (buf : List ℕ)
   scan-at-more buf′ u h v =
       scanning-on w _ _ h (sym (length-part buf₀ at n (omega arith))) (sym (length-part buf₀ class n (omega arith)))
       (read-now at n i (w .only) (f .1) h) (read-now class n i (w .only) (f .0 .classes) h) v
+
+  pub scan-at-skip : (r : Bool) → i < n → r ≡ not (t .esc || mayTurn (getD buf (at + i) 0)) → r ≡ true
+      → Scanning (part buf₀ at (at + n)) (part buf₀ class (class + n)) n buf₀ base depth skip buf t (i + 1)
+  scan-at-skip r h e q =
+      scan-at-more buf t h (turn-still _ buf base t t refl refl (turn-idle (cell (getD buf (at + i) 0) (classOf (getD buf (class + i) 0))) (openOf buf base t) r e q))
 
   pub scan-at-end : n ≤ i
       → Settled buf₀ buf base depth n (scanBrackets (drop skip (cellsOf (part buf₀ at (at + n)) (part buf₀ class (class + n)))) (stacked buf₀ base depth)) (t .depth)

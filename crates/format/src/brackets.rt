@@ -1,6 +1,6 @@
 // Brackets: leading closers, and the stack of open brackets in scratch, one byte for each: 1 if it added a level, else 0.
 ghost use mathlib.Core.Path.{_≡_};
-ghost use mathlib.Core.Bool.{false};
+ghost use mathlib.Core.Bool.{not, _||_};
 ghost use Prim.Native.Nat.{_+_, _-_, _≤_};
 ghost use lib.ListN.{length, drop};
 ghost use Rattle.buffer.specs.Buffer.{part};
@@ -130,21 +130,26 @@ fn pop(scratch: &[u8], base: usize, t: Tally) -> Tally
     }
 }
 
-// Whether c may be a bracket or a backslash: two ranges are quicker to test than seven bytes.
-fn may_turn(c: u8) -> bool
-    ensures { λ r. ⌜ r ≡ mayTurn c ⌝ }
+// Whether c changes nothing, whatever its class: it is not escaped, and neither a bracket nor a backslash, which stand in three ranges. Most bytes
+// are such, and their class is not looked at.
+fn is_idle(c: u8, esc: bool) -> bool
+    ensures { λ r. ⌜ r ≡ not (esc || mayTurn c) ⌝ }
 {
-    ((40 <= c) & (c <= 41)) | ((91 <= c) & (c <= 93)) | ((123 <= c) & (c <= 125))
+    !(esc | (((40 <= c) & (c <= 41)) | ((91 <= c) & (c <= 93)) | ((123 <= c) & (c <= 125))))
 }
 
-// A byte c of class k that is not escaped.
-fn turn(c: u8, k: u8, scratch: &mut [u8], base: usize, t: Tally) -> Tally
-    requires { ⌜ Room (now scratch) base t × (t .esc ≡ false) ⌝ }
+// A byte c of class k.
+fn bracket_step(c: u8, k: u8, scratch: &mut [u8], base: usize, t: Tally) -> Tally
+    requires { ⌜ Room (now scratch) base t ⌝ }
     ensures { λ r. ⌜ Turned (λ o. bracketStep o (cell c (classOf k))) (now (scratch .entry)) base t (now (scratch .exit)) r ⌝ }
 {
     let mut u = t;
     if k != 0 {
         return t;
+    }
+    if t.esc {
+        u.esc = false;
+        return u;
     }
     if c == b'\\' {
         u.esc = true;
@@ -155,25 +160,6 @@ fn turn(c: u8, k: u8, scratch: &mut [u8], base: usize, t: Tally) -> Tally
     }
     if is_closer(c) {
         return pop(scratch, base, t);
-    }
-    t
-}
-
-// A byte c of class k. Most bytes are no brackets, and of those the class is not looked at.
-fn bracket_step(c: u8, k: u8, scratch: &mut [u8], base: usize, t: Tally) -> Tally
-    requires { ⌜ Room (now scratch) base t ⌝ }
-    ensures { λ r. ⌜ Turned (λ o. bracketStep o (cell c (classOf k))) (now (scratch .entry)) base t (now (scratch .exit)) r ⌝ }
-{
-    let mut u = t;
-    if t.esc {
-        if k != 0 {
-            return t;
-        }
-        u.esc = false;
-        return u;
-    }
-    if may_turn(c) {
-        return turn(c, k, scratch, base, t);
     }
     t
 }
@@ -198,7 +184,12 @@ pub fn scan_brackets(
     };
     let mut i = skip;
     while i < line.len() {
-        t = bracket_step(line[i], scratch[class_at + i], scratch, base, t);
+        let c = line[i];
+        if is_idle(c, t.esc) {
+            i += 1;
+            continue;
+        }
+        t = bracket_step(c, scratch[class_at + i], scratch, base, t);
         i += 1;
     }
     t.depth
@@ -224,13 +215,12 @@ pub fn scan_brackets_at(
     };
     let mut i = skip;
     while i < n {
-        t = bracket_step(
-            scratch[line_at + i],
-            scratch[class_at + i],
-            scratch,
-            base,
-            t,
-        );
+        let c = scratch[line_at + i];
+        if is_idle(c, t.esc) {
+            i += 1;
+            continue;
+        }
+        t = bracket_step(c, scratch[class_at + i], scratch, base, t);
         i += 1;
     }
     t.depth

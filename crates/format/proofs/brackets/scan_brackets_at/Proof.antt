@@ -1,7 +1,7 @@
 use borrow.Author.Needs.{needs}
 use Prim.Native.Nat.{_+_, _-_}
 use Rattle.buffer.specs.Buffer.{part}
-use Rattle.format.proofs.StackLaws.{Scanning, scanning-start, scan-at-more, scan-at-end}
+use Rattle.format.proofs.StackLaws.{Scanning, scanning-start, scan-at-skip, scan-at-more, scan-at-end}
 use Rattle.format.proofs.brackets.scan_brackets_at.Statement.{statement}
 use Rattle.format.proofs.brackets.scan_brackets_at.Tie as tie
 
@@ -14,20 +14,14 @@ abbrev μ-loop : tie.MeasureT-loop
 loop-holds : tie.Need-loop-holds Inv-loop μ-loop
 loop-holds c = search (needs, scanning-start)
 
-add-bracket-step : tie.Need-add-bracket-step Inv-loop μ-loop
-add-bracket-step c = search needs
+add-c : tie.Need-add-c Inv-loop μ-loop
+add-c c = search needs
 
-slice-read-bracket-step : tie.Need-slice-read-bracket-step Inv-loop μ-loop
-slice-read-bracket-step c = search needs
+slice-read-c : tie.Need-slice-read-c Inv-loop μ-loop
+slice-read-c c = search needs
 
-add-bracket-step-2 : tie.Need-add-bracket-step-2 Inv-loop μ-loop
-add-bracket-step-2 c = search needs
-
-slice-read-bracket-step-2 : tie.Need-slice-read-bracket-step-2 Inv-loop μ-loop
-slice-read-bracket-step-2 c = search needs
-
-bracket-step-requires : tie.Need-bracket-step-requires Inv-loop μ-loop
-bracket-step-requires c κs = search needs
+is-idle-requires : tie.Need-is-idle-requires Inv-loop μ-loop
+is-idle-requires c κs = search needs
 
 add-i : tie.Need-add-i Inv-loop μ-loop
 add-i c = search needs
@@ -36,7 +30,25 @@ loop-less : tie.Need-loop-less Inv-loop μ-loop
 loop-less c = search needs
 
 loop-again : tie.Need-loop-again Inv-loop μ-loop
-loop-again c = search (needs, scan-at-more)
+loop-again c = search (needs, scan-at-skip)
+
+add-bracket-step : tie.Need-add-bracket-step Inv-loop μ-loop
+add-bracket-step c = search needs
+
+slice-read-bracket-step : tie.Need-slice-read-bracket-step Inv-loop μ-loop
+slice-read-bracket-step c = search needs
+
+bracket-step-requires : tie.Need-bracket-step-requires Inv-loop μ-loop
+bracket-step-requires c κs = search needs
+
+add-i-2 : tie.Need-add-i-2 Inv-loop μ-loop
+add-i-2 c = search needs
+
+loop-less-2 : tie.Need-loop-less-2 Inv-loop μ-loop
+loop-less-2 c = search needs
+
+loop-again-2 : tie.Need-loop-again-2 Inv-loop μ-loop
+loop-again-2 c = search (needs, scan-at-more)
 
 same-length : tie.Need-same-length Inv-loop μ-loop
 same-length c = search needs
@@ -51,13 +63,17 @@ scan-brackets-at-spec =
     Inv-loop
     μ-loop
     loop-holds
-    add-bracket-step
-    slice-read-bracket-step
-    add-bracket-step-2
-    slice-read-bracket-step-2
-    bracket-step-requires
+    add-c
+    slice-read-c
+    is-idle-requires
     add-i
     loop-less
     loop-again
+    add-bracket-step
+    slice-read-bracket-step
+    bracket-step-requires
+    add-i-2
+    loop-less-2
+    loop-again-2
     same-length
     returns)

@@ -10,15 +10,20 @@ use lib.ListN.{length, getD, take, drop, length-drop, drop-of-length-le}
 use lib.Seq.{drop-cons}
 use borrow.Author.Tests.{ne-eqb, eq-eqb, eqb-true, le-ltb, lt-ltb, ltb-true, ltb-false}
 use Rattle.rules.specs.Basics.{choose, is, codes, at, same, oneOf, startsWith, firstIs, isBlank, isOpener, isCloser}
-use Rattle.rules.specs.Scan.{Cell}
+use Rattle.rules.specs.ClassBytes.{classOf}
+use Rattle.rules.specs.Scan.{Cell, isStr}
 use Rattle.rules.specs.Words.{operators}
-use Rattle.rules.specs.SplitOperation.{Ops, OpStep, lookup, precedence, endsOperand, atomLen, token, operator, bracket, isSign, oneCharStep, twoCharStep, codeStep, freshStep, opStepAt}
+use Rattle.rules.specs.SplitOperation.{Ops, OpStep, lookup, precedence, endsOperand, atomLen, token, operator, escape, bracket, isSign, oneCharStep, twoCharStep, codeStep, freshStep, opStepAt}
 use Rattle.rules.proofs.OperatorsBytes.{byteStep}
+use Rattle.rules.proofs.CellsLaws.{str-byte}
 use Rattle.rules.proofs.Choose.{choose-true, choose-false}
+use Rattle.rules.proofs.StartsBytes.{choose-both}
 use Rattle.unicode.specs.Unicode.{tail}
-use Rattle.unicode.proofs.Tests.{by-test}
+use Rattle.unicode.proofs.Tests.{by-test, and-left}
 use Rattle.buffer.proofs.RegionLaws.{part-from}
-use Rattle.operators.specs.Operators.{indexIn, atomChar, AtomLen, AtomAt, signStep}
+use Rattle.operators.specs.Operators.{indexIn, atomChar, AtomLen, AtomAt, signStep, tokenStep, stepWith, opsOf, stepOr, passedIn, bracketIn, codeOr, freshOr, skipOr, byteOr}
+use Rattle.operators.specs.declared.OpState.{OpState}
+use Rattle.operators.specs.declared.PlainStep.{PlainStep}
 
 -- ---- the list of operators
 
@@ -190,6 +195,9 @@ unary-operand b v e = rw e (sym (and-false b))
 pub unary-sign : (b v r : Bool) → v ≡ false → r ≡ b → r ≡ (b && not v)
 unary-sign b v r e f = rw e (f ∙ sym (and-true b))
 
+pub unary-at : (b v w r : Bool) → v ≡ w → r ≡ (b && not w) → r ≡ (b && not v)
+unary-at b v w r e f = rw e f
+
 -- ---- an atom's name: the scan is at i
 
 pub record AtomScan (s : List ℕ) (i : ℕ) : Type 0 where
@@ -235,39 +243,36 @@ module _ (operand : Bool) (l : List ℕ) (some : 0 < length l) where
   pub atom-other : (getD l 0 0 ≡ 58 → ⊥) → AtomAt operand l 0
   atom-other h = record { is = sym (choose-false _ _ _ (rw (ne-eqb (getD l 0 0) 58 h))); fits = some }
 
--- ---- a character of code
+-- ---- tokens
 
-abbrev plainStep : List ℕ → Ops → List ℕ → OpStep
-plainStep table s l =
-    choose (isBlank (getD l 0 0)) (token s (s .operand) 0)
-    (choose (isOpener (getD l 0 0)) (bracket (suc (s .opened)) (s .closed) false)
-    (choose (isCloser (getD l 0 0)) (bracket (s .opened) (suc (s .closed)) (endsOperand (getD l 0 0)))
-    (signStep table s l)))
+pub token-step : (s : Ops) (operand : Bool) (n : ℕ) → stepWith s (record { strength = 0; operand = operand; skip = n }) ≡ token s operand n
+unfolding token
+token-step s operand n = rw (choose-both {A = ℕ} (eqb (s .opened) (s .closed)) 0)
 
-code-cases : (table : List ℕ) (s : Ops) (l : List ℕ) → 0 < length l
-    → codeStep table s (getD l 0 0) (drop 1 l)
-    ≡ choose (is ":" (getD l 0 0) && not (s .operand) && not (eqb (atomLen (drop 1 l)) 0))
-    (token s (endsOperand (getD l (atomLen (drop 1 l)) 0)) (atomLen (drop 1 l))) (plainStep table s l)
-unfolding codeStep signStep
-code-cases table s [] h = absurd (omega arith)
-code-cases table s (c ∷ cs) h = refl
+pub token-operator : (s : Ops) (strength n : ℕ) → stepWith s (record { strength = strength; operand = false; skip = n }) ≡ operator s strength n
+unfolding operator
+token-operator s strength n = refl
 
-module _ (table : List ℕ) (s : Ops) (l : List ℕ) (some : 0 < length l) (x : OpStep) (n : ℕ) (q : AtomAt (s .operand) l n) where
+module _ (table : List ℕ) (s : Ops) (l : List ℕ) (some : 0 < length l) (operand : Bool) (o : s .operand ≡ operand) (x : OpStep) (n : ℕ) (q : AtomAt operand l n) where
   abbrev colon : Bool
-  colon = is ":" (getD l 0 0) && not (s .operand)
+  colon = is ":" (getD l 0 0) && not operand
 
-  pub code-atom : (b : Bool) → 0 < n → b ≡ endsOperand (getD l n 0) → x ≡ token s b n → x ≡ codeStep table s (getD l 0 0) (drop 1 l)
-  code-atom b h g f =
+  pub token-atom : (b : Bool) → 0 < n → b ≡ endsOperand (getD l n 0) → x ≡ token s b n → x ≡ tokenStep table s l
+  unfolding tokenStep
+  token-atom b h g f =
       let yes : colon ≡ true = by-test colon (λ t. t) (λ t. absurd (omega (arith, q .is ∙ choose-false _ _ _ t))) in
       let e : n ≡ atomLen (drop 1 l) = q .is ∙ choose-true _ _ _ yes in
       let z : eqb (atomLen (drop 1 l)) 0 ≡ false = ne-eqb (atomLen (drop 1 l)) 0 (λ (y : atomLen (drop 1 l) ≡ 0). omega arith) in
       f ∙ ap (λ (v : Bool). token s v n) g ∙ ap (λ (m : ℕ). token s (endsOperand (getD l m 0)) m) e
-      ∙ sym (code-cases table s l some ∙ choose-true _ _ _ (rw (yes, z)))
+      ∙ sym (choose-true _ _ _ (rw (o, yes, z)))
 
-  pub code-plain : n ≤ 0 → x ≡ plainStep table s l → x ≡ codeStep table s (getD l 0 0) (drop 1 l)
-  code-plain h f =
+  pub token-sign : n ≤ 0 → x ≡ signStep table s l → x ≡ tokenStep table s l
+  unfolding tokenStep
+  token-sign h f =
       let no : (colon && not (eqb (atomLen (drop 1 l)) 0)) ≡ false = by-test colon (λ t. rw (t, eq-eqb (atomLen (drop 1 l)) 0 (omega (arith, q .is ∙ choose-true _ _ _ t)))) (λ t. rw t) in
-      f ∙ sym (code-cases table s l some ∙ choose-false _ _ _ no)
+      f ∙ sym (choose-false _ _ _ (rw o no))
+
+-- ---- a byte
 
 pub opens : (x : OpStep) (m n : ℕ) → x ≡ bracket (m + 1) n false → x ≡ bracket (suc m) n false
 opens x m n e = rw (← add-one m) e
@@ -275,24 +280,72 @@ opens x m n e = rw (← add-one m) e
 pub closes : (x : OpStep) (m n c : ℕ) (b : Bool) → b ≡ endsOperand c → x ≡ bracket m (n + 1) b → x ≡ bracket m (suc n) (endsOperand c)
 closes x m n c b g e = rw (← g, ← add-one n) e
 
--- ---- a byte
+-- the steps as the code gives them
+module _ (r : PlainStep) (s : OpState) (t : OpStep) where
+  pub passed-token : (operand : Bool) (n : ℕ) → r ≡ passedIn s operand false n → stepOr (r .token) t (r .after) ≡ token (opsOf s) operand n
+  unfolding token
+  passed-token operand n e = rw e
 
-pub byte-stays : (table : List ℕ) (s : Ops) (x : Cell) (cs : List ℕ) (r : Bool) → r ≡ tail (x .ch) → r ≡ true → record { strength = 0; after = s } ≡ byteStep table s x cs
-byte-stays table s x cs r p e = sym (choose-true _ _ _ (sym p ∙ e))
+  pub passed-escape : (esc : Bool) → r ≡ passedIn s (s .operand) esc 0 → stepOr (r .token) t (r .after) ≡ escape (opsOf s) esc
+  unfolding escape
+  passed-escape esc e = rw e
 
-skip-on : (n : ℕ) (table : List ℕ) (s : Ops) (x : Cell) (cs : List ℕ) → 0 < n → token s (s .operand) (n - 1) ≡ opStepAt n table s x cs
-unfolding opStepAt
-skip-on zero table s x cs h = absurd (omega arith)
-skip-on (suc n) table s x cs h = let e : suc n - 1 ≡ n = omega arith in rw e
+  pub passed-string : r ≡ passedIn s true (s .esc) 0
+      → stepOr (r .token) t (r .after) ≡ record { strength = 0; after = record { opened = s .opened; closed = s .closed; operand = true; esc = s .esc; skip = 0 } }
+  passed-string e = rw e
 
-skip-none : (n : ℕ) (table : List ℕ) (s : Ops) (x : Cell) (cs : List ℕ) → n ≤ 0 → freshStep table s x cs ≡ opStepAt n table s x cs
-unfolding opStepAt
-skip-none zero table s x cs h = refl
-skip-none (suc n) table s x cs h = absurd (omega arith)
+pub passed-bracket : (r : PlainStep) (t : OpStep) (m n : ℕ) (operand : Bool) → r ≡ bracketIn m n operand → stepOr (r .token) t (r .after) ≡ bracket m n operand
+unfolding bracket
+passed-bracket r t m n operand e = rw e
 
-module _ (table : List ℕ) (s : Ops) (x : Cell) (cs : List ℕ) (r : Bool) (p : r ≡ tail (x .ch)) (e : r ≡ false) (y : OpStep) where
-  pub byte-skips : 0 < s .skip → y ≡ token s (s .operand) (s .skip - 1) → y ≡ byteStep table s x cs
-  byte-skips h f = f ∙ skip-on (s .skip) table s x cs h ∙ sym (choose-false _ _ _ (sym p ∙ e))
+module _ (k : ℕ) (x y z : OpStep) where
+  pub pick-string : k ≡ 1 → x ≡ y → x ≡ choose (isStr (classOf k)) y z
+  pick-string h f = f ∙ sym (choose-true _ _ _ (str-byte k ∙ eq-eqb k 1 h))
 
-  pub byte-fresh : s .skip ≤ 0 → y ≡ freshStep table s x cs → y ≡ byteStep table s x cs
-  byte-fresh h f = f ∙ skip-none (s .skip) table s x cs h ∙ sym (choose-false _ _ _ (sym p ∙ e))
+  pub pick-code : (k ≡ 1 → ⊥) → x ≡ z → x ≡ choose (isStr (classOf k)) y z
+  pick-code h f = f ∙ sym (choose-false _ _ _ (str-byte k ∙ ne-eqb k 1 h))
+
+-- a colon is neither blank nor a bracket
+colon-or : (t : OpStep) (s : Ops) (c : ℕ) → is ":" c ≡ true → codeOr t s c ≡ t
+unfolding codeOr choose
+colon-or t s c e = rw (eqb-true c 58 e)
+
+code-or : (table : List ℕ) (s : Ops) (c : ℕ) (cs : List ℕ) → codeStep table s c cs ≡ codeOr (tokenStep table s (c ∷ cs)) s c
+unfolding codeStep tokenStep signStep
+code-or table s c cs =
+    by-test (is ":" c && not (s .operand) && not (eqb (atomLen cs) 0))
+    (λ e. choose-true _ _ _ e ∙ sym (colon-or _ s c (and-left (is ":" c) (not (s .operand)) (and-left (is ":" c && not (s .operand)) (not (eqb (atomLen cs) 0)) e)) ∙ choose-true _ _ _ e))
+    (λ e. choose-false _ _ _ e ∙ (unfold codeOr in (ap (λ (t : OpStep). codeOr t s c) (sym (choose-false _ _ _ e)))))
+
+skip-or : (n : ℕ) (table : List ℕ) (s : Ops) (x : Cell) (cs : List ℕ) → opStepAt n table s x cs ≡ skipOr n (tokenStep table s (x .ch ∷ cs)) s x
+unfolding opStepAt skipOr freshStep freshOr
+skip-or zero table s x cs = rw (code-or table s (x .ch) cs)
+skip-or (suc n) table s x cs = refl
+
+-- the step of a byte, by the token that may start there
+pub byte-or : (table : List ℕ) (s : Ops) (x : Cell) (cs : List ℕ) → byteStep table s x cs ≡ byteOr (tokenStep table s (x .ch ∷ cs)) s x
+unfolding byteOr
+byte-or table s x cs = rw (skip-or (s .skip) table s x cs)
+
+skip-on : (n : ℕ) (t : OpStep) (s : Ops) (x : Cell) → 0 < n → token s (s .operand) (n - 1) ≡ skipOr n t s x
+unfolding skipOr
+skip-on zero t s x h = absurd (omega arith)
+skip-on (suc n) t s x h = let e : suc n - 1 ≡ n = omega arith in rw e
+
+skip-none : (n : ℕ) (t : OpStep) (s : Ops) (x : Cell) → n ≤ 0 → freshOr t s x ≡ skipOr n t s x
+unfolding skipOr
+skip-none zero t s x h = refl
+skip-none (suc n) t s x h = absurd (omega arith)
+
+module _ (t : OpStep) (s : Ops) (x : Cell) (r : Bool) (p : r ≡ tail (x .ch)) where
+  pub byte-stays : r ≡ true → record { strength = 0; after = s } ≡ byteOr t s x
+  unfolding byteOr
+  byte-stays e = sym (choose-true _ _ _ (sym p ∙ e))
+
+  pub byte-skips : r ≡ false → 0 < s .skip → (y : OpStep) → y ≡ token s (s .operand) (s .skip - 1) → y ≡ byteOr t s x
+  unfolding byteOr
+  byte-skips e h y f = f ∙ skip-on (s .skip) t s x h ∙ sym (choose-false _ _ _ (sym p ∙ e))
+
+  pub byte-fresh : r ≡ false → s .skip ≤ 0 → (y : OpStep) → y ≡ freshOr t s x → y ≡ byteOr t s x
+  unfolding byteOr
+  byte-fresh e h y f = f ∙ skip-none (s .skip) t s x h ∙ sym (choose-false _ _ _ (sym p ∙ e))

@@ -1,15 +1,19 @@
 -- The state and the step of top_level_ops as the code holds them.
-use Prim.Native.Nat.{ℕ, suc, _<_, _≤_, _^_}
-use mathlib.Core.Bool.{Bool, false, not, _&&_, _||_}
+use Prim.Native.Nat.{ℕ, zero, suc, _<_, _≤_, _^_}
+use mathlib.Core.Bool.{Bool, true, false, not, _&&_, _||_}
 use mathlib.Core.List.{List, [], _∷_}
 use mathlib.Core.Path.{_≡_}
 use lib.Dec.{eqb}
 use lib.ListN.{length, take, drop, getD}
-use Rattle.rules.specs.Basics.{choose, is, at, same, oneOf, isIdent}
+use Rattle.unicode.specs.Unicode.{tail}
+use Rattle.rules.specs.Basics.{choose, is, at, same, oneOf, isIdent, isBlank, isOpener, isCloser}
+use Rattle.rules.specs.Scan.{Cell, isStr}
 use Rattle.rules.specs.Words.{operators}
-use Rattle.rules.specs.SplitOperation.{Ops, OpStep, token, atomLen, twoCharStep, oneCharStep}
+use Rattle.rules.specs.SplitOperation.{Ops, OpStep, endsOperand, token, escape, bracket, atomLen, twoCharStep, oneCharStep}
 use Rattle.operators.specs.declared.OpState.{OpState}
 use Rattle.operators.specs.declared.OpFound.{OpFound}
+use Rattle.operators.specs.declared.Token.{Token}
+use Rattle.operators.specs.declared.PlainStep.{PlainStep}
 
 abbrev pub opsOf : OpState → Ops
 opsOf s = record { opened = s .opened; closed = s .closed; operand = s .operand; esc = s .esc; skip = s .skip }
@@ -21,6 +25,8 @@ stepOf r = record { strength = r .strength; after = opsOf (r .after) }
 unfoldable pub indexIn : List (List ℕ) → List ℕ → ℕ
 indexIn [] w = 0
 indexIn (k ∷ ks) w = let r = suc (indexIn ks w) in choose (same k w) 0 r
+
+-- ---- a token of code
 
 -- a character of an atom's name
 abbrev pub atomChar : ℕ → Bool
@@ -43,7 +49,56 @@ signStep table s l =
     (choose (eqb (length (take 2 l)) 2 && oneOf operators (take 2 l)) (twoCharStep table s (take 2 l) (drop 2 l))
     (oneCharStep table s (getD l 0 0) (drop 1 l))))
 
-pub record Ready (s : OpState) (l : List ℕ) : Type 0 where
-  pub some : 0 < length l
+-- the tests of `codeStep` but for blanks and brackets
+unfoldable pub tokenStep : List ℕ → Ops → List ℕ → OpStep
+tokenStep table s l =
+    choose (is ":" (getD l 0 0) && not (s .operand) && not (eqb (atomLen (drop 1 l)) 0)) (token s (endsOperand (getD l (atomLen (drop 1 l)) 0)) (atomLen (drop 1 l)))
+    (signStep table s l)
+
+-- the step that a token says in the state s: its strength counts outside brackets
+abbrev pub stepWith : Ops → Token → OpStep
+stepWith s t =
+    record {
+      strength = choose (eqb (s .opened) (s .closed)) (t .strength) 0;
+      after = record { opened = s .opened; closed = s .closed; operand = t .operand; esc = false; skip = t .skip };
+    }
+
+-- ---- a byte, where t is the step of the token that may start there
+
+-- t if the code says so, else no operator and the state r
+abbrev pub stepOr : Bool → OpStep → OpState → OpStep
+stepOr true t r = t
+stepOr false t r = record { strength = 0; after = opsOf r }
+
+abbrev pub passedIn : OpState → Bool → Bool → ℕ → PlainStep
+passedIn s operand esc skip =
+    record { token = false; after = record { opened = s .opened; closed = s .closed; operand = operand; esc = esc; skip = skip } }
+
+abbrev pub bracketIn : ℕ → ℕ → Bool → PlainStep
+bracketIn opened closed operand =
+    record { token = false; after = record { opened = opened; closed = closed; operand = operand; esc = false; skip = 0 } }
+
+unfoldable pub codeOr : OpStep → Ops → ℕ → OpStep
+codeOr t s c =
+    choose (isBlank c) (token s (s .operand) 0)
+    (choose (isOpener c) (bracket (suc (s .opened)) (s .closed) false)
+    (choose (isCloser c) (bracket (s .opened) (suc (s .closed)) (endsOperand c))
+    t))
+
+unfoldable pub freshOr : OpStep → Ops → Cell → OpStep
+freshOr t s x =
+    choose (isStr (x .class)) (record { strength = 0; after = record { opened = s .opened; closed = s .closed; operand = true; esc = s .esc; skip = 0 } })
+    (choose (s .esc) (escape s false)
+    (choose (is "\\" (x .ch)) (escape s true)
+    (codeOr t s (x .ch))))
+
+unfoldable pub skipOr : ℕ → OpStep → Ops → Cell → OpStep
+skipOr zero t s x = freshOr t s x
+skipOr (suc n) t s x = token s (s .operand) n
+
+unfoldable pub byteOr : OpStep → Ops → Cell → OpStep
+byteOr t s x = choose (tail (x .ch)) (record { strength = 0; after = s }) (skipOr (s .skip) t s x)
+
+pub record Countable (s : OpState) : Type 0 where
   pub opened : s .opened < 2 ^ 32
   pub closed : s .closed < 2 ^ 32

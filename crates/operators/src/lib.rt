@@ -1,25 +1,21 @@
 // top_level_ops: where the binary operators outside every bracket are, byte by byte.
-pub mod marks;
-
 ghost use mathlib.Core.Path.{_≡_};
 ghost use mathlib.Core.Bool.{not, _&&_, _||_};
 ghost use mathlib.Core.List.{[], _∷_};
 ghost use Prim.Native.Nat.{_<_};
 ghost use lib.Dec.{eqb};
 ghost use lib.ListN.{length, getD, drop, take};
-ghost use Rattle.rules.specs.Basics.{choose, is, at, firstIs};
-ghost use Rattle.rules.specs.Scan.{isStr, cell};
+ghost use Rattle.rules.specs.Basics.{choose, is, at, firstIs, isBlank, isOpener, isCloser};
+ghost use Rattle.rules.specs.Scan.{cell};
+ghost use Rattle.rules.specs.ClassBytes.{classOf};
 ghost use Rattle.rules.specs.Words.{operators};
-ghost use Rattle.rules.specs.SplitOperation.{endsOperand, token, operator, escape, bracket, isSign, oneCharStep, codeStep, freshStep};
-ghost use Rattle.rules.proofs.OperatorsBytes.{byteStep};
-ghost use Rattle.operators.specs.Operators.{opsOf, stepOf, indexIn, atomChar, AtomLen, AtomAt, signStep, Ready};
+ghost use Rattle.rules.specs.SplitOperation.{Ops, OpStep, endsOperand, token, isSign, oneCharStep};
+ghost use Rattle.operators.specs.Operators.{opsOf, stepOf, indexIn, atomChar, AtomLen, AtomAt, signStep, tokenStep, stepWith, stepOr, codeOr, freshOr, byteOr, passedIn, bracketIn, Countable};
 use basics::is_blank;
 use basics::is_closer;
 use basics::is_ident;
 use basics::is_opener;
 use basics::starts_with;
-use rules::Class;
-use unicode::is_tail;
 
 // Before a byte: the brackets opened and closed so far, whether an operand ends here, an escape, and how many more bytes belong to the token before.
 pub struct OpState {
@@ -33,6 +29,19 @@ pub struct OpState {
 // The strength of the operator that starts at a byte, 0 for none; and the state after the byte.
 pub struct OpFound {
     pub strength: u8,
+    pub after: OpState,
+}
+
+// A token of code: its strength if it is an operator, else 0; whether an operand ends with it; and how many more bytes it has.
+pub struct Token {
+    pub strength: u8,
+    pub operand: bool,
+    pub skip: usize,
+}
+
+// The state after a byte; or a token may start at the byte, and `token` says so.
+pub struct PlainStep {
+    pub token: bool,
     pub after: OpState,
 }
 
@@ -88,65 +97,13 @@ fn atom_len(s: &[u8]) -> usize
 }
 
 // A token of n + 1 bytes that is no operator.
-fn token(s: OpState, operand: bool, n: usize) -> OpFound
-    ensures { λ r. ⌜ stepOf r ≡ token (opsOf s) operand n ⌝ }
+fn plain_token(operand: bool, n: usize) -> Token
+    ensures { λ r. ⌜ ((s : Ops) → stepWith s r ≡ token s operand n) ⌝ }
 {
-    OpFound {
+    Token {
         strength: 0,
-        after: OpState {
-            opened: s.opened,
-            closed: s.closed,
-            operand,
-            esc: false,
-            skip: n,
-        },
-    }
-}
-
-// An operator of n + 1 bytes: it counts outside brackets, at depth exactly 0.
-fn operator(s: OpState, strength: u8, n: usize) -> OpFound
-    ensures { λ r. ⌜ stepOf r ≡ operator (opsOf s) strength n ⌝ }
-{
-    let after = OpState {
-        opened: s.opened,
-        closed: s.closed,
-        operand: false,
-        esc: false,
+        operand,
         skip: n,
-    };
-    if s.opened == s.closed {
-        return OpFound { strength, after };
-    }
-    OpFound { strength: 0, after }
-}
-
-fn escape(s: OpState, esc: bool) -> OpFound
-    ensures { λ r. ⌜ stepOf r ≡ escape (opsOf s) esc ⌝ }
-{
-    OpFound {
-        strength: 0,
-        after: OpState {
-            opened: s.opened,
-            closed: s.closed,
-            operand: s.operand,
-            esc,
-            skip: 0,
-        },
-    }
-}
-
-fn bracket(opened: usize, closed: usize, operand: bool) -> OpFound
-    ensures { λ r. ⌜ stepOf r ≡ bracket opened closed operand ⌝ }
-{
-    OpFound {
-        strength: 0,
-        after: OpState {
-            opened,
-            closed,
-            operand,
-            esc: false,
-            skip: 0,
-        },
     }
 }
 
@@ -267,12 +224,12 @@ fn strength_of(table: &[u8; 21], k: usize) -> u8
 }
 
 // The length of the atom's name after a `:` where no operand ends, or 0.
-fn atom_at(s: OpState, l: &[u8]) -> usize
+fn atom_at(operand: bool, l: &[u8]) -> usize
     requires { ⌜ 0 < length (now l) ⌝ }
-    ensures { λ r. ⌜ AtomAt (s .operand) (now (l .entry)) r ⌝ }
+    ensures { λ r. ⌜ AtomAt operand (now (l .entry)) r ⌝ }
 {
     if l[0] == b':' {
-        if s.operand {
+        if operand {
             return 0;
         }
         return atom_len(&l[1..]);
@@ -309,64 +266,130 @@ fn is_assign(l: &[u8]) -> bool
 }
 
 // A sign where no operand ends.
-fn is_unary(s: OpState, c: u8) -> bool
-    ensures { λ r. ⌜ r ≡ (isSign c && not (s .operand)) ⌝ }
+fn is_unary(operand: bool, c: u8) -> bool
+    ensures { λ r. ⌜ r ≡ (isSign c && not operand) ⌝ }
 {
-    if s.operand {
+    if operand {
         return false;
     }
     is_sign(c)
 }
 
-fn one_char_step(table: &[u8; 21], s: OpState, l: &[u8]) -> OpFound
+fn one_char_step(table: &[u8; 21], operand: bool, l: &[u8]) -> Token
     requires { ⌜ 0 < length (now l) ⌝ }
-    ensures { λ r. ⌜ stepOf r ≡ oneCharStep (now (table .entry)) (opsOf s) (getD (now (l .entry)) 0 0) (drop 1 (now (l .entry))) ⌝ }
+    ensures { λ r. ⌜ ((s : Ops) → s .operand ≡ operand → stepWith s r ≡ oneCharStep (now (table .entry)) s (getD (now (l .entry)) 0 0) (drop 1 (now (l .entry)))) ⌝ }
 {
     let c = l[0];
     let k = one_index(c);
     if 21 <= k {
-        return token(s, ends_operand(c), 0);
+        return plain_token(ends_operand(c), 0);
     }
     if is_assign(l) {
-        return token(s, false, 1);
+        return plain_token(false, 1);
     }
-    if is_unary(s, c) {
-        return token(s, false, 0);
+    if is_unary(operand, c) {
+        return plain_token(false, 0);
     }
-    operator(s, strength_of(table, k), 0)
+    Token {
+        strength: strength_of(table, k),
+        operand: false,
+        skip: 0,
+    }
 }
 
-fn sign_step(table: &[u8; 21], s: OpState, l: &[u8]) -> OpFound
+fn sign_step(table: &[u8; 21], operand: bool, l: &[u8]) -> Token
     requires { ⌜ 0 < length (now l) ⌝ }
-    ensures { λ r. ⌜ stepOf r ≡ signStep (now (table .entry)) (opsOf s) (now (l .entry)) ⌝ }
+    ensures { λ r. ⌜ ((s : Ops) → s .operand ≡ operand → stepWith s r ≡ signStep (now (table .entry)) s (now (l .entry))) ⌝ }
 {
     if starts_with(l, b"...") {
-        return token(s, false, 2);
+        return plain_token(false, 2);
     }
     if is_arrow(l) {
-        return token(s, false, 1);
+        return plain_token(false, 1);
     }
     let k = two_at(l);
     if 21 <= k {
-        return one_char_step(table, s, l);
+        return one_char_step(table, operand, l);
     }
     if is_shift_assign(l) {
-        return token(s, false, 2);
+        return plain_token(false, 2);
     }
-    operator(s, strength_of(table, k), 1)
+    Token {
+        strength: strength_of(table, k),
+        operand: false,
+        skip: 1,
+    }
 }
 
-fn code_step(table: &[u8; 21], s: OpState, l: &[u8]) -> OpFound
-    requires { ⌜ Ready s (now l) ⌝ }
-    ensures { λ r. ⌜ stepOf r ≡ codeStep (now (table .entry)) (opsOf s) (getD (now (l .entry)) 0 0) (drop 1 (now (l .entry))) ⌝ }
+// The token at the head of l, which is code and neither blank nor a bracket.
+pub fn token_at(table: &[u8; 21], operand: bool, l: &[u8]) -> Token
+    requires { ⌜ 0 < length (now l) ⌝ }
+    ensures { λ r. ⌜ ((s : Ops) → s .operand ≡ operand → stepWith s r ≡ tokenStep (now (table .entry)) s (now (l .entry))) ⌝ }
 {
-    let n = atom_at(s, l);
+    let n = atom_at(operand, l);
     if 0 < n {
-        return token(s, ends_operand(l[n]), n);
+        return plain_token(ends_operand(l[n]), n);
     }
-    let c = l[0];
+    sign_step(table, operand, l)
+}
+
+// What a token says of the state: its strength counts outside brackets, at depth exactly 0.
+pub fn found(s: OpState, t: Token) -> OpFound
+    ensures { λ r. ⌜ stepOf r ≡ stepWith (opsOf s) t ⌝ }
+{
+    let after = OpState {
+        opened: s.opened,
+        closed: s.closed,
+        operand: t.operand,
+        esc: false,
+        skip: t.skip,
+    };
+    if s.opened == s.closed {
+        return OpFound {
+            strength: t.strength,
+            after,
+        };
+    }
+    OpFound { strength: 0, after }
+}
+
+// The state after a byte that is no operator and no bracket.
+fn passed(s: OpState, operand: bool, esc: bool, skip: usize) -> PlainStep
+    ensures { λ r. ⌜ r ≡ passedIn s operand esc skip ⌝ }
+{
+    PlainStep {
+        token: false,
+        after: OpState {
+            opened: s.opened,
+            closed: s.closed,
+            operand,
+            esc,
+            skip,
+        },
+    }
+}
+
+fn bracket(opened: usize, closed: usize, operand: bool) -> PlainStep
+    ensures { λ r. ⌜ r ≡ bracketIn opened closed operand ⌝ }
+{
+    PlainStep {
+        token: false,
+        after: OpState {
+            opened,
+            closed,
+            operand,
+            esc: false,
+            skip: 0,
+        },
+    }
+}
+
+fn code_step(s: OpState, c: u8) -> PlainStep
+    requires { ⌜ Countable s ⌝ }
+    ensures { λ r. ⌜ ((t : OpStep) → stepOr (r .token) t (r .after) ≡ codeOr t (opsOf s) c) ⌝ }
+{
     if is_blank(c) {
-        return token(s, s.operand, 0);
+        return passed(s, s.operand, false, 0);
     }
     if is_opener(c) {
         return bracket(s.opened + 1, s.closed, false);
@@ -374,61 +397,43 @@ fn code_step(table: &[u8; 21], s: OpState, l: &[u8]) -> OpFound
     if is_closer(c) {
         return bracket(s.opened, s.closed + 1, ends_operand(c));
     }
-    sign_step(table, s, l)
-}
-
-fn is_str(k: Class) -> bool
-    ensures { λ r. ⌜ r ≡ isStr k ⌝ }
-{
-    match k {
-        Class::Code => false,
-        Class::Str => true,
-        Class::LineComment => false,
-        Class::BlockComment => false,
-        Class::Prefab => false,
+    PlainStep {
+        token: true,
+        after: s,
     }
 }
 
 // A string is one operand; an escaped character is passed over.
-fn fresh_step(table: &[u8; 21], s: OpState, l: &[u8], k: Class) -> OpFound
-    requires { ⌜ Ready s (now l) ⌝ }
-    ensures { λ r. ⌜ stepOf r ≡ freshStep (now (table .entry)) (opsOf s) (cell (getD (now (l .entry)) 0 0) k) (drop 1 (now (l .entry))) ⌝ }
+fn fresh_step(s: OpState, k: u8, c: u8) -> PlainStep
+    requires { ⌜ Countable s ⌝ }
+    ensures { λ r. ⌜ ((t : OpStep) → stepOr (r .token) t (r .after) ≡ freshOr t (opsOf s) (cell c (classOf k))) ⌝ }
 {
-    if is_str(k) {
-        return OpFound {
-            strength: 0,
-            after: OpState {
-                opened: s.opened,
-                closed: s.closed,
-                operand: true,
-                esc: s.esc,
-                skip: 0,
-            },
-        };
+    if k == 1 {
+        return passed(s, true, s.esc, 0);
     }
     if s.esc {
-        return escape(s, false);
+        return passed(s, s.operand, false, 0);
     }
-    if l[0] == b'\\' {
-        return escape(s, true);
+    if c == b'\\' {
+        return passed(s, s.operand, true, 0);
     }
-    code_step(table, s, l)
+    code_step(s, c)
 }
 
-// The step at the head of l. A byte that starts no character leaves the state as it is.
-pub fn op_step(table: &[u8; 21], s: OpState, l: &[u8], k: Class) -> OpFound
-    requires { ⌜ Ready s (now l) ⌝ }
-    ensures { λ r. ⌜ stepOf r ≡ byteStep (now (table .entry)) (opsOf s) (cell (getD (now (l .entry)) 0 0) k) (drop 1 (now (l .entry))) ⌝ }
+// The step of the byte c with the class byte k. A byte that starts no character leaves the state as it is.
+pub fn plain_step(s: OpState, k: u8, c: u8) -> PlainStep
+    requires { ⌜ Countable s ⌝ }
+    ensures { λ r. ⌜ ((t : OpStep) → stepOr (r .token) t (r .after) ≡ byteOr t (opsOf s) (cell c (classOf k))) ⌝ }
 {
-    if is_tail(l[0]) {
-        return OpFound {
-            strength: 0,
+    if unicode::is_tail(c) {
+        return PlainStep {
+            token: false,
             after: s,
         };
     }
     let n = s.skip;
     if 0 < n {
-        return token(s, s.operand, n - 1);
+        return passed(s, s.operand, false, n - 1);
     }
-    fresh_step(table, s, l, k)
+    fresh_step(s, k, c)
 }

@@ -1,50 +1,60 @@
 use borrow.Author.Needs.{needs}
+use native.Mathlib.Omega.{arith}
 use Rattle.rules.proofs.Choose.{picks}
-use Rattle.rules.specs.SplitOperation.{freshStep}
+use Rattle.operators.specs.Operators.{freshOr}
+use Rattle.operators.proofs.OperatorLaws.{passed-string, passed-escape, pick-string, pick-code}
 use Rattle.operators.proofs.fresh_step.Statement.{statement}
 use Rattle.operators.proofs.fresh_step.Tie as tie
+use Rattle.operators.proofs.fresh_step.Reads as reads
+use Rattle.operators.proofs.fresh_step.Lts as lts
+use Rattle.operators.proofs.code_step.Reads as code-step-reads
+use Rattle.operators.proofs.passed.Reads as passed-reads
 
-is-str-requires : tie.Need-is-str-requires
-is-str-requires c κs = search needs
+-- src/lib.rt:442:9
+passed-requires : tie.Need-passed-requires
+passed-requires c κs = search needs
 
+-- src/lib.rt:442:9
 returns : tie.Need-returns
-unfolding freshStep
-returns c = search picks depth 20
+unfolding freshOr
+returns c = λ t. search (picks, passed-string, pick-string) depth 20
 
-escape-requires : tie.Need-escape-requires
-escape-requires c κs = search needs
+-- src/lib.rt:445:9
+passed-requires-2 : tie.Need-passed-requires-2
+passed-requires-2 c κs = search needs
 
+-- src/lib.rt:445:9
 returns-2 : tie.Need-returns-2
-unfolding freshStep
-returns-2 c = search picks depth 20
+unfolding freshOr
+returns-2 c = λ t. search (picks, passed-escape, pick-code) depth 20
 
-shared-slice-read-if3 : tie.Need-shared-slice-read-if3
-shared-slice-read-if3 c = search needs
+-- src/lib.rt:448:9
+passed-requires-3 : tie.Need-passed-requires-3
+passed-requires-3 c κs = search needs
 
-escape-requires-2 : tie.Need-escape-requires-2
-escape-requires-2 c κs = search needs
-
+-- src/lib.rt:448:9
 returns-3 : tie.Need-returns-3
-unfolding freshStep
-returns-3 c = search picks depth 20
+unfolding freshOr
+returns-3 c = λ t. search (picks, passed-escape, pick-code) depth 20
 
+-- src/lib.rt:450:5
 code-step-requires : tie.Need-code-step-requires
 code-step-requires c κs = search needs
 
+-- src/lib.rt:437:1
 returns-4 : tie.Need-returns-4
-unfolding freshStep
-returns-4 c = search picks depth 20
+unfolding freshOr
+returns-4 c = λ t. let h = c .code-step .ensures t in search (picks, pick-code) depth 20
 
 pub fresh-step-spec : {M : Type 1} → statement M
 fresh-step-spec =
     tie.close
     (tie.spec
-    is-str-requires
+    passed-requires
     returns
-    escape-requires
+    passed-requires-2
     returns-2
-    shared-slice-read-if3
-    escape-requires-2
+    passed-requires-3
     returns-3
     code-step-requires
     returns-4)

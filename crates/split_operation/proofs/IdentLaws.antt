@@ -1,31 +1,30 @@
 -- Laws of a run of letters, digits and underscores in code: it leaves the marks as they are, and an operand ends with it.
-use Prim.Native.Nat.{ℕ, zero, suc, _+_, _-_, _≤_, _<_, zero-le}
-use mathlib.Core.Bool.{Bool, true, false, and-false}
+use Prim.Native.Nat.{ℕ, zero, suc, _+_, _-_, _≤_, _<_}
+use mathlib.Core.Bool.{Bool, true, false, and-false, true≢false}
 use mathlib.Core.List.{List, [], _∷_}
 use mathlib.Core.Logic.{_⊎_, inl, inr}
 use mathlib.Core.Path.{_≡_, refl, sym, ap, _∙_, subst}
 use native.Mathlib.Omega.{arith}
 use lib.Dec.{eqb}
-use lib.ListN.{length, getD, take, drop, length-drop}
-use lib.Seq.{drop-cons, getD-drop}
+use lib.ListN.{length, getD, take, drop}
 use borrow.Author.Tests.{eqb-true, lt-leb, ltb-true}
-use Rattle.buffer.proofs.RegionLaws.{part-from}
 use Rattle.unicode.specs.Unicode.{tail}
-use Rattle.unicode.proofs.Tests.{by-test, split}
+use Rattle.unicode.proofs.Tests.{by-test, split, and-left, and-right}
 use Rattle.rules.specs.declared.Class.{Class}
-use Rattle.rules.specs.declared.Mode.{Mode}
 use Rattle.rules.specs.Basics.{choose, same, oneOf, startsWith, isIdent, isOpener, isCloser}
-use Rattle.rules.specs.Scan.{one, Cell, cell, next, inCode}
+use Rattle.rules.specs.Scan.{Cell, cell, isCode}
+use Rattle.rules.specs.ClassBytes.{classOf}
 use Rattle.rules.specs.Words.{operators}
-use Rattle.rules.specs.SplitOperation.{Ops, endsOperand, token, oneCharStep, codeStep, freshStep, opStepAt}
+use Rattle.rules.specs.SplitOperation.{Ops, endsOperand, token, oneCharStep, codeStep, freshStep, opStepAt, inWord}
 use Rattle.rules.proofs.Choose.{choose-false}
 use Rattle.rules.proofs.StartsBytes.{low-of, steady-ident}
+use Rattle.rules.proofs.CellsLaws.{cellAt}
 use Rattle.rules.proofs.OperatorsBytes.{byteStep}
-use Rattle.split_operation.specs.declared.pass.Reading.{Reading}
-use Rattle.split_operation.specs.declared.pass.Pass.{Pass}
+use Rattle.operators.specs.declared.OpState.{OpState}
 use Rattle.operators.specs.Operators.{opsOf, stepOf}
-use Rattle.split_operation.specs.Pass.{Plain, PlainTest, IdentLen, IdentRun, pastIdent, pastIdents, ReadOne, Balances, Passing}
-use Rattle.split_operation.proofs.PassLaws.{ReadAt, read-one, read-drop, looser-zero, eqb-swap, balance-fell, balance-plain, word-on, passing-read, Seeking, seek-read}
+use Rattle.split_operation.specs.declared.pass.Pass.{Pass}
+use Rattle.split_operation.specs.Pass.{Breakable, Plain, PlainTest, IdentRun, PlainRun, pastIdent, pastIdents, Balances, Seeking, Passing}
+use Rattle.split_operation.proofs.PassLaws.{ReadAt, read-step, looser-zero, eqb-swap, balance-fell, balance-plain, word-on, passing-more, seek-read, ops-left}
 
 -- ---- one of them
 
@@ -42,10 +41,6 @@ module _ (c : ℕ) (h : isIdent c ≡ true) where
   unfolding oneOf same isIdent
   no-operator w =
       rw (apart′ 124 refl, apart′ 94 refl, apart′ 38 refl, apart′ 61 refl, apart′ 33 refl, apart′ 60 refl, apart′ 62 refl, apart′ 46 refl, apart′ 43 refl, apart′ 45 refl, apart′ 42 refl, apart′ 47 refl, apart′ 37 refl)
-
-  ident-mark : (s : List ℕ) → inCode (c ∷ s) ≡ one Class.Code Mode.Code
-  unfolding inCode startsWith choose isIdent
-  ident-mark s = rw (apart 92 refl, apart 34 refl, apart 39 refl, apart 47 refl, apart 36 refl)
 
   ident-code : (table : List ℕ) (s : Ops) (cs : List ℕ) → codeStep table s c cs ≡ token s true 0
   unfolding codeStep oneCharStep endsOperand startsWith choose isIdent
@@ -91,108 +86,104 @@ module _ (c : ℕ) (h : isIdent c ≡ true) where
   ident-at zero table s cs z e = ident-fresh table s cs e
   ident-at (suc n) table s cs z e = absurd (omega arith)
 
-  ident-step : (table : List ℕ) (r : Reading) (cs : List ℕ) → Plain r → stepOf (record { strength = 0; after = pastIdent r .ops }) ≡ byteStep table (opsOf (r .ops)) (cell c Class.Code) cs
+  ident-step : (table : List ℕ) (s : OpState) (cs : List ℕ) → Plain s → stepOf (record { strength = 0; after = pastIdent s }) ≡ byteStep table (opsOf s) (cell c Class.Code) cs
   unfolding token
-  ident-step table r cs p = sym (choose-false _ _ _ ident-low ∙ ident-at (r .ops .skip) table (opsOf (r .ops)) cs (p .skip) (p .esc))
+  ident-step table s cs p = sym (choose-false _ _ _ ident-low ∙ ident-at (s .skip) table (opsOf s) cs (p .skip) (p .esc))
 
-  ident-next : (r : Reading) (cs : List ℕ) → Plain r → one Class.Code Mode.Code ≡ next (r .mark) (c ∷ cs)
-  ident-next r cs p = sym (rw (p .more, p .mode) (ident-mark cs))
+code-class : (k : Class) → isCode k ≡ true → k ≡ Class.Code
+code-class Class.Code e = refl
+code-class Class.Str e = absurd (true≢false (sym e))
+code-class Class.LineComment e = absurd (true≢false (sym e))
+code-class Class.BlockComment e = absurd (true≢false (sym e))
+code-class Class.Prefab e = absurd (true≢false (sym e))
 
-module _ (table : List ℕ) (r : Reading) (line : List ℕ) (i : ℕ) (h : i < length line) (p : Plain r) (e : isIdent (getD line i 0) ≡ true) where
-  ident-one : ReadOne table r (drop i line) (record { strength = 0; after = pastIdent r })
-  ident-one =
-      let d : drop i line ≡ getD line i 0 ∷ drop (suc i) line = drop-cons line i 0 h in
-      subst (λ (l : List ℕ). ReadOne table r l (record { strength = 0; after = pastIdent r })) (sym d)
-      (read-one table (getD line i 0 ∷ drop (suc i) line) r (one Class.Code Mode.Code) (record { strength = 0; after = pastIdent r .ops }) (omega arith)
-      (ident-next (getD line i 0) e r (drop (suc i) line) p) (ident-step (getD line i 0) e table r (drop (suc i) line) p))
+module _ (table : List ℕ) (s : OpState) (line class : List ℕ) (i : ℕ) (h : i < length line) (b : Breakable line class) (p : Plain s) (e : inWord (cellAt line class i) ≡ true) where
+  is-code : isCode (classOf (getD class i 0)) ≡ true
+  is-code = and-left (isCode (classOf (getD class i 0))) (isIdent (getD line i 0)) e
 
-  ident-read : ReadAt table r line i (record { strength = 0; after = pastIdent r })
-  ident-read = read-drop line i ident-one
+  is-ident : isIdent (getD line i 0) ≡ true
+  is-ident = and-right (isCode (classOf (getD class i 0))) (isIdent (getD line i 0)) e
 
-past-plain : (r : Reading) → Plain (pastIdent r)
-past-plain r = record { more = refl; mode = refl; skip = refl; esc = refl }
+  ident-read : ReadAt table s line class i (record { strength = 0; after = pastIdent s })
+  ident-read =
+      read-step table s line class i h b (record { strength = 0; after = pastIdent s })
+      (ident-step (getD line i 0) is-ident table s (drop (i + 1) line) p
+      ∙ ap (λ (k : Class). byteStep table (opsOf s) (cell (getD line i 0) k) (drop (i + 1) line)) (sym (code-class (classOf (getD class i 0)) is-code)))
+
+  ident-balance : (d : ℕ) → Balances d (cellAt line class i) d
+  ident-balance zero = balance-fell (cellAt line class i) 0 refl
+  ident-balance (suc d) =
+      balance-plain (suc d) (cellAt line class i) (λ (z : suc d ≡ 0). omega arith) true (sym is-code) refl false (sym (ident-opener (getD line i 0) is-ident)) refl false
+      (sym (ident-closer (getD line i 0) is-ident)) refl
+
+past-plain : (s : OpState) → Plain (pastIdent s)
+past-plain s = record { skip = refl; esc = refl }
 
 -- ---- a run of them
 
-module _ (table line : List ℕ) (p : Pass) (i : ℕ) (q : Passing table line p i) (h : i < length line) (y : Plain (p .reading)) (e : isIdent (getD line i 0) ≡ true) where
-  abbrev x : Cell
-  x = cell (getD line i 0) Class.Code
+passing-ident : (table line class : List ℕ) (p : Pass) (i : ℕ) → Passing table line class p i → i < length line → Plain (p .ops .ops) → inWord (cellAt line class i) ≡ true
+    → Passing table line class (pastIdents p) (i + 1)
+passing-ident table line class p i q h y e =
+    passing-more table line class p i q h (pastIdents p .ops)
+    (ops-left (q .ops) h (record { strength = 0; after = pastIdent (p .ops .ops) }) (ident-read table (p .ops .ops) line class i h (q .ops .breaks) y e) (looser-zero (p .ops .strength)))
+    (record { start = p .start; found = false }) (word-on line (p .start) i (cellAt line class i) (h, q .start) true (sym e) refl refl)
+    (p .depth) (ident-balance table (p .ops .ops) line class i h (q .ops .breaks) y e (p .depth)) refl
 
-  ident-balance : (d : ℕ) → Balances d x d
-  ident-balance zero = balance-fell x 0 refl
-  ident-balance (suc d) = balance-plain (suc d) x (λ (z : suc d ≡ 0). omega arith) true refl refl false (sym (ident-opener (getD line i 0) e)) refl false (sym (ident-closer (getD line i 0) e)) refl
+module _ {line class : List ℕ} {i e : ℕ} {s : OpState} (u : PlainRun line class i s e) (h : i < e) where
+  -- what one of them leaves as it is, the run does
+  run-ends : (P : OpState → ℕ → Type 0) → ((t : OpState) (k : ℕ) → k < length line → Plain t → inWord (cellAt line class k) ≡ true → P t k → P (pastIdent t) (k + 1)) → P s i → P (pastIdent s) e
+  run-ends P f q = subst (P (pastIdent s)) whole (go n (omega arith))
+    where
+      n : ℕ
+      n = e - (i + 1)
 
-  passing-ident : Passing table line (pastIdents p) (i + 1)
-  passing-ident =
-      passing-read table line p i (record { strength = 0; after = pastIdent (p .reading) }) (p .word) (p .depth) (p .loosest) q h (ident-read table (p .reading) line i h y e)
-      (word-on line (p .word) i x (h, q .start) true (sym e) refl refl) (ident-balance (p .depth)) (sym (looser-zero (p .loosest)))
+      whole : i + 1 + n ≡ e
+      whole = omega arith
 
-pub passing-run : (table line : List ℕ) (p : Pass) (i n : ℕ) → Passing table line p i → IdentRun line i (p .reading) n → 0 < n → Passing table line (pastIdents p) (i + n)
-passing-run table line p i n q r h = go n h (r .fits) (r .idents)
-  where
-    go : (k : ℕ) → 0 < k → i + k ≤ length line → ((j : ℕ) → j < k → isIdent (getD line (i + j) 0) ≡ true) → Passing table line (pastIdents p) (i + k)
-    go zero a b f = absurd (omega arith)
-    go (suc zero) a b f =
-        let z : i + 0 ≡ i = omega arith in
-        passing-ident table line p i q (omega arith) (r .plain h) (rw z at (f 0 (omega arith)))
-    go (suc (suc k)) a b f =
-        let z : i + suc (suc k) ≡ i + suc k + 1 = omega arith in
-        rw z (passing-ident table line (pastIdents p) (i + suc k) (go (suc k) (omega arith) (omega arith) (λ j l. f j (omega arith))) (omega arith) (past-plain (p .reading)) (f (suc k) (omega arith)))
+      go : (k : ℕ) → i + 1 + k ≤ e → P (pastIdent s) (i + 1 + k)
+      go zero l =
+          let z : i + 1 + 0 ≡ i + 1 = omega arith in
+          rw z (f s i (omega (arith, u .run .fits)) (u .plain h) (u .run .idents i (omega arith) h) q)
+      go (suc k) l =
+          let z : i + 1 + suc k ≡ i + 1 + k + 1 = omega arith in
+          rw z (f (pastIdent s) (i + 1 + k) (omega (arith, u .run .fits)) (past-plain s) (u .run .idents (i + 1 + k) (omega arith) (omega arith)) (go k (omega arith)))
 
-module _ {table : List ℕ} {strength : ℕ} {line : List ℕ} {from : ℕ} {start r : Reading} where
-  seek-ident : (i : ℕ) → Seeking table strength line from start r i → i < length line → Plain r → isIdent (getD line i 0) ≡ true → Seeking table strength line from start (pastIdent r) (i + 1)
-  seek-ident i q h y e = seek-read q (record { strength = 0; after = pastIdent r }) h (ident-read table r line i h y e) (λ z. q .some (sym z))
+-- the pass p, its state replaced
+abbrev withState : Pass → OpState → Pass
+withState p s = record { ops = record { ops = s; strength = p .ops .strength; cut = p .ops .cut }; start = p .start; depth = p .depth }
 
-pub seek-run : {table : List ℕ} {strength : ℕ} {line : List ℕ} {from : ℕ} {start r : Reading} (i n : ℕ) → Seeking table strength line from start r i → IdentRun line i r n → 0 < n
-    → Seeking table strength line from start (pastIdent r) (i + n)
-seek-run {table} {strength} {line} {from} {start} {r} i n q u h = go n h (u .fits) (u .idents)
-  where
-    go : (k : ℕ) → 0 < k → i + k ≤ length line → ((j : ℕ) → j < k → isIdent (getD line (i + j) 0) ≡ true) → Seeking table strength line from start (pastIdent r) (i + k)
-    go zero a b f = absurd (omega arith)
-    go (suc zero) a b f =
-        let z : i + 0 ≡ i = omega arith in
-        seek-ident i q (omega arith) (u .plain h) (rw z at (f 0 (omega arith)))
-    go (suc (suc k)) a b f =
-        let z : i + suc (suc k) ≡ i + suc k + 1 = omega arith in
-        rw z (seek-ident (i + suc k) (go (suc k) (omega arith) (omega arith) (λ j l. f j (omega arith))) (omega arith) (past-plain r) (f (suc k) (omega arith)))
+pub passing-past : (table line class : List ℕ) (p p′ : Pass) (i e : ℕ) → Passing table line class p i → PlainRun line class i (p .ops .ops) e → i < e → p′ ≡ pastIdents p → Passing table line class p′ e
+passing-past table line class p p′ i e q u h z =
+    subst (λ (x : Pass). Passing table line class x e) (sym z)
+    (run-ends u h (λ (t : OpState) (k : ℕ). Passing table line class (withState p t) k) (λ t k l y w r. passing-ident table line class (withState p t) k r l y w) q)
+
+pub seek-past : {table : List ℕ} {strength : ℕ} {line class : List ℕ} {from : ℕ} {start s : OpState} (s′ : OpState) (i e : ℕ) → Seeking table strength line class from start s i → PlainRun line class i s e → i < e → s′ ≡ pastIdent s
+    → Seeking table strength line class from start s′ e
+seek-past {table} {strength} {line} {class} {from} {start} s′ i e q u h z =
+    subst (λ (x : OpState). Seeking table strength line class from start x e) (sym z)
+    (run-ends u h (λ (t : OpState) (k : ℕ). Seeking table strength line class from start t k)
+    (λ t k l y w r. seek-read r (record { strength = 0; after = pastIdent t }) l (ident-read table t line class k l (r .breaks) y w) (λ o. r .some (sym o))) q)
 
 -- ---- the functions
 
-pub plain-test : (r : Reading) (b : Bool) → (r .mark .more ≡ 0) → (r .ops .skip ≡ 0) → r .ops .esc ≡ false → (b ≡ true → r .mark .mode ≡ Mode.Code) → PlainTest r b
-plain-test r b m s e f = record { yes = λ y. record { more = m; mode = f y; skip = s; esc = e } }
+pub plain-test : (s : OpState) → (s .skip ≡ 0) → s .esc ≡ false → PlainTest s true
+plain-test s z e = record { yes = λ y. record { skip = z; esc = e } }
 
-pub not-plain : (r : Reading) → PlainTest r false
-not-plain r = record { yes = λ y. absurd (let z : _≡_ {A = ℕ} 0 1 = cc in omega arith) }
+pub not-plain : (s : OpState) → PlainTest s false
+not-plain s = record { yes = λ y. absurd (true≢false (sym y)) }
 
-pub ident-begin : (s : List ℕ) → IdentLen s 0
-ident-begin s = record { fits = zero-le; idents = λ k h. absurd (omega arith) }
+pub ident-begin : (line class : List ℕ) (from : ℕ) → from ≤ length line → IdentRun line class from from
+ident-begin line class from h = record { after = omega arith; fits = h; idents = λ k a l. absurd (omega arith) }
 
-pub ident-more : (s : List ℕ) (i : ℕ) (r : Bool) → IdentLen s i → i < length s → r ≡ isIdent (getD s i 0) → r ≡ true → IdentLen s (i + 1)
-ident-more s i r q h p e = record { fits = omega arith; idents = λ k l. go k (split k i) l }
+pub ident-more : (line class : List ℕ) (from i : ℕ) (r : Bool) → IdentRun line class from i → i < length line → r ≡ inWord (cell (getD line i 0) (classOf (getD class i 0))) → r ≡ true → IdentRun line class from (i + 1)
+ident-more line class from i r q h p e = record { after = omega (arith, q .after); fits = omega arith; idents = λ k a l. go k (split k i) a l }
   where
-    go : (k : ℕ) → (k < i) ⊎ (i ≤ k) → k < i + 1 → isIdent (getD s k 0) ≡ true
-    go k (inl a) l = q .idents k a
-    go k (inr a) l = let z : k ≡ i = omega arith in rw z (sym p ∙ e)
+    go : (k : ℕ) → (k < i) ⊎ (i ≤ k) → from ≤ k → k < i + 1 → inWord (cellAt line class k) ≡ true
+    go k (inl b) a l = q .idents k a b
+    go k (inr b) a l = let z : k ≡ i = omega arith in rw z (sym p ∙ e)
 
-pub no-run : (line : List ℕ) (from : ℕ) (r : Reading) → from ≤ length line → IdentRun line from r 0
-no-run line from r h = record { fits = omega arith; plain = λ z. absurd (omega arith); idents = λ k l. absurd (omega arith) }
+pub no-run : (line class : List ℕ) (from : ℕ) (s : OpState) → from ≤ length line → PlainRun line class from s from
+no-run line class from s h = record { run = ident-begin line class from h; plain = λ z. absurd (omega arith) }
 
-pub some-run : (line : List ℕ) (from : ℕ) (r : Reading) (b : Bool) (n : ℕ) → from ≤ length line → PlainTest r b → b ≡ true → IdentLen (take (length line - from) (drop from line)) n → IdentRun line from r n
-some-run line from r b n h t e q =
-    let d : take (length line - from) (drop from line) ≡ drop from line = part-from line from in
-    record {
-      fits = omega (arith, q .fits, ap length d, length-drop from line);
-      plain = λ z. t .yes e;
-      idents = λ k l. subst (λ (c : ℕ). isIdent c ≡ true) (ap (λ (s : List ℕ). getD s k 0) d ∙ getD-drop from line k 0) (q .idents k l);
-    }
-
--- the same, as the calls say it
-pub passing-past : (table line : List ℕ) (p p′ : Pass) (i n : ℕ) → Passing table line p i → IdentRun line i (p .reading) n → 0 < n → p′ ≡ pastIdents p → Passing table line p′ (i + n)
-passing-past table line p p′ i n q r h e = subst (λ (x : Pass). Passing table line x (i + n)) (sym e) (passing-run table line p i n q r h)
-
-pub seek-past : {table : List ℕ} {strength : ℕ} {line : List ℕ} {from : ℕ} {start r : Reading} (r′ : Reading) (i n : ℕ) → Seeking table strength line from start r i → IdentRun line i r n → 0 < n → r′ ≡ pastIdent r
-    → Seeking table strength line from start r′ (i + n)
-seek-past {table} {strength} {line} {from} {start} r′ i n q u h e = subst (λ (x : Reading). Seeking table strength line from start x (i + n)) (sym e) (seek-run i n q u h)
-
-pub no-way : {A : Type 0} → false ≡ true → A
-no-way e = absurd (let z : _≡_ {A = ℕ} 0 1 = cc in omega arith)
+pub some-run : (line class : List ℕ) (from : ℕ) (s : OpState) (b : Bool) (e : ℕ) → PlainTest s b → b ≡ true → IdentRun line class from e → PlainRun line class from s e
+some-run line class from s b e t y q = record { run = q; plain = λ z. t .yes y }

@@ -16,49 +16,50 @@ use Rattle.buffer.proofs.WriteLaws.{appended-nil, appended-append}
 use Rattle.unicode.specs.Unicode.{encode, decode, Scalars, WellFormed, trim}
 use Rattle.unicode.proofs.Decode.{decode-encode, decode-scalars, wf-encode}
 use Rattle.rules.specs.declared.Carry.{Carry}
-use Rattle.rules.specs.declared.Mark.{Mark}
 use Rattle.rules.specs.Basics.{choose, isEmpty, Pieces}
-use Rattle.rules.specs.Scan.{Cell, charsOf, classify}
+use Rattle.rules.specs.Scan.{Cell, charsOf, classify, allCodeOrStr}
+use Rattle.rules.specs.ClassBytes.{cellsOf}
 use Rattle.rules.specs.Options.{Options, indentOf, measure, overWide}
-use Rattle.rules.specs.SplitOperation.{Ops, OpMark, opStep, noOps, marksFrom, topLevelOps, hasWord, isBalanced, keywords, loosest, atMark, cutBefore, trimmed, breakAt, splitOnce, nextBreak, breakOn, breakFirst, layPieces, splitOperation}
+use Rattle.rules.specs.SplitOperation.{strengths, Ops, OpMark, opStep, noOps, marksFrom, topLevelOps, hasWord, isBalanced, keywords, loosest, atMark, cutBefore, trimmed, breakAt, splitOnce, nextBreak, breakOn, breakFirst, layPieces, splitOperation}
 use Rattle.rules.proofs.Choose.{choose-true, choose-false}
-use Rattle.rules.proofs.ScanBytes.{encodeCells, classify-encode, chars-classify}
+use Rattle.rules.proofs.ScanBytes.{encodeCells, classify-encode, chars-classify, all-encode}
+use Rattle.rules.proofs.CellsLaws.{cells-bytes}
+use Rattle.rules.proofs.Twelve.{twelve-lines}
 use Rattle.rules.proofs.WordsBytes.{encodePieces, balanced-encode, keywords-encode}
 use Rattle.rules.proofs.OperatorsBytes.{byteMarks, encodeMarks, marks-encode, loosest-encode, cut-encode}
 use Rattle.split_operation.specs.declared.pass.Cut.{Cut}
-use Rattle.split_operation.specs.declared.pass.Reading.{Reading}
+use Rattle.split_operation.specs.declared.pass.Break.{Break}
 use Rattle.split.specs.declared.Part.{Part}
 use Rattle.split.specs.declared.NewLine.{NewLine}
 use Rattle.split_operation.specs.declared.OperationSplit.{OperationSplit}
-use Rattle.operators.specs.Marks.{depthOf}
-use Rattle.operators.specs.Operators.{opsOf}
 use Rattle.split.specs.Measure.{Measured, Indent, IndentMeasured, Within, Trimmed}
 use Rattle.split.specs.Text.{indented, lay, AllWell, following, lastOf, LineRoom, LineWritten, Fits, lineRoom}
-use Rattle.split_operation.specs.Pass.{Begins, Sound, Cutting, breakStrength, restFrom, cutsAt, NextOp}
-use Rattle.split_operation.specs.Operation.{Broken, trimBytes, restLines, RestFits, After, RestWritten, LineFits, roundStrength, firstLine, otherLines, PiecesWritten, brokenIn, FirstBroken}
+use Rattle.split_operation.specs.Pass.{fresh, Sound, Breakable, Cutting, breakStrength, restFrom, cutsAt, NextOp, Unbroken, BreakFound}
+use Rattle.split_operation.specs.Operation.{Broken, trimBytes, restLines, RestFits, After, RestWritten, Classed, OperationFits, LineFits, roundStrength, RoundBreak, FirstPiece, firstLine, otherLines, PiecesWritten, brokenIn, FirstBroken}
 use Rattle.split.proofs.MeasureLaws.{measure-append, part-length}
 use Rattle.split.proofs.TextLaws.{AllScalars, all-well, following-append, last-append, written-lines, lay-encode, indent-short, level-fits, deeper-fits}
+use Rattle.split_operation.proofs.ClassLaws.{class-length, piece-classed}
 
 -- ---- a line broken once: on bytes as on characters
 
-module _ (table line : List ℕ) (w : WellFormed line) where
+module _ (table line class : List ℕ) (w : WellFormed line) (k : Classed line class) where
   abbrev cells : List Cell
   cells = classify Carry.Code (decode line)
 
   abbrev marks : List OpMark
   marks = topLevelOps table cells
 
-  cells-line : classify Carry.Code line ≡ encodeCells cells
-  cells-line = ap (classify Carry.Code) (sym w) ∙ classify-encode Carry.Code (decode line)
+  cells-line : cellsOf line class ≡ encodeCells cells
+  cells-line = ap (cellsOf line) (k .classes) ∙ cells-bytes Carry.Code line w
 
-  marks-line : byteMarks table noOps (classify Carry.Code line) ≡ encodeMarks marks
+  marks-line : byteMarks table noOps (cellsOf line class) ≡ encodeMarks marks
   marks-line = ap (byteMarks table noOps) cells-line ∙ marks-encode table cells
 
-  strength-line : breakStrength table line ≡ choose (hasWord keywords cells) 0 (choose (not (isBalanced cells)) 0 (loosest marks))
+  strength-line : breakStrength table (cellsOf line class) ≡ choose (hasWord keywords cells) 0 (choose (not (isBalanced cells)) 0 (loosest marks))
   unfolding breakStrength
   strength-line = rw (marks-line, cells-line, keywords-encode, balanced-encode, loosest-encode)
 
-  pub split-once : splitOnce table cells ≡ breakAt (breakStrength table line) marks
+  pub split-once : splitOnce table cells ≡ breakAt (breakStrength table (cellsOf line class)) marks
   unfolding splitOnce breakAt choose
   split-once = sym (ap (λ (n : ℕ). breakAt n marks) strength-line ∙ go (hasWord keywords cells) (isBalanced cells))
     where
@@ -68,7 +69,7 @@ module _ (table line : List ℕ) (w : WellFormed line) where
       go false false = refl
 
   -- the pieces of a strength
-  pub cuts-line : (p : ℕ) → 0 < p → cutBefore p (byteMarks table noOps (classify Carry.Code line)) ≡ encodePieces (cutBefore p marks)
+  pub cuts-line : (p : ℕ) → 0 < p → cutBefore p (byteMarks table noOps (cellsOf line class)) ≡ encodePieces (cutBefore p marks)
   cuts-line p h = ap (cutBefore p) marks-line ∙ cut-encode p h marks
 
 -- ---- every piece is well-formed
@@ -110,18 +111,17 @@ lines-trimmed indent level (l ∷ ls) s = rw (decode-encode l (s .0), lines-trim
 abbrev piecesAt : List ℕ → List ℕ → ℕ → Pieces
 piecesAt table line p = cutBefore p (topLevelOps table (classify Carry.Code (decode line)))
 
-pub record FirstCut (table line : List ℕ) (p : ℕ) (c : Cut) : Type 0 where
+pub record FirstCut (table line class : List ℕ) (p : ℕ) (c : Cut) : Type 0 where
   pub first : part line 0 (c .place) ≡ encode (piecesAt table line p .first)
-  pub rest : restFrom table p line c ≡ map encode (piecesAt table line p .rest)
+  pub rest : restFrom table p line class c ≡ map encode (piecesAt table line p .rest)
   pub well : WellFormed (part line 0 (c .place))
-  pub others : AllWell (restFrom table p line c)
+  pub others : AllWell (restFrom table p line class c)
 
-pub first-cut : (table line : List ℕ) (p : ℕ) (s : Reading) (c : Cut) → WellFormed line → (p ≡ 0 → ⊥) → Begins s → NextOp table p line 0 s c → FirstCut table line p c
-unfolding classify
-first-cut table line p s c w n b q =
-    let e : cutsAt table p s (drop 0 line) ≡ encodePieces (piecesAt table line p) = rw (b .mark, b .ops) (cuts-line table line w p (omega arith)) in
+pub first-cut : (table line class : List ℕ) (p : ℕ) (c : Cut) → WellFormed line → Classed line class → (p ≡ 0 → ⊥) → NextOp table p line class 0 fresh c → FirstCut table line class p c
+first-cut table line class p c w k n q =
+    let e : cutsAt table p fresh line class 0 ≡ encodePieces (piecesAt table line p) = cuts-line table line class w k p (omega arith) in
     let f : part line 0 (c .place) ≡ encode (piecesAt table line p .first) = sym (q .first) ∙ ap (λ (x : Pieces). x .first) e in
-    let r : restFrom table p line c ≡ map encode (piecesAt table line p .rest) = sym (q .rest) ∙ ap (λ (x : Pieces). x .rest) e in
+    let r : restFrom table p line class c ≡ map encode (piecesAt table line p .rest) = sym (q .rest) ∙ ap (λ (x : Pieces). x .rest) e in
     let z = pieces-scalars table line p in
     record { first = f; rest = r; well = rw f (wf-encode _ (z .first)); others = rw r (all-well (piecesAt table line p .rest) (z .rest)) }
 
@@ -161,82 +161,90 @@ module _ (table : List ℕ) (o : Options) (max level : ℕ) where
 
 -- ---- the strength of a round
 
-module _ (table indent : List ℕ) (level max rounds : ℕ) (line : List ℕ) where
+module _ (table indent : List ℕ) (level max rounds : ℕ) (line class : List ℕ) where
   abbrev opts : Options
   opts = indented indent
 
-  pub strength-none : rounds ≡ 0 → 0 ≡ roundStrength table indent level max rounds line
+  abbrev strengthOf : ℕ
+  strengthOf = roundStrength table indent level max rounds line (cellsOf line class)
+
+  none-round : (r : Break) → Unbroken r → 0 ≡ strengthOf → RoundBreak table indent level max rounds line class r
+  none-round r u e = record { strength = u .none ∙ e; cut = λ n. absurd (n (u .none)) }
+
+  pub round-none : (r : Break) → Unbroken r → rounds ≡ 0 → RoundBreak table indent level max rounds line class r
   unfolding roundStrength
-  strength-none e = sym (choose-true _ _ _ (eq-eqb rounds 0 e))
+  round-none r u e = none-round r u (sym (choose-true _ _ _ (eq-eqb rounds 0 e)))
 
   module _ (some : rounds ≡ 0 → ⊥) (c n : ℕ) (p : IndentMeasured indent level c) (q : Measured c line n) where
     columns : measure opts 0 (indentOf opts level ++ decode line) ≡ n
     columns = measure-append opts 0 (indentOf opts level) (decode line) ∙ rw (← (p .is opts refl), ← (q .is opts))
 
-    pub strength-fits : n ≤ max → 0 ≡ roundStrength table indent level max rounds line
+    pub round-fits : (r : Break) → Unbroken r → n ≤ max → RoundBreak table indent level max rounds line class r
     unfolding roundStrength overWide
-    strength-fits h = sym (choose-false _ _ _ (ne-eqb rounds 0 some) ∙ choose-false _ _ _ (rw columns (le-ltb max n h)))
+    round-fits r u h = none-round r u (sym (choose-false _ _ _ (ne-eqb rounds 0 some) ∙ choose-false _ _ _ (rw columns (le-ltb max n h))))
 
-    pub strength-wide : (r : ℕ) → max < n → r ≡ breakStrength table line → r ≡ roundStrength table indent level max rounds line
+    pub round-wide : (r : Break) → max < n → BreakFound table line class r → RoundBreak table indent level max rounds line class r
     unfolding roundStrength overWide
-    strength-wide r h e = e ∙ sym (choose-false _ _ _ (ne-eqb rounds 0 some) ∙ choose-true _ _ _ (rw columns (lt-ltb max n h)))
+    round-wide r h e =
+        record { strength = e .strength ∙ sym (choose-false _ _ _ (ne-eqb rounds 0 some) ∙ choose-true _ _ _ (rw columns (lt-ltb max n h))); cut = e .cut }
 
   -- what the strength says of the round
-  breaks : (w : WellFormed line) → (rounds ≡ 0 → ⊥) → nextBreak table opts max level (decode line) ≡ breakAt (roundStrength table indent level max rounds line) (topLevelOps table (classify Carry.Code (decode line)))
-  unfolding nextBreak roundStrength breakAt choose
-  breaks w n = rw (ne-eqb rounds 0 n, split-once table line w) (go (overWide opts max (indentOf opts level ++ decode line)))
-    where
-      go : (t : Bool) → choose t (breakAt (breakStrength table line) (topLevelOps table (classify Carry.Code (decode line)))) none
-          ≡ breakAt (choose t (breakStrength table line) 0) (topLevelOps table (classify Carry.Code (decode line)))
-      go true = refl
-      go false = refl
+  module _ (w : WellFormed line) (k : Classed line class) where
+    breaks : (rounds ≡ 0 → ⊥) → nextBreak table opts max level (decode line) ≡ breakAt strengthOf (topLevelOps table (classify Carry.Code (decode line)))
+    unfolding nextBreak roundStrength breakAt choose
+    breaks n = rw (ne-eqb rounds 0 n, split-once table line class w k) (go (overWide opts max (indentOf opts level ++ decode line)))
+      where
+        go : (t : Bool) → choose t (breakAt (breakStrength table (cellsOf line class)) (topLevelOps table (classify Carry.Code (decode line)))) none
+            ≡ breakAt (choose t (breakStrength table (cellsOf line class)) 0) (topLevelOps table (classify Carry.Code (decode line)))
+        go true = refl
+        go false = refl
 
-  pub round-whole : WellFormed line → 0 ≡ roundStrength table indent level max rounds line → brokenIn table indent level max rounds line ≡ record { first = decode line; rest = [] }
-  unfolding breakFirst breakAt
-  round-whole w e = go rounds refl
-    where
-      go : (n : ℕ) → rounds ≡ n → breakFirst table opts max level n (record { first = decode line; rest = [] }) ≡ record { first = decode line; rest = [] }
-      go zero f = refl
-      go (suc n) f = round-over table opts max level n (decode line) (breaks w (λ (z : rounds ≡ 0). let y : suc n ≡ 0 = sym f ∙ z in omega arith) ∙ rw (← e))
+    pub round-whole : 0 ≡ strengthOf → brokenIn table indent level max rounds line ≡ record { first = decode line; rest = [] }
+    unfolding breakFirst breakAt
+    round-whole e = go rounds refl
+      where
+        go : (n : ℕ) → rounds ≡ n → breakFirst table opts max level n (record { first = decode line; rest = [] }) ≡ record { first = decode line; rest = [] }
+        go zero f = refl
+        go (suc n) f = round-over table opts max level n (decode line) (breaks (λ (z : rounds ≡ 0). let y : suc n ≡ 0 = sym f ∙ z in omega arith) ∙ rw (← e))
 
-  -- the pieces of a round: the first broken in the rounds that are left, then the others
-  pub round-pieces : (p : ℕ) → WellFormed line → p ≡ roundStrength table indent level max rounds line → (p ≡ 0 → ⊥)
-      → brokenIn table indent level max rounds line
-      ≡ record {
-        first = breakFirst table opts max level (rounds - 1) (record { first = trim (piecesAt table line p .first); rest = [] }) .first;
-        rest = breakFirst table opts max level (rounds - 1) (record { first = trim (piecesAt table line p .first); rest = [] }) .rest ++ map trim (piecesAt table line p .rest);
-      }
-  unfolding breakAt trimmed roundStrength
-  round-pieces zero w e z = absurd (z refl)
-  round-pieces (suc p) w e z = go rounds refl
-    where
-      some-left : (n : ℕ) → rounds ≡ n → (n ≡ 0 → ⊥)
-      some-left n f y = z (e ∙ choose-true _ _ _ (eq-eqb rounds 0 (f ∙ y)))
+    -- the pieces of a round: the first broken in the rounds that are left, then the others
+    pub round-pieces : (p : ℕ) → p ≡ strengthOf → (p ≡ 0 → ⊥)
+        → brokenIn table indent level max rounds line
+        ≡ record {
+          first = breakFirst table opts max level (rounds - 1) (record { first = trim (piecesAt table line p .first); rest = [] }) .first;
+          rest = breakFirst table opts max level (rounds - 1) (record { first = trim (piecesAt table line p .first); rest = [] }) .rest ++ map trim (piecesAt table line p .rest);
+        }
+    unfolding breakAt trimmed roundStrength
+    round-pieces zero e z = absurd (z refl)
+    round-pieces (suc p) e z = go rounds refl
+      where
+        some-left : (n : ℕ) → rounds ≡ n → (n ≡ 0 → ⊥)
+        some-left n f y = z (e ∙ choose-true _ _ _ (eq-eqb rounds 0 (f ∙ y)))
 
-      go : (n : ℕ) → rounds ≡ n → breakFirst table opts max level n (record { first = decode line; rest = [] })
-          ≡ record {
-            first = breakFirst table opts max level (n - 1) (record { first = trim (piecesAt table line (suc p) .first); rest = [] }) .first;
-            rest = breakFirst table opts max level (n - 1) (record { first = trim (piecesAt table line (suc p) .first); rest = [] }) .rest ++ map trim (piecesAt table line (suc p) .rest);
-          }
-      go zero f = absurd (some-left zero f refl)
-      go (suc n) f =
-          let m : suc n - 1 ≡ n = omega arith in
-          rw m (round-broken table opts max level n (decode line) (trimmed (piecesAt table line (suc p))) (breaks w (λ (y : rounds ≡ 0). some-left rounds refl y) ∙ rw (← e)))
+        go : (n : ℕ) → rounds ≡ n → breakFirst table opts max level n (record { first = decode line; rest = [] })
+            ≡ record {
+              first = breakFirst table opts max level (n - 1) (record { first = trim (piecesAt table line (suc p) .first); rest = [] }) .first;
+              rest = breakFirst table opts max level (n - 1) (record { first = trim (piecesAt table line (suc p) .first); rest = [] }) .rest ++ map trim (piecesAt table line (suc p) .rest);
+            }
+        go zero f = absurd (some-left zero f refl)
+        go (suc n) f =
+            let m : suc n - 1 ≡ n = omega arith in
+            rw m (round-broken table opts max level n (decode line) (trimmed (piecesAt table line (suc p))) (breaks (λ (y : rounds ≡ 0). some-left rounds refl y) ∙ rw (← e)))
 
-  pub rounds-left : (p : ℕ) → p ≡ roundStrength table indent level max rounds line → (p ≡ 0 → ⊥) → (rounds ≡ 0 → ⊥)
+  pub rounds-left : (b : Break) → RoundBreak table indent level max rounds line class b → (b .strength ≡ 0 → ⊥) → (rounds ≡ 0 → ⊥)
   unfolding roundStrength
-  rounds-left p e z y = z (e ∙ choose-true _ _ _ (eq-eqb rounds 0 y))
+  rounds-left b e z y = z (e .strength ∙ choose-true _ _ _ (eq-eqb rounds 0 y))
 
 -- ---- the pieces from a cut on
 
-rest-open : (table : List ℕ) (p : ℕ) (line : List ℕ) (c : Cut) → c .place < length line
-    → restFrom table p line c ≡ (getD line (c .place) 0 ∷ cutsAt table p (c .after) (drop (c .place + 1) line) .first) ∷ cutsAt table p (c .after) (drop (c .place + 1) line) .rest
+rest-open : (table : List ℕ) (p : ℕ) (line class : List ℕ) (c : Cut) → c .place < length line
+    → restFrom table p line class c ≡ (getD line (c .place) 0 ∷ cutsAt table p (c .after) line class (c .place + 1) .first) ∷ cutsAt table p (c .after) line class (c .place + 1) .rest
 unfolding restFrom
-rest-open table p line c h = choose-true _ _ _ (lt-ltb (c .place) (length line) h)
+rest-open table p line class c h = choose-true _ _ _ (lt-ltb (c .place) (length line) h)
 
-rest-none : (table : List ℕ) (p : ℕ) (line : List ℕ) (c : Cut) → length line ≤ c .place → restFrom table p line c ≡ []
+rest-none : (table : List ℕ) (p : ℕ) (line class : List ℕ) (c : Cut) → length line ≤ c .place → restFrom table p line class c ≡ []
 unfolding restFrom
-rest-none table p line c h = choose-false _ _ _ (le-ltb (c .place) (length line) h)
+rest-none table p line class c h = choose-false _ _ _ (le-ltb (c .place) (length line) h)
 
 -- one more line
 after-more : {eol : List ℕ} {ls : List (List ℕ)} {l out₀ out out′ : List ℕ} {first r : OperationSplit} {n : NewLine} → After eol ls out₀ out first r → LineWritten eol l out out′ (r .next) n
@@ -259,19 +267,19 @@ part-cons l a e h k =
     let m : a < length l = omega arith in
     sym (rw (n, drop-cons l a 0 m, ← add-one a))
 
-rest-cons : (table : List ℕ) (p : ℕ) (line : List ℕ) (c d : Cut) → c .place < length line → NextOp table p line (c .place + 1) (c .after) d
-    → restFrom table p line c ≡ part line (c .place) (d .place) ∷ restFrom table p line d
-rest-cons table p line c d h q = opened ∙ rw (q .first, q .rest, part-cons line (c .place) (d .place) (omega (arith, q .after)) (q .fits))
+rest-cons : (table : List ℕ) (p : ℕ) (line class : List ℕ) (c d : Cut) → c .place < length line → NextOp table p line class (c .place + 1) (c .after) d
+    → restFrom table p line class c ≡ part line (c .place) (d .place) ∷ restFrom table p line class d
+rest-cons table p line class c d h q = opened ∙ rw (q .first, q .rest, part-cons line (c .place) (d .place) (omega (arith, q .after)) (q .fits))
   where
-    opened : restFrom table p line c ≡ (getD line (c .place) 0 ∷ cutsAt table p (c .after) (drop (c .place + 1) line) .first) ∷ cutsAt table p (c .after) (drop (c .place + 1) line) .rest
-    opened = rest-open table p line c h
+    opened : restFrom table p line class c ≡ (getD line (c .place) 0 ∷ cutsAt table p (c .after) line class (c .place + 1) .first) ∷ cutsAt table p (c .after) line class (c .place + 1) .rest
+    opened = rest-open table p line class c h
 
 -- what `write_rest` keeps: the pieces that are written, and those from the cut c on
-pub record Writing (table : List ℕ) (strength : ℕ) (line : List ℕ) (cut : Cut) (indent : List ℕ) (level : ℕ) (eol out₀ : List ℕ) (first : OperationSplit) (out : List ℕ) (c : Cut) (r : OperationSplit) : Type 0 where
-  pub fits : RestFits table strength line cut indent level eol first
+pub record Writing (table : List ℕ) (strength : ℕ) (line class : List ℕ) (cut : Cut) (indent : List ℕ) (level : ℕ) (eol out₀ : List ℕ) (first : OperationSplit) (out : List ℕ) (c : Cut) (r : OperationSplit) : Type 0 where
+  pub fits : RestFits table strength line class cut indent level eol first
   pub done : List (List ℕ)
-  pub all : restFrom table strength line cut ≡ done ++ restFrom table strength line c
-  pub well : AllWell (restFrom table strength line c)
+  pub all : restFrom table strength line class cut ≡ done ++ restFrom table strength line class c
+  pub well : AllWell (restFrom table strength line class c)
   pub after : After eol (restLines indent level done) out₀ out first r
   pub order : cut .place ≤ c .place
   pub within : c .place ≤ length line
@@ -279,8 +287,8 @@ pub record Writing (table : List ℕ) (strength : ℕ) (line : List ℕ) (cut : 
   pub room : r .next ≤ first .next + (c .place - cut .place) * lineRoom
   pub as-long : length out ≡ length out₀
 
-pub writing-start : {table : List ℕ} {strength : ℕ} {line : List ℕ} {cut : Cut} {indent : List ℕ} {level : ℕ} {eol : List ℕ} {first : OperationSplit} (out : List ℕ) → RestFits table strength line cut indent level eol first
-    → Writing table strength line cut indent level eol out first out cut first
+pub writing-start : {table : List ℕ} {strength : ℕ} {line class : List ℕ} {cut : Cut} {indent : List ℕ} {level : ℕ} {eol : List ℕ} {first : OperationSplit} (out : List ℕ) → RestFits table strength line class cut indent level eol first
+    → Writing table strength line class cut indent level eol out first out cut first
 unfolding following lastOf
 writing-start {first = first} out f =
     record {
@@ -296,17 +304,17 @@ writing-start {first = first} out f =
       as-long = refl;
     }
 
-module _ {table : List ℕ} {strength : ℕ} {line : List ℕ} {cut : Cut} {indent : List ℕ} {level : ℕ} {eol out₀ : List ℕ} {first : OperationSplit} {out : List ℕ} {c : Cut} {r : OperationSplit}
-    (w : Writing table strength line cut indent level eol out₀ first out c r) where
-  pub writing-cut : c .place < length line → Cutting strength line (c .place + 1) (c .after)
-  writing-cut h = record { some = w .fits .some; within = omega arith; short = w .fits .short; sound = w .sound h }
+module _ {table : List ℕ} {strength : ℕ} {line class : List ℕ} {cut : Cut} {indent : List ℕ} {level : ℕ} {eol out₀ : List ℕ} {first : OperationSplit} {out : List ℕ} {c : Cut} {r : OperationSplit}
+    (w : Writing table strength line class cut indent level eol out₀ first out c r) where
+  pub writing-cut : c .place < length line → Cutting strength line class (c .place + 1) (c .after)
+  writing-cut h = record { some = w .fits .some; within = omega arith; breaks = w .fits .breaks; sound = w .sound h }
 
-  pub writing-within : (d : Cut) → c .place < length line → NextOp table strength line (c .place + 1) (c .after) d → Within line (c .place) (d .place)
+  pub writing-within : (d : Cut) → c .place < length line → NextOp table strength line class (c .place + 1) (c .after) d → Within line (c .place) (d .place)
   writing-within d h q =
-      let e : AllWell (part line (c .place) (d .place) ∷ restFrom table strength line d) = subst AllWell (rest-cons table strength line c d h q) (w .well) in
+      let e : AllWell (part line (c .place) (d .place) ∷ restFrom table strength line class d) = subst AllWell (rest-cons table strength line class c d h q) (w .well) in
       record { order = omega (arith, q .after); fits = q .fits; well = e .0 }
 
-  pub writing-room : (d : Cut) (p : Part) → c .place < length line → NextOp table strength line (c .place + 1) (c .after) d → Trimmed line (c .place) (d .place) p
+  pub writing-room : (d : Cut) (p : Part) → c .place < length line → NextOp table strength line class (c .place + 1) (c .after) d → Trimmed line (c .place) (d .place) p
       → LineRoom eol indent level (part line (p .start) (p .end)) (r .next)
   writing-room d p h q t =
       record {
@@ -315,13 +323,13 @@ module _ {table : List ℕ} {strength : ℕ} {line : List ℕ} {cut : Cut} {inde
         room = omega (arith, w .room, w .fits .room, w .order, part-length line (p .start) (p .end) (omega (arith, t .fits, q .fits)), t .after, t .fits, q .after, q .fits);
       }
 
-  pub writing-more : (d : Cut) (p : Part) (n : NewLine) (out′ : List ℕ) → c .place < length line → NextOp table strength line (c .place + 1) (c .after) d → Trimmed line (c .place) (d .place) p
+  pub writing-more : (d : Cut) (p : Part) (n : NewLine) (out′ : List ℕ) → c .place < length line → NextOp table strength line class (c .place + 1) (c .after) d → Trimmed line (c .place) (d .place) p
       → LineWritten eol (lay indent level (part line (p .start) (p .end))) out out′ (r .next) n → length out′ ≡ length out
-      → Writing table strength line cut indent level eol out₀ first out′ d (record { next = n .next; last = n .start; more = true })
+      → Writing table strength line class cut indent level eol out₀ first out′ d (record { next = n .next; last = n .start; more = true })
   writing-more d p n out′ h q t g k =
       let piece = part line (c .place) (d .place) in
-      let cons : restFrom table strength line c ≡ piece ∷ restFrom table strength line d = rest-cons table strength line c d h q in
-      let well : AllWell (piece ∷ restFrom table strength line d) = subst AllWell cons (w .well) in
+      let cons : restFrom table strength line class c ≡ piece ∷ restFrom table strength line class d = rest-cons table strength line class c d h q in
+      let well : AllWell (piece ∷ restFrom table strength line class d) = subst AllWell cons (w .well) in
       let bytes : part line (p .start) (p .end) ≡ trimBytes piece = sym (t .well) ∙ ap encode (t .text) in
       let lines : restLines indent level (w .done ++ (piece ∷ [])) ≡ restLines indent level (w .done) ++ (lay indent level (part line (p .start) (p .end)) ∷ []) = map-append _ (w .done) (piece ∷ []) ∙ rw bytes in
       let room : n .next ≤ r .next + (67108930 + length (part line (p .start) (p .end))) =
@@ -329,7 +337,7 @@ module _ {table : List ℕ} {strength : ℕ} {line : List ℕ} {cut : Cut} {inde
       record {
         fits = w .fits;
         done = w .done ++ (piece ∷ []);
-        all = w .all ∙ rw cons (sym (append-assoc (w .done) (piece ∷ []) (restFrom table strength line d)));
+        all = w .all ∙ rw cons (sym (append-assoc (w .done) (piece ∷ []) (restFrom table strength line class d)));
         well = well .1;
         after = rw lines (after-more (w .after) g);
         order = omega (arith, w .order, q .after);
@@ -339,9 +347,9 @@ module _ {table : List ℕ} {strength : ℕ} {line : List ℕ} {cut : Cut} {inde
         as-long = k ∙ w .as-long;
       }
 
-  pub writing-end : length line ≤ c .place → RestWritten table strength line cut indent level eol out₀ out first r
+  pub writing-end : length line ≤ c .place → RestWritten table strength line class cut indent level eol out₀ out first r
   writing-end h =
-      let e : restFrom table strength line cut ≡ w .done = w .all ∙ rw (rest-none table strength line c h) (append-nil (w .done)) in
+      let e : restFrom table strength line class cut ≡ w .done = w .all ∙ rw (rest-none table strength line class c h) (append-nil (w .done)) in
       record { after = rw e (w .after); room = omega (arith, w .room, w .within, w .order) }
 
 -- lines after those of pieces
@@ -366,19 +374,25 @@ pieces-more {indent} {level} {eol} {p} others {out} {out₁} {out₂} {at} {firs
 
 -- ---- a line, its first piece broken again
 
-module _ {line indent : List ℕ} {level : ℕ} {eol : List ℕ} {at : ℕ} (pre : Fits line indent level eol at) where
-  pub line-fits : LineFits line indent level
-  line-fits = record { well = pre .well; size = pre .size; indents = level-fits pre }
+module _ {line class indent : List ℕ} {level : ℕ} {eol : List ℕ} {at : ℕ} (pre : OperationFits line class indent level eol at) where
+  breakable : Breakable line class
+  breakable = record { short = pre .fits .size; long = omega (arith, class-length line class (pre .classed)) }
+
+  pub line-fits : LineFits line class indent level
+  line-fits = record { well = pre .fits .well; breaks = breakable; indents = level-fits (pre .fits) }
 
   pub whole-room : at + (length (times level indent) + length line) < 2 ^ 64
-  whole-room = omega (arith, indent-short indent level (level-fits pre), pre .room)
+  whole-room = omega (arith, indent-short indent level (level-fits (pre .fits)), pre .fits .room)
 
-module _ (table line indent : List ℕ) (level : ℕ) (eol : List ℕ) (max rounds at : ℕ) (pre : Fits line indent level eol at) where
-  pub first-whole : (p : ℕ) (out out′ : List ℕ) (next : ℕ) → p ≡ roundStrength table indent level max rounds line → p ≡ 0 → Appended out out′ at (times level indent ++ line) next
+module _ (table line class indent : List ℕ) (level : ℕ) (eol : List ℕ) (max rounds at : ℕ) (asks : OperationFits line class indent level eol at) where
+  abbrev pre : Fits line indent level eol at
+  pre = asks .fits
+
+  pub first-whole : (b : Break) (out out′ : List ℕ) (next : ℕ) → RoundBreak table indent level max rounds line class b → b .strength ≡ 0 → Appended out out′ at (times level indent ++ line) next
       → FirstBroken table line indent level eol max rounds out out′ at (record { next = next; last = at; more = false })
   unfolding following lastOf
-  first-whole p out out′ next e z a =
-      let b : brokenIn table indent level max rounds line ≡ record { first = decode line; rest = [] } = round-whole table indent level max rounds line (pre .well) (sym z ∙ e) in
+  first-whole b out out′ next e z a =
+      let b : brokenIn table indent level max rounds line ≡ record { first = decode line; rest = [] } = round-whole table indent level max rounds line class (pre .well) (asks .classed) (sym z ∙ e .strength) in
       let q : PiecesWritten indent level eol (record { first = decode line; rest = [] }) out out′ at (record { next = next; last = at; more = false }) =
       record { text = rw (append-nil, pre .well) a; last = rw (pre .well) (omega (arith, a .next)); more = refl } in
       record {
@@ -386,48 +400,66 @@ module _ (table line indent : List ℕ) (level : ℕ) (eol : List ℕ) (max roun
         room = omega (arith, a .next, length-append (times level indent) line, indent-short indent level (level-fits pre));
       }
 
-  module _ (p : ℕ) (e : p ≡ roundStrength table indent level max rounds line) (z : p ≡ 0 → ⊥) (s : Reading) (c : Cut) (b : Begins s) (q : NextOp table p line 0 s c) where
-    abbrev cutting : FirstCut table line p c
-    cutting = first-cut table line p s c (pre .well) z b q
+  module _ (b : Break) (e : RoundBreak table indent level max rounds line class b) (z : b .strength ≡ 0 → ⊥) where
+    abbrev p : ℕ
+    p = b .strength
+
+    abbrev c : Cut
+    c = b .cut
+
+    abbrev q : NextOp table p line class 0 fresh c
+    q = e .cut z
+
+    abbrev cutting : FirstCut table line class p c
+    cutting = first-cut table line class p c (pre .well) (asks .classed) z q
 
     pub first-within : Within line 0 (c .place)
     first-within = record { order = zero-le; fits = q .fits; well = cutting .well }
 
-    module _ (t : Part) (u : Trimmed line 0 (c .place) t) where
+    module _ (t : Part) (f : FirstPiece line (c .place) t) where
+      abbrev u : Trimmed line 0 (c .place) t
+      u = f .trimmed
+
       abbrev piece : List ℕ
       piece = part line (t .start) (t .end)
+
+      abbrev classes : List ℕ
+      classes = part class (t .start) (t .end)
 
       piece-length : length piece ≤ c .place
       piece-length = omega (arith, part-length line (t .start) (t .end) (omega (arith, u .fits, q .fits)), u .fits)
 
-      pub first-fits : Fits piece indent level eol at
+      pub first-fits : OperationFits piece classes indent level eol at
       first-fits =
           record {
-            well = u .well;
-            blank = pre .blank;
-            short = pre .short;
-            flat = pre .flat;
-            ascii = pre .ascii;
-            end = pre .end;
-            size = omega (arith, piece-length, q .fits, pre .size);
-            room = omega (arith, piece-length, q .fits, pre .room);
+            fits = record {
+              well = u .well;
+              blank = pre .blank;
+              short = pre .short;
+              flat = pre .flat;
+              ascii = pre .ascii;
+              end = pre .end;
+              size = omega (arith, piece-length, q .fits, pre .size);
+              room = omega (arith, piece-length, q .fits, pre .room);
+            };
+            classed = piece-classed line class (c .place) t (asks .classed) (q .fits) (cutting .well) f;
           }
 
       first-text : decode piece ≡ trim (piecesAt table line p .first)
       first-text = u .text ∙ ap (λ (l : List ℕ). trim (decode l)) (cutting .first) ∙ ap trim (decode-encode _ (pieces-scalars table line p .first))
 
-      module _ (out out₁ : List ℕ) (first : OperationSplit) (f : FirstBroken table piece indent level eol max (rounds - 1) out out₁ at first) where
-        pub rest-fits : RestFits table p line c indent (level + 1) eol first
+      module _ (out out₁ : List ℕ) (first : OperationSplit) (g : FirstBroken table piece indent level eol max (rounds - 1) out out₁ at first) where
+        pub rest-fits : RestFits table p line class c indent (level + 1) eol first
         rest-fits =
             record {
               some = z;
               within = q .fits;
-              short = pre .size;
+              breaks = breakable asks;
               sound = q .sound;
               well = cutting .others;
               indents = deeper-fits pre;
               end = pre .end;
-              room = omega (arith, f .room, piece-length, q .fits, pre .room);
+              room = omega (arith, g .room, piece-length, q .fits, pre .room);
             }
 
         -- the pieces of the first, and the others
@@ -439,18 +471,18 @@ module _ (table line indent : List ℕ) (level : ℕ) (eol : List ℕ) (max roun
 
         whole : brokenIn table indent level max rounds line ≡ record { first = inner .first; rest = inner .rest ++ others }
         whole =
-            round-pieces table indent level max rounds line p (pre .well) e z
+            round-pieces table indent level max rounds line class (pre .well) (asks .classed) p (e .strength) z
             ∙ ap (λ (l : List ℕ). with-rest table (indented indent) max level (breakFirst table (indented indent) max level (rounds - 1) (record { first = l; rest = [] })) others) (sym first-text)
 
-        pub first-broken : (out₂ : List ℕ) (r : OperationSplit) → RestWritten table p line c indent (level + 1) eol out₁ out₂ first r
+        pub first-broken : (out₂ : List ℕ) (r : OperationSplit) → RestWritten table p line class c indent (level + 1) eol out₁ out₂ first r
             → FirstBroken table line indent level eol max rounds out out₂ at r
         first-broken out₂ r w =
-            let ls : restLines indent (level + 1) (restFrom table p line c) ≡ map (λ (l : List ℕ). lay indent (suc level) (encode l)) others =
+            let ls : restLines indent (level + 1) (restFrom table p line class c) ≡ map (λ (l : List ℕ). lay indent (suc level) (encode l)) others =
             ap (restLines indent (level + 1)) (cutting .rest) ∙ lines-trimmed indent (level + 1) (piecesAt table line p .rest) (pieces-scalars table line p .rest) ∙ rw (add-one level) in
             let a : After eol (map (λ (l : List ℕ). lay indent (suc level) (encode l)) others) out₁ out₂ first r = rw ls at (w .after) in
             record {
-              pieces = subst (λ (x : Pieces). PiecesWritten indent level eol x out out₂ at r) (sym whole) (pieces-more others (f .pieces) a);
-              room = omega (arith, f .room, w .room, piece-length, q .fits);
+              pieces = subst (λ (x : Pieces). PiecesWritten indent level eol x out out₂ at r) (sym whole) (pieces-more others (g .pieces) a);
+              room = omega (arith, g .room, w .room, piece-length, q .fits);
             }
 
 -- ---- the whole
@@ -480,14 +512,16 @@ several : (f : List ℕ → List ℕ) (l : List ℕ) (ls : List (List ℕ)) → 
 several f l [] = refl
 several f l (m ∷ ms) = sym (lt-ltb 1 (length (l ∷ f m ∷ map f ms)) (omega arith))
 
-pub all-broken : {table line indent : List ℕ} {level : ℕ} {eol : List ℕ} {max at : ℕ} {out out′ : List ℕ} {r : OperationSplit} (n : ℕ) → Fits line indent level eol at → n ≡ length (decode line)
-    → FirstBroken table line indent level eol max n out out′ at r → (o : Options) → o .indent ≡ indent → Broken eol (splitOperation table o max level (decode line)) out out′ at r
-unfolding splitOperation layPieces
-all-broken {table} {line} {indent} {level} {eol} {max} {at} {out} {out′} {r} n pre k f o e =
-    let p : Pieces = brokenIn table indent level max n line in
-    let b : breakFirst table o max level (length (decode line)) (record { first = decode line; rest = [] }) ≡ p = rw (← k) (same-break table o indent e max level n (record { first = decode line; rest = [] })) in
+pub all-broken : {line class indent : List ℕ} {level : ℕ} {eol : List ℕ} {max at : ℕ} {out out′ : List ℕ} {r : OperationSplit} → OperationFits line class indent level eol at
+    → FirstBroken strengths line indent level eol max 12 out out′ at r → (o : Options) → o .indent ≡ indent → Broken eol (splitOperation strengths o max level (decode line)) out out′ at r
+unfolding layPieces
+all-broken {line} {class} {indent} {level} {eol} {max} {at} {out} {out′} {r} asks f o e =
+    let pre : Fits line indent level eol at = asks .fits in
+    let p : Pieces = brokenIn strengths indent level max 12 line in
+    let k : allCodeOrStr (classify Carry.Code (decode line)) ≡ true = sym (all-encode (classify Carry.Code (decode line))) ∙ ap allCodeOrStr (sym (classify-encode Carry.Code (decode line)) ∙ ap (classify Carry.Code) (pre .well)) ∙ asks .classed .plain in
+    let b : breakFirst strengths o max level 12 (record { first = decode line; rest = [] }) ≡ p = same-break strengths o indent e max level 12 (record { first = decode line; rest = [] }) in
     let d : Indent indent (suc level) = rw add-one at (deeper-fits pre) in
-    subst (λ (x : Pieces). Broken eol (layPieces o level x) out out′ at r) (sym b)
+    subst (λ (ls : List (List ℕ)). Broken eol ls out out′ at r) (sym (twelve-lines o max level (decode line) k ∙ ap (layPieces o level) b))
     (record {
       written = written-lines eol (indentOf o level ++ p .first) (map (λ (l : List ℕ). indentOf o (suc level) ++ l) (p .rest)) (firstLine indent level p) (otherLines indent level p)
           (pre .ascii) (lay-encode o indent level (p .first) e (level-fits pre)) (lay-all o indent (suc level) e d (p .rest)) (f .pieces .text) (f .pieces .last);
@@ -495,13 +529,6 @@ all-broken {table} {line} {indent} {level} {eol} {max} {at} {out} {out′} {r} n
     })
 
 -- ---- what the calls of `break_first` ask
-
-pub begin-cut : {line indent : List ℕ} {level : ℕ} {eol : List ℕ} {at p : ℕ} {s : Reading} → Fits line indent level eol at → (p ≡ 0 → ⊥) → Begins s → Cutting p line 0 s
-begin-cut {s = s} f z b =
-    let o : opsOf (s .ops) .opened ≡ 0 = ap (λ (x : Ops). x .opened) (b .ops) in
-    let k : opsOf (s .ops) .closed ≡ 0 = ap (λ (x : Ops). x .closed) (b .ops) in
-    let d : depthOf (s .mark .mode) ≡ 0 = ap (λ (x : Mark). depthOf (x .mode)) (b .mark) in
-    record { some = z; within = zero-le; short = f .size; sound = record { opened = omega arith; closed = omega arith; depth = omega arith } }
 
 pub some-rounds : (rounds : ℕ) → (rounds ≡ 0 → ⊥) → 1 ≤ rounds
 some-rounds rounds h = omega arith

@@ -1,42 +1,40 @@
 -- Laws of the passes over a line's bytes.
 use Prim.Native.Nat.{ℕ, zero, suc, _+_, _-_, _^_, _≤_, _<_, zero-le, min}
-use mathlib.Core.Bool.{Bool, true, false, not, _&&_, _||_, or-assoc, or-true, or-false, and-false}
+use mathlib.Core.Bool.{Bool, true, false, not, _&&_, _||_, or-true, or-false, and-false, true≢false}
 use mathlib.Core.List.{List, [], _∷_, _++_, foldl, reverse, reverse-append, reverse-reverse, append-nil, append-assoc}
 use mathlib.Core.Option.{Option, none, some}
 use mathlib.Core.Path.{_≡_, refl, sym, ap, _∙_, subst}
 use native.Mathlib.Nat.{suc-min-suc, min-eq-left, min-eq-right}
 use native.Mathlib.Numerals.{add-one}
 use native.Mathlib.Omega.{arith}
-use lib.Dec.{eqb}
-use lib.ListN.{length, getD, take, drop, drop-of-length-le}
-use lib.Seq.{getD-drop, drop-drop}
-use borrow.Author.Tests.{eq-eqb, ne-eqb, eqb-true, eqb-false, lt-ltb, le-ltb}
+use lib.Dec.{eqb, ltb}
+use lib.ListN.{length, getD, take, drop, length-drop}
+use lib.Seq.{drop-cons}
+use borrow.Author.Tests.{eq-eqb, ne-eqb, eqb-true, eqb-false, lt-ltb, le-ltb, ltb-true, ltb-false}
 use Rattle.buffer.specs.Buffer.{part}
 use Rattle.buffer.proofs.RegionLaws.{part-from, part-more}
-use Rattle.unicode.proofs.Tests.{by-test}
-use Rattle.rules.specs.declared.Carry.{Carry}
-use Rattle.rules.specs.declared.Mark.{Mark}
+use mathlib.Core.Logic.{_⊎_, inl, inr}
+use Rattle.unicode.proofs.Tests.{by-test, split}
 use Rattle.rules.specs.Basics.{choose, same, oneOf, startsWith, Pieces, isOpener, isCloser}
-use Rattle.rules.specs.Scan.{Cell, cell, charsOf, next, scan, classify, isCode}
+use Rattle.rules.specs.Scan.{Cell, cell, charsOf, isCode}
+use Rattle.rules.specs.ClassBytes.{classOf, cellsOf}
 use Rattle.rules.specs.SplitOperation.{Ops, OpStep, OpMark, opMark, noOps, token, operator, escape, bracket, oneCharStep, twoCharStep, codeStep, freshStep, opStepAt, deeper, shallower, balanceStep, isZero, isBalanced, inWord, wordOn, hasWordFrom, hasWord, keywords, looser, loosest, atMark, cutBefore}
 use Rattle.rules.proofs.Choose.{choose-true, choose-false}
+use Rattle.rules.proofs.CellsLaws.{cellAt, cells-at, cells-end, chars-cells, code-byte}
 use Rattle.rules.proofs.OperatorsBytes.{byteStep, byteMarks}
+use Rattle.operators.specs.declared.OpState.{OpState}
 use Rattle.operators.specs.declared.OpFound.{OpFound}
-use Rattle.split_operation.specs.declared.pass.Reading.{Reading}
-use Rattle.split_operation.specs.declared.pass.Read.{Read}
+use Rattle.operators.specs.declared.PlainStep.{PlainStep}
+use Rattle.operators.specs.declared.Token.{Token}
+use Rattle.operators.specs.Operators.{opsOf, stepOf, stepWith, stepOr, byteOr, tokenStep, Countable}
+use Rattle.operators.proofs.OperatorLaws.{byte-or}
 use Rattle.split_operation.specs.declared.pass.Word.{Word}
+use Rattle.split_operation.specs.declared.pass.Loosest.{Loosest}
 use Rattle.split_operation.specs.declared.pass.Pass.{Pass}
-use Rattle.operators.specs.Marks.{depthOf}
-use Rattle.operators.specs.Operators.{opsOf, stepOf}
-use Rattle.split_operation.specs.Pass.{marksAt, Begins, Sound, ReadOne, breakStrength, depthAs, Balances, WordStep, Passing, cutsAt, restFrom, Cutting, NextOp}
-use Rattle.operators.proofs.MarkLaws.{next-shallow}
+use Rattle.split_operation.specs.declared.pass.Break.{Break}
+use Rattle.split_operation.specs.Pass.{marksAt, fresh, Sound, Breakable, cutsAt, restFrom, Cutting, NextOp, Seeking, breakStrength, depthAs, Balances, WordStep, TakesOver, IsLooser, OpsAt, Kept, keptFor, Passing, Passed, Unbroken, BreakFound, PassEnd}
 
 -- ---- one byte
-
-chars-scan : (t : Mark) (l : List ℕ) → charsOf (scan t l) ≡ l
-unfolding charsOf scan
-chars-scan t [] = refl
-chars-scan t (c ∷ s) = rw (chars-scan (next t (c ∷ s)) s)
 
 -- a step opens and closes at most one bracket
 record Grows (s : Ops) (r : OpStep) : Type 0 where
@@ -90,40 +88,46 @@ module _ (s : Ops) where
   grows-byte : (table : List ℕ) (x : Cell) (cs : List ℕ) → Grows s (byteStep table s x cs)
   grows-byte table x cs = grows-or _ _ _ (record { opened = omega arith; closed = omega arith }) (grows-at (s .skip) table x cs)
 
-pub read-one : (table l : List ℕ) (r : Reading) (mark : Mark) (f : OpFound) → 0 < length l → mark ≡ next (r .mark) l
-    → stepOf f ≡ byteStep table (opsOf (r .ops)) (cell (getD l 0 0) (mark .class)) (drop 1 l)
-    → ReadOne table r l (record { strength = f .strength; after = record { mark = mark; ops = f .after } })
-unfolding scan byteMarks
-read-one table [] r mark f h e g = absurd (omega arith)
-read-one table (c ∷ cs) r mark f h e g =
-    let y : scan (r .mark) (c ∷ cs) ≡ cell c (mark .class) ∷ scan mark cs = rw e in
-    let z : byteStep table (opsOf (r .ops)) (cell c (mark .class)) (charsOf (scan mark cs)) ≡ stepOf f = rw (chars-scan mark cs) (sym g) in
-    let v : Grows (opsOf (r .ops)) (stepOf f) = subst (Grows (opsOf (r .ops))) (sym g) (grows-byte (opsOf (r .ops)) table (cell c (mark .class)) cs) in
-    let d : depthOf (mark .mode) ≤ depthOf (r .mark .mode) + 1 = rw e (next-shallow (r .mark) (c ∷ cs)) in
-    record {
-      cells = y;
-      marks = ap (byteMarks table (opsOf (r .ops))) y ∙ ap (λ (t : OpStep). opMark c (t .strength) ∷ byteMarks table (t .after) (scan mark cs)) z;
-      sound = λ n q. record { opened = omega (arith, q .opened, v .opened); closed = omega (arith, q .closed, v .closed); depth = omega (arith, q .depth) };
-    }
+-- the byte at i of a line was read: f was found
+pub record ReadAt (table : List ℕ) (s : OpState) (line class : List ℕ) (i : ℕ) (f : OpFound) : Type 0 where
+  pub marks : marksAt table s line class i ≡ opMark (getD line i 0) (f .strength) ∷ marksAt table (f .after) line class (i + 1)
+  pub sound : Sound s i → Sound (f .after) (i + 1)
 
--- the byte at i of a line, as a call with `&line[i..]` has it
-pub record ReadAt (table : List ℕ) (r : Reading) (line : List ℕ) (i : ℕ) (s : Read) : Type 0 where
-  pub cells : scan (r .mark) (drop i line) ≡ cell (getD line i 0) (s .after .mark .class) ∷ scan (s .after .mark) (drop (i + 1) line)
-  pub marks : marksAt table r (drop i line) ≡ opMark (getD line i 0) (s .strength) ∷ marksAt table (s .after) (drop (i + 1) line)
-  pub sound : Sound r i → Sound (s .after) (i + 1)
+module _ (table : List ℕ) (s : OpState) (line class : List ℕ) (i : ℕ) (h : i < length line) (b : Breakable line class) where
+  abbrev x : Cell
+  x = cellAt line class i
 
-pub read-drop : {table : List ℕ} {r : Reading} (line : List ℕ) (i : ℕ) {s : Read} → ReadOne table r (drop i line) s → ReadAt table r line i s
-read-drop {table} {r} line i {s} q =
-    let g : getD (drop i line) 0 0 ≡ getD line i 0 = getD-drop i line 0 0 ∙ (let z : i + 0 ≡ i = omega arith in rw z) in
-    let d : drop 1 (drop i line) ≡ drop (i + 1) line = drop-drop 1 i line in
-    record {
-      cells = rw (g, d) at (q .cells);
-      marks = rw (g, d) at (q .marks);
-      sound = q .sound i;
-    }
+  -- what stands after the byte
+  chars-left : charsOf (cellsOf (drop (i + 1) line) (drop (i + 1) class)) ≡ drop (i + 1) line
+  chars-left = chars-cells (drop (i + 1) line) (drop (i + 1) class) (omega (arith, length-drop (i + 1) line, length-drop (i + 1) class, b .long))
 
-pub read-at : {table : List ℕ} {r : Reading} (line : List ℕ) (i : ℕ) {s : Read} → ReadOne table r (take (length line - i) (drop i line)) s → ReadAt table r line i s
-read-at line i q = read-drop line i (rw part-from at q)
+  pub read-step : (f : OpFound) → stepOf f ≡ byteStep table (opsOf s) x (drop (i + 1) line) → ReadAt table s line class i f
+  unfolding byteMarks
+  read-step f g =
+      let z : byteStep table (opsOf s) x (charsOf (cellsOf (drop (i + 1) line) (drop (i + 1) class))) ≡ stepOf f = rw chars-left (sym g) in
+      let v : Grows (opsOf s) (stepOf f) = subst (Grows (opsOf s)) (sym g) (grows-byte (opsOf s) table x (drop (i + 1) line)) in
+      record {
+        marks = ap (byteMarks table (opsOf s)) (cells-at line class i h (b .long))
+            ∙ ap (λ (t : OpStep). opMark (getD line i 0) (t .strength) ∷ byteMarks table (t .after) (cellsOf (drop (i + 1) line) (drop (i + 1) class))) z;
+        sound = λ q. record { opened = omega (arith, q .opened, v .opened); closed = omega (arith, q .closed, v .closed) };
+      }
+
+  -- as the calls say it
+  module _ (r : PlainStep) (e : (t : OpStep) → stepOr (r .token) t (r .after) ≡ byteOr t (opsOf s) x) where
+    pub read-plain : r .token ≡ false → ReadAt table s line class i (record { strength = 0; after = r .after })
+    read-plain k =
+        let t : OpStep = tokenStep table (opsOf s) (getD line i 0 ∷ drop (i + 1) line) in
+        read-step (record { strength = 0; after = r .after }) (ap (λ (v : Bool). stepOr v t (r .after)) (sym k) ∙ e t ∙ sym (byte-or table (opsOf s) x (drop (i + 1) line)))
+
+    pub read-token : r .token ≡ true → (t : Token) → ((o : Ops) → o .operand ≡ s .operand → stepWith o t ≡ tokenStep table o (take (length line - i) (drop i line)))
+        → (f : OpFound) → stepOf f ≡ stepWith (opsOf s) t → ReadAt table s line class i f
+    read-token k t q f g =
+        let d : take (length line - i) (drop i line) ≡ getD line i 0 ∷ drop (i + 1) line = part-from line i ∙ drop-cons line i 0 h ∙ rw (add-one i) in
+        let u : OpStep = tokenStep table (opsOf s) (getD line i 0 ∷ drop (i + 1) line) in
+        read-step f (g ∙ q (opsOf s) refl ∙ ap (tokenStep table (opsOf s)) d ∙ ap (λ (v : Bool). stepOr v u (r .after)) (sym k) ∙ e u ∙ sym (byte-or table (opsOf s) x (drop (i + 1) line)))
+
+pub countable : {s : OpState} {i : ℕ} {line class : List ℕ} → Sound s i → i < length line → Breakable line class → Countable s
+countable q h b = record { opened = omega (arith, q .opened, b .short); closed = omega (arith, q .closed, b .short) }
 
 -- ---- strengths
 
@@ -169,7 +173,27 @@ looser-assoc (suc a) zero c = refl
 looser-assoc (suc a) (suc b) zero = looser-zero (looser (suc a) (suc b))
 looser-assoc (suc a) (suc b) (suc c) = rw (looser-suc a b, looser-suc b c, looser-suc (min a b) c, looser-suc a (min b c), min-assoc a b c)
 
+pub never-looser : (a b : ℕ) → a ≡ 0 → IsLooser a b false
+never-looser a b h = record { taken = λ e. absurd (true≢false (sym e)); left = λ e. rw h (looser-zero b) }
+
+pub first-looser : (a b : ℕ) → (a ≡ 0 → ⊥) → b ≡ 0 → IsLooser a b true
+first-looser a b h k = record { taken = λ e. record { some = omega arith; less = λ l. absurd (omega arith); is = sym (looser-none b a k) }; left = λ e. absurd (true≢false e) }
+
+pub less-looser : (a b : ℕ) → (a ≡ 0 → ⊥) → (b ≡ 0 → ⊥) → IsLooser a b (ltb a b)
+less-looser a b h k =
+    record {
+      taken = λ e. let l : a < b = ltb-true a b e in record { some = omega arith; less = λ _. l; is = sym (looser-more b a k h (omega arith)) };
+      left = λ e. let l : b ≤ a = ltb-false a b e in go (split b a) l;
+    }
+  where
+    go : (b < a) ⊎ (a ≤ b) → b ≤ a → looser b a ≡ b
+    go (inl m) l = sym (looser-less b a k h m)
+    go (inr m) l = let q : a ≡ b = omega arith in rw q (sym (looser-more b b k k (omega arith)))
+
 -- ---- brackets
+
+pub code-test : (k : ℕ) → eqb k 0 ≡ isCode (classOf k)
+code-test k = sym (code-byte k)
 
 abbrev balanced : Bool → Bool → Bool → Option ℕ → Option ℕ
 balanced code opens closes d = choose (not code) d (choose opens (deeper d) (choose closes (shallower d) d))
@@ -250,174 +274,56 @@ same-not (a ∷ s) (b ∷ w) h = rw (← (same-not s w (λ (e : length s ≡ len
 part-none : (l : List ℕ) (a : ℕ) → part l a a ≡ []
 part-none l a = let e : a - a ≡ 0 = omega arith in rw e
 
-module _ (line : List ℕ) (w : Word) (i : ℕ) (x : Cell) (pre : (i < length line) × (w .start ≤ i)) (r : Bool) (p : r ≡ inWord x) where
-  pub word-on : getD line i 0 ≡ x .ch → r ≡ true → WordStep line w i x w
+module _ (line : List ℕ) (start i : ℕ) (x : Cell) (pre : (i < length line) × (start ≤ i)) (r : Bool) (p : r ≡ inWord x) where
+  pub word-on : getD line i 0 ≡ x .ch → r ≡ true → WordStep line start i x (record { start = start; found = false })
   unfolding wordOn
   word-on g q =
       record {
         start = omega (arith, pre .1);
-        word = ap reverse (part-more line (w .start) i (pre .1) (pre .0)) ∙ reverse-append (part line (w .start) i) (getD line i 0 ∷ []) ∙ rw g (sym (choose-true _ _ _ (sym p ∙ q)));
-        found = rw (← p, q) (sym (or-false (w .found)));
+        word = ap reverse (part-more line start i (pre .1) (pre .0)) ∙ reverse-append (part line start i) (getD line i 0 ∷ []) ∙ rw g (sym (choose-true _ _ _ (sym p ∙ q)));
+        found = rw (← p, q);
       }
 
-  module _ (q : r ≡ false) (s : Bool) (u : s ≡ oneOf keywords (part line (w .start) i)) where
-    ends : reverse (part line (i + 1) (i + 1)) ≡ wordOn (reverse (part line (w .start) i)) x
-    unfolding wordOn
-    ends = ap reverse (part-none line (i + 1)) ∙ sym (choose-false _ _ _ (sym p ∙ q))
-
-    pub word-key : s ≡ true → WordStep line w i x (record { start = i + 1; found = true })
-    word-key v = record { start = omega arith; word = ends; found = rw (← p, q, ← u, v) (sym (or-true (w .found))) }
-
-    pub word-past : s ≡ false → WordStep line w i x (record { start = i + 1; found = w .found })
-    word-past v = record { start = omega arith; word = ends; found = rw (← p, q, ← u, v) (sym (or-false (w .found))) }
-
--- ---- the pass for a line's strength
-
-pub passing-start : (table line : List ℕ) (r : Reading) → length line < 2 ^ 31 → Begins r
-    → Passing table line (record { reading = r; word = record { start = 0; found = false }; depth = 1; loosest = 0 }) 0
-unfolding hasWord isBalanced classify looser
-passing-start table line r h b =
-    let m = b .mark in
-    let o : opsOf (r .ops) .opened ≡ 0 = ap (λ (s : Ops). s .opened) (b .ops) in
-    let k : opsOf (r .ops) .closed ≡ 0 = ap (λ (s : Ops). s .closed) (b .ops) in
-    let d : depthOf (r .mark .mode) ≡ 0 = ap (λ (t : Mark). depthOf (t .mode)) m in
-    record {
-      within = zero-le;
-      short = h;
-      sound = record { opened = omega arith; closed = omega arith; depth = omega arith };
-      start = zero-le;
-      deep = omega arith;
-      words = rw m;
-      balance = rw m;
-      loosest = rw (m, b .ops);
-    }
-
-words-more : (ws : List (List ℕ)) (found : Bool) (word : List ℕ) (x : Cell) (xs : List Cell)
-    → (found || hasWordFrom ws word (x ∷ xs)) ≡ ((found || (not (inWord x) && oneOf ws (reverse word))) || hasWordFrom ws (wordOn word x) xs)
-unfolding hasWordFrom
-words-more ws found word x xs = sym (or-assoc found (not (inWord x) && oneOf ws (reverse word)) (hasWordFrom ws (wordOn word x) xs))
-
-loosest-cons : (m : OpMark) (ms : List OpMark) → loosest (m ∷ ms) ≡ looser (m .strength) (loosest ms)
-unfolding loosest
-loosest-cons m ms = refl
-
-pub passing-read : (table line : List ℕ) (p : Pass) (i : ℕ) (s : Read) (word : Word) (d l : ℕ) → Passing table line p i → i < length line
-    → ReadAt table (p .reading) line i s → WordStep line (p .word) i (cell (getD line i 0) (s .after .mark .class)) word
-    → Balances (p .depth) (cell (getD line i 0) (s .after .mark .class)) d → l ≡ looser (p .loosest) (s .strength)
-    → Passing table line (record { reading = s .after; word = word; depth = d; loosest = l }) (i + 1)
-passing-read table line p i s word d l q h t w b e =
-    let x : Cell = cell (getD line i 0) (s .after .mark .class) in
-    record {
-      within = omega arith;
-      short = q .short;
-      sound = t .sound (q .sound);
-      start = w .start;
-      deep = omega (arith, b .small, q .deep);
-      words =
-          q .words
-          ∙ ap (λ (xs : List Cell). p .word .found || hasWordFrom keywords (reverse (part line (p .word .start) i)) xs) (t .cells)
-          ∙ words-more keywords (p .word .found) (reverse (part line (p .word .start) i)) x (scan (s .after .mark) (drop (i + 1) line))
-          ∙ rw (reverse-reverse, ← (w .found), ← (w .word));
-      balance =
-          q .balance ∙ ap (λ (xs : List Cell). isZero (foldl balanceStep (depthAs (p .depth)) xs)) (t .cells)
-          ∙ ap (λ (o : Option ℕ). isZero (foldl balanceStep o (scan (s .after .mark) (drop (i + 1) line)))) (sym (b .is));
-      loosest = q .loosest ∙ ap (λ (ms : List OpMark). looser (p .loosest) (loosest ms)) (t .marks) ∙ rw (loosest-cons, ← looser-assoc, ← e);
-    }
-
-pub passing-more : (table line : List ℕ) (p : Pass) (i : ℕ) (s : Read) (word : Word) (d l : ℕ) → Passing table line p i → i < length line
-    → ReadOne table (p .reading) (take (length line - i) (drop i line)) s → WordStep line (p .word) i (cell (getD line i 0) (s .after .mark .class)) word
-    → Balances (p .depth) (cell (getD line i 0) (s .after .mark .class)) d → l ≡ looser (p .loosest) (s .strength)
-    → Passing table line (record { reading = s .after; word = word; depth = d; loosest = l }) (i + 1)
-passing-more table line p i s word d l q h r w b e = passing-read table line p i s word d l q h (read-at line i r) w b e
-
-module _ (table line : List ℕ) (p : Pass) (i : ℕ) (q : Passing table line p i) (h : length line ≤ i) where
-  at-end : i ≡ length line
-  at-end = omega (arith, q .within)
-
-  none-left : drop i line ≡ []
-  none-left = drop-of-length-le line {i = i} h
-
-  end-words : hasWord keywords (classify Carry.Code line) ≡ (p .word .found || oneOf keywords (part line (p .word .start) (length line)))
-  unfolding hasWordFrom scan
-  end-words = q .words ∙ rw (none-left, reverse-reverse, at-end)
-
-  end-balance : isBalanced (classify Carry.Code line) ≡ eqb (p .depth) 1
-  unfolding scan
-  end-balance = q .balance ∙ rw none-left (go (p .depth))
-    where
-      go : (d : ℕ) → isZero (depthAs d) ≡ eqb d 1
-      go zero = refl
-      go (suc zero) = refl
-      go (suc (suc d)) = sym (ne-eqb (suc (suc d)) 1 (omega arith))
-
-  end-loosest : loosest (byteMarks table noOps (classify Carry.Code line)) ≡ p .loosest
-  unfolding scan byteMarks loosest
-  end-loosest = q .loosest ∙ rw none-left (looser-zero (p .loosest))
-
-  pub strength-word : p .word .found ≡ true → 0 ≡ breakStrength table line
-  unfolding breakStrength
-  strength-word e = sym (choose-true _ _ _ (end-words ∙ rw e))
-
-  module _ (e : p .word .found ≡ false) (r : Bool) (f : r ≡ oneOf keywords (take (length line - p .word .start) (drop (p .word .start) line))) where
-    pub strength-last : r ≡ true → 0 ≡ breakStrength table line
-    unfolding breakStrength
-    strength-last g = sym (choose-true _ _ _ (end-words ∙ rw (e, ← f, g)))
-
-    no-word : r ≡ false → hasWord keywords (classify Carry.Code line) ≡ false
-    no-word g = end-words ∙ rw (e, ← f, g)
-
-    pub strength-found : r ≡ false → p .depth ≡ 1 → p .loosest ≡ breakStrength table line
-    unfolding breakStrength
-    strength-found g d = sym (choose-false _ _ _ (no-word g) ∙ choose-false _ _ _ (ap not (end-balance ∙ eq-eqb _ 1 d)) ∙ end-loosest)
-
-    pub strength-open : r ≡ false → (p .depth ≡ 1 → ⊥) → 0 ≡ breakStrength table line
-    unfolding breakStrength
-    strength-open g d = sym (choose-false _ _ _ (no-word g) ∙ choose-true _ _ _ (ap not (end-balance ∙ ne-eqb _ 1 d)))
+  pub word-end : r ≡ false → (s : Bool) → s ≡ oneOf keywords (part line start i) → WordStep line start i x (record { start = i + 1; found = s })
+  unfolding wordOn
+  word-end q s u =
+      record {
+        start = omega arith;
+        word = ap reverse (part-none line (i + 1)) ∙ sym (choose-false _ _ _ (sym p ∙ q));
+        found = rw (← p, q, ← u);
+      }
 
 -- ---- the next operator: none of the strength stands before i
 
-pub record Seeking (table : List ℕ) (strength : ℕ) (line : List ℕ) (from : ℕ) (start r : Reading) (i : ℕ) : Type 0 where
-  pub some : strength ≡ 0 → ⊥
-  pub after : from ≤ i
-  pub within : i ≤ length line
-  pub short : length line < 2 ^ 31
-  pub sound : Sound r i
-  pub first : cutsAt table strength start (drop from line) .first ≡ part line from i ++ cutsAt table strength r (drop i line) .first
-  pub rest : cutsAt table strength start (drop from line) .rest ≡ cutsAt table strength r (drop i line) .rest
+pub seek-start : (table : List ℕ) (strength : ℕ) (line class : List ℕ) (from : ℕ) (start : OpState) → Cutting strength line class from start → Seeking table strength line class from start start from
+seek-start table strength line class from start c =
+    record { some = c .some; after = omega arith; within = c .within; breaks = c .breaks; sound = c .sound; first = rw (part-none line from); rest = refl }
 
-pub seek-start : (table : List ℕ) (strength : ℕ) (line : List ℕ) (from : ℕ) (start : Reading) → Cutting strength line from start → Seeking table strength line from start start from
-seek-start table strength line from start c =
-    record { some = c .some; after = omega arith; within = c .within; short = c .short; sound = c .sound; first = rw (part-none line from); rest = refl }
-
-module _ {table : List ℕ} {strength : ℕ} {line : List ℕ} {from : ℕ} {start r : Reading} {i : ℕ} (q : Seeking table strength line from start r i) where
-  cuts : (s : Read) → ReadAt table r line i s → cutsAt table strength r (drop i line) ≡ atMark (eqb (s .strength) strength) (getD line i 0) (cutsAt table strength (s .after) (drop (i + 1) line))
+module _ {table : List ℕ} {strength : ℕ} {line class : List ℕ} {from : ℕ} {start s : OpState} {i : ℕ} (q : Seeking table strength line class from start s i) where
+  cuts : (f : OpFound) → ReadAt table s line class i f
+      → cutsAt table strength s line class i ≡ atMark (eqb (f .strength) strength) (getD line i 0) (cutsAt table strength (f .after) line class (i + 1))
   unfolding cutBefore
-  cuts s t = ap (cutBefore strength) (t .marks)
+  cuts f t = ap (cutBefore strength) (t .marks)
 
-  pub seek-read : (s : Read) → i < length line → ReadAt table r line i s → (s .strength ≡ strength → ⊥) → Seeking table strength line from start (s .after) (i + 1)
+  pub seek-read : (f : OpFound) → i < length line → ReadAt table s line class i f → (f .strength ≡ strength → ⊥) → Seeking table strength line class from start (f .after) (i + 1)
   unfolding atMark
-  seek-read s h a n =
-      let e : cutsAt table strength r (drop i line) ≡ atMark false (getD line i 0) (cutsAt table strength (s .after) (drop (i + 1) line)) = rw (ne-eqb (s .strength) strength n) at (cuts s a) in
+  seek-read f h a n =
+      let e : cutsAt table strength s line class i ≡ atMark false (getD line i 0) (cutsAt table strength (f .after) line class (i + 1)) = rw (ne-eqb (f .strength) strength n) at (cuts f a) in
       record {
         some = q .some;
         after = omega (arith, q .after);
         within = omega arith;
-        short = q .short;
+        breaks = q .breaks;
         sound = a .sound (q .sound);
         first = q .first ∙ ap (λ (p : Pieces). part line from i ++ p .first) e ∙ rw (part-more line from i (q .after) h, append-assoc);
         rest = q .rest ∙ ap (λ (p : Pieces). p .rest) e;
       }
 
-  pub seek-more : (s : Read) → i < length line → ReadOne table r (take (length line - i) (drop i line)) s → (s .strength ≡ strength → ⊥)
-      → Seeking table strength line from start (s .after) (i + 1)
-  seek-more s h t n = seek-read s h (read-at line i t) n
-
-  pub seek-found : (s : Read) → i < length line → ReadOne table r (take (length line - i) (drop i line)) s → s .strength ≡ strength
-      → NextOp table strength line from start (record { place = i; after = s .after })
+  pub seek-found : (f : OpFound) → i < length line → ReadAt table s line class i f → f .strength ≡ strength
+      → NextOp table strength line class from start (record { place = i; after = f .after })
   unfolding atMark restFrom
-  seek-found s h t n =
-      let a : ReadAt table r line i s = read-at line i t in
-      let e : cutsAt table strength r (drop i line) ≡ atMark true (getD line i 0) (cutsAt table strength (s .after) (drop (i + 1) line)) = rw (eq-eqb (s .strength) strength n) at (cuts s a) in
+  seek-found f h a n =
+      let e : cutsAt table strength s line class i ≡ atMark true (getD line i 0) (cutsAt table strength (f .after) line class (i + 1)) = rw (eq-eqb (f .strength) strength n) at (cuts f a) in
       record {
         after = q .after;
         fits = q .within;
@@ -426,10 +332,10 @@ module _ {table : List ℕ} {strength : ℕ} {line : List ℕ} {from : ℕ} {sta
         sound = λ l. a .sound (q .sound);
       }
 
-  pub seek-end : length line ≤ i → NextOp table strength line from start (record { place = i; after = r })
-  unfolding restFrom scan byteMarks cutBefore
+  pub seek-end : length line ≤ i → NextOp table strength line class from start (record { place = i; after = s })
+  unfolding restFrom byteMarks cutBefore
   seek-end h =
-      let e : drop i line ≡ [] = drop-of-length-le line {i = i} h in
+      let e : cellsOf (drop i line) (drop i class) ≡ [] = cells-end line class i h in
       record {
         after = q .after;
         fits = q .within;
@@ -437,3 +343,188 @@ module _ {table : List ℕ} {strength : ℕ} {line : List ℕ} {from : ℕ} {sta
         rest = q .rest ∙ rw e (sym (choose-false _ _ _ (le-ltb i (length line) h)));
         sound = λ l. absurd (omega arith);
       }
+
+  -- as the calls of `next_op` say it
+  pub seek-plain : (r : PlainStep) → i < length line → ((t : OpStep) → stepOr (r .token) t (r .after) ≡ byteOr t (opsOf s) (cellAt line class i)) → r .token ≡ false
+      → Seeking table strength line class from start (r .after) (i + 1)
+  seek-plain r h e k = seek-read (record { strength = 0; after = r .after }) h (read-plain table s line class i h (q .breaks) r e k) (λ z. q .some (sym z))
+
+-- ---- the operators of the whole line
+
+loosest-cons : (m : OpMark) (ms : List OpMark) → loosest (m ∷ ms) ≡ looser (m .strength) (loosest ms)
+unfolding loosest
+loosest-cons m ms = refl
+
+pub ops-start : (table line class : List ℕ) (b : Loosest) → Breakable line class → b .ops ≡ fresh → b .strength ≡ 0 → OpsAt table line class b 0
+unfolding looser
+ops-start table line class b h e z =
+    record {
+      within = zero-le;
+      breaks = h;
+      sound = rw e (record { opened = omega arith; closed = omega arith });
+      loosest = rw (e, z);
+      clear = λ p pos less. rw e (seek-start table p line class 0 fresh (record { some = λ y. omega arith; within = zero-le; breaks = h; sound = record { opened = omega arith; closed = omega arith } }));
+      found = λ l. absurd (omega arith);
+    }
+
+left-apart : (m n p : ℕ) → 0 < p → (0 < m → p < m) → looser m n ≡ m → n ≡ p → ⊥
+unfolding looser
+left-apart zero n p pos less e z = omega arith
+left-apart (suc m) zero p pos less e z = omega arith
+left-apart (suc m) (suc n) p pos less e z = let l : p < suc m = less (omega arith) in omega arith
+
+module _ {table line class : List ℕ} {b : Loosest} {i : ℕ} (q : OpsAt table line class b i) (h : i < length line) (f : OpFound) (a : ReadAt table (b .ops) line class i f) where
+  sum : loosest (marksAt table fresh line class 0) ≡ looser (looser (b .strength) (f .strength)) (loosest (marksAt table (f .after) line class (i + 1)))
+  sum = q .loosest ∙ ap (λ (ms : List OpMark). looser (b .strength) (loosest ms)) (a .marks) ∙ rw (loosest-cons, ← looser-assoc)
+
+  -- an operator that takes over
+  pub ops-taken : TakesOver (f .strength) (b .strength) → OpsAt table line class (keptFor b i f true) (i + 1)
+  ops-taken t =
+      record {
+        within = omega arith;
+        breaks = q .breaks;
+        sound = a .sound (q .sound);
+        loosest = sum ∙ rw (t .is);
+        clear = λ p pos less.
+            let l : p < f .strength = less (t .some) in
+            seek-read (q .clear p pos (λ k. omega (arith, t .less k))) f h a (λ (e : f .strength ≡ p). omega arith);
+        found = λ k. seek-found (q .clear (f .strength) (t .some) (t .less)) f h a refl;
+      }
+
+  -- one that doesn't
+  pub ops-left : looser (b .strength) (f .strength) ≡ b .strength → OpsAt table line class (keptFor b i f false) (i + 1)
+  ops-left e =
+      record {
+        within = omega arith;
+        breaks = q .breaks;
+        sound = a .sound (q .sound);
+        loosest = sum ∙ rw e;
+        clear = λ p pos less. seek-read (q .clear p pos less) f h a (λ (z : f .strength ≡ p). left-apart (b .strength) (f .strength) p pos less e z);
+        found = q .found;
+      }
+
+  pub ops-kept : (r : Loosest) → Kept b i f r → OpsAt table line class r (i + 1)
+  ops-kept r k = subst (λ (x : Loosest). OpsAt table line class x (i + 1)) (sym (k .kept)) (go (k .looser) (k .is))
+    where
+      go : (v : Bool) → IsLooser (f .strength) (b .strength) v → OpsAt table line class (keptFor b i f v) (i + 1)
+      go true y = ops-taken (y .taken refl)
+      go false y = ops-left (y .left refl)
+
+-- as the calls of `ops_step` say it
+module _ (table line class : List ℕ) (b : Loosest) (i : ℕ) (q : OpsAt table line class b i) (h : i < length line)
+    (r : PlainStep) (e : (t : OpStep) → stepOr (r .token) t (r .after) ≡ byteOr t (opsOf (b .ops)) (cellAt line class i)) where
+  pub ops-plain : r .token ≡ false → OpsAt table line class (record { ops = r .after; strength = b .strength; cut = b .cut }) (i + 1)
+  ops-plain k = ops-left q h (record { strength = 0; after = r .after }) (read-plain table (b .ops) line class i h (q .breaks) r e k) (looser-zero (b .strength))
+
+  pub ops-token : r .token ≡ true → (t : Token) → ((o : Ops) → o .operand ≡ b .ops .operand → stepWith o t ≡ tokenStep table o (take (length line - i) (drop i line)))
+      → (f : OpFound) → stepOf f ≡ stepWith (opsOf (b .ops)) t → (k : Loosest) → Kept b i f k → OpsAt table line class k (i + 1)
+  ops-token k t g f u l w = ops-kept q h f (read-token table (b .ops) line class i h (q .breaks) r e k t g f u) l w
+
+-- ---- the pass for a line's strength
+
+pub passing-start : (table line class : List ℕ) (p : Pass) → Breakable line class → p .ops .ops ≡ fresh → p .ops .strength ≡ 0 → p .start ≡ 0 → p .depth ≡ 1 → Passing table line class p 0
+unfolding hasWord isBalanced
+passing-start table line class p h e z a d =
+    record { ops = ops-start table line class (p .ops) h e z; start = omega arith; deep = omega arith; words = rw a; balance = rw d }
+
+words-cons : (ws : List (List ℕ)) (word : List ℕ) (x : Cell) (xs : List Cell) → hasWordFrom ws word (x ∷ xs) ≡ ((not (inWord x) && oneOf ws (reverse word)) || hasWordFrom ws (wordOn word x) xs)
+unfolding hasWordFrom
+words-cons ws word x xs = refl
+
+fell : (xs : List Cell) → foldl balanceStep none xs ≡ none
+fell [] = refl
+fell (x ∷ xs) = ap (λ (o : Option ℕ). foldl balanceStep o xs) (sym (balance-fell x 0 refl .is)) ∙ fell xs
+
+module _ (table line class : List ℕ) (p : Pass) (i : ℕ) (q : Passing table line class p i) (h : i < length line) where
+  abbrev left : List Cell
+  left = cellsOf (drop (i + 1) line) (drop (i + 1) class)
+
+  cells : cellsOf (drop i line) (drop i class) ≡ cellAt line class i ∷ left
+  cells = cells-at line class i h (q .ops .breaks .long)
+
+  pub pass-deep : p .depth < 2 ^ 32
+  pass-deep = omega (arith, q .deep, q .ops .breaks .short)
+
+  module _ (ops : Loosest) (o : OpsAt table line class ops (i + 1)) (w : Word) (v : WordStep line (p .start) i (cellAt line class i) w) where
+    next-words : hasWord keywords (cellsOf line class) ≡ (w .found || hasWordFrom keywords (reverse (part line (w .start) (i + 1))) left)
+    next-words =
+        q .words ∙ ap (hasWordFrom keywords (reverse (part line (p .start) i))) cells
+        ∙ words-cons keywords (reverse (part line (p .start) i)) (cellAt line class i) left ∙ rw (reverse-reverse, ← (v .found), ← (v .word))
+
+    pub pass-keyword : (start : ℕ) → w .found ≡ true → Passed table line class (record { ops = ops; start = start; depth = 0 }) (i + 1)
+    unfolding breakStrength
+    pass-keyword start e = record { on = λ n. absurd (n refl); over = λ z. sym (choose-true _ _ _ (next-words ∙ rw e)) }
+
+    module _ (d : ℕ) (b : Balances (p .depth) (cellAt line class i) d) where
+      next-balance : isBalanced (cellsOf line class) ≡ isZero (foldl balanceStep (depthAs d) left)
+      next-balance = q .balance ∙ ap (λ (xs : List Cell). isZero (foldl balanceStep (depthAs (p .depth)) xs)) cells ∙ ap (λ (o : Option ℕ). isZero (foldl balanceStep o left)) (sym (b .is))
+
+      pub passing-more : w .found ≡ false → Passing table line class (record { ops = ops; start = w .start; depth = d }) (i + 1)
+      passing-more e = record { ops = o; start = v .start; deep = omega (arith, b .small, q .deep); words = next-words ∙ rw e; balance = next-balance }
+
+      pub pass-more : w .found ≡ false → Passed table line class (record { ops = ops; start = w .start; depth = d }) (i + 1)
+      unfolding breakStrength
+      pass-more e = record { on = λ n. passing-more e; over = λ z. go z }
+        where
+          go : d ≡ 0 → 0 ≡ breakStrength table (cellsOf line class)
+          go z =
+              let y : isBalanced (cellsOf line class) ≡ false = next-balance ∙ rw z (ap isZero (fell left)) in
+              by-test (hasWord keywords (cellsOf line class)) (λ t. sym (choose-true _ _ _ t)) (λ t. sym (choose-false _ _ _ t ∙ choose-true _ _ _ (ap not y)))
+
+pub found-none : {table line class : List ℕ} (r : Break) → Unbroken r → 0 ≡ breakStrength table (cellsOf line class) → BreakFound table line class r
+found-none r u e = record { strength = u .none ∙ e; cut = λ n. absurd (n (u .none)) }
+
+-- the whole line was read
+module _ (line : List ℕ) (p : Pass) where
+  module _ (table class : List ℕ) (q : Passing table line class p (length line)) where
+    none-left : cellsOf (drop (length line) line) (drop (length line) class) ≡ []
+    none-left = cells-end line class (length line) (omega arith)
+
+    end-words : hasWord keywords (cellsOf line class) ≡ oneOf keywords (part line (p .start) (length line))
+    unfolding hasWordFrom
+    end-words = q .words ∙ rw (none-left, reverse-reverse)
+
+    end-balance : isBalanced (cellsOf line class) ≡ eqb (p .depth) 1
+    end-balance = q .balance ∙ rw none-left (go (p .depth))
+      where
+        go : (d : ℕ) → isZero (depthAs d) ≡ eqb d 1
+        go zero = refl
+        go (suc zero) = refl
+        go (suc (suc d)) = sym (ne-eqb (suc (suc d)) 1 (omega arith))
+
+    end-loosest : loosest (byteMarks table noOps (cellsOf line class)) ≡ p .ops .strength
+    unfolding byteMarks loosest
+    end-loosest = q .ops .loosest ∙ rw none-left (looser-zero (p .ops .strength))
+
+  module _ (r : Bool) (f : r ≡ oneOf keywords (take (length line - p .start) (drop (p .start) line))) where
+    pub end-keyword : (b : Break) → r ≡ true → Unbroken b → PassEnd line p b
+    unfolding breakStrength
+    end-keyword b g u = record { found = λ table class q. found-none b u (sym (choose-true _ _ _ (end-words table class q ∙ sym f ∙ g))) }
+
+    module _ (g : r ≡ false) where
+      pub end-found : p .depth ≡ 1 → PassEnd line p (record { strength = p .ops .strength; cut = p .ops .cut })
+      unfolding breakStrength
+      end-found d =
+          record {
+            found = λ table class q.
+                record {
+                  strength = sym (choose-false _ _ _ (end-words table class q ∙ sym f ∙ g) ∙ choose-false _ _ _ (ap not (end-balance table class q ∙ eq-eqb _ 1 d)) ∙ end-loosest table class q);
+                  cut = λ n. q .ops .found (omega arith);
+                };
+          }
+
+      pub end-open : (b : Break) → (p .depth ≡ 1 → ⊥) → Unbroken b → PassEnd line p b
+      unfolding breakStrength
+      end-open b d u =
+          record { found = λ table class q. found-none b u (sym (choose-false _ _ _ (end-words table class q ∙ sym f ∙ g) ∙ choose-true _ _ _ (ap not (end-balance table class q ∙ ne-eqb _ 1 d)))) }
+
+pub pass-over : {table line class : List ℕ} {p : Pass} {i : ℕ} (r : Break) → Passed table line class p i → p .depth ≡ 0 → Unbroken r → BreakFound table line class r
+pass-over r q z u = found-none r u (q .over z)
+
+pub pass-on : {table line class : List ℕ} {p : Pass} {i : ℕ} → Passed table line class p i → (p .depth ≡ 0 → ⊥) → Passing table line class p i
+pass-on q n = q .on n
+
+pub pass-end : {table line class : List ℕ} {p : Pass} {i : ℕ} (r : Break) → Passing table line class p i → length line ≤ i → PassEnd line p r → BreakFound table line class r
+pass-end {table} {line} {class} {p} {i} r q h e =
+    let z : i ≡ length line = omega (arith, q .ops .within) in
+    e .found table class (subst (Passing table line class p) z q)

@@ -1,18 +1,24 @@
 -- What split_operation gives.
 use Prim.Native.Nat.{ℕ, suc, _+_, _-_, _*_, _^_, _≤_, _<_}
-use mathlib.Core.Bool.{not, _||_}
+use mathlib.Core.Bool.{true, not, _||_}
 use mathlib.Core.List.{List, [], _++_, map}
 use mathlib.Core.Path.{_≡_}
 use lib.Dec.{ltb, eqb}
 use lib.ListN.{length}
-use Rattle.buffer.specs.Buffer.{Appended}
+use Rattle.buffer.specs.Buffer.{part, Appended}
 use Rattle.unicode.specs.Unicode.{encode, decode, WellFormed, trim}
+use Rattle.unicode.specs.Places.{TrimmedStart}
+use Rattle.rules.specs.declared.Carry.{Carry}
 use Rattle.rules.specs.Basics.{choose, isEmpty, Pieces}
+use Rattle.rules.specs.Scan.{Cell, classify, allCodeOrStr}
+use Rattle.rules.specs.ClassBytes.{classBytes, cellsOf}
 use Rattle.rules.specs.Options.{indentOf, overWide}
 use Rattle.rules.specs.SplitOperation.{breakFirst}
-use Rattle.split.specs.Measure.{Indent}
-use Rattle.split.specs.Text.{indented, lay, AllWell, following, lastOf, Written, lineRoom}
-use Rattle.split_operation.specs.Pass.{breakStrength, restFrom, Sound}
+use Rattle.split.specs.declared.Part.{Part}
+use Rattle.split.specs.Measure.{Indent, Trimmed}
+use Rattle.split.specs.Text.{indented, lay, AllWell, following, lastOf, Written, Fits, lineRoom}
+use Rattle.split_operation.specs.Pass.{breakStrength, restFrom, Sound, Breakable, NextOp, fresh}
+use Rattle.split_operation.specs.declared.pass.Break.{Break}
 use Rattle.split_operation.specs.declared.pass.Cut.{Cut}
 use Rattle.split_operation.specs.declared.OperationSplit.{OperationSplit}
 
@@ -29,12 +35,12 @@ trimBytes p = encode (trim (decode p))
 abbrev pub restLines : List ℕ → ℕ → List (List ℕ) → List (List ℕ)
 restLines indent level ps = map (λ (p : List ℕ). lay indent level (trimBytes p)) ps
 
-pub record RestFits (table : List ℕ) (strength : ℕ) (line : List ℕ) (cut : Cut) (indent : List ℕ) (level : ℕ) (eol : List ℕ) (first : OperationSplit) : Type 0 where
+pub record RestFits (table : List ℕ) (strength : ℕ) (line class : List ℕ) (cut : Cut) (indent : List ℕ) (level : ℕ) (eol : List ℕ) (first : OperationSplit) : Type 0 where
   pub some : strength ≡ 0 → ⊥
   pub within : cut .place ≤ length line
-  pub short : length line < 2 ^ 31
+  pub breaks : Breakable line class
   pub sound : cut .place < length line → Sound (cut .after) (cut .place + 1)
-  pub well : AllWell (restFrom table strength line cut)
+  pub well : AllWell (restFrom table strength line class cut)
   pub indents : Indent indent level
   pub end : length eol ≤ 2
   pub room : first .next + (length line - cut .place) * lineRoom < 2 ^ 64
@@ -45,20 +51,39 @@ pub record After (eol : List ℕ) (ls : List (List ℕ)) (out out′ : List ℕ)
   pub last : (l : List ℕ) → first .last + length l ≡ first .next → r .last + length (lastOf l ls) ≡ r .next
   pub more : r .more ≡ (first .more || not (isEmpty ls))
 
-pub record RestWritten (table : List ℕ) (strength : ℕ) (line : List ℕ) (cut : Cut) (indent : List ℕ) (level : ℕ) (eol out out′ : List ℕ) (first r : OperationSplit) : Type 0 where
-  pub after : After eol (restLines indent level (restFrom table strength line cut)) out out′ first r
+pub record RestWritten (table : List ℕ) (strength : ℕ) (line class : List ℕ) (cut : Cut) (indent : List ℕ) (level : ℕ) (eol out out′ : List ℕ) (first r : OperationSplit) : Type 0 where
+  pub after : After eol (restLines indent level (restFrom table strength line class cut)) out out′ first r
   pub room : r .next ≤ first .next + (length line - cut .place) * lineRoom
 
-pub record LineFits (line indent : List ℕ) (level : ℕ) : Type 0 where
+-- a line of code and strings, with its class bytes
+pub record Classed (line class : List ℕ) : Type 0 where
+  pub classes : class ≡ classBytes (classify Carry.Code line)
+  pub plain : allCodeOrStr (classify Carry.Code line) ≡ true
+
+-- what split_operation asks
+pub record OperationFits (line class indent : List ℕ) (level : ℕ) (eol : List ℕ) (at : ℕ) : Type 0 where
+  pub fits : Fits line indent level eol at
+  pub classed : Classed line class
+
+pub record LineFits (line class indent : List ℕ) (level : ℕ) : Type 0 where
   pub well : WellFormed line
-  pub size : length line < 2 ^ 31
+  pub breaks : Breakable line class
   pub indents : Indent indent level
 
 -- the strength that a first line is broken at, or 0: it fits, or no rounds are left
-unfoldable pub roundStrength : List ℕ → List ℕ → ℕ → ℕ → ℕ → List ℕ → ℕ
-roundStrength table indent level max rounds line =
+unfoldable pub roundStrength : List ℕ → List ℕ → ℕ → ℕ → ℕ → List ℕ → List Cell → ℕ
+roundStrength table indent level max rounds line cells =
     choose (eqb rounds 0) 0
-    (choose (overWide (indented indent) max (indentOf (indented indent) level ++ decode line)) (breakStrength table line) 0)
+    (choose (overWide (indented indent) max (indentOf (indented indent) level ++ decode line)) (breakStrength table cells) 0)
+
+pub record RoundBreak (table indent : List ℕ) (level max rounds : ℕ) (line class : List ℕ) (r : Break) : Type 0 where
+  pub strength : r .strength ≡ roundStrength table indent level max rounds line (cellsOf line class)
+  pub cut : (r .strength ≡ 0 → ⊥) → NextOp table (r .strength) line class 0 fresh (r .cut)
+
+-- the part before e, trimmed
+pub record FirstPiece (line : List ℕ) (e : ℕ) (r : Part) : Type 0 where
+  pub trimmed : Trimmed line 0 e r
+  pub start : TrimmedStart (part line 0 e) (r .start)
 
 -- the lines of pieces, as bytes
 abbrev pub firstLine : List ℕ → ℕ → Pieces → List ℕ

@@ -1,93 +1,119 @@
 -- What the passes over a line's bytes find: the strength that the line is broken at, and its pieces.
 use Prim.Native.Nat.{ℕ, zero, suc, _+_, _^_, _≤_, _<_}
-use mathlib.Core.Bool.{Bool, true, false, not, _&&_, _||_}
-use mathlib.Core.List.{List, [], _∷_, foldl, reverse}
+use mathlib.Core.Bool.{Bool, true, false, not, _&&_}
+use mathlib.Core.List.{List, [], _∷_, _++_, foldl, reverse}
 use mathlib.Core.Option.{Option, none, some}
 use mathlib.Core.Path.{_≡_}
 use lib.Dec.{ltb}
 use lib.ListN.{length, getD, drop}
 use Rattle.buffer.specs.Buffer.{part}
-use Rattle.rules.specs.declared.Carry.{Carry}
-use Rattle.rules.specs.declared.Class.{Class}
-use Rattle.rules.specs.declared.Mode.{Mode}
-use Rattle.rules.specs.Basics.{choose, isIdent, oneOf, Pieces}
-use Rattle.rules.specs.Scan.{one, Cell, cell, begin, scan, classify}
-use Rattle.rules.specs.SplitOperation.{OpMark, opMark, noOps, balanceStep, isZero, isBalanced, inWord, wordOn, hasWordFrom, hasWord, keywords, looser, loosest, cutBefore}
+use Rattle.rules.specs.Basics.{choose, oneOf, Pieces}
+use Rattle.rules.specs.Scan.{Cell}
+use Rattle.rules.specs.ClassBytes.{cellsOf}
+use Rattle.rules.specs.SplitOperation.{OpMark, noOps, balanceStep, isZero, isBalanced, inWord, wordOn, hasWordFrom, hasWord, keywords, looser, loosest, cutBefore}
+use Rattle.rules.proofs.CellsLaws.{cellAt}
 use Rattle.rules.proofs.OperatorsBytes.{byteMarks}
-use Rattle.operators.specs.Marks.{depthOf}
 use Rattle.operators.specs.Operators.{opsOf}
-use Rattle.split_operation.specs.declared.pass.Reading.{Reading}
-use Rattle.split_operation.specs.declared.pass.Read.{Read}
+use Rattle.operators.specs.declared.OpState.{OpState}
+use Rattle.operators.specs.declared.OpFound.{OpFound}
 use Rattle.split_operation.specs.declared.pass.Word.{Word}
+use Rattle.split_operation.specs.declared.pass.Loosest.{Loosest}
 use Rattle.split_operation.specs.declared.pass.Pass.{Pass}
+use Rattle.split_operation.specs.declared.pass.Break.{Break}
 use Rattle.split_operation.specs.declared.pass.Cut.{Cut}
 
--- the operators of what is left of a line
-abbrev pub marksAt : List ℕ → Reading → List ℕ → List OpMark
-marksAt table r l = byteMarks table (opsOf (r .ops)) (scan (r .mark) l)
+-- the operators of what is left of a line at i
+abbrev pub marksAt : List ℕ → OpState → List ℕ → List ℕ → ℕ → List OpMark
+marksAt table s line class i = byteMarks table (opsOf s) (cellsOf (drop i line) (drop i class))
 
 -- before a line's first byte
-pub record Begins (r : Reading) : Type 0 where
-  pub mark : r .mark ≡ begin Carry.Code
-  pub ops : opsOf (r .ops) ≡ noOps
+abbrev pub fresh : OpState
+fresh = record { opened = 0; closed = 0; operand = false; esc = false; skip = 0 }
 
 -- n bytes were read
-pub record Sound (r : Reading) (n : ℕ) : Type 0 where
-  pub opened : r .ops .opened ≤ n
-  pub closed : r .ops .closed ≤ n
-  pub depth : depthOf (r .mark .mode) ≤ n
-
-pub record Readable (r : Reading) (l : List ℕ) : Type 0 where
-  pub some : 0 < length l
-  pub opened : r .ops .opened < 2 ^ 31
-  pub closed : r .ops .closed < 2 ^ 31
-  pub depth : depthOf (r .mark .mode) < 2 ^ 31
-
--- one byte of l is read
-pub record ReadOne (table : List ℕ) (r : Reading) (l : List ℕ) (s : Read) : Type 0 where
-  pub cells : scan (r .mark) l ≡ cell (getD l 0 0) (s .after .mark .class) ∷ scan (s .after .mark) (drop 1 l)
-  pub marks : marksAt table r l ≡ opMark (getD l 0 0) (s .strength) ∷ marksAt table (s .after) (drop 1 l)
-  pub sound : (n : ℕ) → Sound r n → Sound (s .after) (n + 1)
+pub record Sound (s : OpState) (n : ℕ) : Type 0 where
+  pub opened : s .opened ≤ n
+  pub closed : s .closed ≤ n
 
 -- ---- a run of letters, digits and underscores
 
--- in code, with nothing pending
-pub record Plain (r : Reading) : Type 0 where
-  pub more : r .mark .more ≡ 0
-  pub mode : r .mark .mode ≡ Mode.Code
-  pub skip : r .ops .skip ≡ 0
-  pub esc : r .ops .esc ≡ false
+-- nothing is pending
+pub record Plain (s : OpState) : Type 0 where
+  pub skip : s .skip ≡ 0
+  pub esc : s .esc ≡ false
 
-pub record PlainTest (r : Reading) (b : Bool) : Type 0 where
-  pub yes : b ≡ true → Plain r
+pub record PlainTest (s : OpState) (b : Bool) : Type 0 where
+  pub yes : b ≡ true → Plain s
 
-pub record IdentLen (s : List ℕ) (n : ℕ) : Type 0 where
-  pub fits : n ≤ length s
-  pub idents : (k : ℕ) → k < n → isIdent (getD s k 0) ≡ true
+pub record IdentRun (line class : List ℕ) (from e : ℕ) : Type 0 where
+  pub after : from ≤ e
+  pub fits : e ≤ length line
+  pub idents : (k : ℕ) → from ≤ k → k < e → inWord (cellAt line class k) ≡ true
 
-pub record IdentRun (line : List ℕ) (from : ℕ) (r : Reading) (n : ℕ) : Type 0 where
-  pub fits : from + n ≤ length line
-  pub plain : 0 < n → Plain r
-  pub idents : (k : ℕ) → k < n → isIdent (getD line (from + k) 0) ≡ true
+pub record PlainRun (line class : List ℕ) (from : ℕ) (s : OpState) (e : ℕ) : Type 0 where
+  pub run : IdentRun line class from e
+  pub plain : from < e → Plain s
 
 -- after such a run
-abbrev pub pastIdent : Reading → Reading
-pastIdent r =
-    record {
-      mark = one Class.Code Mode.Code;
-      ops = record { opened = r .ops .opened; closed = r .ops .closed; operand = true; esc = false; skip = 0 };
-    }
+abbrev pub pastIdent : OpState → OpState
+pastIdent s = record { opened = s .opened; closed = s .closed; operand = true; esc = false; skip = 0 }
 
 abbrev pub pastIdents : Pass → Pass
-pastIdents p = record { reading = pastIdent (p .reading); word = p .word; depth = p .depth; loosest = p .loosest }
+pastIdents p =
+    record {
+      ops = record { ops = pastIdent (p .ops .ops); strength = p .ops .strength; cut = p .ops .cut };
+      start = p .start;
+      depth = p .depth;
+    }
+
+-- ---- the pieces
+
+abbrev pub cutsAt : List ℕ → ℕ → OpState → List ℕ → List ℕ → ℕ → Pieces
+cutsAt table strength s line class i = cutBefore strength (marksAt table s line class i)
+
+-- the pieces from a cut on: none at the line's end
+unfoldable pub restFrom : List ℕ → ℕ → List ℕ → List ℕ → Cut → List (List ℕ)
+restFrom table strength line class c =
+    choose (ltb (c .place) (length line))
+    ((getD line (c .place) 0 ∷ cutsAt table strength (c .after) line class (c .place + 1) .first) ∷ cutsAt table strength (c .after) line class (c .place + 1) .rest)
+    []
+
+-- a line and its classes
+pub record Breakable (line class : List ℕ) : Type 0 where
+  pub short : length line < 2 ^ 31
+  pub long : length line ≤ length class
+
+pub record Cutting (strength : ℕ) (line class : List ℕ) (from : ℕ) (start : OpState) : Type 0 where
+  pub some : strength ≡ 0 → ⊥
+  pub within : from ≤ length line
+  pub breaks : Breakable line class
+  pub sound : Sound start from
+
+-- c is the next cut from `from` on
+pub record NextOp (table : List ℕ) (strength : ℕ) (line class : List ℕ) (from : ℕ) (start : OpState) (c : Cut) : Type 0 where
+  pub after : from ≤ c .place
+  pub fits : c .place ≤ length line
+  pub first : cutsAt table strength start line class from .first ≡ part line from (c .place)
+  pub rest : cutsAt table strength start line class from .rest ≡ restFrom table strength line class c
+  pub sound : c .place < length line → Sound (c .after) (c .place + 1)
+
+-- none of the strength stands before i
+pub record Seeking (table : List ℕ) (strength : ℕ) (line class : List ℕ) (from : ℕ) (start s : OpState) (i : ℕ) : Type 0 where
+  pub some : strength ≡ 0 → ⊥
+  pub after : from ≤ i
+  pub within : i ≤ length line
+  pub breaks : Breakable line class
+  pub sound : Sound s i
+  pub first : cutsAt table strength start line class from .first ≡ part line from i ++ cutsAt table strength s line class i .first
+  pub rest : cutsAt table strength start line class from .rest ≡ cutsAt table strength s line class i .rest
 
 -- ---- the strength that a line is broken at
 
-unfoldable pub breakStrength : List ℕ → List ℕ → ℕ
-breakStrength table line =
-    choose (hasWord keywords (classify Carry.Code line)) 0
-    (choose (not (isBalanced (classify Carry.Code line))) 0
-    (loosest (byteMarks table noOps (classify Carry.Code line))))
+unfoldable pub breakStrength : List ℕ → List Cell → ℕ
+breakStrength table cells =
+    choose (hasWord keywords cells) 0
+    (choose (not (isBalanced cells)) 0
+    (loosest (byteMarks table noOps cells)))
 
 -- the depth of brackets as the code holds it: 1 more, or 0 once it fell below 0
 abbrev pub depthAs : ℕ → Option ℕ
@@ -98,47 +124,60 @@ pub record Balances (depth : ℕ) (x : Cell) (r : ℕ) : Type 0 where
   pub is : depthAs r ≡ balanceStep (depthAs depth) x
   pub small : r ≤ depth + 1
 
--- w says where the word that ends at i starts, and whether a keyword was passed; r says it at i + 1
-pub record WordStep (line : List ℕ) (w : Word) (i : ℕ) (x : Cell) (r : Word) : Type 0 where
+-- `was` is where the word that ends at i starts; r says it at i + 1, and whether that word is a keyword that ends
+pub record WordStep (line : List ℕ) (was i : ℕ) (x : Cell) (r : Word) : Type 0 where
   pub start : r .start ≤ i + 1
-  pub word : reverse (part line (r .start) (i + 1)) ≡ wordOn (reverse (part line (w .start) i)) x
-  pub found : r .found ≡ (w .found || (not (inWord x) && oneOf keywords (part line (w .start) i)))
+  pub word : reverse (part line (r .start) (i + 1)) ≡ wordOn (reverse (part line was i)) x
+  pub found : r .found ≡ (not (inWord x) && oneOf keywords (part line was i))
+
+-- a is the strength of an operator, and it is looser than b
+pub record TakesOver (a b : ℕ) : Type 0 where
+  pub some : 0 < a
+  pub less : 0 < b → a < b
+  pub is : looser b a ≡ a
+
+pub record IsLooser (a b : ℕ) (r : Bool) : Type 0 where
+  pub taken : r ≡ true → TakesOver a b
+  pub left : r ≡ false → looser b a ≡ b
+
+-- what the first i bytes say of the operators of the whole line; no operator before i is looser than the one kept
+pub record OpsAt (table line class : List ℕ) (b : Loosest) (i : ℕ) : Type 0 where
+  pub within : i ≤ length line
+  pub breaks : Breakable line class
+  pub sound : Sound (b .ops) i
+  pub loosest : loosest (marksAt table fresh line class 0) ≡ looser (b .strength) (loosest (marksAt table (b .ops) line class i))
+  pub clear : (p : ℕ) → 0 < p → (0 < b .strength → p < b .strength) → Seeking table p line class 0 fresh (b .ops) i
+  pub found : 0 < b .strength → NextOp table (b .strength) line class 0 fresh (b .cut)
+
+abbrev pub keptFor : Loosest → ℕ → OpFound → Bool → Loosest
+keptFor b i f true = record { ops = f .after; strength = f .strength; cut = record { place = i; after = f .after } }
+keptFor b i f false = record { ops = f .after; strength = b .strength; cut = b .cut }
+
+-- what was found at i is kept if it takes over
+pub record Kept (b : Loosest) (i : ℕ) (f : OpFound) (r : Loosest) : Type 0 where
+  pub looser : Bool
+  pub is : IsLooser (f .strength) (b .strength) looser
+  pub kept : r ≡ keptFor b i f looser
 
 -- what the first i bytes say of the whole line
-pub record Passing (table line : List ℕ) (p : Pass) (i : ℕ) : Type 0 where
-  pub within : i ≤ length line
-  pub short : length line < 2 ^ 31
-  pub sound : Sound (p .reading) i
-  pub start : p .word .start ≤ i
+pub record Passing (table line class : List ℕ) (p : Pass) (i : ℕ) : Type 0 where
+  pub ops : OpsAt table line class (p .ops) i
+  pub start : p .start ≤ i
   pub deep : p .depth ≤ i + 1
-  pub words : hasWord keywords (classify Carry.Code line)
-      ≡ (p .word .found || hasWordFrom keywords (reverse (part line (p .word .start) i)) (scan (p .reading .mark) (drop i line)))
-  pub balance : isBalanced (classify Carry.Code line) ≡ isZero (foldl balanceStep (depthAs (p .depth)) (scan (p .reading .mark) (drop i line)))
-  pub loosest : loosest (byteMarks table noOps (classify Carry.Code line)) ≡ looser (p .loosest) (loosest (marksAt table (p .reading) (drop i line)))
+  pub words : hasWord keywords (cellsOf line class) ≡ hasWordFrom keywords (reverse (part line (p .start) i)) (cellsOf (drop i line) (drop i class))
+  pub balance : isBalanced (cellsOf line class) ≡ isZero (foldl balanceStep (depthAs (p .depth)) (cellsOf (drop i line) (drop i class)))
 
--- ---- the pieces
+pub record Passed (table line class : List ℕ) (p : Pass) (i : ℕ) : Type 0 where
+  pub on : (p .depth ≡ 0 → ⊥) → Passing table line class p i
+  pub over : p .depth ≡ 0 → 0 ≡ breakStrength table (cellsOf line class)
 
-abbrev pub cutsAt : List ℕ → ℕ → Reading → List ℕ → Pieces
-cutsAt table strength r l = cutBefore strength (marksAt table r l)
+pub record Unbroken (r : Break) : Type 0 where
+  pub none : r .strength ≡ 0
 
--- the pieces from a cut on: none at the line's end
-unfoldable pub restFrom : List ℕ → ℕ → List ℕ → Cut → List (List ℕ)
-restFrom table strength line c =
-    choose (ltb (c .place) (length line))
-    ((getD line (c .place) 0 ∷ cutsAt table strength (c .after) (drop (c .place + 1) line) .first)
-    ∷ cutsAt table strength (c .after) (drop (c .place + 1) line) .rest)
-    []
+pub record BreakFound (table line class : List ℕ) (r : Break) : Type 0 where
+  pub strength : r .strength ≡ breakStrength table (cellsOf line class)
+  pub cut : (r .strength ≡ 0 → ⊥) → NextOp table (r .strength) line class 0 fresh (r .cut)
 
-pub record Cutting (strength : ℕ) (line : List ℕ) (from : ℕ) (start : Reading) : Type 0 where
-  pub some : strength ≡ 0 → ⊥
-  pub within : from ≤ length line
-  pub short : length line < 2 ^ 31
-  pub sound : Sound start from
-
--- c is the next cut from `from` on
-pub record NextOp (table : List ℕ) (strength : ℕ) (line : List ℕ) (from : ℕ) (start : Reading) (c : Cut) : Type 0 where
-  pub after : from ≤ c .place
-  pub fits : c .place ≤ length line
-  pub first : cutsAt table strength start (drop from line) .first ≡ part line from (c .place)
-  pub rest : cutsAt table strength start (drop from line) .rest ≡ restFrom table strength line c
-  pub sound : c .place < length line → Sound (c .after) (c .place + 1)
+-- what a pass p over the whole line says
+pub record PassEnd (line : List ℕ) (p : Pass) (r : Break) : Type 0 where
+  pub found : (table class : List ℕ) → Passing table line class p (length line) → BreakFound table line class r

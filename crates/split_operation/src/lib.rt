@@ -5,12 +5,14 @@ ghost use mathlib.Core.Path.{_≡_};
 ghost use Rattle.unicode.specs.Unicode.{decode};
 ghost use Rattle.rules.specs.Options.{Options};
 ghost use Rattle.rules.specs.SplitOperation.{strengths, splitOperation};
-ghost use Rattle.split.specs.Text.{Fits};
-ghost use Rattle.split_operation.specs.Operation.{LineFits, Broken, RestFits, RestWritten, roundStrength, FirstBroken};
+ghost use Rattle.split.specs.Measure.{Within};
+ghost use Rattle.split_operation.specs.Operation.{LineFits, Broken, RestFits, RestWritten, RoundBreak, FirstPiece, FirstBroken, OperationFits};
+use pass::Break;
 use pass::Cut;
-use pass::begin;
-use pass::break_strength;
+use pass::find_break;
 use pass::next_op;
+use pass::unbroken;
+use split::Part;
 use split::indent_column;
 use split::measure_from;
 use split::trim_part;
@@ -52,6 +54,7 @@ pub struct OperationSplit {
 fn write_rest(
     table: &[u8; 21],
     line: &[u8],
+    class: &[u8],
     strength: u8,
     cut: Cut,
     indent: &[u8],
@@ -60,15 +63,15 @@ fn write_rest(
     out: &mut [u8],
     first: OperationSplit,
 ) -> OperationSplit
-    requires { ⌜ RestFits (now table) strength (now line) cut (now indent) level (now eol) first ⌝ }
-    ensures { λ r. ⌜ RestWritten (now (table .entry)) strength (now (line .entry)) cut (now (indent .entry)) level (now (eol .entry)) (now (out .entry)) (now (out .exit)) first r ⌝ }
+    requires { ⌜ RestFits (now table) strength (now line) (now class) cut (now indent) level (now eol) first ⌝ }
+    ensures { λ r. ⌜ RestWritten (now (table .entry)) strength (now (line .entry)) (now (class .entry)) cut (now (indent .entry)) level (now (eol .entry)) (now (out .entry)) (now (out .exit)) first r ⌝ }
 {
     let mut c = cut;
     let mut r = first;
     while c.place < line.len() {
         let from = c.place;
         let q = c.after;
-        c = next_op(table, line, strength, from + 1, q);
+        c = next_op(table, line, class, strength, from + 1, q);
         let p = trim_part(line, from, c.place);
         let a = p.start;
         let e = p.end;
@@ -82,32 +85,48 @@ fn write_rest(
     r
 }
 
-// The strength that a first line is broken at, or 0: it fits, or no rounds are left.
-fn round_strength(
+// Where a first line is broken: nowhere if it fits, or if no rounds are left.
+fn round_break(
     table: &[u8; 21],
     line: &[u8],
+    class: &[u8],
     indent: &[u8],
     level: usize,
     max: usize,
     rounds: usize,
-) -> u8
-    requires { ⌜ LineFits (now line) (now indent) level ⌝ }
-    ensures { λ r. ⌜ r ≡ roundStrength (now (table .entry)) (now (indent .entry)) level max rounds (now (line .entry)) ⌝ }
+) -> Break
+    requires { ⌜ LineFits (now line) (now class) (now indent) level ⌝ }
+    ensures { λ r. ⌜ RoundBreak (now (table .entry)) (now (indent .entry)) level max rounds (now (line .entry)) (now (class .entry)) r ⌝ }
 {
     if rounds == 0 {
-        return 0;
+        return unbroken();
     }
     let end = measure_from(indent_column(indent, level), line);
     if end.0 <= max {
-        return 0;
+        return unbroken();
     }
-    break_strength(table, line)
+    find_break(table, line, class)
+}
+
+// The part before a cut, trimmed. What is trimmed of its start is white space, so that a scan of the part by itself starts as the line's does.
+fn first_piece(line: &[u8], e: usize) -> Part
+    requires { ⌜ Within (now line) 0 e ⌝ }
+    ensures { λ r. ⌜ FirstPiece (now (line .entry)) e r ⌝ }
+{
+    let p = &line[0..e];
+    let n = unicode::trim_start(p);
+    let m = unicode::trim_end(&p[n..]);
+    Part {
+        start: n,
+        end: n + m,
+    }
 }
 
 // A line, its first piece broken again in so many rounds while it is too wide.
 fn break_first(
     table: &[u8; 21],
     line: &[u8],
+    class: &[u8],
     indent: &[u8],
     level: usize,
     eol: &[u8],
@@ -116,11 +135,11 @@ fn break_first(
     out: &mut [u8],
     at: usize,
 ) -> OperationSplit
-    requires { ⌜ Fits (now line) (now indent) level (now eol) at ⌝ }
+    requires { ⌜ OperationFits (now line) (now class) (now indent) level (now eol) at ⌝ }
     ensures { λ r. ⌜ FirstBroken (now (table .entry)) (now (line .entry)) (now (indent .entry)) level (now (eol .entry)) max rounds (now (out .entry)) (now (out .exit)) at r ⌝ }
 {
-    let strength = round_strength(table, line, indent, level, max, rounds);
-    if strength == 0 {
+    let b = round_break(table, line, class, indent, level, max, rounds);
+    if b.strength == 0 {
         let next = buffer::append_indented(out, at, indent, level, line);
         return OperationSplit {
             next,
@@ -128,13 +147,14 @@ fn break_first(
             more: false,
         };
     }
-    let cut = next_op(table, line, strength, 0, begin());
-    let p = trim_part(line, 0, cut.place);
+    let cut = b.cut;
+    let p = first_piece(line, cut.place);
     let a = p.start;
     let e = p.end;
     let first = break_first(
         table,
         &line[a..e],
+        &class[a..e],
         indent,
         level,
         eol,
@@ -146,7 +166,8 @@ fn break_first(
     write_rest(
         table,
         line,
-        strength,
+        class,
+        b.strength,
         cut,
         indent,
         level + 1,
@@ -156,9 +177,11 @@ fn break_first(
     )
 }
 
-// An over-wide line, broken before its loosest operators. Where there is nothing to break at, that is the line alone.
+// An over-wide line of code and strings with its class bytes, broken before its loosest operators. Where there is nothing to break at, that is
+// the line alone. The first piece of a break has only tighter operators, so there are no more rounds than strengths.
 pub fn split_operation(
     line: &[u8],
+    class: &[u8],
     indent: &[u8],
     level: usize,
     eol: &[u8],
@@ -166,10 +189,20 @@ pub fn split_operation(
     out: &mut [u8],
     at: usize,
 ) -> OperationSplit
-    requires { ⌜ Fits (now line) (now indent) level (now eol) at ⌝ }
+    requires { ⌜ OperationFits (now line) (now class) (now indent) level (now eol) at ⌝ }
     ensures { λ r. ⌜ ((o : Options) → o .indent ≡ now (indent .entry)
         → Broken (now (eol .entry)) (splitOperation strengths o max level (decode (now (line .entry)))) (now (out .entry)) (now (out .exit)) at r) ⌝ }
 {
-    let n = unicode::char_count(line);
-    break_first(&STRENGTHS, line, indent, level, eol, max, n.0, out, at)
+    break_first(
+        &STRENGTHS,
+        line,
+        class,
+        indent,
+        level,
+        eol,
+        max,
+        12,
+        out,
+        at,
+    )
 }

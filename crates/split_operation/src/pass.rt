@@ -1,113 +1,72 @@
-// The passes over a line's bytes: the strength that it is broken at, and its next operator of a strength.
+// The passes over a line's bytes and their classes: where the line is broken first, and its next operator of a strength.
 ghost use mathlib.Core.Path.{_≡_};
-ghost use mathlib.Core.Bool.{true};
 ghost use Prim.Native.Nat.{_+_, _≤_, _<_, _^_};
 ghost use lib.ListN.{length, getD};
-ghost use Rattle.rules.specs.declared.Mode.{Mode};
 ghost use Rattle.rules.specs.Basics.{same, oneOf};
 ghost use Rattle.rules.specs.Scan.{cell, isCode};
-ghost use Rattle.rules.specs.SplitOperation.{looser, inWord, keywords};
-ghost use Rattle.split_operation.specs.Pass.{Begins, Readable, ReadOne, PlainTest, IdentLen, IdentRun, pastIdent, pastIdents, breakStrength, Balances, WordStep, Passing, Cutting, NextOp};
+ghost use Rattle.rules.specs.ClassBytes.{classOf};
+ghost use Rattle.rules.specs.SplitOperation.{inWord, keywords};
+ghost use Rattle.split_operation.specs.Pass.{fresh, PlainTest, IdentRun, PlainRun, pastIdent, pastIdents, Balances, WordStep, IsLooser, OpsAt, Kept, Passing, Passed, Breakable, Unbroken, PassEnd, BreakFound, Cutting, NextOp};
 use basics::is_closer;
 use basics::is_ident;
 use basics::is_opener;
 use basics::starts_with;
+use operators::OpFound;
 use operators::OpState;
-use operators::marks::next_mark;
-use operators::op_step;
-use rules::Class;
-use rules::Mark;
-use rules::Mode;
-
-// Before a byte: the mark of the byte before, and the state of the operators.
-pub struct Reading {
-    pub mark: Mark,
-    pub ops: OpState,
-}
-
-// The strength of the operator that starts at a byte, and what is known after it.
-pub struct Read {
-    pub strength: u8,
-    pub after: Reading,
-}
+use operators::found;
+use operators::plain_step;
+use operators::token_at;
 
 // Before a line's first byte.
-pub fn begin() -> Reading
-    ensures { λ r. ⌜ Begins r ⌝ }
+fn begin() -> OpState
+    ensures { λ r. ⌜ r ≡ fresh ⌝ }
 {
-    Reading {
-        mark: Mark {
-            more: 0,
-            class: Class::Code,
-            mode: Mode::Code,
-        },
-        ops: OpState {
-            opened: 0,
-            closed: 0,
-            operand: false,
-            esc: false,
-            skip: 0,
-        },
+    OpState {
+        opened: 0,
+        closed: 0,
+        operand: false,
+        esc: false,
+        skip: 0,
     }
 }
 
-// One byte, at the head of l.
-fn read_byte(table: &[u8; 21], l: &[u8], r: Reading) -> Read
-    requires { ⌜ Readable r (now l) ⌝ }
-    ensures { λ s. ⌜ ReadOne (now (table .entry)) r (now (l .entry)) s ⌝ }
+fn is_code(k: u8) -> bool
+    ensures { λ r. ⌜ r ≡ isCode (classOf k) ⌝ }
 {
-    let t = r.mark;
-    let s = r.ops;
-    let mark = next_mark(l, t);
-    let k = mark.class;
-    let f = op_step(table, s, l, k);
-    let ops = f.after;
-    Read {
-        strength: f.strength,
-        after: Reading { mark, ops },
-    }
+    k == 0
 }
 
-fn is_code_mode(m: Mode) -> bool
-    ensures { λ r. ⌜ (r ≡ true → m ≡ Mode.Code) ⌝ }
+// A letter, digit or underscore of code.
+fn in_word(k: u8, c: u8) -> bool
+    ensures { λ r. ⌜ r ≡ inWord (cell c (classOf k)) ⌝ }
 {
-    match m {
-        Mode::Code => true,
-        Mode::Quoted(_) => false,
-        Mode::Interp(_, _) => false,
-        Mode::Inner(_, _, _) => false,
-        Mode::Line => false,
-        Mode::Block(_) => false,
-        Mode::Prefab => false,
+    if is_code(k) {
+        return is_ident(c);
     }
+    false
 }
 
-// Whether the next byte is in code, with nothing pending.
-fn is_plain(r: Reading) -> bool
-    ensures { λ b. ⌜ PlainTest r b ⌝ }
+// Whether nothing is pending.
+fn is_plain(s: OpState) -> bool
+    ensures { λ r. ⌜ PlainTest s r ⌝ }
 {
-    let t = r.mark;
-    let s = r.ops;
-    if t.more != 0 {
-        return false;
-    }
     if s.skip != 0 {
         return false;
     }
     if s.esc {
         return false;
     }
-    let m = t.mode;
-    is_code_mode(m)
+    true
 }
 
-// How many letters, digits and underscores s starts with.
-fn ident_len(s: &[u8]) -> usize
-    ensures { λ r. ⌜ IdentLen (now (s .entry)) r ⌝ }
+// Where the letters, digits and underscores of code that stand from a place on end.
+fn ident_end(line: &[u8], class: &[u8], from: usize) -> usize
+    requires { ⌜ (from ≤ length (now line)) × (length (now line) ≤ length (now class)) ⌝ }
+    ensures { λ r. ⌜ IdentRun (now (line .entry)) (now (class .entry)) from r ⌝ }
 {
-    let mut i = 0;
-    while i < s.len() {
-        if is_ident(s[i]) {
+    let mut i = from;
+    while i < line.len() {
+        if in_word(class[i], line[i]) {
             i += 1;
         } else {
             return i;
@@ -116,66 +75,33 @@ fn ident_len(s: &[u8]) -> usize
     i
 }
 
-// How many of them stand from a place on, if they are code with nothing pending: the passes step over them.
-fn ident_run(line: &[u8], from: usize, r: Reading) -> usize
-    requires { ⌜ from ≤ length (now line) ⌝ }
-    ensures { λ n. ⌜ IdentRun (now (line .entry)) from r n ⌝ }
+// The same if nothing is pending, else the place itself: the passes step over such a run at once.
+fn run_end(line: &[u8], class: &[u8], from: usize, s: OpState) -> usize
+    requires { ⌜ (from ≤ length (now line)) × (length (now line) ≤ length (now class)) ⌝ }
+    ensures { λ r. ⌜ PlainRun (now (line .entry)) (now (class .entry)) from s r ⌝ }
 {
-    if is_plain(r) {
-        return ident_len(&line[from..]);
+    if is_plain(s) {
+        return ident_end(line, class, from);
     }
-    0
+    from
 }
 
-fn past_ident(r: Reading) -> Reading
-    ensures { λ q. ⌜ q ≡ pastIdent r ⌝ }
+fn past_ident(s: OpState) -> OpState
+    ensures { λ r. ⌜ r ≡ pastIdent s ⌝ }
 {
-    let s = r.ops;
-    Reading {
-        mark: Mark {
-            more: 0,
-            class: Class::Code,
-            mode: Mode::Code,
-        },
-        ops: OpState {
-            opened: s.opened,
-            closed: s.closed,
-            operand: true,
-            esc: false,
-            skip: 0,
-        },
-    }
-}
-
-// The looser of two strengths; 0 is none.
-fn looser(a: u8, b: u8) -> u8
-    ensures { λ r. ⌜ r ≡ looser a b ⌝ }
-{
-    if a == 0 {
-        return b;
-    }
-    if b == 0 {
-        return a;
-    }
-    if a < b { a } else { b }
-}
-
-fn is_code(k: Class) -> bool
-    ensures { λ r. ⌜ r ≡ isCode k ⌝ }
-{
-    match k {
-        Class::Code => true,
-        Class::Str => false,
-        Class::LineComment => false,
-        Class::BlockComment => false,
-        Class::Prefab => false,
+    OpState {
+        opened: s.opened,
+        closed: s.closed,
+        operand: true,
+        esc: false,
+        skip: 0,
     }
 }
 
 // The depth of brackets and 1, or 0 once it fell below 0.
-fn balance(depth: usize, k: Class, c: u8) -> usize
+fn balance(depth: usize, k: u8, c: u8) -> usize
     requires { ⌜ depth < 2 ^ 32 ⌝ }
-    ensures { λ r. ⌜ Balances depth (cell c k) r ⌝ }
+    ensures { λ r. ⌜ Balances depth (cell c (classOf k)) r ⌝ }
 {
     if depth == 0 {
         return 0;
@@ -220,147 +146,248 @@ fn is_keyword(s: &[u8]) -> bool
     same(s, b"await")
 }
 
-// Where the word that ends here starts, and whether a keyword was passed.
+// Where the word that ends here starts, and whether a keyword ended just before.
 pub struct Word {
     pub start: usize,
     pub found: bool,
 }
 
-fn in_word(k: Class, c: u8) -> bool
-    ensures { λ r. ⌜ r ≡ inWord (cell c k) ⌝ }
-{
-    if is_code(k) {
-        return is_ident(c);
-    }
-    false
-}
-
-fn word_step(line: &[u8], w: Word, i: usize, k: Class) -> Word
-    requires { ⌜ (i < length (now line)) × (w .start ≤ i) ⌝ }
-    ensures { λ r. ⌜ WordStep (now (line .entry)) w i (cell (getD (now (line .entry)) i 0) k) r ⌝ }
+fn word_step(line: &[u8], start: usize, i: usize, k: u8) -> Word
+    requires { ⌜ (i < length (now line)) × (start ≤ i) ⌝ }
+    ensures { λ r. ⌜ WordStep (now (line .entry)) start i (cell (getD (now (line .entry)) i 0) (classOf k)) r ⌝ }
 {
     if in_word(k, line[i]) {
-        return w;
-    }
-    let a = w.start;
-    if is_keyword(&line[a..i]) {
         return Word {
-            start: i + 1,
-            found: true,
+            start,
+            found: false,
         };
     }
     Word {
         start: i + 1,
-        found: w.found,
+        found: is_keyword(&line[start..i]),
     }
 }
 
-// What a pass knows before a byte.
-pub struct Pass {
-    pub reading: Reading,
-    pub word: Word,
-    pub depth: usize,
-    pub loosest: u8,
+// A place before which a line is cut, or its length, and the state after the byte there.
+pub struct Cut {
+    pub place: usize,
+    pub after: OpState,
 }
 
-fn pass_step(table: &[u8; 21], line: &[u8], i: usize, p: Pass) -> Pass
-    requires { ⌜ Passing (now table) (now line) p i × (i < length (now line)) ⌝ }
-    ensures { λ r. ⌜ Passing (now (table .entry)) (now (line .entry)) r (i + 1) ⌝ }
+// The state of the operators, the loosest strength so far, 0 for none, and the first operator of that strength.
+pub struct Loosest {
+    pub ops: OpState,
+    pub strength: u8,
+    pub cut: Cut,
+}
+
+// Whether an operator of strength a takes over from one of strength b; 0 is none.
+fn is_looser(a: u8, b: u8) -> bool
+    ensures { λ r. ⌜ IsLooser a b r ⌝ }
 {
-    let q = p.reading;
-    let r = read_byte(table, &line[i..], q);
-    let reading = r.after;
-    let mark = reading.mark;
-    let k = mark.class;
-    let w = p.word;
-    let word = word_step(line, w, i, k);
+    if a == 0 {
+        return false;
+    }
+    if b == 0 {
+        return true;
+    }
+    a < b
+}
+
+// What was found at i, kept if it is looser.
+fn keep(b: Loosest, i: usize, f: OpFound) -> Loosest
+    ensures { λ r. ⌜ Kept b i f r ⌝ }
+{
+    let after = f.after;
+    if is_looser(f.strength, b.strength) {
+        return Loosest {
+            ops: after,
+            strength: f.strength,
+            cut: Cut { place: i, after },
+        };
+    }
+    let cut = b.cut;
+    Loosest {
+        ops: after,
+        strength: b.strength,
+        cut,
+    }
+}
+
+fn ops_step(table: &[u8; 21], line: &[u8], class: &[u8], i: usize, b: Loosest) -> Loosest
+    requires { ⌜ OpsAt (now table) (now line) (now class) b i × (i < length (now line)) ⌝ }
+    ensures { λ r. ⌜ OpsAt (now (table .entry)) (now (line .entry)) (now (class .entry)) r (i + 1) ⌝ }
+{
+    let s = b.ops;
+    let r = plain_step(s, class[i], line[i]);
+    if r.token {
+        let t = token_at(table, s.operand, &line[i..]);
+        let f = found(s, t);
+        return keep(b, i, f);
+    }
+    let after = r.after;
+    let cut = b.cut;
+    Loosest {
+        ops: after,
+        strength: b.strength,
+        cut,
+    }
+}
+
+// What a pass knows before a byte: the operators, where the word that ends here starts, and the depth of brackets and 1.
+pub struct Pass {
+    pub ops: Loosest,
+    pub start: usize,
+    pub depth: usize,
+}
+
+// One byte; the depth is 0 once the line is not to be broken.
+fn pass_step(table: &[u8; 21], line: &[u8], class: &[u8], i: usize, p: Pass) -> Pass
+    requires { ⌜ Passing (now table) (now line) (now class) p i × (i < length (now line)) ⌝ }
+    ensures { λ r. ⌜ Passed (now (table .entry)) (now (line .entry)) (now (class .entry)) r (i + 1) ⌝ }
+{
+    let b = p.ops;
+    let ops = ops_step(table, line, class, i, b);
+    let w = word_step(line, p.start, i, class[i]);
+    if w.found {
+        return Pass {
+            ops,
+            start: w.start,
+            depth: 0,
+        };
+    }
     Pass {
-        reading,
-        word,
-        depth: balance(p.depth, k, line[i]),
-        loosest: looser(p.loosest, r.strength),
+        ops,
+        start: w.start,
+        depth: balance(p.depth, class[i], line[i]),
     }
 }
 
 fn past_idents(p: Pass) -> Pass
     ensures { λ r. ⌜ r ≡ pastIdents p ⌝ }
 {
-    let q = p.reading;
-    let word = p.word;
+    let b = p.ops;
+    let s = b.ops;
+    let cut = b.cut;
     Pass {
-        reading: past_ident(q),
-        word,
+        ops: Loosest {
+            ops: past_ident(s),
+            strength: b.strength,
+            cut,
+        },
+        start: p.start,
         depth: p.depth,
-        loosest: p.loosest,
     }
 }
 
-// The strength that the line is broken at, or 0 where it isn't: one pass for its words, its brackets and its operators.
-pub fn break_strength(table: &[u8; 21], line: &[u8]) -> u8
-    requires { ⌜ length (now line) < 2 ^ 31 ⌝ }
-    ensures { λ r. ⌜ r ≡ breakStrength (now (table .entry)) (now (line .entry)) ⌝ }
+// The strength that a line is broken at, or 0 where it isn't, and the first operator of that strength.
+pub struct Break {
+    pub strength: u8,
+    pub cut: Cut,
+}
+
+pub fn unbroken() -> Break
+    ensures { λ r. ⌜ Unbroken r ⌝ }
+{
+    Break {
+        strength: 0,
+        cut: Cut {
+            place: 0,
+            after: begin(),
+        },
+    }
+}
+
+// One pass for the line's words, its brackets and its operators.
+pub fn find_break(table: &[u8; 21], line: &[u8], class: &[u8]) -> Break
+    requires { ⌜ Breakable (now line) (now class) ⌝ }
+    ensures { λ r. ⌜ BreakFound (now (table .entry)) (now (line .entry)) (now (class .entry)) r ⌝ }
 {
     let mut p = Pass {
-        reading: begin(),
-        word: Word {
-            start: 0,
-            found: false,
+        ops: Loosest {
+            ops: begin(),
+            strength: 0,
+            cut: Cut {
+                place: 0,
+                after: begin(),
+            },
         },
+        start: 0,
         depth: 1,
-        loosest: 0,
     };
     let mut i = 0;
     while i < line.len() {
-        let q = p.reading;
-        let n = ident_run(line, i, q);
-        if 0 < n {
+        let b = p.ops;
+        let s = b.ops;
+        let e = run_end(line, class, i, s);
+        if i < e {
             p = past_idents(p);
-            i += n;
+            i = e;
         } else {
-            p = pass_step(table, line, i, p);
-            i += 1;
-        }
-    }
-    let w = p.word;
-    if w.found {
-        return 0;
-    }
-    let a = w.start;
-    if is_keyword(&line[a..]) {
-        return 0;
-    }
-    if p.depth == 1 {
-        return p.loosest;
-    }
-    0
-}
-
-// A place before which a line is cut, or its length, and what is known after the byte there.
-pub struct Cut {
-    pub place: usize,
-    pub after: Reading,
-}
-
-// The next operator of a strength, from a place on.
-pub fn next_op(table: &[u8; 21], line: &[u8], strength: u8, from: usize, start: Reading) -> Cut
-    requires { ⌜ Cutting strength (now line) from start ⌝ }
-    ensures { λ c. ⌜ NextOp (now (table .entry)) strength (now (line .entry)) from start c ⌝ }
-{
-    let mut r = start;
-    let mut i = from;
-    while i < line.len() {
-        let n = ident_run(line, i, r);
-        if 0 < n {
-            r = past_ident(r);
-            i += n;
-        } else {
-            let f = read_byte(table, &line[i..], r);
-            r = f.after;
-            if f.strength == strength {
-                return Cut { place: i, after: r };
+            p = pass_step(table, line, class, i, p);
+            if p.depth == 0 {
+                return unbroken();
             }
             i += 1;
         }
     }
-    Cut { place: i, after: r }
+    end_pass(line, p)
+}
+
+// What the pass says at the line's end.
+fn end_pass(line: &[u8], p: Pass) -> Break
+    requires { ⌜ p .start ≤ length (now line) ⌝ }
+    ensures { λ r. ⌜ PassEnd (now (line .entry)) p r ⌝ }
+{
+    let a = p.start;
+    if is_keyword(&line[a..]) {
+        return unbroken();
+    }
+    if p.depth == 1 {
+        let b = p.ops;
+        let cut = b.cut;
+        return Break {
+            strength: b.strength,
+            cut,
+        };
+    }
+    unbroken()
+}
+
+// The next operator of a strength, from a place on.
+pub fn next_op(
+    table: &[u8; 21],
+    line: &[u8],
+    class: &[u8],
+    strength: u8,
+    from: usize,
+    start: OpState,
+) -> Cut
+    requires { ⌜ Cutting strength (now line) (now class) from start ⌝ }
+    ensures { λ c. ⌜ NextOp (now (table .entry)) strength (now (line .entry)) (now (class .entry)) from start c ⌝ }
+{
+    let mut s = start;
+    let mut i = from;
+    while i < line.len() {
+        let e = run_end(line, class, i, s);
+        if i < e {
+            s = past_ident(s);
+            i = e;
+        } else {
+            let r = plain_step(s, class[i], line[i]);
+            if r.token {
+                let t = token_at(table, s.operand, &line[i..]);
+                let f = found(s, t);
+                s = f.after;
+                if f.strength == strength {
+                    return Cut { place: i, after: s };
+                }
+                i += 1;
+            } else {
+                s = r.after;
+                i += 1;
+            }
+        }
+    }
+    Cut { place: i, after: s }
 }

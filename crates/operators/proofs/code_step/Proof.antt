@@ -1,71 +1,49 @@
 use borrow.Author.Needs.{needs}
-use native.Mathlib.Omega.{arith}
 use Rattle.rules.proofs.Choose.{picks}
 use Rattle.operators.specs.Operators.{codeOr}
 use Rattle.operators.proofs.OperatorLaws.{passed-token, passed-bracket, opens, closes}
 use Rattle.operators.proofs.code_step.Statement.{statement}
 use Rattle.operators.proofs.code_step.Tie as tie
-use Rattle.operators.proofs.code_step.Reads as reads
-use Rattle.operators.proofs.code_step.Lts as lts
-use Rattle.operators.proofs.bracket.Reads as bracket-reads
-use Rattle.operators.proofs.ends_operand.Reads as ends-operand-reads
-use Rattle.operators.proofs.is_blank.Reads as is-blank-reads
-use Rattle.operators.proofs.is_closer.Reads as is-closer-reads
-use Rattle.operators.proofs.is_opener.Reads as is-opener-reads
-use Rattle.operators.proofs.passed.Reads as passed-reads
 
--- src/lib.rt:421:8
 is-blank-requires : tie.Need-is-blank-requires
 is-blank-requires c κs = search needs
 
--- src/lib.rt:422:9
 passed-requires : tie.Need-passed-requires
 passed-requires c κs = search needs
 
--- src/lib.rt:422:9
 returns : tie.Need-returns
 unfolding codeOr
 returns c = λ t. search (picks, passed-token) depth 20
 
--- src/lib.rt:424:8
 is-opener-requires : tie.Need-is-opener-requires
 is-opener-requires c κs = search needs
 
--- src/lib.rt:425:24
 add-bracket : tie.Need-add-bracket
 add-bracket c = search needs
 
--- src/lib.rt:425:9
 bracket-requires : tie.Need-bracket-requires
 bracket-requires c κs = search needs
 
--- src/lib.rt:425:9
 returns-2 : tie.Need-returns-2
 unfolding codeOr
 returns-2 c = λ t. search (picks, passed-bracket, opens) depth 20
 
--- src/lib.rt:427:8
 is-closer-requires : tie.Need-is-closer-requires
 is-closer-requires c κs = search needs
 
--- src/lib.rt:428:34
 add-bracket-2 : tie.Need-add-bracket-2
 add-bracket-2 c = search needs
 
--- src/lib.rt:428:48
 ends-operand-requires : tie.Need-ends-operand-requires
 ends-operand-requires c κs = search needs
 
--- src/lib.rt:428:9
 bracket-requires-2 : tie.Need-bracket-requires-2
 bracket-requires-2 c κs = search needs
 
--- src/lib.rt:428:9
 returns-3 : tie.Need-returns-3
 unfolding codeOr
 returns-3 c = λ t. search (picks, passed-bracket, closes) depth 20
 
--- src/lib.rt:417:1
 returns-4 : tie.Need-returns-4
 unfolding codeOr
 returns-4 c = λ t. search picks depth 20

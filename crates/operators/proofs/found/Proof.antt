@@ -1,17 +1,11 @@
-use borrow.Author.Needs.{needs}
-use native.Mathlib.Omega.{arith}
 use Rattle.rules.proofs.Choose.{choose-true, choose-false}
 use borrow.Author.Tests.{eq-eqb, ne-eqb}
 use Rattle.operators.proofs.found.Statement.{statement}
 use Rattle.operators.proofs.found.Tie as tie
-use Rattle.operators.proofs.found.Reads as reads
-use Rattle.operators.proofs.found.Lts as lts
 
--- src/lib.rt:378:9
 returns : tie.Need-returns
 returns c = rw (choose-true _ _ _ (eq-eqb _ _ (c .if1 .taken)))
 
--- src/lib.rt:367:1
 returns-2 : tie.Need-returns-2
 returns-2 c = rw (choose-false _ _ _ (ne-eqb _ _ (c .if1 .left)))
 

@@ -1,47 +1,34 @@
 use borrow.Author.Needs.{needs}
-use native.Mathlib.Omega.{arith}
 use Rattle.rules.proofs.Choose.{picks}
 use Rattle.operators.specs.Operators.{freshOr}
 use Rattle.operators.proofs.OperatorLaws.{passed-string, passed-escape, pick-string, pick-code}
 use Rattle.operators.proofs.fresh_step.Statement.{statement}
 use Rattle.operators.proofs.fresh_step.Tie as tie
-use Rattle.operators.proofs.fresh_step.Reads as reads
-use Rattle.operators.proofs.fresh_step.Lts as lts
-use Rattle.operators.proofs.code_step.Reads as code-step-reads
-use Rattle.operators.proofs.passed.Reads as passed-reads
 
--- src/lib.rt:442:9
 passed-requires : tie.Need-passed-requires
 passed-requires c κs = search needs
 
--- src/lib.rt:442:9
 returns : tie.Need-returns
 unfolding freshOr
 returns c = λ t. search (picks, passed-string, pick-string) depth 20
 
--- src/lib.rt:445:9
 passed-requires-2 : tie.Need-passed-requires-2
 passed-requires-2 c κs = search needs
 
--- src/lib.rt:445:9
 returns-2 : tie.Need-returns-2
 unfolding freshOr
 returns-2 c = λ t. search (picks, passed-escape, pick-code) depth 20
 
--- src/lib.rt:448:9
 passed-requires-3 : tie.Need-passed-requires-3
 passed-requires-3 c κs = search needs
 
--- src/lib.rt:448:9
 returns-3 : tie.Need-returns-3
 unfolding freshOr
 returns-3 c = λ t. search (picks, passed-escape, pick-code) depth 20
 
--- src/lib.rt:450:5
 code-step-requires : tie.Need-code-step-requires
 code-step-requires c κs = search needs
 
--- src/lib.rt:437:1
 returns-4 : tie.Need-returns-4
 unfolding freshOr
 returns-4 c = λ t. let h = c .code-step .ensures t in search (picks, pick-code) depth 20

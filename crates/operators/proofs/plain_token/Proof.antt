@@ -1,12 +1,7 @@
-use borrow.Author.Needs.{needs}
-use native.Mathlib.Omega.{arith}
 use Rattle.operators.proofs.OperatorLaws.{token-step}
 use Rattle.operators.proofs.plain_token.Statement.{statement}
 use Rattle.operators.proofs.plain_token.Tie as tie
-use Rattle.operators.proofs.plain_token.Reads as reads
-use Rattle.operators.proofs.plain_token.Lts as lts
 
--- src/lib.rt:130:1
 returns : tie.Need-returns
 returns c = λ s. token-step s _ _
 

@@ -1,81 +1,56 @@
 use borrow.Author.Needs.{needs}
-use native.Mathlib.Omega.{arith}
 use Rattle.rules.proofs.Choose.{picks}
 use Rattle.operators.specs.Operators.{signStep}
 use Rattle.operators.proofs.OperatorLaws.{pick-two, pick-one, two-token, two-operator, token-operator}
 use Rattle.operators.proofs.sign_step.Statement.{statement}
 use Rattle.operators.proofs.sign_step.Tie as tie
-use Rattle.operators.proofs.sign_step.Reads as reads
-use Rattle.operators.proofs.sign_step.Lts as lts
-use Rattle.operators.proofs.is_arrow.Reads as is-arrow-reads
-use Rattle.operators.proofs.is_shift_assign.Reads as is-shift-assign-reads
-use Rattle.operators.proofs.one_char_step.Reads as one-char-step-reads
-use Rattle.operators.proofs.plain_token.Reads as plain-token-reads
-use Rattle.operators.proofs.strength_of.Reads as strength-of-reads
-use Rattle.operators.proofs.two_at.Reads as two-at-reads
-use Rattle.split.proofs.starts_with.Reads as starts-with-reads
 
--- src/lib.rt:334:23
 slice-aggregate-starts-with : tie.Need-slice-aggregate-starts-with
 slice-aggregate-starts-with c = search needs
 
--- src/lib.rt:334:8
 starts-with-requires : tie.Need-starts-with-requires
 starts-with-requires c κs = search needs
 
--- src/lib.rt:335:9
 plain-token-requires : tie.Need-plain-token-requires
 plain-token-requires c κs = search needs
 
--- src/lib.rt:335:9
 returns : tie.Need-returns
 unfolding signStep
 returns c = λ s e. let h = c .plain-token .ensures s in search picks depth 20
 
--- src/lib.rt:337:8
 is-arrow-requires : tie.Need-is-arrow-requires
 is-arrow-requires c κs = search needs
 
--- src/lib.rt:338:9
 plain-token-requires-2 : tie.Need-plain-token-requires-2
 plain-token-requires-2 c κs = search needs
 
--- src/lib.rt:338:9
 returns-2 : tie.Need-returns-2
 unfolding signStep
 returns-2 c = λ s e. let h = c .plain-token2 .ensures s in search picks depth 20
 
--- src/lib.rt:340:9
 two-at-requires : tie.Need-two-at-requires
 two-at-requires c κs = search needs
 
--- src/lib.rt:342:9
 one-char-step-requires : tie.Need-one-char-step-requires
 one-char-step-requires c κs = search needs
 
--- src/lib.rt:342:9
 returns-3 : tie.Need-returns-3
 unfolding signStep
 returns-3 c = λ s e. let h = c .one-char-step .ensures s e in search (picks, pick-one) depth 20
 
--- src/lib.rt:344:8
 is-shift-assign-requires : tie.Need-is-shift-assign-requires
 is-shift-assign-requires c κs = search needs
 
--- src/lib.rt:345:9
 plain-token-requires-3 : tie.Need-plain-token-requires-3
 plain-token-requires-3 c κs = search needs
 
--- src/lib.rt:345:9
 returns-4 : tie.Need-returns-4
 unfolding signStep
 returns-4 c = λ s e. let h = c .plain-token3 .ensures s in search (picks, pick-two, two-token) depth 20
 
--- src/lib.rt:348:19
 strength-of-requires : tie.Need-strength-of-requires
 strength-of-requires c κs = search needs
 
--- src/lib.rt:330:1
 returns-5 : tie.Need-returns-5
 unfolding signStep
 returns-5 c = λ s e. search (picks, pick-two, two-operator, token-operator) depth 20

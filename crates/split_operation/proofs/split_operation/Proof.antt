@@ -3,9 +3,6 @@ use Rattle.split_operation.proofs.OperationLaws.{all-broken}
 use Rattle.split_operation.proofs.split_operation.Statement.{statement}
 use Rattle.split_operation.proofs.split_operation.Tie as tie
 
-char-count-requires : tie.Need-char-count-requires
-char-count-requires c κs = search needs
-
 break-first-requires : tie.Need-break-first-requires
 break-first-requires c κs = search needs
 
@@ -13,8 +10,7 @@ same-length : tie.Need-same-length
 same-length c = search needs
 
 returns : tie.Need-returns
-returns c = all-broken _ (c .before .before .before .before .before .before .before .before .before .before .pre) (c .before .before .before .before .before .char-count .ensures) (c .before .before .break-first .ensures)
+returns c = all-broken (c .before .before .before .before .before .before .before .before .before .before .pre) (c .before .before .break-first .ensures)
 
 pub split-operation-spec : {M : Type 1} → statement M
-split-operation-spec =
-    tie.close (tie.spec char-count-requires break-first-requires same-length returns)
+split-operation-spec = tie.close (tie.spec break-first-requires same-length returns)

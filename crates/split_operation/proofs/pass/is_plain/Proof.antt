@@ -10,13 +10,7 @@ returns-2 : tie.Need-returns-2
 returns-2 c = not-plain _
 
 returns-3 : tie.Need-returns-3
-returns-3 c = not-plain _
-
-is-code-mode-requires : tie.Need-is-code-mode-requires
-is-code-mode-requires c κs = search needs
-
-returns-4 : tie.Need-returns-4
-returns-4 c = search (needs, plain-test)
+returns-3 c = search (needs, plain-test)
 
 pub is-plain-spec : {M : Type 1} → statement M
-is-plain-spec = tie.close (tie.spec returns returns-2 returns-3 is-code-mode-requires returns-4)
+is-plain-spec = tie.close (tie.spec returns returns-2 returns-3)

@@ -1,45 +1,41 @@
 use borrow.Author.Needs.{needs}
-use Rattle.split_operation.proofs.PassLaws.{passing-more}
+use Rattle.split_operation.proofs.PassLaws.{pass-deep, pass-keyword, pass-more}
 use Rattle.split_operation.proofs.pass.pass_step.Statement.{statement}
 use Rattle.split_operation.proofs.pass.pass_step.Tie as tie
 
-sub-read-byte : tie.Need-sub-read-byte
-sub-read-byte c = search needs
+ops-step-requires : tie.Need-ops-step-requires
+ops-step-requires c κs = search needs
 
-part-read-byte-start : tie.Need-part-read-byte-start
-part-read-byte-start c = search needs
-
-part-read-byte-end : tie.Need-part-read-byte-end
-part-read-byte-end c = search needs
-
-read-byte-requires : tie.Need-read-byte-requires
-read-byte-requires c κs = search needs
+shared-slice-read-word-step : tie.Need-shared-slice-read-word-step
+shared-slice-read-word-step c = search needs
 
 word-step-requires : tie.Need-word-step-requires
 word-step-requires c κs = search needs
 
+returns : tie.Need-returns
+returns c = pass-keyword _ _ _ _ _ (c .before .before .before .before .before .before .before .pre .0) (c .before .before .before .before .before .before .before .pre .1) _ (c .before .before .before .ops-step .ensures) _ (c .before .word-step .ensures) _ (c .if1 .taken)
+
 shared-slice-read-balance : tie.Need-shared-slice-read-balance
 shared-slice-read-balance c = search needs
 
+shared-slice-read-balance-2 : tie.Need-shared-slice-read-balance-2
+shared-slice-read-balance-2 c = search needs
+
 balance-requires : tie.Need-balance-requires
-balance-requires c κs = search needs
+balance-requires c κs = pass-deep _ _ _ _ _ (c .before .before .before .before .before .before .before .before .before .pre .0) (c .before .before .before .before .before .before .before .before .before .pre .1)
 
-looser-requires : tie.Need-looser-requires
-looser-requires c κs = search needs
-
-returns : tie.Need-returns
-returns c = search (needs, passing-more)
+returns-2 : tie.Need-returns-2
+returns-2 c = pass-more _ _ _ _ _ (c .before .before .before .before .before .before .before .before .before .before .pre .0) (c .before .before .before .before .before .before .before .before .before .before .pre .1) _ (c .before .before .before .before .before .before .ops-step .ensures) _ (c .before .before .before .before .word-step .ensures) _ (c .balance .ensures) (c .before .before .before .if1 .left)
 
 pub pass-step-spec : {M : Type 1} → statement M
 pass-step-spec =
     tie.close
     (tie.spec
-    sub-read-byte
-    part-read-byte-start
-    part-read-byte-end
-    read-byte-requires
+    ops-step-requires
+    shared-slice-read-word-step
     word-step-requires
+    returns
     shared-slice-read-balance
+    shared-slice-read-balance-2
     balance-requires
-    looser-requires
-    returns)
+    returns-2)

@@ -1,4 +1,5 @@
 use borrow.Author.Needs.{needs}
+use mathlib.Core.Path.{_∙_}
 use Rattle.split_operation.proofs.pass.past_idents.Statement.{statement}
 use Rattle.split_operation.proofs.pass.past_idents.Tie as tie
 

@@ -10,7 +10,7 @@ use Rattle.unicode.specs.Unicode.{encode, decode, size}
 use Rattle.buffer.specs.Buffer.{Appended}
 use Rattle.rules.specs.Basics.{choose, is, isEmpty, lastIs}
 use Rattle.rules.specs.Lines.{asStr}
-use Rattle.rules.specs.Scan.{classify}
+use Rattle.rules.specs.Scan.{classify, allCodeOrStr}
 use Rattle.rules.specs.Options.{Options, allBlank}
 use Rattle.rules.specs.SplitImport.{Laid, splitImport}
 use Rattle.rules.specs.SplitOperation.{strengths, splitOperation}
@@ -25,7 +25,7 @@ use Rattle.format.specs.declared.else_line.LineFacts.{LineFacts}
 use Rattle.split.specs.Text.{indented, Fits}
 use Rattle.split_import.specs.Import.{Given, ImportFits}
 use Rattle.split_import.specs.declared.ImportSplit.{ImportSplit}
-use Rattle.split_operation.specs.Operation.{Broken}
+use Rattle.split_operation.specs.Operation.{Broken, OperationFits}
 use Rattle.split_operation.specs.declared.OperationSplit.{OperationSplit}
 use Rattle.text.specs.Text.{Text, Continues, afterLines}
 use Rattle.text.specs.declared.Written.{Written}
@@ -46,7 +46,7 @@ module _
   where
     -- ---- what the two splits ask
 
-    pub break-fits : t .at .0 ≤ 1152921504606846976 → Fits line indent level eol start
+    break-fits : t .at .0 ≤ 1152921504606846976 → Fits line indent level eol start
     break-fits h =
         record {
           well = g .well;
@@ -61,6 +61,9 @@ module _
 
     pub import-asks : t .at .0 ≤ 1152921504606846976 → ImportFits line class indent level eol start
     import-asks h = record { fits = break-fits h; classes = g .classes }
+
+    pub operation-asks : t .at .0 ≤ 1152921504606846976 → allCodeOrStr (classify Carry.Code line) ≡ true → OperationFits line class indent level eol start
+    operation-asks h p = record { fits = break-fits h; classed = record { classes = g .classes; plain = p } }
 
     -- ---- lines that were written
 

@@ -15,8 +15,8 @@ use Rattle.rules.specs.SplitImport.{Laid}
 use Rattle.rules.specs.Line.{dropBlank, orOperation, broken, oneLine, fitted}
 use Rattle.rules.specs.declared.Carry.{Carry}
 use Rattle.rules.specs.declared.PrintWidth.{PrintWidth}
-use Rattle.rules.proofs.CellsLaws.{cells-bytes, length-classBytes, length-classify}
-use Rattle.rules.proofs.ScanBytes.{all-encode}
+use Rattle.rules.proofs.CellsLaws.{cells-classify, length-classBytes, length-classify}
+use Rattle.rules.proofs.ScanBytes.{classify-encode, all-encode}
 use Rattle.scan.specs.CodeEnd.{onlyCodeOrStr}
 use Rattle.scan.proofs.CodeEnd.{all-code-or-str}
 use Rattle.text.specs.Text.{Text, Adds}
@@ -28,13 +28,18 @@ use Rattle.line.specs.Holds.{ValidIndent}
 use Rattle.place.specs.Placing.{GoesOn, Wide, Lays, Breaks, aloneIn}
 use Rattle.place.proofs.PlaceLaws.{indent-small}
 
--- the test of the class bytes is the test of the characters' classes
-pub code-test : (line class : List ℕ) (r : Bool) → GoesOn line class → r ≡ onlyCodeOrStr class → r ≡ allCodeOrStr (classify Carry.Code (decode line))
-code-test line class r g e =
+-- the test of the class bytes is the test of the classes, of the bytes and of the characters
+pub code-bytes : (line class : List ℕ) (r : Bool) → GoesOn line class → r ≡ onlyCodeOrStr class → r ≡ allCodeOrStr (classify Carry.Code line)
+code-bytes line class r g e =
     let n : length line ≡ length class = sym (ap length (g .classes) ∙ length-classBytes (classify Carry.Code line) ∙ length-classify Carry.Code line) in
     e ∙ sym (all-code-or-str line class n)
     ∙ ap (λ (ks : List ℕ). allCodeOrStr (cellsOf line ks)) (g .classes)
-    ∙ ap allCodeOrStr (cells-bytes Carry.Code line (g .well))
+    ∙ ap allCodeOrStr (cells-classify Carry.Code line)
+
+pub code-test : (line class : List ℕ) (r : Bool) → GoesOn line class → r ≡ onlyCodeOrStr class → r ≡ allCodeOrStr (classify Carry.Code (decode line))
+code-test line class r g e =
+    code-bytes line class r g e
+    ∙ ap allCodeOrStr (ap (classify Carry.Code) (sym (g .well)) ∙ classify-encode Carry.Code (decode line))
     ∙ all-encode (classify Carry.Code (decode line))
 
 -- a line that is not split

@@ -1,6 +1,6 @@
 // The line that goes on, put into the text: joined to the newest line, or indented, or split.
 ghost use mathlib.Core.Path.{_≡_};
-ghost use mathlib.Core.Bool.{false};
+ghost use mathlib.Core.Bool.{true, false};
 ghost use Rattle.rules.specs.Basics.{choose};
 ghost use Prim.Native.Nat.{_+_, _≤_, _<_};
 ghost use lib.ListN.{length};
@@ -227,7 +227,7 @@ pub fn place_line(
     lay_line(line, class, marker, indent, width, ending, out, scratch, b)
 }
 
-// The line broken: an import first, otherwise at its operators.
+// The line, all of it code and strings, broken: an import first, otherwise at its operators.
 fn break_line(
     line: &[u8],
     class: &[u8],
@@ -243,6 +243,7 @@ fn break_line(
     requires { ⌜ level ≤ 1048576 ⌝ }
     requires { ⌜ GoesOn (now line) (now class) ⌝ }
     requires { ⌜ Ordered t × (t .at .0 ≤ 1152921504606846976) ⌝ }
+    requires { ⌜ allCodeOrStr (classify Carry.Code (now line)) ≡ true ⌝ }
     ensures { λ r. ⌜ Breaks max (now (indent .entry)) (decode (now (line .entry))) level (asStr ending) drops (length (now (line .entry))) (now (out .entry)) t r (now (out .exit)) ⌝ }
 {
     let start = text::continue_text(out, t, ending, drops);
@@ -256,7 +257,7 @@ fn break_line(
             blanks: i.blanks,
         };
     }
-    let o = split_operation::split_operation(line, indent, level, eol, max, out, start);
+    let o = split_operation::split_operation(line, class, indent, level, eol, max, out, start);
     if o.more {
         return alone(text::after_lines(o.next, brace));
     }

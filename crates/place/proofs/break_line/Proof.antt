@@ -1,5 +1,5 @@
 use mathlib.Core.Path.{_∙_}
-use Rattle.place.proofs.BreakLaws.{break-fits, import-asks, import-breaks, several-breaks, alone-breaks}
+use Rattle.place.proofs.BreakLaws.{import-asks, operation-asks, import-breaks, several-breaks, alone-breaks}
 use borrow.Author.Needs.{needs}
 use Rattle.place.proofs.break_line.Statement.{statement}
 use Rattle.place.proofs.break_line.Tie as tie
@@ -21,7 +21,7 @@ split-import-requires c κs =
     let a = c .before .before in
     let t = a .before .before .before .before in
     let s = t .before .before .before .before .before .before in
-    import-asks _ _ _ _ _ _ _ _ _ _ _ (s .pre .0) (s .pre .1 .0) (s .pre .1 .1 .0) (a .as-str .ensures) (t .continue-text .ensures) (s .pre .1 .1 .1 .1)
+    import-asks _ _ _ _ _ _ _ _ _ _ _ (s .pre .0) (s .pre .1 .0) (s .pre .1 .1 .0) (a .as-str .ensures) (t .continue-text .ensures) (s .pre .1 .1 .1 .0 .1)
 
 after-lines-requires : tie.Need-after-lines-requires
 after-lines-requires c κs = search needs
@@ -43,7 +43,7 @@ split-operation-requires c κs =
     let a = c .before .before .before .before .before .before .before in
     let t = a .before .before .before .before in
     let s = t .before .before .before .before .before .before in
-    break-fits _ _ _ _ _ _ _ _ _ _ _ (s .pre .0) (s .pre .1 .0) (s .pre .1 .1 .0) (a .as-str .ensures) (t .continue-text .ensures) (s .pre .1 .1 .1 .1)
+    operation-asks _ _ _ _ _ _ _ _ _ _ _ (s .pre .0) (s .pre .1 .0) (s .pre .1 .1 .0) (a .as-str .ensures) (t .continue-text .ensures) (s .pre .1 .1 .1 .0 .1) (s .pre .1 .1 .1 .1)
 
 after-lines-requires-2 : tie.Need-after-lines-requires-2
 after-lines-requires-2 c κs = search needs

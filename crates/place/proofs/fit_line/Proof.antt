@@ -1,4 +1,5 @@
-use Rattle.place.proofs.FitLaws.{fit-off, fit-narrow, fit-mixed, fit-broken}
+use mathlib.Core.Path.{sym, _∙_}
+use Rattle.place.proofs.FitLaws.{code-bytes, fit-off, fit-narrow, fit-mixed, fit-broken}
 use borrow.Author.Needs.{needs}
 use Rattle.place.proofs.fit_line.Statement.{statement}
 use Rattle.place.proofs.fit_line.Tie as tie
@@ -22,7 +23,10 @@ all-code-or-str-requires : tie.Need-all-code-or-str-requires
 all-code-or-str-requires c κs = search needs
 
 break-line-requires : tie.Need-break-line-requires
-break-line-requires c κs = search needs
+break-line-requires c κs =
+    let a = c .before .before in
+    let s = a .before .before .before .before .before .before .before .before .before .before in
+    (s .pre .0, (s .pre .1 .0, (s .pre .1 .1 .0, (s .pre .1 .1 .1, sym (code-bytes _ _ _ (s .pre .1 .1 .0) (a .all-code-or-str .ensures)) ∙ c .before .if2 .taken))))
 
 same-length : tie.Need-same-length
 same-length c = search needs

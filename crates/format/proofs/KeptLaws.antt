@@ -17,7 +17,7 @@ use Rattle.rules.specs.Spacing.{Spaced, spaced, trimBlanks, putPlain, putAfterC
 use Rattle.rules.specs.declared.Gap.{Gap}
 use Rattle.rules.proofs.Choose.{choose-true, choose-false}
 use Rattle.rules.proofs.CellsLaws.{cellAt, cells-at, cells-end}
-use Rattle.format.specs.Respaced.{respacedFrom, InCode, KeptAt, NoBlank, Unchanged}
+use Rattle.format.specs.Respaced.{respacedFrom, InCode, KeptAt, NoBlank, Keeping, Unchanged}
 use Rattle.format.proofs.ClassPicks.{code-other}
 use Rattle.format.proofs.SpacingLaws.{trim-snoc}
 
@@ -218,10 +218,6 @@ module _ (line ks : List ℕ) (i : ℕ) (w : InCode line ks i 44) (b : NoBlank l
       }
 
 -- ---- the loop
-
-pub record Keeping (line ks : List ℕ) (i : ℕ) : Type 0 where
-  pub within : i ≤ length line
-  pub same : normalizeSpacing (cellsOf line ks) ≡ respacedFrom line ks i
 
 pub keeping-start : (line ks : List ℕ) → Keeping line ks 0
 unfolding respacedFrom normalizeSpacing

@@ -4,6 +4,7 @@ pub mod ClassPicks
 pub mod StackLaws
 pub mod SpacingLaws
 pub mod KeptLaws
+pub mod OddLaws
 pub mod StartsLaws
 pub mod BoolPicks
 pub mod WordLaws

@@ -1,10 +1,12 @@
 -- The respaced line as it lies in scratch.
 use Prim.Native.Nat.{ℕ, _+_, _*_, _≤_, _<_}
-use mathlib.Core.Bool.{Bool, true, false}
+use mathlib.Core.Bool.{Bool, true, false, not, _&&_, _||_}
 use mathlib.Core.List.{List, foldl}
 use mathlib.Core.Path.{_≡_}
+use lib.Dec.{eqb}
 use lib.ListN.{length, getD, take, drop}
 use Rattle.buffer.specs.Buffer.{part}
+use Rattle.rules.specs.Basics.{is, isBlank, isCloser}
 use Rattle.rules.specs.Scan.{Cell}
 use Rattle.rules.specs.ClassBytes.{cellsOf}
 use Rattle.rules.specs.Spacing.{Spaced, spaced, trimBlanks, spaceStep, normalizeSpacing}
@@ -63,6 +65,33 @@ pub record KeptAt (line ks : List ℕ) (i r : ℕ) : Type 0 where
 -- r says whether a blank stands before i; if not, none is to be left out there
 pub record NoBlank (line : List ℕ) (i : ℕ) (r : Bool) : Type 0 where
   pub none : r ≡ false → trimBlanks (take i line) ≡ take i line
+
+-- spacing leaves the first i characters as they are
+pub record Keeping (line ks : List ℕ) (i : ℕ) : Type 0 where
+  pub within : i ≤ length line
+  pub same : normalizeSpacing (cellsOf line ks) ≡ respacedFrom line ks i
+
+-- The tests of a byte of which spacing may change something: a blank before a comma; in code a backslash, two spaces, or a comma without a space of
+-- code and something after it that is no blank and no closer. b, s, c, e: the byte is a blank, a space, a comma, a backslash; n, d: the next is a space,
+-- a comma; m: the one after that is a blank or a closer; k, l: the byte, and the next, are of code.
+unfoldable pub sieve : Bool → Bool → Bool → Bool → Bool → Bool → Bool → Bool → Bool → Bool
+sieve b d k e s n c l m = (b && d) || (k && ((e || (s && n)) || (c && ((not n || not l) || m))))
+
+-- the byte x of class k, followed by y of class l and by z
+abbrev pub odd : ℕ → ℕ → ℕ → ℕ → ℕ → Bool
+odd x y z k l = sieve (isBlank x) (is "," y) (eqb k 0) (is "\\" x) (is " " x) (is " " y) (is "," x) (eqb l 0) (isBlank z || isCloser z)
+
+abbrev pub oddAt : List ℕ → List ℕ → ℕ → Bool
+oddAt line ks i = odd (getD line i 0) (getD line (i + 1) 0) (getD line (i + 2) 0) (getD ks i 0) (getD ks (i + 1) 0)
+
+-- r says whether one of the n bytes from `at` on is odd
+pub record Odd (line ks : List ℕ) (at n : ℕ) (r : Bool) : Type 0 where
+  pub none : r ≡ false → (j : ℕ) → j < n → oddAt line ks (at + j) ≡ false
+
+-- if r says so, none is that two bytes follow
+pub record Clear (line ks : List ℕ) (r : Bool) : Type 0 where
+  pub long : r ≡ true → 2 < length line
+  pub none : r ≡ true → (j : ℕ) → j + 2 < length line → oddAt line ks j ≡ false
 
 -- a line that is said to be spaced is what spacing makes of it
 pub record Unchanged (line ks : List ℕ) (r : Bool) : Type 0 where

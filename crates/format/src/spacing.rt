@@ -10,7 +10,7 @@ ghost use Rattle.rules.specs.Basics.{choose, isBlank};
 ghost use Rattle.rules.specs.Scan.{cell, isCode};
 ghost use Rattle.rules.specs.ClassBytes.{classOf, cellsOf};
 ghost use Rattle.rules.specs.Spacing.{spaced, putPlain, putAfterComma, putAt};
-ghost use Rattle.format.specs.Respaced.{textAt, Trimmed, Wrote, Place, Normalized, InCode, KeptAt, NoBlank, Unchanged};
+ghost use Rattle.format.specs.Respaced.{textAt, Trimmed, Wrote, Place, Normalized, InCode, KeptAt, NoBlank, Keeping, odd, Odd, Clear, Unchanged};
 use basics::is_blank;
 use basics::is_closer;
 use rules::Gap;
@@ -272,12 +272,117 @@ fn kept_at(line: &[u8], class: &[u8], i: usize) -> usize
     1
 }
 
+// Whether spacing may change something of the byte x of class k, which y of class l and z follow. It makes no branch, so that many bytes are tested
+// at once.
+fn is_odd(x: u8, y: u8, z: u8, k: u8, l: u8) -> bool
+    ensures { λ r. ⌜ r ≡ odd x y z k l ⌝ }
+{
+    let blank = (x == b' ') | (x == b'\t');
+    let shut = ((z == b' ') | (z == b'\t')) | ((z == b'}') | (z == b')') | (z == b']'));
+    let gap = ((y != b' ') | (l != 0)) | shut;
+    (blank & (y == b','))
+        | ((k == 0) & (((x == b'\\') | ((x == b' ') & (y == b' '))) | ((x == b',') & gap)))
+}
+
+// The same of eight bytes from `at` on, and of sixteen.
+fn odd_eight(line: &[u8], class: &[u8], at: usize) -> bool
+    requires { ⌜ (at + 10 ≤ length (now line)) × (length (now line) ≤ length (now class)) ⌝ }
+    ensures { λ r. ⌜ Odd (now (line .entry)) (now (class .entry)) at 8 r ⌝ }
+{
+    let mut any = false;
+    let mut k: usize = 0;
+    while k < 8 {
+        let i = at + k;
+        any = any | is_odd(line[i], line[i + 1], line[i + 2], class[i], class[i + 1]);
+        k += 1;
+    }
+    any
+}
+
+fn odd_sixteen(line: &[u8], class: &[u8], at: usize) -> bool
+    requires { ⌜ (at + 18 ≤ length (now line)) × (length (now line) ≤ length (now class)) ⌝ }
+    ensures { λ r. ⌜ Odd (now (line .entry)) (now (class .entry)) at 16 r ⌝ }
+{
+    let mut any = false;
+    let mut k: usize = 0;
+    while k < 16 {
+        let i = at + k;
+        any = any | is_odd(line[i], line[i + 1], line[i + 2], class[i], class[i + 1]);
+        k += 1;
+    }
+    any
+}
+
+// Whether no byte is odd but for the last two, by two blocks that may overlap.
+fn is_clear_short(line: &[u8], class: &[u8]) -> bool
+    requires { ⌜ (10 ≤ length (now line)) × (length (now line) ≤ 18) ⌝ }
+    requires { ⌜ length (now line) ≤ length (now class) ⌝ }
+    ensures { λ r. ⌜ Clear (now (line .entry)) (now (class .entry)) r ⌝ }
+{
+    if odd_eight(line, class, 0) {
+        return false;
+    }
+    if odd_eight(line, class, line.len() - 10) {
+        return false;
+    }
+    true
+}
+
+// The same of a longer line, by as many blocks as it takes.
+fn is_clear_long(line: &[u8], class: &[u8]) -> bool
+    requires { ⌜ 18 ≤ length (now line) ⌝ }
+    requires { ⌜ length (now line) ≤ length (now class) ⌝ }
+    ensures { λ r. ⌜ Clear (now (line .entry)) (now (class .entry)) r ⌝ }
+{
+    let last = line.len() - 18;
+    let mut i = 0;
+    while i < last {
+        if odd_sixteen(line, class, i) {
+            return false;
+        }
+        i += 16;
+    }
+    if odd_sixteen(line, class, last) {
+        return false;
+    }
+    true
+}
+
+fn is_clear(line: &[u8], class: &[u8]) -> bool
+    requires { ⌜ length (now line) ≤ length (now class) ⌝ }
+    ensures { λ r. ⌜ Clear (now (line .entry)) (now (class .entry)) r ⌝ }
+{
+    let n = line.len();
+    if n < 10 {
+        return false;
+    }
+    if n < 18 {
+        return is_clear_short(line, class);
+    }
+    is_clear_long(line, class)
+}
+
+// How many bytes a first look finds to stay as they are: all but two or three, or none.
+fn kept_prefix(line: &[u8], class: &[u8]) -> usize
+    requires { ⌜ length (now line) ≤ length (now class) ⌝ }
+    ensures { λ r. ⌜ Keeping (now (line .entry)) (now (class .entry)) r ⌝ }
+{
+    if is_clear(line, class) {
+        let e = line.len() - 2;
+        if line[e - 1] == b',' {
+            return e - 1;
+        }
+        return e;
+    }
+    0
+}
+
 // Whether spacing leaves the line as it is, as far as a look at each byte and its neighbours tells.
 pub fn is_spaced(line: &[u8], class: &[u8]) -> bool
     requires { ⌜ length (now line) ≤ length (now class) ⌝ }
     ensures { λ r. ⌜ Unchanged (now (line .entry)) (now (class .entry)) r ⌝ }
 {
-    let mut i = 0;
+    let mut i = kept_prefix(line, class);
     while i < line.len() {
         let n = kept_at(line, class, i);
         if n == 0 {

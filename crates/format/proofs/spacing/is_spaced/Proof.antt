@@ -1,7 +1,8 @@
 use borrow.Author.Needs.{needs}
 use Prim.Native.Nat.{_-_}
 use lib.ListN.{length}
-use Rattle.format.proofs.KeptLaws.{Keeping, keeping-start, keeping-more, keeping-end, unchanged-no}
+use Rattle.format.specs.Respaced.{Keeping}
+use Rattle.format.proofs.KeptLaws.{keeping-more, keeping-end, unchanged-no}
 use Rattle.format.proofs.spacing.is_spaced.Statement.{statement}
 use Rattle.format.proofs.spacing.is_spaced.Tie as tie
 
@@ -11,8 +12,11 @@ Inv-loop line class i₀ i = Keeping line class i
 abbrev μ-loop : tie.MeasureT-loop
 μ-loop line class i₀ i = length line - i
 
+kept-prefix-requires : tie.Need-kept-prefix-requires Inv-loop μ-loop
+kept-prefix-requires c κs = search needs
+
 loop-holds : tie.Need-loop-holds Inv-loop μ-loop
-loop-holds c = search (needs, keeping-start)
+loop-holds c = search needs
 
 kept-at-requires : tie.Need-kept-at-requires Inv-loop μ-loop
 kept-at-requires c κs = search needs
@@ -38,6 +42,7 @@ is-spaced-spec =
     (tie.spec
     Inv-loop
     μ-loop
+    kept-prefix-requires
     loop-holds
     kept-at-requires
     returns

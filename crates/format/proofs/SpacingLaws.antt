@@ -1,14 +1,19 @@
 -- Laws of a text in scratch that grows at its end, and the loops of spacing.
-use Prim.Native.Nat.{ℕ, suc, _+_, _-_, _*_, _≤_, _<_, zero-le}
-use mathlib.Core.Bool.{Bool, true, false}
+use Prim.Native.Nat.{ℕ, zero, suc, _+_, _-_, _*_, _≤_, _<_, zero-le}
+use mathlib.Core.Bool.{Bool, true, false, not, _||_, true≢false}
+use mathlib.Core.Logic.{_⊎_, inl, inr}
 use mathlib.Core.List.{List, [], _∷_, _++_}
 use mathlib.Core.Path.{_≡_, refl, sym, ap, _∙_}
 use native.Mathlib.Nat.{le-refl}
 use native.Mathlib.Numerals.{add-one}
 use native.Mathlib.Omega.{arith}
+use borrow.Author.Count.{below-more}
+use borrow.Author.Tests.{eqb-true}
+use lib.Dec.{eqb}
 use lib.ListN.{length, getD, take, drop, set, length-drop}
 use lib.Seq.{take-suc, take-suc-set, drop-set-add, getD-drop}
 use Rattle.buffer.specs.Buffer.{part}
+use Rattle.unicode.proofs.Tests.{split}
 use Rattle.rules.specs.Basics.{choose, isBlank}
 use Rattle.rules.specs.Scan.{Cell, cell}
 use Rattle.rules.specs.ClassBytes.{classOf, cellsOf}
@@ -17,7 +22,7 @@ use Rattle.rules.specs.declared.Gap.{Gap}
 use Rattle.rules.proofs.Choose.{choose-true, choose-false}
 use Rattle.rules.proofs.CellsLaws.{Folding, fold-start, fold-more, fold-end}
 use Rattle.format.specs.Region.{Only}
-use Rattle.format.specs.Respaced.{textAt, spacedAt, Trimmed, Wrote, Place, Normalized}
+use Rattle.format.specs.Respaced.{textAt, spacedAt, Trimmed, Wrote, Dropped, Others, Run, Place, Normalized}
 use Rattle.format.specs.declared.spacing.Respaced.{Respaced}
 use Rattle.format.proofs.OnlyLaws.{only-same, only-set, only-wider, only-then, length-part, read-now}
 
@@ -113,6 +118,46 @@ wrote-apart buf at n x after r h v =
           (only-wider at (at + n + 2) (v .only) (omega arith) (omega arith));
     }
 
+-- ---- runs of spaces
+
+pub dropped-no : (c : ℕ) (gap : Gap) → Dropped c gap false
+dropped-no c gap = record { yes = λ q. absurd (true≢false (sym q)) }
+
+pub dropped-space : (c : ℕ) (gap : Gap) → gap ≡ Gap.Space → Dropped c gap (eqb c 32)
+dropped-space c gap e = record { yes = λ q. (e, eqb-true c 32 q) }
+
+pub others-start : (line : List ℕ) (at : ℕ) → Others line at 0 false
+others-start line at = record { none = λ e j h. absurd (omega arith) }
+
+pub others-more : (line : List ℕ) (at k : ℕ) (any : Bool) → Others line at k any → Others line at (k + 1) (any || not (eqb (getD line (at + k) 0) 32))
+others-more line at k any w = record { none = λ q. below-more (λ (j : ℕ). getD line (at + j) 0 ≡ 32) k (w .none (left any (eqb (getD line (at + k) 0) 32) q)) (eqb-true _ _ (right any (eqb (getD line (at + k) 0) 32) q)) }
+  where
+    left : (x y : Bool) → (x || not y) ≡ false → x ≡ false
+    left true y e = e
+    left false y e = refl
+
+    right : (x y : Bool) → (x || not y) ≡ false → y ≡ true
+    right true y e = absurd (true≢false e)
+    right false true e = refl
+    right false false e = absurd (true≢false e)
+
+pub others-end : (line : List ℕ) (at k n : ℕ) (any : Bool) → Others line at k any → n ≤ k → Others line at n any
+others-end line at k n any w h = record { none = λ q j l. w .none q j (omega arith) }
+
+pub run-none : (line : List ℕ) (a : ℕ) → a ≤ length line → Run line a a
+run-none line a h = record { on = le-refl a; within = h; spaces = λ j p q. absurd (omega arith) }
+
+module _ (line : List ℕ) (a i : ℕ) (w : Run line a i) where
+  pub run-block : (n : ℕ) (r : Bool) → i + n ≤ length line → Others line i n r → r ≡ false → Run line a (i + n)
+  run-block n r h o e = record { on = omega (arith, w .on); within = h; spaces = λ j p q. go j p q (split j i) }
+    where
+      go : (j : ℕ) → a ≤ j → j < i + n → (j < i) ⊎ (i ≤ j) → getD line j 0 ≡ 32
+      go j p q (inl l) = w .spaces j p l
+      go j p q (inr l) = let m : i + (j - i) ≡ j = omega arith in rw m at (o .none e (j - i) (omega arith))
+
+  pub run-more : i < length line → getD line i 0 ≡ 32 → Run line a (i + 1)
+  run-more h e = run-block 1 false (omega arith) (record { none = λ q j l. let m : i + j ≡ i = omega arith in rw m e }) refl
+
 -- ---- the loop over the line
 
 pub record Reached (line ks buf₀ : List ℕ) (at : ℕ) (buf : List ℕ) (t : Respaced) (i : ℕ) : Type 0 where
@@ -122,6 +167,24 @@ pub record Reached (line ks buf₀ : List ℕ) (at : ℕ) (buf : List ℕ) (t : 
 
 pub reached-start : (line ks buf : List ℕ) (at : ℕ) → Reached line ks buf at buf (record { len = 0; gap = Gap.Nothing }) 0
 reached-start line ks buf at = record { fold = fold-start spaceStep (spaced [] Gap.Nothing) line ks; most = zero-le; only = only-same buf _ _ }
+
+-- a space after a space
+space-again : (o : List ℕ) (g : Gap) (x : Cell) → g ≡ Gap.Space → x .ch ≡ 32 → spaced o g ≡ putAt g o x
+unfolding putAt choose
+space-again o g x e q = rw (e, q)
+
+reached-by : (line ks buf₀ : List ℕ) (at : ℕ) (buf : List ℕ) (t : Respaced) (n i : ℕ) → length line ≤ length ks → t .gap ≡ Gap.Space → i + n ≤ length line
+    → ((j : ℕ) → i ≤ j → j < i + n → getD line j 0 ≡ 32) → Reached line ks buf₀ at buf t i → Reached line ks buf₀ at buf t (i + n)
+reached-by line ks buf₀ at buf t zero i l g h s w = let e : i + 0 ≡ i = omega arith in rw e w
+reached-by line ks buf₀ at buf t (suc n) i l g h s w =
+    let e : i + 1 + n ≡ i + suc n = omega arith in
+    let v : Reached line ks buf₀ at buf t (i + 1) =
+    record {
+      fold = fold-more (w .fold) (omega arith) l (space-again (textAt buf at (t .len)) (t .gap) (cell (getD line i 0) (classOf (getD ks i 0))) g (s i (omega arith) (omega arith)));
+      most = omega (arith, w .most);
+      only = w .only;
+    } in
+    rw e at (reached-by line ks buf₀ at buf t n (i + 1) l g (omega arith) (λ j p q. s j (omega arith) (omega arith)) v)
 
 module _ (line buf₀ : List ℕ) (class at : ℕ) (buf : List ℕ) (t : Respaced) (i : ℕ) (p : Place buf₀ (length line) class at)
     (w : Reached line (part buf₀ class (class + length line)) buf₀ at buf t i) where
@@ -137,6 +200,15 @@ module _ (line buf₀ : List ℕ) (class at : ℕ) (buf : List ℕ) (t : Respace
         most = omega (arith, w .most, v .most);
         only = only-then (w .only) (only-wider at (at + 2 * n) (v .only) (omega arith) (omega (arith, w .most)));
       }
+
+  pub reached-run : (r : Bool) (e : ℕ) → i < length line → Dropped (getD line i 0) (t .gap) r → r ≡ true → Run line (i + 1) e
+      → Reached line (part buf₀ class (class + length line)) buf₀ at buf t e
+  reached-run r e h d q u =
+      let l = length-part buf₀ class (length line) (omega (arith, p .classes, p .room)) in
+      let m : i + 1 + (e - (i + 1)) ≡ e = omega (arith, u .on) in
+      let g = d .yes q in
+      let v = reached-by line (part buf₀ class (class + length line)) buf₀ at buf t 1 i (omega arith) (g .0) (omega arith) (λ j a b. let z : j ≡ i = omega arith in rw z (g .1)) w in
+      rw m at (reached-by line (part buf₀ class (class + length line)) buf₀ at buf t (e - (i + 1)) (i + 1) (omega arith) (g .0) (omega (arith, u .within, m)) (λ j a b. u .spaces j a (omega (arith, m))) v)
 
   pub reached-end : length line ≤ i → Normalized (cellsOf line (part buf₀ class (class + length line))) buf₀ buf at (length line) (t .len)
   unfolding normalizeSpacing

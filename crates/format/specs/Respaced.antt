@@ -33,6 +33,20 @@ pub record Wrote (w : Spaced) (more : ℕ) (before : List ℕ) (at n : ℕ) (aft
   pub most : r .len ≤ n + more
   pub only : Only before after at (at + n + more)
 
+-- a character c that is left out, a space after a space
+pub record Dropped (c : ℕ) (gap : Gap) (r : Bool) : Type 0 where
+  pub yes : r ≡ true → (gap ≡ Gap.Space) × (c ≡ 32)
+
+-- r says whether one of the n bytes from `at` on is no space
+pub record Others (line : List ℕ) (at n : ℕ) (r : Bool) : Type 0 where
+  pub none : r ≡ false → (j : ℕ) → j < n → getD line (at + j) 0 ≡ 32
+
+-- a run of spaces, from a up to e
+pub record Run (line : List ℕ) (a e : ℕ) : Type 0 where
+  pub on : a ≤ e
+  pub within : e ≤ length line
+  pub spaces : (j : ℕ) → a ≤ j → j < e → getD line j 0 ≡ 32
+
 -- the class bytes of n bytes stand before the place for twice as many
 pub record Place (buf : List ℕ) (n class at : ℕ) : Type 0 where
   pub classes : class + n ≤ at

@@ -10,7 +10,7 @@ ghost use Rattle.rules.specs.Basics.{choose, isBlank};
 ghost use Rattle.rules.specs.Scan.{cell, isCode};
 ghost use Rattle.rules.specs.ClassBytes.{classOf, cellsOf};
 ghost use Rattle.rules.specs.Spacing.{spaced, putPlain, putAfterComma, putAt};
-ghost use Rattle.format.specs.Respaced.{textAt, Trimmed, Wrote, Place, Normalized, InCode, KeptAt, NoBlank, Keeping, odd, Odd, Clear, Unchanged};
+ghost use Rattle.format.specs.Respaced.{textAt, Trimmed, Wrote, Dropped, Others, Run, Place, Normalized, InCode, KeptAt, NoBlank, Keeping, odd, Odd, Clear, Unchanged};
 use basics::is_blank;
 use basics::is_closer;
 use rules::Gap;
@@ -133,6 +133,62 @@ fn put_next(c: u8, k: u8, scratch: &mut [u8], at: usize, t: Respaced) -> Respace
     }
 }
 
+// Whether one of the sixteen bytes from `at` on is no space.
+fn any_other(line: &[u8], at: usize) -> bool
+    requires { ⌜ at + 16 ≤ length (now line) ⌝ }
+    ensures { λ r. ⌜ Others (now (line .entry)) at 16 r ⌝ }
+{
+    let mut any = false;
+    let mut k: usize = 0;
+    while k < 16 {
+        any = any | (line[at + k] != b' ');
+        k += 1;
+    }
+    any
+}
+
+// Past spaces, sixteen at a time.
+fn past_sixteens(line: &[u8], at: usize) -> usize
+    requires { ⌜ at ≤ length (now line) ⌝ }
+    ensures { λ r. ⌜ Run (now (line .entry)) at r ⌝ }
+{
+    let mut i = at;
+    while line.len() - i >= 16 {
+        if any_other(line, i) {
+            return i;
+        }
+        i += 16;
+    }
+    i
+}
+
+// Past all spaces.
+fn past_spaces(line: &[u8], at: usize) -> usize
+    requires { ⌜ at ≤ length (now line) ⌝ }
+    ensures { λ r. ⌜ Run (now (line .entry)) at r ⌝ }
+{
+    let mut i = past_sixteens(line, at);
+    while i < line.len() {
+        if line[i] != b' ' {
+            return i;
+        }
+        i += 1;
+    }
+    i
+}
+
+// Whether c goes because a space stands before it.
+fn is_dropped(c: u8, gap: Gap) -> bool
+    ensures { λ r. ⌜ Dropped c gap r ⌝ }
+{
+    match gap {
+        Gap::Nothing => false,
+        Gap::Escape => false,
+        Gap::Comma => false,
+        Gap::Space => c == b' ',
+    }
+}
+
 // Writes the respaced line into scratch from out_at on, and gives its length. The line's class bytes stand in scratch from class_at on.
 pub fn normalize_spacing(line: &[u8], scratch: &mut [u8], class_at: usize, out_at: usize) -> usize
     requires { ⌜ Place (now scratch) (length (now line)) «class_at» «out_at» ⌝ }
@@ -144,7 +200,13 @@ pub fn normalize_spacing(line: &[u8], scratch: &mut [u8], class_at: usize, out_a
     };
     let mut i = 0;
     while i < line.len() {
-        t = put_next(line[i], scratch[class_at + i], scratch, out_at, t);
+        let c = line[i];
+        let gap = t.gap;
+        if is_dropped(c, gap) {
+            i = past_spaces(line, i + 1);
+            continue;
+        }
+        t = put_next(c, scratch[class_at + i], scratch, out_at, t);
         i += 1;
     }
     t.len

@@ -2,7 +2,7 @@ use borrow.Author.Needs.{needs}
 use Prim.Native.Nat.{_+_, _-_}
 use lib.ListN.{length}
 use Rattle.buffer.specs.Buffer.{part}
-use Rattle.format.proofs.SpacingLaws.{Reached, reached-start, reached-more, reached-end}
+use Rattle.format.proofs.SpacingLaws.{Reached, reached-start, reached-run, reached-more, reached-end}
 use Rattle.format.proofs.spacing.normalize_spacing.Statement.{statement}
 use Rattle.format.proofs.spacing.normalize_spacing.Tie as tie
 
@@ -15,8 +15,23 @@ abbrev μ-loop : tie.MeasureT-loop
 loop-holds : tie.Need-loop-holds Inv-loop μ-loop
 loop-holds c = search (needs, reached-start)
 
-shared-slice-read-put-next : tie.Need-shared-slice-read-put-next Inv-loop μ-loop
-shared-slice-read-put-next c = search needs
+shared-slice-read-c : tie.Need-shared-slice-read-c Inv-loop μ-loop
+shared-slice-read-c c = search needs
+
+is-dropped-requires : tie.Need-is-dropped-requires Inv-loop μ-loop
+is-dropped-requires c κs = search needs
+
+add-past-spaces : tie.Need-add-past-spaces Inv-loop μ-loop
+add-past-spaces c = search needs
+
+past-spaces-requires : tie.Need-past-spaces-requires Inv-loop μ-loop
+past-spaces-requires c κs = search needs
+
+loop-less : tie.Need-loop-less Inv-loop μ-loop
+loop-less c = search needs
+
+loop-again : tie.Need-loop-again Inv-loop μ-loop
+loop-again c = search (needs, reached-run)
 
 add-put-next : tie.Need-add-put-next Inv-loop μ-loop
 add-put-next c = search needs
@@ -30,11 +45,11 @@ put-next-requires c κs = search needs
 add-i : tie.Need-add-i Inv-loop μ-loop
 add-i c = search needs
 
-loop-less : tie.Need-loop-less Inv-loop μ-loop
-loop-less c = search needs
+loop-less-2 : tie.Need-loop-less-2 Inv-loop μ-loop
+loop-less-2 c = search needs
 
-loop-again : tie.Need-loop-again Inv-loop μ-loop
-loop-again c = search (needs, reached-more)
+loop-again-2 : tie.Need-loop-again-2 Inv-loop μ-loop
+loop-again-2 c = search (needs, reached-more)
 
 same-length : tie.Need-same-length Inv-loop μ-loop
 same-length c = search needs
@@ -49,12 +64,17 @@ normalize-spacing-spec =
     Inv-loop
     μ-loop
     loop-holds
-    shared-slice-read-put-next
+    shared-slice-read-c
+    is-dropped-requires
+    add-past-spaces
+    past-spaces-requires
+    loop-less
+    loop-again
     add-put-next
     slice-read-put-next
     put-next-requires
     add-i
-    loop-less
-    loop-again
+    loop-less-2
+    loop-again-2
     same-length
     returns)

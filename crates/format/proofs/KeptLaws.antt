@@ -19,7 +19,7 @@ use Rattle.rules.proofs.Choose.{choose-true, choose-false}
 use Rattle.rules.proofs.CellsLaws.{cellAt, cells-at, cells-end}
 use Rattle.format.specs.Respaced.{respacedFrom, InCode, KeptAt, NoBlank, Keeping, Unchanged}
 use Rattle.format.proofs.ClassPicks.{code-other}
-use Rattle.format.proofs.SpacingLaws.{trim-snoc}
+use Rattle.format.proofs.SpacingLaws.{trim-snoc, plain-char}
 
 -- the same with what the last character was, and any text before i
 abbrev from : List ℕ → List ℕ → Gap → List ℕ → ℕ → List ℕ
@@ -51,14 +51,6 @@ from-like line ks g h o p i k l e =
 plain-other : (o : List ℕ) (c k : ℕ) → (k ≡ 0 → ⊥) → putAt Gap.Nothing o (cell c (classOf k)) ≡ spaced (o ++ (c ∷ [])) Gap.Nothing
 unfolding putAt putPlain
 plain-other o c k h = choose-false _ _ _ (code-other k h)
-
-plain-char : (o : List ℕ) (c k : ℕ) → (c ≡ 32 → ⊥) → (c ≡ 44 → ⊥) → (c ≡ 92 → ⊥) → putAt Gap.Nothing o (cell c (classOf k)) ≡ spaced (o ++ (c ∷ [])) Gap.Nothing
-unfolding putAt putPlain choose
-plain-char o c k p q r = rw (ne-eqb c 92 r, ne-eqb c 44 q, ne-eqb c 32 p) (both (isCode (classOf k)))
-  where
-    both : (b : Bool) → choose b (spaced (o ++ (c ∷ [])) Gap.Nothing) (spaced (o ++ (c ∷ [])) Gap.Nothing) ≡ spaced (o ++ (c ∷ [])) Gap.Nothing
-    both true = refl
-    both false = refl
 
 plain-space : (o : List ℕ) → putAt Gap.Nothing o (cell 32 (classOf 0)) ≡ spaced (o ++ (32 ∷ [])) Gap.Space
 unfolding putAt putPlain choose

@@ -1,6 +1,6 @@
 -- Laws of a text in scratch that grows at its end, and the loops of spacing.
 use Prim.Native.Nat.{ℕ, zero, suc, _+_, _-_, _*_, _≤_, _<_, zero-le}
-use mathlib.Core.Bool.{Bool, true, false, not, _||_, true≢false}
+use mathlib.Core.Bool.{Bool, true, false, not, _&&_, _||_, true≢false}
 use mathlib.Core.Logic.{_⊎_, inl, inr}
 use mathlib.Core.List.{List, [], _∷_, _++_}
 use mathlib.Core.Path.{_≡_, refl, sym, ap, _∙_}
@@ -8,21 +8,21 @@ use native.Mathlib.Nat.{le-refl}
 use native.Mathlib.Numerals.{add-one}
 use native.Mathlib.Omega.{arith}
 use borrow.Author.Count.{below-more}
-use borrow.Author.Tests.{eqb-true}
+use borrow.Author.Tests.{eqb-true, eqb-false, ne-eqb}
 use lib.Dec.{eqb}
 use lib.ListN.{length, getD, take, drop, set, length-drop}
 use lib.Seq.{take-suc, take-suc-set, drop-set-add, getD-drop}
 use Rattle.buffer.specs.Buffer.{part}
 use Rattle.unicode.proofs.Tests.{split}
 use Rattle.rules.specs.Basics.{choose, isBlank}
-use Rattle.rules.specs.Scan.{Cell, cell}
+use Rattle.rules.specs.Scan.{Cell, cell, isCode}
 use Rattle.rules.specs.ClassBytes.{classOf, cellsOf}
 use Rattle.rules.specs.Spacing.{Spaced, spaced, consBlank, trimBlanks, putPlain, putAt, spaceStep, normalizeSpacing}
 use Rattle.rules.specs.declared.Gap.{Gap}
 use Rattle.rules.proofs.Choose.{choose-true, choose-false}
 use Rattle.rules.proofs.CellsLaws.{Folding, fold-start, fold-more, fold-end}
 use Rattle.format.specs.Region.{Only}
-use Rattle.format.specs.Respaced.{textAt, spacedAt, Trimmed, Wrote, Dropped, Others, Run, Place, Normalized}
+use Rattle.format.specs.Respaced.{textAt, spacedAt, Trimmed, Wrote, Plain, Dropped, Others, Run, Place, Normalized}
 use Rattle.format.specs.declared.spacing.Respaced.{Respaced}
 use Rattle.format.proofs.OnlyLaws.{only-same, only-set, only-wider, only-then, length-part, read-now}
 
@@ -118,6 +118,28 @@ wrote-apart buf at n x after r h v =
           (only-wider at (at + n + 2) (v .only) (omega arith) (omega arith));
     }
 
+-- ---- a byte that goes on as it is
+
+pub plain-char : (o : List ℕ) (c k : ℕ) → (c ≡ 32 → ⊥) → (c ≡ 44 → ⊥) → (c ≡ 92 → ⊥) → putAt Gap.Nothing o (cell c (classOf k)) ≡ spaced (o ++ (c ∷ [])) Gap.Nothing
+unfolding putAt putPlain choose
+plain-char o c k p q r = rw (ne-eqb c 92 r, ne-eqb c 44 q, ne-eqb c 32 p) (both (isCode (classOf k)))
+  where
+    both : (b : Bool) → choose b (spaced (o ++ (c ∷ [])) Gap.Nothing) (spaced (o ++ (c ∷ [])) Gap.Nothing) ≡ spaced (o ++ (c ∷ [])) Gap.Nothing
+    both true = refl
+    both false = refl
+
+pub plain-no : (c : ℕ) (gap : Gap) → Plain c gap false
+plain-no c gap = record { yes = λ q. absurd (true≢false (sym q)) }
+
+pub plain-yes : (c : ℕ) (gap : Gap) → gap ≡ Gap.Nothing → Plain c gap (not (eqb c 92) && (not (eqb c 44) && not (eqb c 32)))
+plain-yes c gap e = record { yes = λ q. (e, go (eqb c 92) (eqb c 44) (eqb c 32) q refl refl refl) }
+  where
+    go : (x y z : Bool) → (not x && (not y && not z)) ≡ true → eqb c 92 ≡ x → eqb c 44 ≡ y → eqb c 32 ≡ z → (c ≡ 92 → ⊥) × ((c ≡ 44 → ⊥) × (c ≡ 32 → ⊥))
+    go false false false q a b d = (eqb-false c 92 a, (eqb-false c 44 b, eqb-false c 32 d))
+    go false false true q a b d = absurd (true≢false (sym q))
+    go false true z q a b d = absurd (true≢false (sym q))
+    go true y z q a b d = absurd (true≢false (sym q))
+
 -- ---- runs of spaces
 
 pub dropped-no : (c : ℕ) (gap : Gap) → Dropped c gap false
@@ -200,6 +222,16 @@ module _ (line buf₀ : List ℕ) (class at : ℕ) (buf : List ℕ) (t : Respace
         most = omega (arith, w .most, v .most);
         only = only-then (w .only) (only-wider at (at + 2 * n) (v .only) (omega arith) (omega (arith, w .most)));
       }
+
+  pub reached-plain : (buf′ : List ℕ) (u : Respaced) (r : Bool) → i < length line → Plain (getD line i 0) (t .gap) r → r ≡ true
+      → Wrote (spaced (textAt buf at (t .len) ++ (getD line i 0 ∷ [])) Gap.Nothing) 1 buf at (t .len) buf′ u
+      → Reached line (part buf₀ class (class + length line)) buf₀ at buf′ u (i + 1)
+  reached-plain buf′ u r h d q v =
+      let g = d .yes q in
+      let c = getD line i 0 in
+      let e = plain-char (textAt buf at (t .len)) c (getD buf (class + i) 0) (g .1 .1 .1) (g .1 .1 .0) (g .1 .0) in
+      let a : putAt (t .gap) (textAt buf at (t .len)) (cell c (classOf (getD buf (class + i) 0))) ≡ spaced (textAt buf at (t .len) ++ (c ∷ [])) Gap.Nothing = rw (g .0) e in
+      reached-more buf′ u h (wrote-by 2 v (omega arith) (v .is ∙ sym a))
 
   pub reached-run : (r : Bool) (e : ℕ) → i < length line → Dropped (getD line i 0) (t .gap) r → r ≡ true → Run line (i + 1) e
       → Reached line (part buf₀ class (class + length line)) buf₀ at buf t e

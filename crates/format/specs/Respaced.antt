@@ -33,6 +33,10 @@ pub record Wrote (w : Spaced) (more : ℕ) (before : List ℕ) (at n : ℕ) (aft
   pub most : r .len ≤ n + more
   pub only : Only before after at (at + n + more)
 
+-- a character c that is put as it is, whatever its class
+pub record Plain (c : ℕ) (gap : Gap) (r : Bool) : Type 0 where
+  pub yes : r ≡ true → (gap ≡ Gap.Nothing) × ((c ≡ 92 → ⊥) × ((c ≡ 44 → ⊥) × (c ≡ 32 → ⊥)))
+
 -- a character c that is left out, a space after a space
 pub record Dropped (c : ℕ) (gap : Gap) (r : Bool) : Type 0 where
   pub yes : r ≡ true → (gap ≡ Gap.Space) × (c ≡ 32)

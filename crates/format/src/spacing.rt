@@ -10,7 +10,7 @@ ghost use Rattle.rules.specs.Basics.{choose, isBlank};
 ghost use Rattle.rules.specs.Scan.{cell, isCode};
 ghost use Rattle.rules.specs.ClassBytes.{classOf, cellsOf};
 ghost use Rattle.rules.specs.Spacing.{spaced, putPlain, putAfterComma, putAt};
-ghost use Rattle.format.specs.Respaced.{textAt, Trimmed, Wrote, Dropped, Others, Run, Place, Normalized, InCode, KeptAt, NoBlank, Keeping, odd, Odd, Clear, Unchanged};
+ghost use Rattle.format.specs.Respaced.{textAt, Trimmed, Wrote, Plain, Dropped, Others, Run, Place, Normalized, InCode, KeptAt, NoBlank, Keeping, odd, Odd, Clear, Unchanged};
 use basics::is_blank;
 use basics::is_closer;
 use rules::Gap;
@@ -133,6 +133,18 @@ fn put_next(c: u8, k: u8, scratch: &mut [u8], at: usize, t: Respaced) -> Respace
     }
 }
 
+// Whether c goes on as it is, whatever its class: nothing is remembered, and c is none of the bytes that spacing is about.
+fn is_plain(c: u8, gap: Gap) -> bool
+    ensures { λ r. ⌜ Plain c gap r ⌝ }
+{
+    match gap {
+        Gap::Nothing => (c != b'\\') & ((c != b',') & (c != b' ')),
+        Gap::Escape => false,
+        Gap::Comma => false,
+        Gap::Space => false,
+    }
+}
+
 // Whether one of the sixteen bytes from `at` on is no space.
 fn any_other(line: &[u8], at: usize) -> bool
     requires { ⌜ at + 16 ≤ length (now line) ⌝ }
@@ -202,6 +214,12 @@ pub fn normalize_spacing(line: &[u8], scratch: &mut [u8], class_at: usize, out_a
     while i < line.len() {
         let c = line[i];
         let gap = t.gap;
+        let n = t.len;
+        if is_plain(c, gap) {
+            t = put(c, Gap::Nothing, scratch, out_at, n);
+            i += 1;
+            continue;
+        }
         if is_dropped(c, gap) {
             i = past_spaces(line, i + 1);
             continue;

@@ -2,7 +2,7 @@ use borrow.Author.Needs.{needs}
 use Prim.Native.Nat.{_+_, _-_}
 use lib.ListN.{length}
 use Rattle.buffer.specs.Buffer.{part}
-use Rattle.format.proofs.SpacingLaws.{Reached, reached-start, reached-run, reached-more, reached-end}
+use Rattle.format.proofs.SpacingLaws.{Reached, reached-start, reached-plain, reached-run, reached-more, reached-end}
 use Rattle.format.proofs.spacing.normalize_spacing.Statement.{statement}
 use Rattle.format.proofs.spacing.normalize_spacing.Tie as tie
 
@@ -18,6 +18,21 @@ loop-holds c = search (needs, reached-start)
 shared-slice-read-c : tie.Need-shared-slice-read-c Inv-loop μ-loop
 shared-slice-read-c c = search needs
 
+is-plain-requires : tie.Need-is-plain-requires Inv-loop μ-loop
+is-plain-requires c κs = search needs
+
+put-requires : tie.Need-put-requires Inv-loop μ-loop
+put-requires c κs = search needs
+
+add-i : tie.Need-add-i Inv-loop μ-loop
+add-i c = search needs
+
+loop-less : tie.Need-loop-less Inv-loop μ-loop
+loop-less c = search needs
+
+loop-again : tie.Need-loop-again Inv-loop μ-loop
+loop-again c = search (needs, reached-plain)
+
 is-dropped-requires : tie.Need-is-dropped-requires Inv-loop μ-loop
 is-dropped-requires c κs = search needs
 
@@ -27,11 +42,11 @@ add-past-spaces c = search needs
 past-spaces-requires : tie.Need-past-spaces-requires Inv-loop μ-loop
 past-spaces-requires c κs = search needs
 
-loop-less : tie.Need-loop-less Inv-loop μ-loop
-loop-less c = search needs
+loop-less-2 : tie.Need-loop-less-2 Inv-loop μ-loop
+loop-less-2 c = search needs
 
-loop-again : tie.Need-loop-again Inv-loop μ-loop
-loop-again c = search (needs, reached-run)
+loop-again-2 : tie.Need-loop-again-2 Inv-loop μ-loop
+loop-again-2 c = search (needs, reached-run)
 
 add-put-next : tie.Need-add-put-next Inv-loop μ-loop
 add-put-next c = search needs
@@ -42,14 +57,14 @@ slice-read-put-next c = search needs
 put-next-requires : tie.Need-put-next-requires Inv-loop μ-loop
 put-next-requires c κs = search needs
 
-add-i : tie.Need-add-i Inv-loop μ-loop
-add-i c = search needs
+add-i-2 : tie.Need-add-i-2 Inv-loop μ-loop
+add-i-2 c = search needs
 
-loop-less-2 : tie.Need-loop-less-2 Inv-loop μ-loop
-loop-less-2 c = search needs
+loop-less-3 : tie.Need-loop-less-3 Inv-loop μ-loop
+loop-less-3 c = search needs
 
-loop-again-2 : tie.Need-loop-again-2 Inv-loop μ-loop
-loop-again-2 c = search (needs, reached-more)
+loop-again-3 : tie.Need-loop-again-3 Inv-loop μ-loop
+loop-again-3 c = search (needs, reached-more)
 
 same-length : tie.Need-same-length Inv-loop μ-loop
 same-length c = search needs
@@ -65,16 +80,21 @@ normalize-spacing-spec =
     μ-loop
     loop-holds
     shared-slice-read-c
+    is-plain-requires
+    put-requires
+    add-i
+    loop-less
+    loop-again
     is-dropped-requires
     add-past-spaces
     past-spaces-requires
-    loop-less
-    loop-again
+    loop-less-2
+    loop-again-2
     add-put-next
     slice-read-put-next
     put-next-requires
-    add-i
-    loop-less-2
-    loop-again-2
+    add-i-2
+    loop-less-3
+    loop-again-3
     same-length
     returns)

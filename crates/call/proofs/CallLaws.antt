@@ -27,7 +27,7 @@ use Rattle.rules.specs.declared.Outcome.{Outcome}
 use Rattle.rules.specs.declared.Answer.{Answer}
 use Rattle.rules.proofs.StartsBytes.{on-decode}
 use Rattle.rules.proofs.LinesBytes.{dominant-encode, ends-lf-encode}
-use Rattle.rules.proofs.CallLaws.{answer-kept}
+use Rattle.rules.proofs.CallLaws.{answer-kept, first-of-four}
 use Rattle.options.specs.Held.{held, numbers}
 use Rattle.options.specs.declared.FormatOptions.{FormatOptions}
 use Rattle.text.specs.Text.{Finished}
@@ -112,10 +112,6 @@ module _
         }
 
 -- ---- the outcome of a call
-
-first-of-four : (a b c d : Bool) → (a && b && c && d) ≡ true → a ≡ true
-first-of-four true b c d h = refl
-first-of-four false b c d h = h
 
 -- what `valid_options` tells
 abbrev Tells : List ℕ → ℕ → ℕ → ℕ → Bool → Type 0

@@ -2,23 +2,16 @@
 use Prim.Native.Nat.{ℕ}
 use mathlib.Core.Bool.{Bool, true, false}
 use mathlib.Core.List.{List, [], _∷_, map}
-use mathlib.Core.Path.{_≡_, refl, sym, ap, subst, _∙_}
+use mathlib.Core.Path.{_≡_, sym, ap, subst, _∙_}
 use lib.Dec.{T}
 use Rattle.unicode.specs.Unicode.{isScalar, Scalars, encode, decode, WellFormed}
-use Rattle.unicode.proofs.Decode.{decode-encode, decode-scalars, wf-encode}
+use Rattle.unicode.proofs.Decode.{decode-scalars}
 use Rattle.rules.specs.Basics.{choose, is, Pieces, pieces, atSep, splitOn}
 use Rattle.rules.specs.Lines.{consCr, dropCr, linesOf}
 use Rattle.rules.proofs.LinesBytes.{lines-encode}
 use Rattle.rules.proofs.StartsBytes.{on-decode}
-
-abbrev AllScalars : List (List ℕ) → Type 0
-AllScalars [] = Unit {0}
-AllScalars (l ∷ ls) = Scalars l × AllScalars ls
-
--- each line is well-formed
-abbrev pub AllWell : List (List ℕ) → Type 0
-AllWell [] = Unit {0}
-AllWell (l ∷ ls) = WellFormed l × AllWell ls
+use Rattle.split.specs.Text.{AllWell}
+use Rattle.split.proofs.TextLaws.{AllScalars, all-well, all-decode}
 
 sep-scalars : (t : Bool) (c : ℕ) (p : Pieces) → T (isScalar c) → AllScalars (pieces p) → AllScalars (pieces (atSep t c p))
 unfolding atSep
@@ -49,20 +42,12 @@ lines-scalars : (l : List ℕ) → Scalars l → AllScalars (linesOf l)
 unfolding linesOf
 lines-scalars l s = each-scalars (pieces (splitOn "\n" l)) (pieces-scalars l s)
 
-encoded-well : (ls : List (List ℕ)) → AllScalars ls → AllWell (map encode ls)
-encoded-well [] s = tt
-encoded-well (l ∷ ls) s = (wf-encode l (s .0), encoded-well ls (s .1))
-
-decoded : (ls : List (List ℕ)) → AllScalars ls → map decode (map encode ls) ≡ ls
-decoded [] s = refl
-decoded (l ∷ ls) s = rw (decode-encode l (s .0), decoded ls (s .1))
-
 module _ (s : List ℕ) (w : WellFormed s) where
   lines-bytes : linesOf s ≡ map encode (linesOf (decode s))
   lines-bytes = on-decode linesOf (λ (l : List ℕ). map encode (linesOf l)) lines-encode s w
 
   pub lines-well : AllWell (linesOf s)
-  lines-well = subst AllWell (sym lines-bytes) (encoded-well (linesOf (decode s)) (lines-scalars (decode s) (decode-scalars s)))
+  lines-well = subst AllWell (sym lines-bytes) (all-well (linesOf (decode s)) (lines-scalars (decode s) (decode-scalars s)))
 
   pub lines-decode : map decode (linesOf s) ≡ linesOf (decode s)
-  lines-decode = ap (map decode) lines-bytes ∙ decoded (linesOf (decode s)) (lines-scalars (decode s) (decode-scalars s))
+  lines-decode = ap (map decode) lines-bytes ∙ all-decode (linesOf (decode s)) (lines-scalars (decode s) (decode-scalars s))

@@ -6,28 +6,26 @@ use mathlib.Core.Logic.{_⊎_, inl, inr}
 use mathlib.Core.Path.{_≡_, refl, sym, ap, subst, _∙_}
 use lib.ListN.{length, take, drop, length-take, length-drop}
 use lib.Seq.{drop-drop, take-all}
-use Rattle.unicode.specs.Unicode.{encode, decode, WellFormed}
+use Rattle.unicode.specs.Unicode.{decode, WellFormed}
 use Rattle.unicode.proofs.Tests.{split}
 use Rattle.buffer.specs.Buffer.{part}
-use Rattle.buffer.proofs.AgreeLaws.{agree-nil}
-use Rattle.rules.specs.Basics.{choose, startsWith, lastIs}
 use Rattle.rules.specs.Lines.{asStr, dropCr, linesOf}
 use Rattle.rules.specs.Options.{Options}
-use Rattle.rules.specs.Line.{Formatter, start, formatLine, dropBlank}
-use Rattle.rules.specs.Assembly.{formatLines, joined, dropEmpty}
+use Rattle.rules.specs.Line.{Formatter, start, formatLine}
+use Rattle.rules.specs.Assembly.{formatLines}
 use Rattle.rules.specs.declared.LineEnding.{LineEnding}
 use Rattle.rules.specs.declared.EndOfLine.{EndOfLine}
 use Rattle.rules.specs.declared.FinalNewline.{FinalNewline}
 use Rattle.rules.specs.declared.PrintWidth.{PrintWidth}
 use Rattle.scan.specs.Classified.{carryDepth}
-use Rattle.format.specs.Stack.{stacked}
-use Rattle.format.specs.Words.{declarationOf}
-use Rattle.text.specs.Text.{Text, Ordered, trimNewest, lastOf, nothing}
+use Rattle.split.specs.Text.{AllWell}
+use Rattle.text.specs.Text.{Ordered}
 use Rattle.line.specs.Holds.{Holds, Ready, Stepped, Uses, begin}
+use Rattle.line.proofs.HoldsLaws.{begin-holds}
 use Rattle.line.specs.declared.state.State.{State}
 use Rattle.call.specs.Formatted.{LineEnd, Passed, LinesDone}
 use Rattle.call.proofs.LineCuts.{Last, More, whole, part-of, cr-fits}
-use Rattle.call.proofs.LineChars.{AllWell, lines-well, lines-decode}
+use Rattle.call.proofs.LineChars.{lines-well, lines-decode}
 
 -- ---- the line that starts at `at` and those after it
 
@@ -94,26 +92,6 @@ pub record Reached (source indent : List ℕ) (width : PrintWidth) (ending : Lin
   pub as-long : length out ≡ length out₀
   pub as-wide : length scratch ≡ length scratch₀
 
-start-text : (eol out : List ℕ) → Text eol [] nothing out
-unfolding joined dropEmpty dropBlank trimNewest lastOf encode
-start-text eol out =
-    record { at = refl; holds = agree-nil out; cut = refl; full = refl; last = refl; below = refl; alone = refl }
-
-start-holds : (eol : List ℕ) (unit : ℕ) (out scratch : List ℕ) → Holds eol unit start begin out scratch
-unfolding stacked declarationOf lastIs startsWith choose
-start-holds eol unit out scratch =
-    record {
-      text = start-text eol out;
-      stack = refl;
-      blank = refl;
-      decl = refl;
-      brace = refl;
-      ignore = refl;
-      carry = refl;
-      imports = refl;
-      blanks = refl;
-    }
-
 pub reached-start : (source indent : List ℕ) (width : PrintWidth) (ending : LineEnding) (out scratch : List ℕ) (st : State) → Passed source indent scratch → st ≡ begin
     → Reached source indent width ending out scratch out scratch st 0
 reached-start source indent width ending out scratch st p e =
@@ -127,7 +105,7 @@ reached-start source indent width ending out scratch st p e =
       run = λ o u. record {
         f = start;
         same = ap (λ (ls : List (List ℕ)). formatLines o ls start) (sym (lines-decode source (p .well)));
-        holds = start-holds (asStr ending) (length source) out scratch;
+        holds = begin-holds (asStr ending) (length source) out scratch;
       };
       ordered = record { cut = omega arith; full = omega arith; below = omega arith };
       place = zero-le;

@@ -7,7 +7,7 @@ use native.Mathlib.Omega.{arith}
 use borrow.Author.Tests.{ne-eqb}
 use lib.Dec.{eqb}
 use lib.ListN.{length}
-use Rattle.unicode.specs.Unicode.{encode, decode}
+use Rattle.unicode.specs.Unicode.{decode}
 use Rattle.rules.specs.Basics.{choose, isEmpty}
 use Rattle.rules.specs.Scan.{classify, allCodeOrStr}
 use Rattle.rules.specs.Options.{Options}
@@ -18,7 +18,7 @@ use Rattle.rules.specs.Line.{Formatter, elseLine, dropBlank, linesBefore, conti
 use Rattle.rules.specs.declared.Carry.{Carry}
 use Rattle.rules.specs.declared.PrintWidth.{PrintWidth}
 use Rattle.rules.proofs.Choose.{choose-true, choose-false}
-use Rattle.rules.proofs.StartsBytes.{on-decode, starts-encode, closers-encode}
+use Rattle.rules.proofs.StartsBytes.{on-decode, closers-encode}
 use Rattle.format.specs.Stack.{stacked, Closers}
 use Rattle.format.specs.Words.{Continues, declarationOf}
 use Rattle.format.specs.declared.words.Declaration.{Declaration}
@@ -31,6 +31,7 @@ use Rattle.text.proofs.StepLaws.{grown-ordered}
 use Rattle.place.specs.declared.Before.{Before}
 use Rattle.place.specs.declared.Placed.{Placed}
 use Rattle.line.specs.Holds.{Uses}
+use Rattle.line.proofs.HoldsLaws.{declaration-bytes}
 use Rattle.place.specs.Placing.{GoesOn, Knows, Puts, Level, Lays, spacedBy, placedBy, dropsBlank, breakWidth, aloneIn}
 
 -- ---- tests in another order
@@ -60,10 +61,6 @@ stacked-empty : (scratch : List ℕ) (base depth : ℕ) → isEmpty (stacked scr
 unfolding stacked
 stacked-empty scratch base zero = refl
 stacked-empty scratch base (suc depth) = sym (ne-eqb (suc depth) 0 (λ e. absurd (omega arith)))
-
-declaration-bytes : (l : List ℕ) → declarationOf (encode l) ≡ declarationOf l
-unfolding declarationOf
-declaration-bytes l = simp starts-encode
 
 -- ---- a line placed
 
@@ -98,7 +95,7 @@ module _
 
       drops-same : (isEmpty (f .stack) && sameDeclaration (decode line) (f .prev)) ≡ drops
       drops-same =
-          sym (er ∙ rw (ed, k .decl, on-decode declarationOf declarationOf declaration-bytes line (g .well), ← same-declaration-by, ← stacked-empty scratch (b .base) (b .depth), k .stack) (sym (and-choose _ _)))
+          sym (er ∙ rw (ed, k .decl, declaration-bytes line (g .well), ← same-declaration-by, ← stacked-empty scratch (b .base) (b .depth), k .stack) (sym (and-choose _ _)))
 
       lines-same : linesBefore f (decode line) ≡ choose drops (dropBlank (f .lines)) (f .lines)
       unfolding linesBefore

@@ -1,6 +1,6 @@
 -- What putting a line into the text does.
 use Prim.Native.Nat.{ℕ, _+_, _*_, _≤_}
-use mathlib.Core.Bool.{Bool, true, false}
+use mathlib.Core.Bool.{Bool, false}
 use mathlib.Core.List.{List, _++_, reverseAux}
 use mathlib.Core.Path.{_≡_}
 use lib.Dec.{eqb}

@@ -108,7 +108,7 @@ accepted c =
     (λ w. choose-case P (λ x. refused c _)
     (λ x e. record { valid = not-false (validOptions c) u; well = not-false (wellFormed (c .source)) w; fits = ltb-false (c .output) (length (textOf c)) x; outcome = refl })))))
 
-first-of-four : (a b c d : Bool) → (a && b && c && d) ≡ true → a ≡ true
+pub first-of-four : (a b c d : Bool) → (a && b && c && d) ≡ true → a ≡ true
 first-of-four true b c d h = refl
 first-of-four false b c d h = h
 

@@ -18,7 +18,7 @@ use Rattle.unicode.proofs.Trim.{end-other}
 use Rattle.rules.specs.Basics.{choose, is, codes, isBlank, isOpener, isEmpty, count}
 use Rattle.rules.specs.Scan.{Cell, isCode, charsOf, classify}
 use Rattle.rules.specs.ClassBytes.{classBytes, cellsOf}
-use Rattle.rules.specs.Spacing.{Spaced, spaced, trimBlanks, putPlain, putAfterComma, putAt, spaceStep, normalizeSpacing}
+use Rattle.rules.specs.Spacing.{Spaced, spaced, trimBlanks, putPlain, putAfterComma, putAt, spaceStep, normalizeSpacing, respaced}
 use Rattle.rules.specs.Brackets.{Entry, Open, opened, push, pop, bracketStep, scanBrackets, countBrackets}
 use Rattle.rules.specs.Demand3.{strikeWhite}
 use Rattle.rules.specs.declared.Carry.{Carry}
@@ -38,10 +38,6 @@ unfolding strikeWhite
 scalars-spaced cells s =
     scalars-keep (λ c. not (isWhite c)) (λ c h. white-scalar c (not-false (isWhite c) h)) (normalizeSpacing cells)
     (subst Scalars (sym (like-spacing cells .same)) (keep-scalars (λ c. not (isWhite c)) (charsOf cells) s))
-
--- a line in code, respaced
-abbrev pub respaced : List ℕ → List ℕ
-respaced l = normalizeSpacing (classify Carry.Code l)
 
 pub scalars-respaced : (l : List ℕ) → Scalars l → Scalars (respaced l)
 scalars-respaced l s = scalars-spaced (classify Carry.Code l) (subst Scalars (sym (chars-classify Carry.Code l)) s)

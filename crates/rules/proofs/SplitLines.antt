@@ -27,18 +27,13 @@ use Rattle.rules.specs.SplitImport.{Laid, codeIs, beforeCode, fromCode, 
 use Rattle.rules.specs.SplitOperation.{OpMark, topLevelOps, loosest, atMark, cutBefore, trimmed, breakAt, splitOnce, nextBreak, breakOn, breakFirst, layPieces, splitOperation}
 use Rattle.rules.specs.declared.Carry.{Carry}
 use Rattle.rules.proofs.Choose.{choose-case}
+use Rattle.rules.proofs.StartsBytes.{last-after}
 use Rattle.rules.proofs.ScanBytes.{chars-classify}
 use Rattle.rules.proofs.SpacingLaws.{all-white}
 use Rattle.rules.proofs.SplitOperationLaws.{white-indent}
 use Rattle.rules.proofs.Prefix.{leads, Operators, marks-operators, markedChars, marks-chars, cut-at}
 
 -- ---- the end of a text
-
-last-append : (p : ℕ → Bool) (a : List ℕ) (c : ℕ) (cs : List ℕ) → lastIs p (a ++ (c ∷ cs)) ≡ lastIs p (c ∷ cs)
-unfolding lastIs
-last-append p [] c cs = refl
-last-append p (x ∷ []) c cs = refl
-last-append p (x ∷ y ∷ a) c cs = last-append p (y ∷ a) c cs
 
 none-left : (l : List ℕ) → length l ≤ 0 → l ≡ []
 none-left [] h = refl
@@ -81,7 +76,7 @@ last-indented {b} w (c ∷ cs) h r =
     record {
       some = some-after w c cs;
       trimmed = t;
-      joins = joinable-trimmed (w ++ (c ∷ cs)) t ∙ rw (last-append (is "}") w c cs, start-append-white w (c ∷ cs) h) (sym (joinable-trimmed (c ∷ cs) (r .trimmed)) ∙ r .joins);
+      joins = joinable-trimmed (w ++ (c ∷ cs)) t ∙ rw (last-after (is "}") w (c ∷ cs) refl, start-append-white w (c ∷ cs) h) (sym (joinable-trimmed (c ∷ cs) (r .trimmed)) ∙ r .joins);
     }
 
 -- a text's end that starts with a character which is no white space and not the first of `else`
@@ -92,7 +87,7 @@ last-end a c cs l w e q t =
     record {
       some = refl;
       trimmed = u;
-      joins = joinable-trimmed (c ∷ cs) u ∙ rw (start-other c cs w, e, and-true (lastIs (is "}") (c ∷ cs)), q) (sym (last-append (is "}") a c cs));
+      joins = joinable-trimmed (c ∷ cs) u ∙ rw (start-other c cs w, e, and-true (lastIs (is "}") (c ∷ cs)), q) (sym (last-after (is "}") a (c ∷ cs) refl));
     }
 
 -- ---- several lines that end with one

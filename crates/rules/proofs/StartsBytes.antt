@@ -184,7 +184,7 @@ unfolding lastIs
 last-cons p b [] e = absurd (let z : _≡_ {A = ℕ} 0 1 = cc in omega arith)
 last-cons p b (c ∷ s) e = refl
 
-last-after : (p : ℕ → Bool) (bs s : List ℕ) → isEmpty s ≡ false → lastIs p (bs ++ s) ≡ lastIs p s
+pub last-after : (p : ℕ → Bool) (bs s : List ℕ) → isEmpty s ≡ false → lastIs p (bs ++ s) ≡ lastIs p s
 last-after p [] s e = refl
 last-after p (b ∷ []) s e = last-cons p b s e
 last-after p (b ∷ c ∷ bs) s e = last-cons p b ((c ∷ bs) ++ s) refl ∙ last-after p (c ∷ bs) s e

@@ -9,7 +9,7 @@ use Rattle.unicode.specs.Unicode.{trim, trimEnd}
 use Rattle.rules.specs.Basics.{choose, is, codes, at, lastIs, isEmpty}
 use Rattle.rules.specs.Scan.{classify, carryAfter, allCodeOrStr}
 use Rattle.rules.specs.Options.{Options, indentOf, overWide}
-use Rattle.rules.specs.Spacing.{normalizeSpacing}
+use Rattle.rules.specs.Spacing.{respaced}
 use Rattle.rules.specs.Brackets.{Entry, leadingClosers, scanBrackets, countBrackets, levels}
 use Rattle.rules.specs.Words.{startsWithWord, startsWithBinaryOp, sameDeclaration, isMarker, hasCode}
 use Rattle.rules.specs.Else.{isPlainElse, canJoin, joinElse}
@@ -174,7 +174,7 @@ unfoldable pub codeLine : Options → Formatter → List ℕ → Formatter
 codeLine o f raw =
     choose (protects (f .ignore) || (isMarker (classify Carry.Code (trim raw)) && hasCode (classify Carry.Code (trim raw))))
     (protectedLine f raw)
-    (spacedLine o f (isMarker (classify Carry.Code (trim raw))) (normalizeSpacing (classify Carry.Code (trim raw))))
+    (spacedLine o f (isMarker (classify Carry.Code (trim raw))) (respaced (trim raw)))
 
 abbrev pub inCodeNow : Carry → Bool
 inCodeNow Carry.Code = true

@@ -4,7 +4,8 @@ use Prim.Native.Nat.{ℕ}
 use mathlib.Core.Bool.{Bool, true, false, _&&_}
 use mathlib.Core.List.{List, [], _∷_, _++_, foldl}
 use Rattle.rules.specs.Basics.{choose, is, codes, isBlank, isCloser}
-use Rattle.rules.specs.Scan.{Cell, isCode}
+use Rattle.rules.specs.Scan.{Cell, isCode, classify}
+use Rattle.rules.specs.declared.Carry.{Carry}
 use Rattle.rules.specs.declared.Gap.{Gap}
 
 -- the text so far, and what the last character was
@@ -55,3 +56,7 @@ spaceStep t x = putAt (t .gap) (t .out) x
 
 unfoldable pub normalizeSpacing : List Cell → List ℕ
 normalizeSpacing cells = foldl spaceStep (spaced [] Gap.Nothing) cells .out
+
+-- a line in code, respaced
+abbrev pub respaced : List ℕ → List ℕ
+respaced l = normalizeSpacing (classify Carry.Code l)

@@ -11,11 +11,11 @@ use Rattle.buffer.specs.Buffer.{part}
 use Rattle.rules.specs.Basics.{choose}
 use Rattle.rules.specs.Scan.{classify, carryAfter}
 use Rattle.rules.specs.ClassBytes.{classBytes, cellsOf}
-use Rattle.rules.specs.Spacing.{normalizeSpacing}
+use Rattle.rules.specs.Spacing.{normalizeSpacing, respaced}
 use Rattle.rules.specs.Brackets.{leadingClosers, scanBrackets, countBrackets}
 use Rattle.rules.specs.declared.Carry.{Carry}
 use Rattle.rules.proofs.Choose.{choose-true, choose-false}
-use Rattle.rules.proofs.SpacedLine.{respaced, spaced-bytes, height-spaced, length-size}
+use Rattle.rules.proofs.SpacedLine.{spaced-bytes, height-spaced, length-size}
 use Rattle.scan.specs.Classified.{ClassifiedAt}
 use Rattle.format.specs.Region.{Only}
 use Rattle.format.specs.Respaced.{Normalized, Unchanged}
@@ -24,7 +24,7 @@ use Rattle.format.proofs.OnlyLaws.{only-same, only-wider, only-then, only-part-
 use Rattle.line.specs.Holds.{Classes}
 use Rattle.line.proofs.HoldsLaws.{stack-counted}
 use Rattle.step.specs.declared.Going.{Going}
-use Rattle.step.specs.Going.{spacedText, Room, goingLine, Goes, Went, Counts}
+use Rattle.step.specs.Going.{Room, goingLine, Goes, Went, Counts}
 
 -- ---- the line that goes on
 
@@ -96,7 +96,7 @@ module _ (line scratch scratch′ : List ℕ) (unit : ℕ) (g : Going) (depth cl
   counts : (L : List ℕ) → goingLine line scratch unit g ≡ L → Closers L closers
       → Settled scratch scratch′ (5 * unit) left (length L)
       (scanBrackets (drop closers (cellsOf L (part scratch (g .«class_at») (g .«class_at» + length L)))) (stacked scratch (5 * unit) left)) deep
-      → Counts (spacedText (decode line)) scratch scratch′ (5 * unit) depth (length line) deep
+      → Counts (respaced (decode line)) scratch scratch′ (5 * unit) depth (length line) deep
   counts L e k w =
       let n : g .len ≡ length L = sym (goes .long) ∙ ap length e in
       let classes : Classes Carry.Code L scratch (g .«class_at») (g .carry) =
@@ -105,25 +105,25 @@ module _ (line scratch scratch′ : List ℕ) (unit : ℕ) (g : Going) (depth cl
         leaves = goes .leaves ∙ ap (carryAfter Carry.Code) e;
         depth = omega (arith, goes .depth, n);
       } in
-      let t : decode L ≡ spacedText (decode line) = ap decode (sym e) ∙ goes .text in
-      let s : stacked scratch′ (5 * unit) deep ≡ countBrackets (leadingClosers (spacedText (decode line))) (classify Carry.Code (spacedText (decode line))) (stacked scratch (5 * unit) depth) =
+      let t : decode L ≡ respaced (decode line) = ap decode (sym e) ∙ goes .text in
+      let s : stacked scratch′ (5 * unit) deep ≡ countBrackets (leadingClosers (respaced (decode line))) (classify Carry.Code (respaced (decode line))) (stacked scratch (5 * unit) depth) =
       rw t at (stack-counted (subst WellFormed e (goes .well)) classes depth k l w refl) in
       record {
         stack = s;
-        most = omega (arith, length-stacked scratch′ (5 * unit) deep, ap length s, length-stacked scratch (5 * unit) depth, height-spaced (decode line) (leadingClosers (spacedText (decode line))) (stacked scratch (5 * unit) depth), length-size (decode line), ap length well);
+        most = omega (arith, length-stacked scratch′ (5 * unit) deep, ap length s, length-stacked scratch (5 * unit) depth, height-spaced (decode line) (leadingClosers (respaced (decode line))) (stacked scratch (5 * unit) depth), length-size (decode line), ap length well);
         long = w .only .long;
       }
 
   pub counts-own : g .own ≡ true → Closers line closers
       → Settled scratch scratch′ (5 * unit) left (length line)
       (scanBrackets (drop closers (cellsOf line (part scratch (g .«class_at») (g .«class_at» + length line)))) (stacked scratch (5 * unit) left)) deep
-      → Counts (spacedText (decode line)) scratch scratch′ (5 * unit) depth (length line) deep
+      → Counts (respaced (decode line)) scratch scratch′ (5 * unit) depth (length line) deep
   counts-own e k w = counts line (choose-true (g .own) line _ e) k w
 
   pub counts-spaced : g .own ≡ false → Closers (part scratch unit (unit + g .len)) closers
       → Settled scratch scratch′ (5 * unit) left (g .len)
       (scanBrackets (drop closers (cellsOf (part scratch unit (unit + g .len)) (part scratch (g .«class_at») (g .«class_at» + g .len)))) (stacked scratch (5 * unit) left)) deep
-      → Counts (spacedText (decode line)) scratch scratch′ (5 * unit) depth (length line) deep
+      → Counts (respaced (decode line)) scratch scratch′ (5 * unit) depth (length line) deep
   counts-spaced e k w =
       let p : goingLine line scratch unit g ≡ part scratch unit (unit + g .len) = choose-false (g .own) line _ e in
       let n : length (part scratch unit (unit + g .len)) ≡ g .len = ap length (sym p) ∙ goes .long in

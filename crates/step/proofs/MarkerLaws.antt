@@ -19,6 +19,7 @@ use Rattle.rules.specs.Words.{isMarkerText, isMarker, hasCode}
 use Rattle.rules.specs.Else.{isPlainElse}
 use Rattle.rules.specs.Brackets.{leadingClosers}
 use Rattle.rules.specs.Demand3.{strikeWhite}
+use Rattle.rules.specs.Spacing.{respaced}
 use Rattle.rules.specs.declared.Carry.{Carry}
 use Rattle.rules.proofs.Choose.{choose-true, choose-false}
 use Rattle.rules.proofs.CellsLaws.{cells-bytes, chars-cells, length-classBytes, length-classify}
@@ -27,7 +28,7 @@ use Rattle.rules.proofs.SpacingLaws.{like-spacing}
 use Rattle.scan.specs.CodeEnd.{codeLength}
 use Rattle.scan.proofs.CodeEnd.{code-part, comment-part, code-length-le}
 use Rattle.step.specs.declared.Marker.{Marker}
-use Rattle.step.specs.Going.{markerIn, spacedText}
+use Rattle.step.specs.Going.{markerIn}
 
 -- ---- the line before its comment, and from it on
 
@@ -186,14 +187,14 @@ struck-slash (x ∷ xs) m h = go (isLineComment (x .class)) (struck-slash xs) m 
     go true rest p q = let z = marker-first (x .ch ∷ charsOf xs) p in (strikeWhite (z .0), strike-other 47 _ (z .0) slash-no-white (z .1))
     go false rest p q = white (isWhite (x .ch)) refl rest p q
 
-pub alone-other : (l : List ℕ) → isMarker (classify Carry.Code l) ≡ true → hasCode (classify Carry.Code l) ≡ false → isPlainElse (spacedText l) ≡ false
+pub alone-other : (l : List ℕ) → isMarker (classify Carry.Code l) ≡ true → hasCode (classify Carry.Code l) ≡ false → isPlainElse (respaced l) ≡ false
 unfolding isMarker hasCode
-alone-other l m h = go (isPlainElse (spacedText l)) refl
+alone-other l m h = go (isPlainElse (respaced l)) refl
   where
-    go : (b : Bool) → isPlainElse (spacedText l) ≡ b → b ≡ false
+    go : (b : Bool) → isPlainElse (respaced l) ≡ b → b ≡ false
     go true e =
         let s = struck-slash (classify Carry.Code l) m h in
-        let f = else-first (spacedText l) e in
+        let f = else-first (respaced l) e in
         let z : 101 ∷ strikeWhite (f .0) ≡ 47 ∷ s .0 = sym (strike-other 101 _ (f .0) e-no-white (f .1)) ∙ like-spacing (classify Carry.Code l) .same ∙ s .1 in
         let y : _≡_ {A = ℕ} 101 47 = cc in
         absurd (omega arith)

@@ -11,6 +11,7 @@ use Rattle.rules.specs.Basics.{is, isEmpty, lastIs}
 use Rattle.rules.specs.Scan.{classify}
 use Rattle.rules.specs.ClassBytes.{classBytes}
 use Rattle.rules.specs.Line.{Formatter}
+use Rattle.rules.specs.Spacing.{respaced}
 use Rattle.rules.specs.declared.Carry.{Carry}
 use Rattle.rules.specs.declared.PrintWidth.{PrintWidth}
 use Rattle.rules.proofs.SpacedLine.{spaced-trimmed, length-size}
@@ -23,7 +24,7 @@ use Rattle.line.specs.Holds.{Holds, Ready}
 use Rattle.line.specs.declared.state.State.{State}
 use Rattle.line.proofs.HoldsLaws.{declaration-bytes, brace-bytes}
 use Rattle.step.specs.declared.Going.{Going}
-use Rattle.step.specs.Going.{spacedText, SolidLine, goingLine, Goes, beforeOf, PutOn}
+use Rattle.step.specs.Going.{SolidLine, goingLine, Goes, beforeOf, PutOn}
 
 knows : {eol : List ℕ} {unit : ℕ} {f : Formatter} {st : State} {out scratch : List ℕ} → Holds eol unit f st out scratch → Knows eol f (beforeOf st unit) out scratch
 knows h = record { text = h .text; stack = h .stack; decl = h .decl; brace = h .brace }
@@ -49,7 +50,7 @@ module _ (line scratch : List ℕ) (unit : ℕ) (st : State) (ready : Ready st s
       })
 
   module _ (g : Going) (goes : Goes line scratch unit g) (L : List ℕ) (e : L ≡ goingLine line scratch unit g) where
-    going-text : decode L ≡ spacedText (decode line)
+    going-text : decode L ≡ respaced (decode line)
     going-text = ap decode e ∙ goes .text
 
     going-well : WellFormed L
@@ -72,12 +73,12 @@ module _ (line scratch : List ℕ) (unit : ℕ) (st : State) (ready : Ready st s
     pub put-on : (marker : Bool) (indent : List ℕ) (width : PrintWidth) (eol out out′ : List ℕ) (p : Placed) (decl : Declaration) (brace : Bool) (b : Before)
         → b ≡ beforeOf st unit → Puts (spacedBy marker (decode L)) indent width eol (length L) b out scratch p out′
         → decl ≡ declarationOf L → brace ≡ lastIs (is "}") L
-        → PutOn marker (spacedText (decode line)) indent width eol (length line) unit st out scratch
+        → PutOn marker (respaced (decode line)) indent width eol (length line) unit st out scratch
         (record { text = p .text; imports = p .imports; blanks = p .blanks; decl = decl; brace = brace }) out′
     put-on marker indent width eol out out′ p decl brace b e′ w ed eb =
         let x : Puts (spacedBy marker (decode L)) indent width eol (length L) (beforeOf st unit) out scratch p out′ =
         subst (λ (y : Before). Puts (spacedBy marker (decode L)) indent width eol (length L) y out scratch p out′) e′ w in
-        let v : Puts (spacedBy marker (spacedText (decode line))) indent width eol (length L) (beforeOf st unit) out scratch p out′ =
+        let v : Puts (spacedBy marker (respaced (decode line))) indent width eol (length L) (beforeOf st unit) out scratch p out′ =
         subst (λ (l : List ℕ). Puts (spacedBy marker l) indent width eol (length L) (beforeOf st unit) out scratch p out′) going-text x in
         record {
           text = λ o f u h. v .text o f u (knows h);

@@ -18,6 +18,7 @@ use Rattle.rules.specs.Words.{isMarker, hasCode}
 use Rattle.rules.specs.Else.{isPlainElse, canJoin}
 use Rattle.rules.specs.Options.{Options}
 use Rattle.rules.specs.Line.{Formatter, elseLine, placedLine, spacedLine, protects, protectedLine, codeLine, inCodeNow, blankLine, formatLine}
+use Rattle.rules.specs.Spacing.{respaced}
 use Rattle.rules.specs.declared.Carry.{Carry}
 use Rattle.rules.specs.declared.Ignore.{Ignore}
 use Rattle.rules.specs.declared.PrintWidth.{PrintWidth}
@@ -31,10 +32,11 @@ use Rattle.format.proofs.ElseLaws.{decode-some}
 use Rattle.line.specs.Holds.{Holds, Ready, Stepped, TrimmedLine, Classes, Uses, insideOf, protectedOf}
 use Rattle.line.specs.declared.state.State.{State}
 use Rattle.line.proofs.HoldsLaws.{carry-bytes, classes-front, front-only, line-room, trimmed-line, start-within}
+use Rattle.place.specs.Placing.{spacedBy}
 use Rattle.step.specs.declared.Going.{Going}
 use Rattle.step.specs.declared.Marker.{Marker}
 use Rattle.step.specs.declared.Put.{Put}
-use Rattle.step.specs.Going.{markerIn, keptOf, aloneOf, spacedText, SolidLine, Marks, Room, goingLine, Went, Counts, PutOn, afterLine, spacedOf, codeOf, formatOf, ignoreOf}
+use Rattle.step.specs.Going.{markerIn, keptOf, aloneOf, SolidLine, Marks, Room, goingLine, Went, Counts, PutOn, afterLine, codeOf, formatOf, ignoreOf}
 use Rattle.step.proofs.MarkerLaws.{found, else-closers, alone-other}
 use Rattle.step.proofs.GoingLaws.{front-part}
 
@@ -108,19 +110,19 @@ leaves o f marker l n = choose-case (Leaves marker l f) (λ h. joined marker n h
 
 pub spaced-step : (line eol out out′ s₀ s₁ s₂ indent : List ℕ) (width : PrintWidth) (unit : ℕ) (marker : Bool) (st : State) (g : Going) (p : Put) (deep : ℕ) (ignore : Ignore) (r : State)
     → Marks marker line → Went line s₀ s₁ unit g
-    → PutOn marker (spacedText (decode line)) indent width eol (length line) unit st out s₁ p out′
-    → Counts (spacedText (decode line)) s₁ s₂ (5 * unit) (st .depth) (length line) deep → ignore ≡ ignoreOf marker → r ≡ afterLine st p deep ignore (g .carry)
+    → PutOn marker (respaced (decode line)) indent width eol (length line) unit st out s₁ p out′
+    → Counts (respaced (decode line)) s₁ s₂ (5 * unit) (st .depth) (length line) deep → ignore ≡ ignoreOf marker → r ≡ afterLine st p deep ignore (g .carry)
     → (o : Options) → Uses o indent width
-    → Stepped (spacedOf o marker (spacedText (decode line))) (length line) unit eol st out s₀ r out′ s₂
+    → Stepped (spacedBy marker (respaced (decode line)) o) (length line) unit eol st out s₀ r out′ s₂
 spaced-step line eol out out′ s₀ s₁ s₂ indent width unit marker st g p deep ignore r n w q v i e o u =
-    subst (λ (x : State). Stepped (spacedOf o marker (spacedText (decode line))) (length line) unit eol st out s₀ x out′ s₂) (sym e)
+    subst (λ (x : State). Stepped (spacedBy marker (respaced (decode line)) o) (length line) unit eol st out s₀ x out′ s₂) (sym e)
     (record {
       holds = λ f h₀.
           (let h : Holds eol unit f st out s₁ = holds-past (w .only) (omega arith) h₀ in
-          let k = leaves o f marker (spacedText (decode line)) (n .other) in
+          let k = leaves o f marker (respaced (decode line)) (n .other) in
           record {
             text = q .text o f u h;
-            stack = v .stack ∙ ap (countBrackets (leadingClosers (spacedText (decode line))) (classify Carry.Code (spacedText (decode line)))) (h .stack) ∙ sym (k .stack);
+            stack = v .stack ∙ ap (countBrackets (leadingClosers (respaced (decode line))) (classify Carry.Code (respaced (decode line)))) (h .stack) ∙ sym (k .stack);
             blank = sym (k .blank);
             decl = q .decl ∙ ap declarationOf (sym (k .prev));
             brace = q .brace ∙ ap (lastIs (is "}")) (sym (k .prev));
@@ -141,7 +143,7 @@ spaced-step line eol out out′ s₀ s₁ s₂ indent width unit marker st g p d
 
 code-not : (o : Options) (f : Formatter) (raw l : List ℕ) (marker : Bool) → l ≡ trim raw → protects (f .ignore) ≡ false
     → isMarker (classify Carry.Code l) ≡ marker → (isMarker (classify Carry.Code l) && hasCode (classify Carry.Code l)) ≡ false
-    → spacedLine o f marker (spacedText l) ≡ codeLine o f raw
+    → spacedLine o f marker (respaced l) ≡ codeLine o f raw
 unfolding codeLine
 code-not o f raw l marker e p m q =
     rw (← e, ← m) (sym (choose-false _ _ _ (ap (λ (b : Bool). b || (isMarker (classify Carry.Code l) && hasCode (classify Carry.Code l))) p ∙ q)))
@@ -209,7 +211,7 @@ module _
 
       -- spaced, with or without a marker that stands alone
       pub code-open : (m : Marker) (b a : Bool) → m ≡ markerIn (decode line) → b ≡ keptOf (st .ignore) m → b ≡ false → a ≡ aloneOf m → (o : Options)
-          → Stepped (spacedOf o a (spacedText (decode line))) (length line) unit eol st out (w ++ drop (length line) s₀) r out′ s₂
+          → Stepped (spacedBy a (respaced (decode line)) o) (length line) unit eol st out (w ++ drop (length line) s₀) r out′ s₂
           → Stepped (codeOf o (decode raw)) (length raw) unit eol st out s₀ r out′ s₂
       code-open m b a d e q k o v =
           let x = opens (decode line) (st .ignore) m d (sym e ∙ q) in
@@ -224,7 +226,7 @@ solid raw line t e = record { well = t .well; trimmed = ap trimEnd (t .text) ∙
 pub marks-of : (line : List ℕ) (m : Marker) (a : Bool) → m ≡ markerIn (decode line) → a ≡ aloneOf m → Marks a line
 marks-of line m a d k = record { other = λ h. go m d (sym k ∙ h) }
   where
-    go : (m : Marker) → m ≡ markerIn (decode line) → aloneOf m ≡ true → isPlainElse (spacedText (decode line)) ≡ false
+    go : (m : Marker) → m ≡ markerIn (decode line) → aloneOf m ≡ true → isPlainElse (respaced (decode line)) ≡ false
     go Marker.Nothing d h = absurd (false≢true h)
     go Marker.Alone d h = let x = found (decode line) Marker.Alone d in alone-other (decode line) (x .marks) (x .code (x .marks))
     go Marker.AfterCode d h = absurd (false≢true h)

@@ -9,12 +9,12 @@ use Rattle.buffer.specs.Buffer.{part}
 use Rattle.rules.specs.Basics.{choose, is, isEmpty, lastIs}
 use Rattle.rules.specs.Scan.{classify, carryAfter}
 use Rattle.rules.specs.ClassBytes.{classBytes}
-use Rattle.rules.specs.Spacing.{normalizeSpacing}
+use Rattle.rules.specs.Spacing.{respaced}
 use Rattle.rules.specs.Brackets.{leadingClosers, countBrackets}
 use Rattle.rules.specs.Words.{isMarker, hasCode}
 use Rattle.rules.specs.Else.{isPlainElse}
 use Rattle.rules.specs.Options.{Options}
-use Rattle.rules.specs.Line.{Formatter, protects, spacedLine, codeLine, formatLine}
+use Rattle.rules.specs.Line.{Formatter, protects, codeLine, formatLine}
 use Rattle.rules.specs.declared.Carry.{Carry}
 use Rattle.rules.specs.declared.Ignore.{Ignore}
 use Rattle.rules.specs.declared.PrintWidth.{PrintWidth}
@@ -23,6 +23,7 @@ use Rattle.format.specs.Region.{Only}
 use Rattle.format.specs.Stack.{stacked}
 use Rattle.format.specs.Words.{declarationOf}
 use Rattle.text.specs.Text.{Text, Ordered}
+use Rattle.place.specs.Placing.{spacedBy}
 use Rattle.place.specs.declared.Before.{Before}
 use Rattle.line.specs.Holds.{Holds, Uses}
 use Rattle.line.specs.declared.state.State.{State}
@@ -49,9 +50,6 @@ aloneOf Marker.Nothing = false
 aloneOf Marker.Alone = true
 aloneOf Marker.AfterCode = false
 
-abbrev pub spacedText : List ℕ → List ℕ
-spacedText l = normalizeSpacing (classify Carry.Code l)
-
 -- a line of code that is not blank, trimmed at its end
 pub record SolidLine (line : List ℕ) : Type 0 where
   pub well : WellFormed line
@@ -60,7 +58,7 @@ pub record SolidLine (line : List ℕ) : Type 0 where
 
 -- a marker that stands alone is no plain else
 pub record Marks (marker : Bool) (line : List ℕ) : Type 0 where
-  pub other : marker ≡ true → isPlainElse (spacedText (decode line)) ≡ false
+  pub other : marker ≡ true → isPlainElse (respaced (decode line)) ≡ false
 
 -- room for a line of n bytes
 pub record Room (scratch : List ℕ) (unit n : ℕ) : Type 0 where
@@ -76,7 +74,7 @@ goingLine line scratch unit g = choose (g .own) line (part scratch unit (unit + 
 pub record Goes (line scratch : List ℕ) (unit : ℕ) (g : Going) : Type 0 where
   pub long : length (goingLine line scratch unit g) ≡ g .len
   pub well : WellFormed (goingLine line scratch unit g)
-  pub text : decode (goingLine line scratch unit g) ≡ spacedText (decode line)
+  pub text : decode (goingLine line scratch unit g) ≡ respaced (decode line)
   pub classes : part scratch (g .«class_at») (g .«class_at» + g .len) ≡ classBytes (classify Carry.Code (goingLine line scratch unit g))
   pub leaves : g .carry ≡ carryAfter Carry.Code (goingLine line scratch unit g)
   pub depth : carryDepth (g .carry) ≤ g .len
@@ -94,10 +92,7 @@ pub record Counts (l before after : List ℕ) (base depth n r : ℕ) : Type 0 wh
   pub most : r ≤ depth + n
   pub long : length after ≡ length before
 
--- the step of a line that is spaced, with a marker or not
-abbrev pub spacedOf : Options → Bool → List ℕ → Formatter → Formatter
-spacedOf o marker l f = spacedLine o f marker l
-
+-- the step of a line
 abbrev pub codeOf : Options → List ℕ → Formatter → Formatter
 codeOf o raw f = codeLine o f raw
 
@@ -129,9 +124,9 @@ afterLine st p deep ignore carry =
 
 -- a line of n bytes, which goes on as the characters l, was put into the text
 pub record PutOn (marker : Bool) (l indent : List ℕ) (width : PrintWidth) (eol : List ℕ) (n unit : ℕ) (st : State) (out scratch : List ℕ) (r : Put) (out′ : List ℕ) : Type 0 where
-  pub text : (o : Options) (f : Formatter) → Uses o indent width → Holds eol unit f st out scratch → Text eol (spacedOf o marker l f .lines) (r .text) out′
-  pub imports : (o : Options) (f : Formatter) → Uses o indent width → Holds eol unit f st out scratch → spacedOf o marker l f .importsSplit ≡ f .importsSplit + r .imports
-  pub blanks : (o : Options) (f : Formatter) → Uses o indent width → Holds eol unit f st out scratch → spacedOf o marker l f .blankNames ≡ f .blankNames + r .blanks
+  pub text : (o : Options) (f : Formatter) → Uses o indent width → Holds eol unit f st out scratch → Text eol (spacedBy marker l o f .lines) (r .text) out′
+  pub imports : (o : Options) (f : Formatter) → Uses o indent width → Holds eol unit f st out scratch → spacedBy marker l o f .importsSplit ≡ f .importsSplit + r .imports
+  pub blanks : (o : Options) (f : Formatter) → Uses o indent width → Holds eol unit f st out scratch → spacedBy marker l o f .blankNames ≡ f .blankNames + r .blanks
   pub decl : r .decl ≡ declarationOf l
   pub brace : r .brace ≡ lastIs (is "}") l
   pub ordered : Ordered (r .text)

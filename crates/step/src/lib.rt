@@ -9,10 +9,12 @@ ghost use Rattle.rules.specs.Lines.{asStr};
 ghost use Rattle.rules.specs.Line.{protects, inCodeNow};
 ghost use Rattle.rules.specs.Options.{Options};
 ghost use Rattle.rules.specs.Scan.{classify};
+ghost use Rattle.rules.specs.Spacing.{respaced};
 ghost use Rattle.rules.specs.ClassBytes.{classBytes};
 ghost use Rattle.rules.specs.declared.Carry.{Carry};
 ghost use Rattle.line.specs.Holds.{Classes, Ready, Stepped, TrimmedLine, Uses, ValidIndent};
-ghost use Rattle.step.specs.Going.{markerIn, keptOf, aloneOf, spacedText, SolidLine, Marks, Room, Goes, Went, Counts, beforeOf, PutOn, afterLine, spacedOf, codeOf, formatOf, ignoreOf};
+ghost use Rattle.place.specs.Placing.{spacedBy};
+ghost use Rattle.step.specs.Going.{markerIn, keptOf, aloneOf, SolidLine, Marks, Room, Goes, Went, Counts, beforeOf, PutOn, afterLine, codeOf, formatOf, ignoreOf};
 use format::words::Declaration;
 use line::state::State;
 use place::Before;
@@ -79,7 +81,7 @@ fn count_going(line: &[u8], scratch: &mut [u8], unit: usize, g: Going, depth: us
     requires { ⌜ Room (now scratch) unit (length (now line)) ⌝ }
     requires { ⌜ Goes (now line) (now scratch) unit g ⌝ }
     requires { ⌜ depth + length (now line) ≤ unit ⌝ }
-    ensures { λ r. ⌜ Counts (spacedText (decode (now (line .entry)))) (now (scratch .entry)) (now (scratch .exit)) (5 * unit) depth (length (now (line .entry))) r ⌝ }
+    ensures { λ r. ⌜ Counts (respaced (decode (now (line .entry)))) (now (scratch .entry)) (now (scratch .exit)) (5 * unit) depth (length (now (line .entry))) r ⌝ }
 {
     let len = g.len;
     let class_at = g.class_at;
@@ -128,7 +130,7 @@ fn put_going<'a>(
     requires { ⌜ SolidLine (now line) ⌝ }
     requires { ⌜ Goes (now line) (now scratch) unit g ⌝ }
     requires { ⌜ ValidIndent (now indent) ⌝ }
-    ensures { λ r. ⌜ PutOn marker (spacedText (decode (now (line .entry)))) (now (indent .entry)) width (asStr ending) (length (now (line .entry))) unit st (now (out .entry)) (now (scratch .entry)) r (now (out .exit)) ⌝ }
+    ensures { λ r. ⌜ PutOn marker (respaced (decode (now (line .entry)))) (now (indent .entry)) width (asStr ending) (length (now (line .entry))) unit st (now (out .entry)) (now (scratch .entry)) r (now (out .exit)) ⌝ }
 {
     let own = g.own;
     let len = g.len;
@@ -198,7 +200,7 @@ fn spaced_line(
     requires { ⌜ Marks marker (now line) ⌝ }
     requires { ⌜ Classes Carry.Code (now line) (now scratch) 0 after ⌝ }
     requires { ⌜ ValidIndent (now indent) ⌝ }
-    ensures { λ r. ⌜ ((o : Options) → Uses o (now (indent .entry)) width → Stepped (spacedOf o marker (spacedText (decode (now (line .entry))))) (length (now (line .entry))) unit (asStr ending) st (now (out .entry)) (now (scratch .entry)) r (now (out .exit)) (now (scratch .exit))) ⌝ }
+    ensures { λ r. ⌜ ((o : Options) → Uses o (now (indent .entry)) width → Stepped (spacedBy marker (respaced (decode (now (line .entry)))) o) (length (now (line .entry))) unit (asStr ending) st (now (out .entry)) (now (scratch .entry)) r (now (out .exit)) (now (scratch .exit))) ⌝ }
 {
     let g = go_on(line, scratch, unit, after);
     let p = put_going(

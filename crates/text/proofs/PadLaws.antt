@@ -1,10 +1,10 @@
 -- A line after its indent; a line that an else is joined to.
 use Prim.Native.Nat.{ℕ, zero, suc, _+_, _≤_, _<_}
-use mathlib.Core.Bool.{Bool, true, false, not, _&&_, _||_}
+use mathlib.Core.Bool.{Bool, true, false, not, _&&_, _||_, and-true}
 use mathlib.Core.Path.{_≡_, refl, sym, ap, _∙_, subst}
 use mathlib.Core.List.{List, [], _∷_, _++_}
 use native.Mathlib.Omega.{arith}
-use borrow.Author.Tests.{eqb-true, ne-eqb}
+use borrow.Author.Tests.{eqb-true, ne-eqb, not-true}
 use lib.Dec.{eqb}
 use lib.ListN.{length, length-append}
 use Rattle.unicode.specs.Unicode.{encodeChar, encode, size, isWhite, trimStart, trimEnd}
@@ -16,6 +16,7 @@ use Rattle.buffer.specs.Repeat.{times}
 use Rattle.rules.specs.Basics.{is, codes, startsWith, lastIs, isBlank}
 use Rattle.rules.specs.Options.{allBlank}
 use Rattle.rules.specs.Else.{joinable}
+use Rattle.rules.proofs.StartsBytes.{last-after}
 use Rattle.rules.proofs.Choose.{choose-true, choose-false}
 use Rattle.text.specs.Text.{tailOf}
 
@@ -103,19 +104,13 @@ tail-pad p l b = go (trimEnd l) refl
         ap size (end-append p l y ys e) ∙ blanks-size p (y ∷ ys) b
         ∙ sym (choose-false (eqb (size (y ∷ ys)) 0) 0 (length p + size (y ∷ ys)) (some-test (y ∷ ys) (some-size y ys)))
 
-last-append : (p : ℕ → Bool) (a : List ℕ) (y : ℕ) (ys : List ℕ) → lastIs p (a ++ (y ∷ ys)) ≡ lastIs p (y ∷ ys)
-unfolding lastIs
-last-append p [] y ys = refl
-last-append p (x ∷ []) y ys = refl
-last-append p (x ∷ z ∷ a) y ys = last-append p (z ∷ a) y ys
-
 pub join-pad : (p l : List ℕ) → Blanks p → joinable (p ++ l) ≡ joinable l
 unfolding joinable
 join-pad p l b = rw (start-append-white p l (b .white), ends (trimEnd l) refl)
   where
     ends : (x : List ℕ) → trimEnd l ≡ x → lastIs (is "}") (trimEnd (p ++ l)) ≡ lastIs (is "}") (trimEnd l)
     ends [] e = ap (lastIs (is "}")) (end-none (p ++ l) (white-append p l (b .white) (white-of l e)) ∙ sym e)
-    ends (y ∷ ys) e = ap (lastIs (is "}")) (end-append p l y ys e) ∙ last-append (is "}") p y ys ∙ ap (lastIs (is "}")) (sym e)
+    ends (y ∷ ys) e = ap (lastIs (is "}")) (end-append p l y ys e) ∙ last-after (is "}") p (y ∷ ys) refl ∙ ap (lastIs (is "}")) (sym e)
 
 -- ---- what a line that ends in `}` starts with
 
@@ -168,14 +163,6 @@ unfolding lastIs
 last-space [] h = absurd (omega arith)
 last-space (y ∷ ys) h = refl
 
-not-true : (b : Bool) → not b ≡ true → b ≡ false
-not-true true e = no e
-not-true false e = refl
-
-and-true : (b : Bool) → (b && true) ≡ b
-and-true true = refl
-and-true false = refl
-
 pub else-joinable : (l line : List ℕ) → trimEnd line ≡ line → 1 ≤ length line → joinable l ≡ true → joinable (trimEnd l ++ (32 ∷ line)) ≡ lastIs (is "}") line
 unfolding joinable
 else-joinable l line e h j =
@@ -186,5 +173,5 @@ else-joinable l line e h j =
     let s : startsWith (trimStart (x ++ (32 ∷ line))) (codes "else") ≡ false =
     starts-else x (32 ∷ line) a ∙ sym (starts-else x (w .0) a) ∙ ap (λ (z : List ℕ). startsWith (trimStart z) (codes "else")) (sym (w .2)) ∙ b in
     let t : lastIs (is "}") (trimEnd (x ++ (32 ∷ line))) ≡ lastIs (is "}") line =
-    ap (lastIs (is "}")) (else-trimmed x line e h) ∙ last-append (is "}") x 32 line ∙ last-space line h in
+    ap (lastIs (is "}")) (else-trimmed x line e h) ∙ last-after (is "}") x (32 ∷ line) refl ∙ last-space line h in
     rw (t, s) (and-true (lastIs (is "}") line))

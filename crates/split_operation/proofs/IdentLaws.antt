@@ -22,8 +22,7 @@ use Rattle.rules.proofs.CellsLaws.{cellAt}
 use Rattle.rules.proofs.OperatorsBytes.{byteStep}
 use Rattle.operators.specs.declared.OpState.{OpState}
 use Rattle.operators.specs.Operators.{opsOf, stepOf}
-use Rattle.split_operation.specs.declared.pass.Pass.{Pass}
-use Rattle.split_operation.specs.Pass.{Breakable, Plain, PlainTest, IdentRun, PlainRun, pastIdent, pastIdents, Balances, Seeking, Passing}
+use Rattle.split_operation.specs.Pass.{Breakable, Plain, PlainTest, IdentRun, PlainRun, pastIdent, Balances, Seeking, Pass, Passing}
 use Rattle.split_operation.proofs.PassLaws.{ReadAt, read-step, looser-zero, eqb-swap, balance-fell, balance-plain, word-on, passing-more, seek-read, ops-left}
 
 -- ---- one of them
@@ -121,13 +120,16 @@ past-plain s = record { skip = refl; esc = refl }
 
 -- ---- a run of them
 
+-- the pass p, its state replaced
+abbrev pub withState : Pass → OpState → Pass
+withState p s = record { ops = record { ops = s; strength = p .ops .strength; cut = p .ops .cut }; start = p .start; depth = p .depth }
+
 passing-ident : (table line class : List ℕ) (p : Pass) (i : ℕ) → Passing table line class p i → i < length line → Plain (p .ops .ops) → inWord (cellAt line class i) ≡ true
-    → Passing table line class (pastIdents p) (i + 1)
+    → Passing table line class (withState p (pastIdent (p .ops .ops))) (i + 1)
 passing-ident table line class p i q h y e =
-    passing-more table line class p i q h (pastIdents p .ops)
+    passing-more table line class p i q h (record { start = p .start; found = false }) (word-on line (p .start) i (cellAt line class i) (h, q .start) true (sym e) refl refl)
+    (p .depth) (ident-balance table (p .ops .ops) line class i h (q .ops .breaks) y e (p .depth)) refl (withState p (pastIdent (p .ops .ops)) .ops)
     (ops-left (q .ops) h (record { strength = 0; after = pastIdent (p .ops .ops) }) (ident-read table (p .ops .ops) line class i h (q .ops .breaks) y e) (looser-zero (p .ops .strength)))
-    (record { start = p .start; found = false }) (word-on line (p .start) i (cellAt line class i) (h, q .start) true (sym e) refl refl)
-    (p .depth) (ident-balance table (p .ops .ops) line class i h (q .ops .breaks) y e (p .depth)) refl
 
 module _ {line class : List ℕ} {i e : ℕ} {s : OpState} (u : PlainRun line class i s e) (h : i < e) where
   -- what one of them leaves as it is, the run does
@@ -148,13 +150,10 @@ module _ {line class : List ℕ} {i e : ℕ} {s : OpState} (u : PlainRun line cl
           let z : i + 1 + suc k ≡ i + 1 + k + 1 = omega arith in
           rw z (f (pastIdent s) (i + 1 + k) (omega (arith, u .run .fits)) (past-plain s) (u .run .idents (i + 1 + k) (omega arith) (omega arith)) (go k (omega arith)))
 
--- the pass p, its state replaced
-abbrev withState : Pass → OpState → Pass
-withState p s = record { ops = record { ops = s; strength = p .ops .strength; cut = p .ops .cut }; start = p .start; depth = p .depth }
-
-pub passing-past : (table line class : List ℕ) (p p′ : Pass) (i e : ℕ) → Passing table line class p i → PlainRun line class i (p .ops .ops) e → i < e → p′ ≡ pastIdents p → Passing table line class p′ e
-passing-past table line class p p′ i e q u h z =
-    subst (λ (x : Pass). Passing table line class x e) (sym z)
+pub passing-past : {table line class : List ℕ} (p : Pass) (s′ : OpState) (i e : ℕ) → Passing table line class p i → PlainRun line class i (p .ops .ops) e → i < e → s′ ≡ pastIdent (p .ops .ops)
+    → Passing table line class (withState p s′) e
+passing-past {table} {line} {class} p s′ i e q u h z =
+    subst (λ (x : OpState). Passing table line class (withState p x) e) (sym z)
     (run-ends u h (λ (t : OpState) (k : ℕ). Passing table line class (withState p t) k) (λ t k l y w r. passing-ident table line class (withState p t) k r l y w) q)
 
 pub seek-past : {table : List ℕ} {strength : ℕ} {line class : List ℕ} {from : ℕ} {start s : OpState} (s′ : OpState) (i e : ℕ) → Seeking table strength line class from start s i → PlainRun line class i s e → i < e → s′ ≡ pastIdent s

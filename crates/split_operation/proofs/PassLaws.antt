@@ -15,6 +15,7 @@ use Rattle.buffer.specs.Buffer.{part}
 use Rattle.buffer.proofs.RegionLaws.{part-from, part-more}
 use mathlib.Core.Logic.{_⊎_, inl, inr}
 use Rattle.unicode.proofs.Tests.{by-test, split}
+use Rattle.split.proofs.MeasureLaws.{part-length}
 use Rattle.rules.specs.Basics.{choose, same, oneOf, startsWith, Pieces, isOpener, isCloser}
 use Rattle.rules.specs.Scan.{Cell, cell, charsOf, isCode}
 use Rattle.rules.specs.ClassBytes.{classOf, cellsOf}
@@ -28,11 +29,10 @@ use Rattle.operators.specs.declared.PlainStep.{PlainStep}
 use Rattle.operators.specs.declared.Token.{Token}
 use Rattle.operators.specs.Operators.{opsOf, stepOf, stepWith, stepOr, byteOr, tokenStep, Countable}
 use Rattle.operators.proofs.OperatorLaws.{byte-or}
+use Rattle.split_operation.specs.declared.pass.Span.{Span}
 use Rattle.split_operation.specs.declared.pass.Word.{Word}
-use Rattle.split_operation.specs.declared.pass.Loosest.{Loosest}
-use Rattle.split_operation.specs.declared.pass.Pass.{Pass}
 use Rattle.split_operation.specs.declared.pass.Break.{Break}
-use Rattle.split_operation.specs.Pass.{marksAt, fresh, Sound, Breakable, cutsAt, restFrom, Cutting, NextOp, Seeking, breakStrength, depthAs, Balances, WordStep, TakesOver, IsLooser, OpsAt, Kept, keptFor, Passing, Passed, Unbroken, BreakFound, PassEnd}
+use Rattle.split_operation.specs.Pass.{marksAt, fresh, Sound, Breakable, cutsAt, restFrom, Cutting, NextOp, Seeking, breakStrength, depthAs, Balances, WordStep, SpanStep, TakesOver, IsLooser, breakAt, Loosest, OpsAt, Pass, passAt, Passing, Unbroken, BreakFound, PassEnd}
 
 -- ---- one byte
 
@@ -274,6 +274,13 @@ same-not (a ∷ s) (b ∷ w) h = rw (← (same-not s w (λ (e : length s ≡ len
 part-none : (l : List ℕ) (a : ℕ) → part l a a ≡ []
 part-none l a = let e : a - a ≡ 0 = omega arith in rw e
 
+-- no keyword has fewer than two characters
+short-word : (w : List ℕ) → length w < 2 → oneOf keywords w ≡ false
+unfolding oneOf same
+short-word [] h = refl
+short-word (a ∷ []) h = simp and-false
+short-word (a ∷ b ∷ w) h = absurd (omega arith)
+
 module _ (line : List ℕ) (start i : ℕ) (x : Cell) (pre : (i < length line) × (start ≤ i)) (r : Bool) (p : r ≡ inWord x) where
   pub word-on : getD line i 0 ≡ x .ch → r ≡ true → WordStep line start i x (record { start = start; found = false })
   unfolding wordOn
@@ -284,14 +291,16 @@ module _ (line : List ℕ) (start i : ℕ) (x : Cell) (pre : (i < length line) �
         found = rw (← p, q);
       }
 
-  pub word-end : r ≡ false → (s : Bool) → s ≡ oneOf keywords (part line start i) → WordStep line start i x (record { start = i + 1; found = s })
-  unfolding wordOn
-  word-end q s u =
-      record {
-        start = omega arith;
-        word = ap reverse (part-none line (i + 1)) ∙ sym (choose-false _ _ _ (sym p ∙ q));
-        found = rw (← p, q, ← u);
-      }
+  module _ (q : r ≡ false) where
+    ends : reverse (part line (i + 1) (i + 1)) ≡ wordOn (reverse (part line start i)) x
+    unfolding wordOn
+    ends = ap reverse (part-none line (i + 1)) ∙ sym (choose-false _ _ _ (sym p ∙ q))
+
+    pub word-end : (s : Bool) → s ≡ oneOf keywords (part line start i) → WordStep line start i x (record { start = i + 1; found = s })
+    word-end s u = record { start = omega arith; word = ends; found = rw (← p, q, ← u) }
+
+    pub word-short : i ≤ start + 1 → WordStep line start i x (record { start = i + 1; found = false })
+    word-short h = word-end false (sym (short-word (part line start i) (omega (arith, part-length line start i (omega (arith, pre .0))))))
 
 -- ---- the next operator: none of the strength stands before i
 
@@ -378,7 +387,7 @@ module _ {table line class : List ℕ} {b : Loosest} {i : ℕ} (q : OpsAt table 
   sum = q .loosest ∙ ap (λ (ms : List OpMark). looser (b .strength) (loosest ms)) (a .marks) ∙ rw (loosest-cons, ← looser-assoc)
 
   -- an operator that takes over
-  pub ops-taken : TakesOver (f .strength) (b .strength) → OpsAt table line class (keptFor b i f true) (i + 1)
+  pub ops-taken : TakesOver (f .strength) (b .strength) → OpsAt table line class (record { ops = f .after; strength = f .strength; cut = record { place = i; after = f .after } }) (i + 1)
   ops-taken t =
       record {
         within = omega arith;
@@ -392,7 +401,7 @@ module _ {table line class : List ℕ} {b : Loosest} {i : ℕ} (q : OpsAt table 
       }
 
   -- one that doesn't
-  pub ops-left : looser (b .strength) (f .strength) ≡ b .strength → OpsAt table line class (keptFor b i f false) (i + 1)
+  pub ops-left : looser (b .strength) (f .strength) ≡ b .strength → OpsAt table line class (record { ops = f .after; strength = b .strength; cut = b .cut }) (i + 1)
   ops-left e =
       record {
         within = omega arith;
@@ -402,23 +411,6 @@ module _ {table line class : List ℕ} {b : Loosest} {i : ℕ} (q : OpsAt table 
         clear = λ p pos less. seek-read (q .clear p pos less) f h a (λ (z : f .strength ≡ p). left-apart (b .strength) (f .strength) p pos less e z);
         found = q .found;
       }
-
-  pub ops-kept : (r : Loosest) → Kept b i f r → OpsAt table line class r (i + 1)
-  ops-kept r k = subst (λ (x : Loosest). OpsAt table line class x (i + 1)) (sym (k .kept)) (go (k .looser) (k .is))
-    where
-      go : (v : Bool) → IsLooser (f .strength) (b .strength) v → OpsAt table line class (keptFor b i f v) (i + 1)
-      go true y = ops-taken (y .taken refl)
-      go false y = ops-left (y .left refl)
-
--- as the calls of `ops_step` say it
-module _ (table line class : List ℕ) (b : Loosest) (i : ℕ) (q : OpsAt table line class b i) (h : i < length line)
-    (r : PlainStep) (e : (t : OpStep) → stepOr (r .token) t (r .after) ≡ byteOr t (opsOf (b .ops)) (cellAt line class i)) where
-  pub ops-plain : r .token ≡ false → OpsAt table line class (record { ops = r .after; strength = b .strength; cut = b .cut }) (i + 1)
-  ops-plain k = ops-left q h (record { strength = 0; after = r .after }) (read-plain table (b .ops) line class i h (q .breaks) r e k) (looser-zero (b .strength))
-
-  pub ops-token : r .token ≡ true → (t : Token) → ((o : Ops) → o .operand ≡ b .ops .operand → stepWith o t ≡ tokenStep table o (take (length line - i) (drop i line)))
-      → (f : OpFound) → stepOf f ≡ stepWith (opsOf (b .ops)) t → (k : Loosest) → Kept b i f k → OpsAt table line class k (i + 1)
-  ops-token k t g f u l w = ops-kept q h f (read-token table (b .ops) line class i h (q .breaks) r e k t g f u) l w
 
 -- ---- the pass for a line's strength
 
@@ -435,6 +427,9 @@ fell : (xs : List Cell) → foldl balanceStep none xs ≡ none
 fell [] = refl
 fell (x ∷ xs) = ap (λ (o : Option ℕ). foldl balanceStep o xs) (sym (balance-fell x 0 refl .is)) ∙ fell xs
 
+pub found-none : {table line class : List ℕ} (r : Break) → Unbroken r → 0 ≡ breakStrength table (cellsOf line class) → BreakFound table line class r
+found-none r u e = record { strength = u .none ∙ e; cut = λ n. absurd (n (u .none)) }
+
 module _ (table line class : List ℕ) (p : Pass) (i : ℕ) (q : Passing table line class p i) (h : i < length line) where
   abbrev left : List Cell
   left = cellsOf (drop (i + 1) line) (drop (i + 1) class)
@@ -445,86 +440,121 @@ module _ (table line class : List ℕ) (p : Pass) (i : ℕ) (q : Passing table l
   pub pass-deep : p .depth < 2 ^ 32
   pass-deep = omega (arith, q .deep, q .ops .breaks .short)
 
-  module _ (ops : Loosest) (o : OpsAt table line class ops (i + 1)) (w : Word) (v : WordStep line (p .start) i (cellAt line class i) w) where
+  module _ (w : Word) (v : WordStep line (p .start) i (cellAt line class i) w) where
     next-words : hasWord keywords (cellsOf line class) ≡ (w .found || hasWordFrom keywords (reverse (part line (w .start) (i + 1))) left)
     next-words =
         q .words ∙ ap (hasWordFrom keywords (reverse (part line (p .start) i))) cells
         ∙ words-cons keywords (reverse (part line (p .start) i)) (cellAt line class i) left ∙ rw (reverse-reverse, ← (v .found), ← (v .word))
 
-    pub pass-keyword : (start : ℕ) → w .found ≡ true → Passed table line class (record { ops = ops; start = start; depth = 0 }) (i + 1)
+    pub pass-keyword : w .found ≡ true → (r : Break) → Unbroken r → BreakFound table line class r
     unfolding breakStrength
-    pass-keyword start e = record { on = λ n. absurd (n refl); over = λ z. sym (choose-true _ _ _ (next-words ∙ rw e)) }
+    pass-keyword e r u = found-none r u (sym (choose-true _ _ _ (next-words ∙ rw e)))
 
     module _ (d : ℕ) (b : Balances (p .depth) (cellAt line class i) d) where
       next-balance : isBalanced (cellsOf line class) ≡ isZero (foldl balanceStep (depthAs d) left)
       next-balance = q .balance ∙ ap (λ (xs : List Cell). isZero (foldl balanceStep (depthAs (p .depth)) xs)) cells ∙ ap (λ (o : Option ℕ). isZero (foldl balanceStep o left)) (sym (b .is))
 
-      pub passing-more : w .found ≡ false → Passing table line class (record { ops = ops; start = w .start; depth = d }) (i + 1)
-      passing-more e = record { ops = o; start = v .start; deep = omega (arith, b .small, q .deep); words = next-words ∙ rw e; balance = next-balance }
-
-      pub pass-more : w .found ≡ false → Passed table line class (record { ops = ops; start = w .start; depth = d }) (i + 1)
+      pub pass-fell : d ≡ 0 → (r : Break) → Unbroken r → BreakFound table line class r
       unfolding breakStrength
-      pass-more e = record { on = λ n. passing-more e; over = λ z. go z }
+      pass-fell z r u = found-none r u (by-test (hasWord keywords (cellsOf line class)) (λ t. sym (choose-true _ _ _ t)) (λ t. sym (choose-false _ _ _ t ∙ choose-true _ _ _ (ap not y))))
         where
-          go : d ≡ 0 → 0 ≡ breakStrength table (cellsOf line class)
-          go z =
-              let y : isBalanced (cellsOf line class) ≡ false = next-balance ∙ rw z (ap isZero (fell left)) in
-              by-test (hasWord keywords (cellsOf line class)) (λ t. sym (choose-true _ _ _ t)) (λ t. sym (choose-false _ _ _ t ∙ choose-true _ _ _ (ap not y)))
+          y : isBalanced (cellsOf line class) ≡ false
+          y = next-balance ∙ rw z (ap isZero (fell left))
 
-pub found-none : {table line class : List ℕ} (r : Break) → Unbroken r → 0 ≡ breakStrength table (cellsOf line class) → BreakFound table line class r
-found-none r u e = record { strength = u .none ∙ e; cut = λ n. absurd (n (u .none)) }
+      pub passing-more : w .found ≡ false → (ops : Loosest) → OpsAt table line class ops (i + 1) → Passing table line class (record { ops = ops; start = w .start; depth = d }) (i + 1)
+      passing-more e ops o = record { ops = o; start = v .start; deep = omega (arith, b .small, q .deep); words = next-words ∙ rw e; balance = next-balance }
+
+-- as the calls of `find_break` say it
+pub span-keyword : (line : List ℕ) (start depth i : ℕ) (x : Cell) (w : Word) → WordStep line start i x w → w .found ≡ true → SpanStep line start depth i x (record { start = w .start; depth = 0 })
+span-keyword line start depth i x w v e = record { keyword = w .found; word = v; hit = λ t. refl; miss = λ t. absurd (true≢false (sym e ∙ t)) }
+
+pub span-on : (line : List ℕ) (start depth i : ℕ) (x : Cell) (w : Word) (d : ℕ) → WordStep line start i x w → w .found ≡ false → Balances depth x d → SpanStep line start depth i x (record { start = w .start; depth = d })
+span-on line start depth i x w d v e b = record { keyword = w .found; word = v; hit = λ t. absurd (true≢false (sym t ∙ e)); miss = λ t. b }
+
+module _ {table line class : List ℕ} {s : OpState} {start depth : ℕ} {a : Break} {i : ℕ} (q : Passing table line class (passAt s start depth a) i) (h : i < length line)
+    (w : Span) (v : SpanStep line start depth i (cellAt line class i) w) where
+  abbrev p : Pass
+  p = passAt s start depth a
+
+  abbrev word : Word
+  word = record { start = w .start; found = v .keyword }
+
+  pub pass-over : (r : Break) → w .depth ≡ 0 → Unbroken r → BreakFound table line class r
+  pass-over r z u =
+      by-test (v .keyword) (λ t. pass-keyword table line class p i q h word (v .word) t r u)
+      (λ t. pass-fell table line class p i q h word (v .word) (w .depth) (v .miss t) z r u)
+
+  module _ (n : w .depth ≡ 0 → ⊥) where
+    pass-on : (b : Loosest) → OpsAt table line class b (i + 1) → Passing table line class (record { ops = b; start = w .start; depth = w .depth }) (i + 1)
+    pass-on b o =
+        let k : v .keyword ≡ false = by-test (v .keyword) (λ t. absurd (n (v .hit t))) (λ t. t) in
+        passing-more table line class p i q h word (v .word) (w .depth) (v .miss k) k b o
+
+    module _ (r : PlainStep) (e : (t : OpStep) → stepOr (r .token) t (r .after) ≡ byteOr t (opsOf s) (cellAt line class i)) where
+      pub pass-plain : r .token ≡ false → Passing table line class (passAt (r .after) (w .start) (w .depth) a) (i + 1)
+      pass-plain k =
+          pass-on (record { ops = r .after; strength = a .strength; cut = a .cut })
+          (ops-left (q .ops) h (record { strength = 0; after = r .after }) (read-plain table s line class i h (q .ops .breaks) r e k) (looser-zero (a .strength)))
+
+      module _ (k : r .token ≡ true) (t : Token) (g : (o : Ops) → o .operand ≡ s .operand → stepWith o t ≡ tokenStep table o (take (length line - i) (drop i line)))
+          (f : OpFound) (u : stepOf f ≡ stepWith (opsOf s) t) (l : Bool) (y : IsLooser (f .strength) (a .strength) l) where
+        read : ReadAt table s line class i f
+        read = read-token table s line class i h (q .ops .breaks) r e k t g f u
+
+        pub pass-taken : l ≡ true → (b : Break) → b ≡ breakAt i f → Passing table line class (passAt (f .after) (w .start) (w .depth) b) (i + 1)
+        pass-taken z b j =
+            subst (λ (x : Break). Passing table line class (passAt (f .after) (w .start) (w .depth) x) (i + 1)) (sym j)
+            (pass-on (record { ops = f .after; strength = f .strength; cut = record { place = i; after = f .after } }) (ops-taken (q .ops) h f read (y .taken z)))
+
+        pub pass-left : l ≡ false → Passing table line class (passAt (f .after) (w .start) (w .depth) a) (i + 1)
+        pass-left z = pass-on (record { ops = f .after; strength = a .strength; cut = a .cut }) (ops-left (q .ops) h f read (y .left z))
 
 -- the whole line was read
-module _ (line : List ℕ) (p : Pass) where
-  module _ (table class : List ℕ) (q : Passing table line class p (length line)) where
+module _ (line : List ℕ) (start depth : ℕ) (a : Break) where
+  module _ (table class : List ℕ) (s : OpState) (q : Passing table line class (passAt s start depth a) (length line)) where
     none-left : cellsOf (drop (length line) line) (drop (length line) class) ≡ []
     none-left = cells-end line class (length line) (omega arith)
 
-    end-words : hasWord keywords (cellsOf line class) ≡ oneOf keywords (part line (p .start) (length line))
+    end-words : hasWord keywords (cellsOf line class) ≡ oneOf keywords (part line start (length line))
     unfolding hasWordFrom
     end-words = q .words ∙ rw (none-left, reverse-reverse)
 
-    end-balance : isBalanced (cellsOf line class) ≡ eqb (p .depth) 1
-    end-balance = q .balance ∙ rw none-left (go (p .depth))
+    end-balance : isBalanced (cellsOf line class) ≡ eqb depth 1
+    end-balance = q .balance ∙ rw none-left (go depth)
       where
         go : (d : ℕ) → isZero (depthAs d) ≡ eqb d 1
         go zero = refl
         go (suc zero) = refl
         go (suc (suc d)) = sym (ne-eqb (suc (suc d)) 1 (omega arith))
 
-    end-loosest : loosest (byteMarks table noOps (cellsOf line class)) ≡ p .ops .strength
+    end-loosest : loosest (byteMarks table noOps (cellsOf line class)) ≡ a .strength
     unfolding byteMarks loosest
-    end-loosest = q .ops .loosest ∙ rw none-left (looser-zero (p .ops .strength))
+    end-loosest = q .ops .loosest ∙ rw none-left (looser-zero (a .strength))
 
-  module _ (r : Bool) (f : r ≡ oneOf keywords (take (length line - p .start) (drop (p .start) line))) where
-    pub end-keyword : (b : Break) → r ≡ true → Unbroken b → PassEnd line p b
+  module _ (r : Bool) (f : r ≡ oneOf keywords (take (length line - start) (drop start line))) where
+    pub end-keyword : (b : Break) → r ≡ true → Unbroken b → PassEnd line start depth a b
     unfolding breakStrength
-    end-keyword b g u = record { found = λ table class q. found-none b u (sym (choose-true _ _ _ (end-words table class q ∙ sym f ∙ g))) }
+    end-keyword b g u = record { found = λ table class s q. found-none b u (sym (choose-true _ _ _ (end-words table class s q ∙ sym f ∙ g))) }
 
     module _ (g : r ≡ false) where
-      pub end-found : p .depth ≡ 1 → PassEnd line p (record { strength = p .ops .strength; cut = p .ops .cut })
+      pub end-found : depth ≡ 1 → PassEnd line start depth a a
       unfolding breakStrength
       end-found d =
           record {
-            found = λ table class q.
+            found = λ table class s q.
                 record {
-                  strength = sym (choose-false _ _ _ (end-words table class q ∙ sym f ∙ g) ∙ choose-false _ _ _ (ap not (end-balance table class q ∙ eq-eqb _ 1 d)) ∙ end-loosest table class q);
+                  strength = sym (choose-false _ _ _ (end-words table class s q ∙ sym f ∙ g) ∙ choose-false _ _ _ (ap not (end-balance table class s q ∙ eq-eqb _ 1 d)) ∙ end-loosest table class s q);
                   cut = λ n. q .ops .found (omega arith);
                 };
           }
 
-      pub end-open : (b : Break) → (p .depth ≡ 1 → ⊥) → Unbroken b → PassEnd line p b
+      pub end-open : (b : Break) → (depth ≡ 1 → ⊥) → Unbroken b → PassEnd line start depth a b
       unfolding breakStrength
       end-open b d u =
-          record { found = λ table class q. found-none b u (sym (choose-false _ _ _ (end-words table class q ∙ sym f ∙ g) ∙ choose-true _ _ _ (ap not (end-balance table class q ∙ ne-eqb _ 1 d)))) }
+          record { found = λ table class s q. found-none b u (sym (choose-false _ _ _ (end-words table class s q ∙ sym f ∙ g) ∙ choose-true _ _ _ (ap not (end-balance table class s q ∙ ne-eqb _ 1 d)))) }
 
-pub pass-over : {table line class : List ℕ} {p : Pass} {i : ℕ} (r : Break) → Passed table line class p i → p .depth ≡ 0 → Unbroken r → BreakFound table line class r
-pass-over r q z u = found-none r u (q .over z)
-
-pub pass-on : {table line class : List ℕ} {p : Pass} {i : ℕ} → Passed table line class p i → (p .depth ≡ 0 → ⊥) → Passing table line class p i
-pass-on q n = q .on n
-
-pub pass-end : {table line class : List ℕ} {p : Pass} {i : ℕ} (r : Break) → Passing table line class p i → length line ≤ i → PassEnd line p r → BreakFound table line class r
-pass-end {table} {line} {class} {p} {i} r q h e =
+pub pass-end : {table line class : List ℕ} {s : OpState} {start depth : ℕ} {a : Break} {i : ℕ} (r : Break) → Passing table line class (passAt s start depth a) i → length line ≤ i
+    → PassEnd line start depth a r → BreakFound table line class r
+pass-end {table} {line} {class} {s} {start} {depth} {a} {i} r q h e =
     let z : i ≡ length line = omega (arith, q .ops .within) in
-    e .found table class (subst (Passing table line class p) z q)
+    e .found table class s (subst (Passing table line class (passAt s start depth a)) z q)

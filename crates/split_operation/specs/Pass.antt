@@ -14,11 +14,10 @@ use Rattle.rules.specs.SplitOperation.{OpMark, noOps, balanceStep, isZero, isBa
 use Rattle.rules.proofs.CellsLaws.{cellAt}
 use Rattle.rules.proofs.OperatorsBytes.{byteMarks}
 use Rattle.operators.specs.Operators.{opsOf}
-use Rattle.operators.specs.declared.OpState.{OpState}
 use Rattle.operators.specs.declared.OpFound.{OpFound}
+use Rattle.operators.specs.declared.OpState.{OpState}
+use Rattle.split_operation.specs.declared.pass.Span.{Span}
 use Rattle.split_operation.specs.declared.pass.Word.{Word}
-use Rattle.split_operation.specs.declared.pass.Loosest.{Loosest}
-use Rattle.split_operation.specs.declared.pass.Pass.{Pass}
 use Rattle.split_operation.specs.declared.pass.Break.{Break}
 use Rattle.split_operation.specs.declared.pass.Cut.{Cut}
 
@@ -57,14 +56,6 @@ pub record PlainRun (line class : List ℕ) (from : ℕ) (s : OpState) (e : ℕ)
 -- after such a run
 abbrev pub pastIdent : OpState → OpState
 pastIdent s = record { opened = s .opened; closed = s .closed; operand = true; esc = false; skip = 0 }
-
-abbrev pub pastIdents : Pass → Pass
-pastIdents p =
-    record {
-      ops = record { ops = pastIdent (p .ops .ops); strength = p .ops .strength; cut = p .ops .cut };
-      start = p .start;
-      depth = p .depth;
-    }
 
 -- ---- the pieces
 
@@ -130,6 +121,13 @@ pub record WordStep (line : List ℕ) (was i : ℕ) (x : Cell) (r : Word) : Type
   pub word : reverse (part line (r .start) (i + 1)) ≡ wordOn (reverse (part line was i)) x
   pub found : r .found ≡ (not (inWord x) && oneOf keywords (part line was i))
 
+-- both, of a word that starts at `was` and brackets `old` deep: the depth is 0 after a keyword
+pub record SpanStep (line : List ℕ) (was old i : ℕ) (x : Cell) (r : Span) : Type 0 where
+  pub keyword : Bool
+  pub word : WordStep line was i x (record { start = r .start; found = keyword })
+  pub hit : keyword ≡ true → r .depth ≡ 0
+  pub miss : keyword ≡ false → Balances old x (r .depth)
+
 -- a is the strength of an operator, and it is looser than b
 pub record TakesOver (a b : ℕ) : Type 0 where
   pub some : 0 < a
@@ -140,6 +138,12 @@ pub record IsLooser (a b : ℕ) (r : Bool) : Type 0 where
   pub taken : r ≡ true → TakesOver a b
   pub left : r ≡ false → looser b a ≡ b
 
+-- the state of the operators, the loosest strength so far, 0 for none, and the first operator of that strength
+pub record Loosest : Type 0 where
+  pub ops : OpState
+  pub strength : ℕ
+  pub cut : Cut
+
 -- what the first i bytes say of the operators of the whole line; no operator before i is looser than the one kept
 pub record OpsAt (table line class : List ℕ) (b : Loosest) (i : ℕ) : Type 0 where
   pub within : i ≤ length line
@@ -149,15 +153,18 @@ pub record OpsAt (table line class : List ℕ) (b : Loosest) (i : ℕ) : Type 0 
   pub clear : (p : ℕ) → 0 < p → (0 < b .strength → p < b .strength) → Seeking table p line class 0 fresh (b .ops) i
   pub found : 0 < b .strength → NextOp table (b .strength) line class 0 fresh (b .cut)
 
-abbrev pub keptFor : Loosest → ℕ → OpFound → Bool → Loosest
-keptFor b i f true = record { ops = f .after; strength = f .strength; cut = record { place = i; after = f .after } }
-keptFor b i f false = record { ops = f .after; strength = b .strength; cut = b .cut }
+-- what a pass knows before a byte: the operators, where the word that ends there starts, and the depth of brackets and 1
+pub record Pass : Type 0 where
+  pub ops : Loosest
+  pub start : ℕ
+  pub depth : ℕ
 
--- what was found at i is kept if it takes over
-pub record Kept (b : Loosest) (i : ℕ) (f : OpFound) (r : Loosest) : Type 0 where
-  pub looser : Bool
-  pub is : IsLooser (f .strength) (b .strength) looser
-  pub kept : r ≡ keptFor b i f looser
+abbrev pub passAt : OpState → ℕ → ℕ → Break → Pass
+passAt s start depth b = record { ops = record { ops = s; strength = b .strength; cut = b .cut }; start = start; depth = depth }
+
+-- a line broken at what was found at i
+abbrev pub breakAt : ℕ → OpFound → Break
+breakAt i f = record { strength = f .strength; cut = record { place = i; after = f .after } }
 
 -- what the first i bytes say of the whole line
 pub record Passing (table line class : List ℕ) (p : Pass) (i : ℕ) : Type 0 where
@@ -167,10 +174,6 @@ pub record Passing (table line class : List ℕ) (p : Pass) (i : ℕ) : Type 0 w
   pub words : hasWord keywords (cellsOf line class) ≡ hasWordFrom keywords (reverse (part line (p .start) i)) (cellsOf (drop i line) (drop i class))
   pub balance : isBalanced (cellsOf line class) ≡ isZero (foldl balanceStep (depthAs (p .depth)) (cellsOf (drop i line) (drop i class)))
 
-pub record Passed (table line class : List ℕ) (p : Pass) (i : ℕ) : Type 0 where
-  pub on : (p .depth ≡ 0 → ⊥) → Passing table line class p i
-  pub over : p .depth ≡ 0 → 0 ≡ breakStrength table (cellsOf line class)
-
 pub record Unbroken (r : Break) : Type 0 where
   pub none : r .strength ≡ 0
 
@@ -178,6 +181,6 @@ pub record BreakFound (table line class : List ℕ) (r : Break) : Type 0 where
   pub strength : r .strength ≡ breakStrength table (cellsOf line class)
   pub cut : (r .strength ≡ 0 → ⊥) → NextOp table (r .strength) line class 0 fresh (r .cut)
 
--- what a pass p over the whole line says
-pub record PassEnd (line : List ℕ) (p : Pass) (r : Break) : Type 0 where
-  pub found : (table class : List ℕ) → Passing table line class p (length line) → BreakFound table line class r
+-- what a pass over the whole line says
+pub record PassEnd (line : List ℕ) (start depth : ℕ) (b r : Break) : Type 0 where
+  pub found : (table class : List ℕ) (s : OpState) → Passing table line class (passAt s start depth b) (length line) → BreakFound table line class r

@@ -1,12 +1,12 @@
 // The passes over a line's bytes and their classes: where the line is broken first, and its next operator of a strength.
 ghost use mathlib.Core.Path.{_≡_};
-ghost use Prim.Native.Nat.{_+_, _≤_, _<_, _^_};
+ghost use Prim.Native.Nat.{_≤_, _<_, _^_};
 ghost use lib.ListN.{length, getD};
 ghost use Rattle.rules.specs.Basics.{same, oneOf};
 ghost use Rattle.rules.specs.Scan.{cell, isCode};
 ghost use Rattle.rules.specs.ClassBytes.{classOf};
 ghost use Rattle.rules.specs.SplitOperation.{inWord, keywords};
-ghost use Rattle.split_operation.specs.Pass.{fresh, PlainTest, IdentRun, PlainRun, pastIdent, pastIdents, Balances, WordStep, IsLooser, OpsAt, Kept, Passing, Passed, Breakable, Unbroken, PassEnd, BreakFound, Cutting, NextOp};
+ghost use Rattle.split_operation.specs.Pass.{fresh, PlainTest, IdentRun, PlainRun, pastIdent, Balances, WordStep, IsLooser, SpanStep, breakAt, Breakable, Unbroken, PassEnd, BreakFound, Cutting, NextOp};
 use basics::is_closer;
 use basics::is_ident;
 use basics::is_opener;
@@ -162,6 +162,12 @@ fn word_step(line: &[u8], start: usize, i: usize, k: u8) -> Word
             found: false,
         };
     }
+    if i <= start + 1 {
+        return Word {
+            start: i + 1,
+            found: false,
+        };
+    }
     Word {
         start: i + 1,
         found: is_keyword(&line[start..i]),
@@ -172,13 +178,6 @@ fn word_step(line: &[u8], start: usize, i: usize, k: u8) -> Word
 pub struct Cut {
     pub place: usize,
     pub after: OpState,
-}
-
-// The state of the operators, the loosest strength so far, 0 for none, and the first operator of that strength.
-pub struct Loosest {
-    pub ops: OpState,
-    pub strength: u8,
-    pub cut: Cut,
 }
 
 // Whether an operator of strength a takes over from one of strength b; 0 is none.
@@ -194,96 +193,20 @@ fn is_looser(a: u8, b: u8) -> bool
     a < b
 }
 
-// What was found at i, kept if it is looser.
-fn keep(b: Loosest, i: usize, f: OpFound) -> Loosest
-    ensures { λ r. ⌜ Kept b i f r ⌝ }
-{
-    let after = f.after;
-    if is_looser(f.strength, b.strength) {
-        return Loosest {
-            ops: after,
-            strength: f.strength,
-            cut: Cut { place: i, after },
-        };
-    }
-    let cut = b.cut;
-    Loosest {
-        ops: after,
-        strength: b.strength,
-        cut,
-    }
-}
-
-fn ops_step(table: &[u8; 21], line: &[u8], class: &[u8], i: usize, b: Loosest) -> Loosest
-    requires { ⌜ OpsAt (now table) (now line) (now class) b i × (i < length (now line)) ⌝ }
-    ensures { λ r. ⌜ OpsAt (now (table .entry)) (now (line .entry)) (now (class .entry)) r (i + 1) ⌝ }
-{
-    let s = b.ops;
-    let r = plain_step(s, class[i], line[i]);
-    if r.token {
-        let t = token_at(table, s.operand, &line[i..]);
-        let f = found(s, t);
-        return keep(b, i, f);
-    }
-    let after = r.after;
-    let cut = b.cut;
-    Loosest {
-        ops: after,
-        strength: b.strength,
-        cut,
-    }
-}
-
-// What a pass knows before a byte: the operators, where the word that ends here starts, and the depth of brackets and 1.
-pub struct Pass {
-    pub ops: Loosest,
-    pub start: usize,
-    pub depth: usize,
-}
-
-// One byte; the depth is 0 once the line is not to be broken.
-fn pass_step(table: &[u8; 21], line: &[u8], class: &[u8], i: usize, p: Pass) -> Pass
-    requires { ⌜ Passing (now table) (now line) (now class) p i × (i < length (now line)) ⌝ }
-    ensures { λ r. ⌜ Passed (now (table .entry)) (now (line .entry)) (now (class .entry)) r (i + 1) ⌝ }
-{
-    let b = p.ops;
-    let ops = ops_step(table, line, class, i, b);
-    let w = word_step(line, p.start, i, class[i]);
-    if w.found {
-        return Pass {
-            ops,
-            start: w.start,
-            depth: 0,
-        };
-    }
-    Pass {
-        ops,
-        start: w.start,
-        depth: balance(p.depth, class[i], line[i]),
-    }
-}
-
-fn past_idents(p: Pass) -> Pass
-    ensures { λ r. ⌜ r ≡ pastIdents p ⌝ }
-{
-    let b = p.ops;
-    let s = b.ops;
-    let cut = b.cut;
-    Pass {
-        ops: Loosest {
-            ops: past_ident(s),
-            strength: b.strength,
-            cut,
-        },
-        start: p.start,
-        depth: p.depth,
-    }
-}
-
 // The strength that a line is broken at, or 0 where it isn't, and the first operator of that strength.
 pub struct Break {
     pub strength: u8,
     pub cut: Cut,
+}
+
+fn break_at(i: usize, f: OpFound) -> Break
+    ensures { λ r. ⌜ r ≡ breakAt i f ⌝ }
+{
+    let after = f.after;
+    Break {
+        strength: f.strength,
+        cut: Cut { place: i, after },
+    }
 }
 
 pub fn unbroken() -> Break
@@ -298,60 +221,82 @@ pub fn unbroken() -> Break
     }
 }
 
+// Where the word that ends here starts, and the depth of brackets and 1; 0 once the line is not to be broken.
+pub struct Span {
+    pub start: usize,
+    pub depth: usize,
+}
+
+fn span_step(line: &[u8], start: usize, depth: usize, i: usize, k: u8) -> Span
+    requires { ⌜ (i < length (now line)) × (start ≤ i) × (depth < 2 ^ 32) ⌝ }
+    ensures { λ r. ⌜ SpanStep (now (line .entry)) start depth i (cell (getD (now (line .entry)) i 0) (classOf k)) r ⌝ }
+{
+    let w = word_step(line, start, i, k);
+    if w.found {
+        return Span {
+            start: w.start,
+            depth: 0,
+        };
+    }
+    Span {
+        start: w.start,
+        depth: balance(depth, k, line[i]),
+    }
+}
+
+// What a pass over the whole line says.
+fn end_pass(line: &[u8], start: usize, depth: usize, b: Break) -> Break
+    requires { ⌜ start ≤ length (now line) ⌝ }
+    ensures { λ r. ⌜ PassEnd (now (line .entry)) start depth b r ⌝ }
+{
+    if is_keyword(&line[start..]) {
+        return unbroken();
+    }
+    if depth == 1 {
+        return b;
+    }
+    unbroken()
+}
+
 // One pass for the line's words, its brackets and its operators.
 pub fn find_break(table: &[u8; 21], line: &[u8], class: &[u8]) -> Break
     requires { ⌜ Breakable (now line) (now class) ⌝ }
     ensures { λ r. ⌜ BreakFound (now (table .entry)) (now (line .entry)) (now (class .entry)) r ⌝ }
 {
-    let mut p = Pass {
-        ops: Loosest {
-            ops: begin(),
-            strength: 0,
-            cut: Cut {
-                place: 0,
-                after: begin(),
-            },
-        },
-        start: 0,
-        depth: 1,
-    };
+    let mut b = unbroken();
+    let mut s = begin();
+    let mut start = 0;
+    let mut depth = 1;
     let mut i = 0;
     while i < line.len() {
-        let b = p.ops;
-        let s = b.ops;
         let e = run_end(line, class, i, s);
         if i < e {
-            p = past_idents(p);
+            s = past_ident(s);
             i = e;
-        } else {
-            p = pass_step(table, line, class, i, p);
-            if p.depth == 0 {
-                return unbroken();
+            continue;
+        }
+        let w = span_step(line, start, depth, i, class[i]);
+        if w.depth == 0 {
+            return unbroken();
+        }
+        start = w.start;
+        depth = w.depth;
+        let r = plain_step(s, class[i], line[i]);
+        if r.token {
+            let f = found(s, token_at(table, s.operand, &line[i..]));
+            s = f.after;
+            if is_looser(f.strength, b.strength) {
+                b = break_at(i, f);
+                i += 1;
+            } else {
+                i += 1;
             }
+        } else {
+            s = r.after;
             i += 1;
         }
     }
-    end_pass(line, p)
-}
-
-// What the pass says at the line's end.
-fn end_pass(line: &[u8], p: Pass) -> Break
-    requires { ⌜ p .start ≤ length (now line) ⌝ }
-    ensures { λ r. ⌜ PassEnd (now (line .entry)) p r ⌝ }
-{
-    let a = p.start;
-    if is_keyword(&line[a..]) {
-        return unbroken();
-    }
-    if p.depth == 1 {
-        let b = p.ops;
-        let cut = b.cut;
-        return Break {
-            strength: b.strength,
-            cut,
-        };
-    }
-    unbroken()
+    end_pass(line, start, depth, b)
 }
 
 // The next operator of a strength, from a place on.

@@ -1,6 +1,6 @@
 use borrow.Author.Needs.{needs}
-use Rattle.split_operation.proofs.PassLaws.{word-on, word-end}
 use mathlib.Core.Path.{refl}
+use Rattle.split_operation.proofs.PassLaws.{word-on, word-short, word-end}
 use Rattle.split_operation.proofs.pass.word_step.Statement.{statement}
 use Rattle.split_operation.proofs.pass.word_step.Tie as tie
 
@@ -12,6 +12,15 @@ in-word-requires c κs = search needs
 
 returns : tie.Need-returns
 returns c = word-on _ _ _ _ (c .before .before .before .before .pre) _ (c .before .in-word .ensures) refl (c .if1 .taken)
+
+add-if2 : tie.Need-add-if2
+add-if2 c = search needs
+
+add-t10 : tie.Need-add-t10
+add-t10 c = search needs
+
+returns-2 : tie.Need-returns-2
+returns-2 c = word-short _ _ _ _ (c .before .before .before .before .before .pre) _ (c .before .before .in-word .ensures) (c .before .if1 .left) (c .if2 .taken)
 
 add-t8 : tie.Need-add-t8
 add-t8 c = search needs
@@ -28,8 +37,8 @@ part-is-keyword-end c = search needs
 is-keyword-requires : tie.Need-is-keyword-requires
 is-keyword-requires c κs = search needs
 
-returns-2 : tie.Need-returns-2
-returns-2 c = search (needs, word-end)
+returns-3 : tie.Need-returns-3
+returns-3 c = word-end _ _ _ _ (c .before .before .before .before .before .before .before .pre) _ (c .before .before .before .before .in-word .ensures) (c .before .before .before .if1 .left) _ (c .is-keyword .ensures)
 
 pub word-step-spec : {M : Type 1} → statement M
 word-step-spec =
@@ -38,9 +47,12 @@ word-step-spec =
     shared-slice-read-in-word
     in-word-requires
     returns
+    add-if2
+    add-t10
+    returns-2
     add-t8
     sub-is-keyword
     part-is-keyword-start
     part-is-keyword-end
     is-keyword-requires
-    returns-2)
+    returns-3)

@@ -148,11 +148,11 @@ pub record Looked (line : List ℕ) (at : ℕ) (any : Bool) (k : ℕ) : Type 0 w
 pub looked-start : (line : List ℕ) (at : ℕ) → Looked line at false 0
 looked-start line at = record { none = λ e j l. absurd (omega arith) }
 
-or-left : (a b : Bool) → (a || b) ≡ false → a ≡ false
+pub or-left : (a b : Bool) → (a || b) ≡ false → a ≡ false
 or-left true b e = e
 or-left false b e = refl
 
-or-right : (a b : Bool) → (a || b) ≡ false → b ≡ false
+pub or-right : (a b : Bool) → (a || b) ≡ false → b ≡ false
 or-right true b e = absurd (true≢false e)
 or-right false b e = e
 

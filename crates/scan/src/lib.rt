@@ -11,7 +11,7 @@ ghost use lib.ListN.{length, drop};
 ghost use Rattle.rules.specs.Basics.{startsWith};
 ghost use Rattle.rules.specs.Scan.{quote};
 ghost use Rattle.scan.specs.Classified.{carryDepth, Classified};
-ghost use Rattle.scan.specs.CodeEnd.{codeLength, onlyCodeOrStr};
+ghost use Rattle.scan.specs.CodeEnd.{codeLength, Comments, NoComment, onlyCodeOrStr};
 ghost use Rattle.scan.specs.Stretch.{Room, Inside, At, Deep, PairRead, InnerRead, InterpRead, DollarRead, Scanned, Stretch, fresh, startsInCode, Quiet};
 use rules::Carry;
 use rules::Mode;
@@ -426,10 +426,48 @@ pub fn classify(line: &[u8], carry: Carry, class: &mut [u8]) -> Carry
     y
 }
 
+// Whether one of the sixteen class bytes from `at` on is one of a `//` comment.
+fn any_comment(class: &[u8], at: usize) -> bool
+    requires { ⌜ at + 16 ≤ length (now class) ⌝ }
+    ensures { λ r. ⌜ Comments (now (class .entry)) at 16 r ⌝ }
+{
+    let mut any = false;
+    let mut k: usize = 0;
+    while k < 16 {
+        any = any | (class[at + k] == LINE_COMMENT);
+        k += 1;
+    }
+    any
+}
+
+// Whether none is, by blocks of which the last two may overlap. Of a short line it is not said.
+fn has_no_comment(class: &[u8]) -> bool
+    ensures { λ r. ⌜ NoComment (now (class .entry)) r ⌝ }
+{
+    if class.len() < 16 {
+        return false;
+    }
+    let last = class.len() - 16;
+    let mut i = 0;
+    while i < last {
+        if any_comment(class, i) {
+            return false;
+        }
+        i += 16;
+    }
+    if any_comment(class, last) {
+        return false;
+    }
+    true
+}
+
 // Where the line's `//` comment starts, or its length, by its class bytes.
 pub fn code_end(class: &[u8]) -> usize
     ensures { λ r. ⌜ r ≡ codeLength (now (class .entry)) ⌝ }
 {
+    if has_no_comment(class) {
+        return class.len();
+    }
     let mut i = 0;
     while i < class.len() {
         if class[i] == LINE_COMMENT {

@@ -1,3 +1,5 @@
+use borrow.Author.Needs.{needs}
+use mathlib.Core.Path.{sym}
 use native.Mathlib.Omega.{arith}
 use Prim.Native.Nat.{_-_}
 use lib.ListN.{length}
@@ -11,14 +13,20 @@ Inv-loop class i₀ i = Passed class i
 abbrev μ-loop : tie.MeasureT-loop
 μ-loop class i₀ i = length class - i
 
+has-no-comment-requires : tie.Need-has-no-comment-requires Inv-loop μ-loop
+has-no-comment-requires c κs = search needs
+
+returns : tie.Need-returns Inv-loop μ-loop
+returns c = sym (c .before .has-no-comment .ensures .none (c .if1 .taken))
+
 loop-holds : tie.Need-loop-holds Inv-loop μ-loop
 loop-holds c = passed-start _
 
-shared-slice-read-if1 : tie.Need-shared-slice-read-if1 Inv-loop μ-loop
-shared-slice-read-if1 c = omega arith
+shared-slice-read-if2 : tie.Need-shared-slice-read-if2 Inv-loop μ-loop
+shared-slice-read-if2 c = omega arith
 
-returns : tie.Need-returns Inv-loop μ-loop
-returns c = passed-found (c .before .before .before .loop .inv) (omega arith) (c .if1 .taken)
+returns-2 : tie.Need-returns-2 Inv-loop μ-loop
+returns-2 c = passed-found (c .before .before .before .loop .inv) (omega arith) (c .if2 .taken)
 
 add-i : tie.Need-add-i Inv-loop μ-loop
 add-i c = omega arith
@@ -27,10 +35,10 @@ loop-less : tie.Need-loop-less Inv-loop μ-loop
 loop-less c = omega arith
 
 loop-again : tie.Need-loop-again Inv-loop μ-loop
-loop-again c = passed-more (c .before .before .before .loop .inv) (omega arith) (c .if1 .left)
+loop-again c = passed-more (c .before .before .before .loop .inv) (omega arith) (c .if2 .left)
 
-returns-2 : tie.Need-returns-2 Inv-loop μ-loop
-returns-2 c = passed-end (c .before .loop .inv) (omega arith)
+returns-3 : tie.Need-returns-3 Inv-loop μ-loop
+returns-3 c = passed-end (c .before .loop .inv) (omega arith)
 
 pub code-end-spec : {M : Type 1} → statement M
 code-end-spec =
@@ -38,10 +46,12 @@ code-end-spec =
     (tie.spec
     Inv-loop
     μ-loop
-    loop-holds
-    shared-slice-read-if1
+    has-no-comment-requires
     returns
+    loop-holds
+    shared-slice-read-if2
+    returns-2
     add-i
     loop-less
     loop-again
-    returns-2)
+    returns-3)

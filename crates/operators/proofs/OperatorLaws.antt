@@ -9,7 +9,7 @@ use lib.Dec.{eqb, ltb}
 use lib.ListN.{length, getD, take, drop, length-drop, drop-of-length-le}
 use lib.Seq.{drop-cons}
 use borrow.Author.Tests.{ne-eqb, eq-eqb, eqb-true, le-ltb, lt-ltb, ltb-true, ltb-false}
-use Rattle.rules.specs.Basics.{choose, is, codes, at, same, oneOf, startsWith, firstIs, isBlank, isOpener, isCloser}
+use Rattle.rules.specs.Basics.{choose, is, codes, at, same, oneOf, startsWith, firstIs}
 use Rattle.rules.specs.ClassBytes.{classOf}
 use Rattle.rules.specs.Scan.{Cell, isStr}
 use Rattle.rules.specs.Words.{operators}

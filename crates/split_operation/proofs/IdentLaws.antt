@@ -12,7 +12,7 @@ use Rattle.unicode.specs.Unicode.{tail}
 use Rattle.unicode.proofs.Tests.{by-test, split, and-left, and-right}
 use Rattle.rules.specs.declared.Class.{Class}
 use Rattle.rules.specs.Basics.{choose, same, oneOf, startsWith, isIdent, isOpener, isCloser}
-use Rattle.rules.specs.Scan.{Cell, cell, isCode}
+use Rattle.rules.specs.Scan.{cell, isCode}
 use Rattle.rules.specs.ClassBytes.{classOf}
 use Rattle.rules.specs.Words.{operators}
 use Rattle.rules.specs.SplitOperation.{Ops, endsOperand, token, oneCharStep, codeStep, freshStep, opStepAt, inWord}

@@ -1,6 +1,6 @@
 -- Laws of the passes over a line's bytes.
 use Prim.Native.Nat.{ℕ, zero, suc, _+_, _-_, _^_, _≤_, _<_, zero-le, min}
-use mathlib.Core.Bool.{Bool, true, false, not, _&&_, _||_, or-true, or-false, and-false, true≢false}
+use mathlib.Core.Bool.{Bool, true, false, not, _&&_, _||_, and-false, true≢false}
 use mathlib.Core.List.{List, [], _∷_, _++_, foldl, reverse, reverse-append, reverse-reverse, append-nil, append-assoc}
 use mathlib.Core.Option.{Option, none, some}
 use mathlib.Core.Path.{_≡_, refl, sym, ap, _∙_, subst}
@@ -135,12 +135,6 @@ pub looser-none : (a b : ℕ) → a ≡ 0 → b ≡ looser a b
 unfolding looser
 looser-none zero b h = refl
 looser-none (suc a) b h = absurd (omega arith)
-
-pub looser-left : (a b : ℕ) → (a ≡ 0 → ⊥) → b ≡ 0 → a ≡ looser a b
-unfolding looser
-looser-left zero b h k = absurd (h refl)
-looser-left (suc a) zero h k = refl
-looser-left (suc a) (suc b) h k = absurd (omega arith)
 
 pub looser-less : (a b : ℕ) → (a ≡ 0 → ⊥) → (b ≡ 0 → ⊥) → a < b → a ≡ looser a b
 unfolding looser

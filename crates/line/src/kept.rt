@@ -46,7 +46,6 @@ pub fn inside_line(
     ensures { λ r. ⌜ Stepped (insideOf (decode (now (raw .entry)))) (length (now (raw .entry))) unit (asStr ending) st (now (out .entry)) (now (scratch .entry)) r (now (out .exit)) (now (scratch .exit)) ⌝ }
 {
     let t = st.text;
-    let depth = st.depth;
     let ignore = st.ignore;
     let carry = st.carry;
     let n = raw.len();
@@ -59,7 +58,7 @@ pub fn inside_line(
     let facts = format::else_line::line_facts(shown);
     let joins = takes_else(facts);
     let next = text::push_line(out, t, ending, false, b"", 0, shown, facts.trimmed, joins);
-    let deep = format::brackets::scan_brackets(raw, scratch, 0, 5 * unit, depth, 0);
+    let deep = format::brackets::scan_brackets(raw, scratch, 0, 5 * unit, st.depth, 0);
     let decl = format::words::declaration_of(line);
     State {
         text: next,

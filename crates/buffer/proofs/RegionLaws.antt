@@ -1,17 +1,27 @@
 -- Laws on parts of a buffer: what a region that is written holds, what the other regions then hold, and what comes back of a part that was lent.
 use mathlib.Core.Path.{_≡_, refl, sym, ap, _∙_}
 use mathlib.Core.List.{List, [], _∷_, _++_, append-assoc, append-nil}
-use Prim.Native.Nat.{ℕ, suc, _+_, _-_, _≤_, _<_}
+use Prim.Native.Nat.{ℕ, zero, suc, _+_, _-_, _≤_, _<_}
 use native.Mathlib.Nat.{add-zero}
 use native.Mathlib.Numerals.{add-one}
 use native.Mathlib.Omega.{arith}
 use lib.ListN.{length, getD, take, drop, set, length-append, length-drop, length-set, take-append-drop, drop-of-length-le}
-use lib.Seq.{length-take-le, take-all, take-at, drop-at, set-at, drop-cons, append-snoc, take-append-le, drop-append-le, drop-drop, paste, set-split, take-suc, getD-drop, getD-set-same}
+use lib.Seq.{length-take-le, take-all, take-nil, take-at, drop-at, set-at, drop-cons, append-snoc, take-append-le, drop-append-le, drop-drop, paste, set-split, take-suc, getD-drop, getD-set-same}
 use Rattle.buffer.specs.Buffer.{part, put}
 
 -- a part that runs to the end, `&s[a..]`
 pub part-from : (s : List ℕ) (a : ℕ) → part s a (length s) ≡ drop a s
 part-from s a = take-all (length s - a) (drop a s) (omega (arith, length-drop a s))
+
+-- a part of a part, and a part's length
+pub drop-take : (a e : ℕ) (s : List ℕ) → drop a (take e s) ≡ take (e - a) (drop a s)
+drop-take zero e s = let n : e - 0 ≡ e = omega arith in rw n
+drop-take (suc a) zero s = let n : 0 - suc a ≡ 0 = omega arith in rw n
+drop-take (suc a) (suc e) [] = sym (take-nil (suc e - suc a))
+drop-take (suc a) (suc e) (x ∷ s) = let n : suc e - suc a ≡ e - a = omega arith in rw n (drop-take a e s)
+
+pub length-part : (s : List ℕ) (a n : ℕ) → a + n ≤ length s → length (part s a (a + n)) ≡ n
+length-part s a n h = length-take-le (a + n - a) (drop a s) (omega (arith, length-drop a s)) ∙ omega arith
 
 -- what comes back of it where it was lent, `g(&mut s[a..])`, and the callee left y in it
 pub back-from : (s y : List ℕ) (a : ℕ) → take a s ++ (y ++ drop (length s - a) (drop a s)) ≡ take a s ++ y

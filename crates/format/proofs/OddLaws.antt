@@ -10,7 +10,7 @@ use borrow.Author.Tests.{eqb-true, eqb-false}
 use lib.Dec.{eqb}
 use lib.ListN.{length, getD}
 use mathlib.Core.Logic.{_⊎_, inl, inr}
-use Rattle.unicode.proofs.Tests.{by-test, split}
+use Rattle.unicode.proofs.Tests.{by-test, split, neither-left}
 use Rattle.rules.specs.Basics.{is, isBlank, isCloser}
 use Rattle.rules.specs.Scan.{isCode}
 use Rattle.rules.specs.ClassBytes.{classOf}
@@ -18,10 +18,6 @@ use Rattle.format.specs.Respaced.{InCode, NoBlank, Keeping, sieve, oddAt
 use Rattle.format.proofs.KeptLaws.{kept-other, kept-char, space-then, comma-gap, blank-first, blank-last, keeping-start, keeping-more}
 
 -- ---- what the tests say
-
-none : (x y : Bool) → (x || y) ≡ false → x ≡ false
-none true y e = e
-none false y e = refl
 
 after : (x k y : Bool) → (x || (k && y)) ≡ false → k ≡ true → y ≡ false
 after true k y e q = absurd (true≢false e)
@@ -39,7 +35,7 @@ unnot false e = absurd (true≢false e)
 module _ (b d k e s n c l m : Bool) (o : sieve b d k e s n c l m ≡ false) where
   sieve-blank : d ≡ true → b ≡ false
   unfolding sieve
-  sieve-blank q = both b d (none (b && d) (k && ((e || (s && n)) || (c && ((not n || not l) || m)))) o) q
+  sieve-blank q = both b d (neither-left (b && d) (k && ((e || (s && n)) || (c && ((not n || not l) || m)))) o) q
 
   module _ (q : k ≡ true) where
     inner : ((e || (s && n)) || (c && ((not n || not l) || m))) ≡ false
@@ -47,10 +43,10 @@ module _ (b d k e s n c l m : Bool) (o : sieve b d k e s n c l m ≡ false) wher
     inner = after (b && d) k ((e || (s && n)) || (c && ((not n || not l) || m))) o q
 
     first : (e || (s && n)) ≡ false
-    first = none (e || (s && n)) (c && ((not n || not l) || m)) inner
+    first = neither-left (e || (s && n)) (c && ((not n || not l) || m)) inner
 
     sieve-escape : e ≡ false
-    sieve-escape = none e (s && n) first
+    sieve-escape = neither-left e (s && n) first
 
     sieve-space : s ≡ true → n ≡ false
     sieve-space p = after e s n first p
@@ -60,10 +56,10 @@ module _ (b d k e s n c l m : Bool) (o : sieve b d k e s n c l m ≡ false) wher
       next = after (e || (s && n)) c ((not n || not l) || m) inner p
 
       sieve-next : n ≡ true
-      sieve-next = unnot n (none (not n) (not l) (none (not n || not l) m next))
+      sieve-next = unnot n (neither-left (not n) (not l) (neither-left (not n || not l) m next))
 
       sieve-class : l ≡ true
-      sieve-class = unnot l (after (not n) true (not l) (none (not n || not l) m next) refl)
+      sieve-class = unnot l (after (not n) true (not l) (neither-left (not n || not l) m next) refl)
 
       sieve-then : m ≡ false
       sieve-then = after (not n || not l) true m next refl
@@ -97,7 +93,7 @@ module _ (line ks : List ℕ) (long : length line ≤ length ks) (none-odd : (j 
         let g : getD line (i + 1) 0 ≡ 32 = eqb-true _ _ (sieve-next _ _ _ _ _ _ _ _ _ o code c) in
         let u : InCode line ks (i + 1) 32 = record { within = omega arith; classes = long; char = g; code = eqb-true _ _ (sieve-class _ _ _ _ _ _ _ _ _ o code c) } in
         let m : (isBlank (getD line (i + 2) 0) || isCloser (getD line (i + 2) 0)) ≡ false = sieve-then _ _ _ _ _ _ _ _ _ o code c in
-        let p : isBlank (getD line (i + 2) 0) ≡ false = none (isBlank (getD line (i + 2) 0)) (isCloser (getD line (i + 2) 0)) m in
+        let p : isBlank (getD line (i + 2) 0) ≡ false = neither-left (isBlank (getD line (i + 2) 0)) (isCloser (getD line (i + 2) 0)) m in
         let q : isCloser (getD line (i + 2) 0) ≡ false = after (isBlank (getD line (i + 2) 0)) true (isCloser (getD line (i + 2) 0)) m refl in
         let x = comma-gap line ks i v (before i h c) _ _ u h refl (rw p (and-false (isCode (classOf (getD ks (i + 2) 0))))) refl q in
         let a : i + 2 ≡ i + 1 + 1 = omega arith in
@@ -143,12 +139,12 @@ odd-start line ks at = record { none = λ e j h. absurd (omega arith) }
 
 pub odd-more : (line ks : List ℕ) (at k : ℕ) (any r : Bool) → Odd line ks at k any → r ≡ oddAt line ks (at + k) → Odd line ks at (k + 1) (any || r)
 odd-more line ks at k any r w e =
-    record { none = λ q. below-more (λ (j : ℕ). oddAt line ks (at + j) ≡ false) k (w .none (none any r q)) (sym e ∙ after any true r q refl) }
+    record { none = λ q. below-more (λ (j : ℕ). oddAt line ks (at + j) ≡ false) k (w .none (neither-left any r q)) (sym e ∙ after any true r q refl) }
 
 pub odd-end : (line ks : List ℕ) (at k w : ℕ) (any : Bool) → Odd line ks at k any → w ≤ k → Odd line ks at w any
 odd-end line ks at k w any v h = record { none = λ q j l. v .none q j (omega arith) }
 
--- none of the first i bytes is odd
+-- neither-left of the first i bytes is odd
 pub record Cleared (line ks : List ℕ) (i : ℕ) : Type 0 where
   pub none : (j : ℕ) → j < i → oddAt line ks j ≡ false
 

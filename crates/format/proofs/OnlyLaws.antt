@@ -72,10 +72,6 @@ only-part-after {x} {y} {a} {e} w b f h =
 part-at : (x : List ℕ) (a e i : ℕ) → a + i < e → getD (part x a e) i 0 ≡ getD x (a + i) 0
 part-at x a e i h = getD-take (e - a) (drop a x) i 0 (omega arith) ∙ getD-drop a x i 0
 
--- the length of a part
-pub length-part : (x : List ℕ) (a n : ℕ) → a + n ≤ length x → length (part x a (a + n)) ≡ n
-length-part x a n h = let m = length-drop a x in length-take-le (a + n - a) (drop a x) (omega arith) ∙ omega arith
-
 -- what a part before the region held is read from the buffer as it is now
 pub read-now : {x y : List ℕ} {base e : ℕ} (a n i : ℕ) → Only x y base e → a + n ≤ base → i < n → getD (part x a (a + n)) i 0 ≡ getD y (a + i) 0
 read-now {x} a n i w h k = part-at x a (a + n) i (omega arith) ∙ sym (only-at w (a + i) (omega arith))

@@ -24,7 +24,8 @@ use Rattle.rules.proofs.CellsLaws.{Folding, fold-start, fold-more, fold-end}
 use Rattle.format.specs.Region.{Only}
 use Rattle.format.specs.Respaced.{textAt, spacedAt, Trimmed, Wrote, Plain, Dropped, Others, Run, Place, Normalized}
 use Rattle.format.specs.declared.spacing.Respaced.{Respaced}
-use Rattle.format.proofs.OnlyLaws.{only-same, only-set, only-wider, only-then, length-part, read-now}
+use Rattle.format.proofs.OnlyLaws.{only-same, only-set, only-wider, only-then, read-now}
+use Rattle.buffer.proofs.RegionLaws.{length-part}
 
 -- ---- blanks at the end
 

@@ -21,7 +21,8 @@ use Rattle.rules.proofs.CellsLaws.{drop-cells, cells-at, cells-end}
 use Rattle.format.specs.Region.{Only}
 use Rattle.format.specs.Stack.{entryOf, stacked, mayTurn, openOf, opens, closes, Closers, Among, Levels, Room, Turned, Fits, Settled}
 use Rattle.format.specs.declared.brackets.Tally.{Tally}
-use Rattle.format.proofs.OnlyLaws.{only-same, only-set, only-wider, only-then, only-past, length-part, read-now}
+use Rattle.format.proofs.OnlyLaws.{only-same, only-set, only-wider, only-then, only-past, read-now}
+use Rattle.buffer.proofs.RegionLaws.{length-part}
 
 -- ---- leading closers
 

@@ -20,6 +20,7 @@ use Rattle.unicode.specs.Places.{TrimmedStart, TrimmedEnd}
 use Rattle.unicode.proofs.Trim.{trim-swap}
 use Rattle.buffer.specs.Buffer.{part}
 use Rattle.buffer.specs.Repeat.{times}
+use Rattle.buffer.proofs.RegionLaws.{drop-take}
 use Rattle.buffer.proofs.RepeatLaws.{times-nil}
 use Rattle.rules.specs.Basics.{choose, is, isEmpty, startsWith, lastIs}
 use Rattle.rules.specs.Scan.{classify, carryAfter}
@@ -166,12 +167,6 @@ module _ {st : State} {scratch : List ℕ} {unit n : ℕ} (ready : Ready st scra
   push-room m h = omega (arith, ap length (times-nil 0), ready .small .at, ready .depth, ready .limit)
 
 -- ---- a trimmed line
-
-drop-take : (a e : ℕ) (l : List ℕ) → drop a (take e l) ≡ take (e - a) (drop a l)
-drop-take zero e l = let n : e - 0 ≡ e = omega arith in rw n
-drop-take (suc a) zero l = let n : 0 - suc a ≡ 0 = omega arith in rw n
-drop-take (suc a) (suc e) [] = sym (take-nil (suc e - suc a))
-drop-take (suc a) (suc e) (x ∷ l) = let n : suc e - suc a ≡ e - a = omega arith in rw n (drop-take a e l)
 
 pub start-within : (raw : List ℕ) (tail start : ℕ) → TrimmedEnd raw tail → TrimmedStart (take tail raw) start → start ≤ tail
 start-within raw tail start e s = omega (arith, s .fits, length-take-le tail raw (e .fits))

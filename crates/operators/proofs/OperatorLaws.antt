@@ -14,7 +14,7 @@ use Rattle.rules.specs.ClassBytes.{classOf}
 use Rattle.rules.specs.Scan.{Cell, isStr}
 use Rattle.rules.specs.Words.{operators}
 use Rattle.rules.specs.SplitOperation.{Ops, OpStep, lookup, precedence, endsOperand, atomLen, token, operator, escape, bracket, isSign, oneCharStep, twoCharStep, codeStep, freshStep, opStepAt}
-use Rattle.rules.proofs.OperatorsBytes.{byteStep}
+use Rattle.rules.proofs.OperatorsBytes.{isPair, byteStep}
 use Rattle.rules.proofs.CellsLaws.{str-byte}
 use Rattle.rules.proofs.Choose.{choose-true, choose-false}
 use Rattle.rules.proofs.StartsBytes.{choose-both}
@@ -99,10 +99,7 @@ one-none a h1 h2 h3 h4 h5 h6 h7 h8 h9 h10 =
 abbrev Two : List ℕ → ℕ → Type 0
 Two l k = k ≡ choose (eqb (length (take 2 l)) 2) (indexIn operators (take 2 l)) 21
 
-abbrev isTwo : List ℕ → Bool
-isTwo l = eqb (length (take 2 l)) 2 && oneOf operators (take 2 l)
-
-two-cases : (l : List ℕ) (k : ℕ) → Two l k → (isTwo l ≡ ltb k 21) × (k < 21 → k ≡ indexIn operators (take 2 l))
+two-cases : (l : List ℕ) (k : ℕ) → Two l k → (isPair l ≡ ltb k 21) × (k < 21 → k ≡ indexIn operators (take 2 l))
 unfolding choose
 two-cases l k e =
     by-test (eqb (length (take 2 l)) 2)
@@ -122,11 +119,11 @@ two-long (a ∷ []) k h e = absurd (omega arith)
 two-long (a ∷ b ∷ l) k h e = e
 
 module _ (x y z : OpStep) (l : List ℕ) (k : ℕ) (e : Two l k) where
-  pub pick-two : k < 21 → x ≡ y → x ≡ choose (isTwo l) y z
-  pick-two h f = f ∙ sym (choose-true (isTwo l) y z (two-cases l k e .0 ∙ lt-ltb k 21 h))
+  pub pick-two : k < 21 → x ≡ y → x ≡ choose (isPair l) y z
+  pick-two h f = f ∙ sym (choose-true (isPair l) y z (two-cases l k e .0 ∙ lt-ltb k 21 h))
 
-  pub pick-one : 21 ≤ k → x ≡ z → x ≡ choose (isTwo l) y z
-  pick-one h f = f ∙ sym (choose-false (isTwo l) y z (two-cases l k e .0 ∙ le-ltb k 21 h))
+  pub pick-one : 21 ≤ k → x ≡ z → x ≡ choose (isPair l) y z
+  pick-one h f = f ∙ sym (choose-false (isPair l) y z (two-cases l k e .0 ∙ le-ltb k 21 h))
 
 -- `<<=` and `>>=`
 factor : (p q r s e : Bool) → (p && (q && (e && true))) || (r && (s && (e && true))) ≡ ((p && (q && true)) || (r && (s && true))) && e

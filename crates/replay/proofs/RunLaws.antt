@@ -8,10 +8,11 @@ use native.Mathlib.Numerals.{add-one}
 use mathlib.Core.Bool.{Bool, true, false, _&&_}
 use mathlib.Core.List.{List, [], _∷_}
 use mathlib.Core.Path.{_≡_, refl, sym, ap, _∙_}
-use borrow.Author.Tests.{lt-ltb, le-ltb, le-leb, lt-leb, eq-eqb, ne-eqb, eqb-true}
+use borrow.Author.Tests.{lt-ltb, le-ltb, le-leb, lt-leb, eq-eqb, ne-eqb}
 use lib.Dec.{eqb}
 use lib.ListN.{length, getD, take, length-take}
-use Rattle.unicode.proofs.Tests.{by-test, and-left, and-right}
+use Rattle.unicode.proofs.Tests.{by-test}
+use Rattle.rules.proofs.Prefix.{same-eq}
 use Rattle.buffer.specs.Buffer.{part}
 use Rattle.rules.specs.Basics.{choose, same}
 use Rattle.rules.specs.Call.{Call, outcomeOf, answerOf, outputOf, textOf}
@@ -31,16 +32,6 @@ unfolding same
 same-refl [] = refl
 same-refl (x ∷ a) = rw (eq-eqb x x refl, same-refl a)
 
-same-equal : (a b : List ℕ) → same a b ≡ true → a ≡ b
-unfolding same
-same-equal [] [] e = refl
-same-equal [] (y ∷ b) e = absurd (let z : _≡_ {A = ℕ} 0 1 = cc in omega arith)
-same-equal (x ∷ a) [] e = absurd (let z : _≡_ {A = ℕ} 0 1 = cc in omega arith)
-same-equal (x ∷ a) (y ∷ b) e =
-    let p : x ≡ y = eqb-true x y (and-left (eqb x y) (same a b) e) in
-    let q : a ≡ b = same-equal a b (and-right (eqb x y) (same a b) e) in
-    rw (p, q)
-
 -- a bool that is true just if a and b are equal
 abbrev Tells : List ℕ → List ℕ → Bool → Type 0
 Tells a b r = (r ≡ true → a ≡ b) × (a ≡ b → r ≡ true)
@@ -49,7 +40,7 @@ same-told : (a b : List ℕ) (r : Bool) → Tells a b r → r ≡ same a b
 same-told a b true t = sym (rw (t .0 refl) (same-refl b))
 same-told a b false t =
     by-test (same a b)
-    (λ e. absurd (let y : false ≡ true = t .1 (same-equal a b e) in let z : _≡_ {A = ℕ} 0 1 = cc in omega arith)) (λ e. sym e)
+    (λ e. absurd (let y : false ≡ true = t .1 (same-eq a b e) in let z : _≡_ {A = ℕ} 0 1 = cc in omega arith)) (λ e. sym e)
 
 -- ---- a case beside its answer
 

@@ -15,6 +15,7 @@ use lib.Seq.{getD-take}
 use borrow.Author.Tests.{eqb-true, le-leb, lt-leb, ne-eqb, le-ltb}
 use Rattle.unicode.specs.Unicode.{tail, encodeChar, encode}
 use Rattle.unicode.proofs.Tests.{and-left, and-right, by-test}
+use Rattle.unicode.proofs.Machine.{not-tail-low, not-tail-high}
 use Rattle.unicode.proofs.Table.{Shape, one, two, three, four, shape, tail-make, Bytes, single, several, bytes}
 use Rattle.rules.specs.declared.Class.{Class}
 use Rattle.rules.specs.Basics.{choose, is, codes, at, same, oneOf, startsWith, firstIs, Pieces, isIdent}
@@ -55,14 +56,6 @@ data Lead (c : ℕ) : List ℕ → Type 0 where
   low : c < 0x80 → tail c ≡ false → Lead c (c ∷ [])
   high : {b : ℕ} {bs : List ℕ} → 0x80 ≤ c → 0x80 ≤ b → tail b ≡ false → Tails bs → Lead c (b ∷ bs)
 
-no-tail-low : (b : ℕ) → b < 0x80 → tail b ≡ false
-unfolding tail
-no-tail-low b h = simp (lt-leb 0x80 b h)
-
-no-tail-high : (b : ℕ) → 0xC0 ≤ b → tail b ≡ false
-unfolding tail
-no-tail-high b h = simp (le-leb 0x80 b (omega arith), lt-leb b 0xBF h)
-
 lead : (c : ℕ) → Lead c (encodeChar c)
 lead c = go (shape c)
   where
@@ -70,13 +63,13 @@ lead c = go (shape c)
     t x = tail-make (0x80 + x % 64) (omega arith) (omega arith)
 
     go : Shape c → Lead c (encodeChar c)
-    go (one h e) = rw e (low h (no-tail-low c h))
-    go (two h k e) = rw e (high {b = 0xC0 + c / 64} h (omega arith) (no-tail-high (0xC0 + c / 64) (omega arith)) (more (t c) end))
+    go (one h e) = rw e (low h (not-tail-low c h))
+    go (two h k e) = rw e (high {b = 0xC0 + c / 64} h (omega arith) (not-tail-high (0xC0 + c / 64) (omega arith)) (more (t c) end))
     go (three h k e) =
-        rw e (high {b = 0xE0 + c / 4096} (omega arith) (omega arith) (no-tail-high (0xE0 + c / 4096) (omega arith)) (more (t (c / 64)) (more (t c) end)))
+        rw e (high {b = 0xE0 + c / 4096} (omega arith) (omega arith) (not-tail-high (0xE0 + c / 4096) (omega arith)) (more (t (c / 64)) (more (t c) end)))
     go (four h e) =
         rw e
-        (high {b = 0xF0 + c / 262144} (omega arith) (omega arith) (no-tail-high (0xF0 + c / 262144) (omega arith))
+        (high {b = 0xF0 + c / 262144} (omega arith) (omega arith) (not-tail-high (0xF0 + c / 262144) (omega arith))
         (more (t (c / 4096)) (more (t (c / 64)) (more (t c) end))))
 
 -- ---- a character from 80 hex on, and its first byte: an operand in a string, else no operand and no operator
@@ -171,7 +164,7 @@ getD-ascii (suc n) c l a =
     sym (getD-take (suc n) (encode l) n 0 (omega arith)) ∙ ap (λ (s : List ℕ). getD s n 0) (take-ascii (suc n) l a) ∙ getD-take (suc n) l n 0 (omega arith)
 
 -- whether two characters are an operator
-abbrev isPair : List ℕ → Bool
+abbrev pub isPair : List ℕ → Bool
 isPair l = eqb (length (take 2 l)) 2 && oneOf operators (take 2 l)
 
 pair-encode : (c : ℕ) (l : List ℕ) → isPair (c ∷ encode l) ≡ isPair (c ∷ l)

@@ -42,7 +42,7 @@ allOf : (List ℕ → Bool) → List (List ℕ) → Bool
 allOf p [] = true
 allOf p (w ∷ ws) = p w && allOf p ws
 
-same-eq : (k w : List ℕ) → same k w ≡ true → k ≡ w
+pub same-eq : (k w : List ℕ) → same k w ≡ true → k ≡ w
 unfolding same
 same-eq [] [] h = refl
 same-eq [] (y ∷ ys) h = never h refl

@@ -51,7 +51,7 @@ size-trim l =
     let r = trim-split l in
     omega (arith, ap size (r .4), size-append (r .0) (trim l ++ r .1), size-append (trim l) (r .1))
 
-blank-ascii : (l : List ℕ) → allBlank l ≡ true → Ascii l
+pub blank-ascii : (l : List ℕ) → allBlank l ≡ true → Ascii l
 unfolding allBlank
 blank-ascii [] h = tt
 blank-ascii (c ∷ l) h = (ltb-true c 0x80 (low-of isBlank steady-blank c (and-left (isBlank c) (allBlank l) h)), blank-ascii l (and-right (isBlank c) (allBlank l) h))

@@ -16,7 +16,8 @@ use Rattle.rules.specs.ClassBytes.{cellsOf, classOf}
 use Rattle.rules.proofs.CellsLaws.{comment-byte, code-or-str-byte}
 use Rattle.rules.proofs.Choose.{choose-true, choose-false}
 use Rattle.scan.specs.CodeEnd.{codeLength, Comments, NoComment, onlyCodeOrStr}
-use Rattle.scan.proofs.CodeLaws.{or-left, or-right}
+use Rattle.scan.proofs.CodeLaws.{or-right}
+use Rattle.unicode.proofs.Tests.{neither-left}
 
 -- none of the first i class bytes is a `//` comment's
 pub record Passed (ks : List ℕ) (i : ℕ) : Type 0 where
@@ -52,7 +53,7 @@ comments-start ks at = record { none = λ e j h. absurd (omega arith) }
 
 pub comments-more : (ks : List ℕ) (at k : ℕ) (any : Bool) → Comments ks at k any → Comments ks at (k + 1) (any || eqb (getD ks (at + k) 0) 2)
 comments-more ks at k any w =
-    record { none = λ q. below-more (λ (j : ℕ). getD ks (at + j) 0 ≡ 2 → ⊥) k (w .none (or-left any (eqb (getD ks (at + k) 0) 2) q)) (eqb-false _ _ (or-right any (eqb (getD ks (at + k) 0) 2) q)) }
+    record { none = λ q. below-more (λ (j : ℕ). getD ks (at + j) 0 ≡ 2 → ⊥) k (w .none (neither-left any (eqb (getD ks (at + k) 0) 2) q)) (eqb-false _ _ (or-right any (eqb (getD ks (at + k) 0) 2) q)) }
 
 pub comments-end : (ks : List ℕ) (at k n : ℕ) (any : Bool) → Comments ks at k any → n ≤ k → Comments ks at n any
 comments-end ks at k n any w h = record { none = λ q j l. w .none q j (omega arith) }

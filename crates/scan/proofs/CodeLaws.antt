@@ -11,6 +11,7 @@ use lib.Dec.{eqb}
 use lib.ListN.{length, getD, take, drop, set, replicate, length-replicate, length-drop, length-set}
 use lib.Seq.{length-take-le}
 use Rattle.buffer.specs.Buffer.{put}
+use Rattle.unicode.proofs.Tests.{neither-left}
 use Rattle.buffer.proofs.RegionLaws.{put-back, put-nil, put-put, set-put}
 use Rattle.rules.specs.declared.Class.{Class}
 use Rattle.rules.specs.declared.Carry.{Carry}
@@ -148,10 +149,6 @@ pub record Looked (line : List ℕ) (at : ℕ) (any : Bool) (k : ℕ) : Type 0 w
 pub looked-start : (line : List ℕ) (at : ℕ) → Looked line at false 0
 looked-start line at = record { none = λ e j l. absurd (omega arith) }
 
-pub or-left : (a b : Bool) → (a || b) ≡ false → a ≡ false
-or-left true b e = e
-or-left false b e = refl
-
 pub or-right : (a b : Bool) → (a || b) ≡ false → b ≡ false
 or-right true b e = absurd (true≢false e)
 or-right false b e = e
@@ -162,7 +159,7 @@ not-true false e = refl
 
 module _ {line : List ℕ} {at : ℕ} {any : Bool} {k : ℕ} (p : Looked line at any k) where
   pub looked-more : {r : Bool} → r ≡ startsInCode (getD line (at + k) 0) → Looked line at (any || r) (k + 1)
-  looked-more {r} e = record { none = λ f. below-more (λ (j : ℕ). startsInCode (getD line (at + j) 0) ≡ false) k (p .none (or-left any r f)) (sym e ∙ or-right any r f) }
+  looked-more {r} e = record { none = λ f. below-more (λ (j : ℕ). startsInCode (getD line (at + j) 0) ≡ false) k (p .none (neither-left any r f)) (sym e ∙ or-right any r f) }
 
   pub looked-end : 8 ≤ k → Quiet line at 8 (not any)
   looked-end l = record { none = λ f j h. p .none (not-true any f) j (omega arith) }

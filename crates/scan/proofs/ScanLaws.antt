@@ -47,11 +47,11 @@ pub record Reached (line class₀ : List ℕ) (t₀ : Mark) (class : List ℕ) (
 pub reached-start : (line class : List ℕ) (t : Mark) → Reached line class t class t 0
 reached-start line class t = record { within = zero-le; as-long = refl; done = refl; ends = refl; rest = refl; depth = omega arith }
 
-classes-more : (line : List ℕ) (t : Mark) (i : ℕ) → i < length line → classBytes (scan t (drop i line)) ≡ classByte (next t (drop i line) .class) ∷ classBytes (scan (next t (drop i line)) (drop (i + 1) line))
+pub classes-more : (line : List ℕ) (t : Mark) (i : ℕ) → i < length line → classBytes (scan t (drop i line)) ≡ classByte (next t (drop i line) .class) ∷ classBytes (scan (next t (drop i line)) (drop (i + 1) line))
 unfolding scan classesOf
 classes-more line t i l = rw (add-one, drop-cons line i 0)
 
-final-more : (line : List ℕ) (t : Mark) (i : ℕ) → i < length line → final t (drop i line) ≡ final (next t (drop i line)) (drop (i + 1) line)
+pub final-more : (line : List ℕ) (t : Mark) (i : ℕ) → i < length line → final t (drop i line) ≡ final (next t (drop i line)) (drop (i + 1) line)
 unfolding final
 final-more line t i l = rw (add-one, drop-cons line i 0)
 

@@ -8,6 +8,7 @@ use native.Mathlib.Omega.{arith}
 use lib.ListN.{length, take, drop, set, replicate, length-set, drop-of-length-le}
 use lib.Seq.{drop-cons, take-suc-set, drop-set-lt}
 use Rattle.buffer.specs.Buffer.{put}
+use Rattle.scan.proofs.ScanLaws.{classes-more, final-more}
 use Rattle.buffer.proofs.RegionLaws.{put-nil, put-put, set-put}
 use Rattle.rules.specs.declared.Class.{Class}
 use Rattle.rules.specs.declared.Mode.{Mode}
@@ -78,14 +79,6 @@ module _ {line : List ℕ} {t : Mark} {a e : ℕ} {x y : List ℕ} where
         beyond = p .beyond;
       }
 
-scan-more : (line : List ℕ) (t : Mark) (i : ℕ) → i < length line → classBytes (scan t (drop i line)) ≡ classByte (next t (drop i line) .class) ∷ classBytes (scan (next t (drop i line)) (drop (i + 1) line))
-unfolding scan classesOf
-scan-more line t i l = rw (add-one, drop-cons line i 0)
-
-final-more : (line : List ℕ) (t : Mark) (i : ℕ) → i < length line → final t (drop i line) ≡ final (next t (drop i line)) (drop (i + 1) line)
-unfolding final
-final-more line t i l = rw (add-one, drop-cons line i 0)
-
 -- a byte that is written at the place reached
 written-more : (done rest : List ℕ) (i b : ℕ) → i < length done → take i done ++ (b ∷ rest) ≡ take (i + 1) (set done i b) ++ rest
 written-more done rest i b l = rw (add-one, take-suc-set, append-assoc)
@@ -96,7 +89,7 @@ module _ (line : List ℕ) (t : Mark) (i : ℕ) (class : List ℕ) (u : Mark) (b
   scanned-byte e f =
       record {
         moved = moved-one line i class b l;
-        bytes = rw (scan-more line t i l, e, ← f) (written-more class (classBytes (scan u (drop (i + 1) line))) i b (omega arith));
+        bytes = rw (classes-more line t i l, e, ← f) (written-more class (classBytes (scan u (drop (i + 1) line))) i b (omega arith));
         carry = rw (final-more line t i l, e);
         beyond = drop-set-lt (length line) class i b l;
       }

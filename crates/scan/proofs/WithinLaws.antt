@@ -10,6 +10,7 @@ use Rattle.rules.specs.declared.Mark.{Mark}
 use Rattle.rules.specs.Scan.{next, begin, openAfter}
 use Rattle.rules.specs.ClassBytes.{classByte}
 use Rattle.buffer.specs.Buffer.{part}
+use Rattle.buffer.proofs.RegionLaws.{drop-take, length-part}
 use Rattle.scan.specs.Classified.{ClassRoom, Classified, ClassifiedAt}
 use Rattle.scan.proofs.ScanLaws.{part-from, Reached, reached-start, reached-more, reached-end}
 
@@ -24,19 +25,6 @@ part-beside d a e j b h k =
     ap (λ (x : ℕ). take (e - a) (drop a (set d x b))) (sym m)
     ∙ ap (take (e - a)) (drop-set-add a d (j - a) b)
     ∙ take-set-le (e - a) (drop a d) (j - a) b (omega arith)
-
-length-part : (d : List ℕ) (a n : ℕ) → a + n ≤ length d → length (part d a (a + n)) ≡ n
-length-part d a n h = length-take-le (a + n - a) (drop a d) (omega (arith, length-drop a d)) ∙ omega arith
-
-drop-take : (i n : ℕ) (l : List ℕ) → drop i (take n l) ≡ take (n - i) (drop i l)
-drop-take zero n l = let k : n - 0 ≡ n = omega arith in rw k
-drop-take (suc i) zero l = let k : 0 - suc i ≡ 0 = omega arith in rw k
-drop-take (suc i) (suc n) [] = go (suc n - suc i)
-  where
-    go : (m : ℕ) → _≡_ {A = List ℕ} [] (take m [])
-    go zero = refl
-    go (suc m) = refl
-drop-take (suc i) (suc n) (x ∷ l) = let k : suc n - suc i ≡ n - i = omega arith in rw k (drop-take i n l)
 
 -- the rest of a part
 part-rest : (d : List ℕ) (a n i : ℕ) → i ≤ n → take (a + n - (a + i)) (drop (a + i) d) ≡ drop i (part d a (a + n))

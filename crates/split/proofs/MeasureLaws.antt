@@ -6,18 +6,19 @@ use mathlib.Core.Path.{_≡_, refl, sym, ap, _∙_, subst}
 use native.Mathlib.Omega.{arith}
 use native.Mathlib.Nat.{mul-le-mul}
 use lib.ListN.{length, take, drop, length-drop}
-use lib.Seq.{take-nil, take-take, length-take-le, drop-drop}
+use lib.Seq.{take-take, length-take-le, drop-drop}
 use lib.Dec.{eqb, ltb}
 use borrow.Author.Tests.{eqb-true, lt-ltb}
 use Rattle.buffer.specs.Buffer.{part}
 use Rattle.buffer.specs.Repeat.{times}
-use Rattle.buffer.proofs.RegionLaws.{part-from}
+use Rattle.buffer.proofs.RegionLaws.{part-from, drop-take}
 use Rattle.buffer.proofs.RepeatLaws.{length-times}
 use Rattle.unicode.specs.Unicode.{decode, WellFormed, units, width, trim, trimEnd}
 use Rattle.unicode.specs.Places.{unitsOf, TrimmedStart, TrimmedEnd}
 use Rattle.unicode.proofs.Tests.{by-test, and-left, and-right}
 use Rattle.unicode.proofs.Bytewise.{total, width-bytes, width-append}
-use Rattle.unicode.proofs.Decode.{Ascii}
+use Rattle.unicode.proofs.Decode.{Ascii, ascii-append}
+use Rattle.rules.proofs.SplitSizes.{blank-ascii}
 use Rattle.rules.specs.Basics.{isBlank}
 use Rattle.rules.specs.Options.{Options, allBlank, indentOf, measure}
 use Rattle.split.specs.Measure.{Measurable, Measured, Indent, IndentMeasured, Within, Trimmed}
@@ -50,25 +51,11 @@ measure-append o from a b = omega (arith, width-append a b)
 
 -- ---- an indent
 
-blank-ascii : (c : ℕ) → isBlank c ≡ true → c < 0x80
-blank-ascii c e =
-    by-test (eqb c 32) (λ h. let k : c ≡ 32 = eqb-true c 32 h in omega arith)
-    (λ h. let k : c ≡ 9 = eqb-true c 9 (rw h at e) in omega arith)
-
-pub blank-all-ascii : (s : List ℕ) → allBlank s ≡ true → Ascii s
-unfolding allBlank
-blank-all-ascii [] e = tt
-blank-all-ascii (c ∷ s) e = (blank-ascii c (and-left (isBlank c) (allBlank s) e), blank-all-ascii s (and-right (isBlank c) (allBlank s) e))
-
 -- a character below 80 hex takes one unit
 ascii-width : (s : List ℕ) → Ascii s → width s ≡ length s
 unfolding width units
 ascii-width [] a = refl
 ascii-width (c ∷ s) a = rw (lt-ltb c 0x10000 (omega (arith, a .0))) (omega (arith, ascii-width s (a .1)))
-
-ascii-append : (a b : List ℕ) → Ascii a → Ascii b → Ascii (a ++ b)
-ascii-append [] b p q = q
-ascii-append (c ∷ a) b p q = (p .0, ascii-append a b (p .1) q)
 
 pub ascii-times : (n : ℕ) (w : List ℕ) → Ascii w → Ascii (times n w)
 unfolding times
@@ -82,7 +69,7 @@ pub indent-measured : (indent : List ℕ) (level : ℕ) → Indent indent level 
 unfolding measure indentOf
 indent-measured indent level p =
     record {
-      is = λ o e. rw e (omega (arith, ascii-width (times level indent) (ascii-times level indent (blank-all-ascii indent (p .blank))), length-times level indent));
+      is = λ o e. rw e (omega (arith, ascii-width (times level indent) (ascii-times level indent (blank-ascii indent (p .blank))), length-times level indent));
       small = indent-small indent level p;
     }
 
@@ -92,12 +79,6 @@ indent-room indent level p = omega (arith, indent-small indent level p)
 -- ---- parts
 
 -- a part of a part
-pub drop-take : (n k : ℕ) (l : List ℕ) → drop n (take k l) ≡ take (k - n) (drop n l)
-drop-take zero k l = let e : k - 0 ≡ k = omega arith in rw e
-drop-take (suc n) zero l = let e : 0 - suc n ≡ 0 = omega arith in rw e
-drop-take (suc n) (suc k) [] = sym (take-nil (suc k - suc n))
-drop-take (suc n) (suc k) (x ∷ l) = let e : suc k - suc n ≡ k - n = omega arith in rw e (drop-take n k l)
-
 pub part-part : (s : List ℕ) (a e n m : ℕ) → n + m ≤ e - a → take m (drop n (part s a e)) ≡ part s (a + n) (a + n + m)
 part-part s a e n m h =
     let k : a + n + m - (a + n) ≡ m = omega arith in

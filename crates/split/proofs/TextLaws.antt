@@ -14,8 +14,9 @@ use Rattle.unicode.proofs.Decode.{encode-nil, encode-append, encode-ascii, deco
 use Rattle.rules.specs.Options.{Options, indentOf}
 use Rattle.rules.specs.Assembly.{joined}
 use Rattle.split.specs.Measure.{Indent}
-use Rattle.split.specs.Text.{lay, AllWell, following, lastOf, newest, LineRoom, LineWritten, Written, Fits}
-use Rattle.split.proofs.MeasureLaws.{blank-all-ascii, ascii-times}
+use Rattle.split.specs.Text.{lay, AllWell, following, lastOf, firstOf, LineRoom, LineWritten, Written, Fits}
+use Rattle.rules.proofs.SplitSizes.{blank-ascii}
+use Rattle.split.proofs.MeasureLaws.{ascii-times}
 
 -- ---- parts of a well-formed text
 
@@ -46,12 +47,12 @@ pub joined-lines : (eol l : List ℕ) (ls : List (List ℕ)) → joined eol (rev
 unfolding joined
 joined-lines eol l ls = joined-aux eol ls l []
 
-newest-aux : (ls : List (List ℕ)) (l : List ℕ) (ks : List (List ℕ)) → newest (reverseAux ls (l ∷ ks)) ≡ lastOf l ls
-unfolding newest lastOf
+newest-aux : (ls : List (List ℕ)) (l : List ℕ) (ks : List (List ℕ)) → firstOf (reverseAux ls (l ∷ ks)) ≡ lastOf l ls
+unfolding firstOf lastOf
 newest-aux [] l ks = refl
 newest-aux (m ∷ ms) l ks = newest-aux ms m (l ∷ ks)
 
-pub newest-lines : (l : List ℕ) (ls : List (List ℕ)) → newest (reverse (l ∷ ls)) ≡ lastOf l ls
+pub newest-lines : (l : List ℕ) (ls : List (List ℕ)) → firstOf (reverse (l ∷ ls)) ≡ lastOf l ls
 newest-lines l ls = newest-aux ls l []
 
 pub following-append : (eol : List ℕ) (a b : List (List ℕ)) → following eol (a ++ b) ≡ following eol a ++ following eol b
@@ -81,7 +82,7 @@ pub written-lines : (eol l : List ℕ) (ls : List (List ℕ)) (k : List ℕ) (ks
     → Appended out out′ at (k ++ following eol ks) next → last + length (lastOf k ks) ≡ next → Written eol (l ∷ ls) out out′ at last next
 written-lines eol l ls k ks {out} {out′} {at} {last} {next} e f g t h =
     let j : encode (joined eol (reverse (l ∷ ls))) ≡ k ++ following eol ks = ap encode (joined-lines eol l ls) ∙ encode-append l (following eol ls) ∙ rw (f, following-encode eol e ls, g) in
-    let n : encode (newest (reverse (l ∷ ls))) ≡ lastOf k ks = ap encode (newest-lines l ls) ∙ last-encode l ls ∙ rw (f, g) in
+    let n : encode (firstOf (reverse (l ∷ ls))) ≡ lastOf k ks = ap encode (newest-lines l ls) ∙ last-encode l ls ∙ rw (f, g) in
     record { text = rw j t; ends = rw n h }
 
 -- ---- an indent
@@ -89,7 +90,7 @@ written-lines eol l ls k ks {out} {out′} {at} {last} {next} e f g t h =
 -- a line at a level, in bytes
 pub lay-encode : (o : Options) (indent : List ℕ) (level : ℕ) (l : List ℕ) → o .indent ≡ indent → Indent indent level → encode (indentOf o level ++ l) ≡ lay indent level (encode l)
 unfolding indentOf
-lay-encode o indent level l e p = encode-append (times level (o .indent)) l ∙ rw (e, encode-ascii (times level indent) (ascii-times level indent (blank-all-ascii indent (p .blank))))
+lay-encode o indent level l e p = encode-append (times level (o .indent)) l ∙ rw (e, encode-ascii (times level indent) (ascii-times level indent (blank-ascii indent (p .blank))))
 
 pub indent-short : (indent : List ℕ) (level : ℕ) → Indent indent level → length (times level indent) ≤ 67108928
 indent-short indent level p = let k : level * length indent ≤ 1048577 * 64 = mul-le-mul (p .flat) (p .short) in omega (arith, length-times level indent)

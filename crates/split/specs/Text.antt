@@ -35,10 +35,10 @@ unfoldable pub lastOf : List ℕ → List (List ℕ) → List ℕ
 lastOf l [] = l
 lastOf l (m ∷ ms) = lastOf m ms
 
--- the newest of lines that have the newest first
-unfoldable pub newest : List (List ℕ) → List ℕ
-newest [] = []
-newest (l ∷ ls) = l
+-- the first of lines, or the empty one
+unfoldable pub firstOf : List (List ℕ) → List ℕ
+firstOf [] = []
+firstOf (l ∷ ls) = l
 
 -- a line to be written after others, at a level
 pub record LineRoom (eol indent : List ℕ) (level : ℕ) (line : List ℕ) (at : ℕ) : Type 0 where
@@ -54,7 +54,7 @@ pub record LineWritten (eol l out out′ : List ℕ) (at : ℕ) (r : NewLine) : 
 -- the lines stand in the text from the place `at` on, joined in order; the last of them starts at the place `last`, and `next` is the next place
 pub record Written (eol : List ℕ) (lines : List (List ℕ)) (out out′ : List ℕ) (at last next : ℕ) : Type 0 where
   pub text : Appended out out′ at (encode (joined eol (reverse lines))) next
-  pub ends : last + size (newest (reverse lines)) ≡ next
+  pub ends : last + size (firstOf (reverse lines)) ≡ next
 
 -- what a line's text can take, for each of its bytes and one more: an indent of 64 bytes at 1,048,577 levels and a line ending are less
 abbrev pub lineRoom : ℕ

@@ -25,7 +25,8 @@ use Rattle.unicode.specs.declared.Utf16Column.{Utf16Column}
 use Rattle.split.specs.declared.Part.{Part}
 use Rattle.split.specs.Measure.{Measurable, Measured, Indent, IndentMeasured, Within, Trimmed}
 use Rattle.split.specs.Text.{indented, lay, AllWell, following, lineRoom}
-use Rattle.split.proofs.MeasureLaws.{measure-append, part-length, ascii-times, blank-all-ascii}
+use Rattle.split.proofs.MeasureLaws.{measure-append, part-length, ascii-times}
+use Rattle.rules.proofs.SplitSizes.{blank-ascii}
 use Rattle.split.proofs.TextLaws.{AllScalars, all-well, all-decode, following-append, indent-short}
 use Rattle.split_import.specs.declared.Filled.{Filled}
 use Rattle.split_import.specs.Names.{left, NameLen, parts, Countable, Counted, Place, NameMeasured, Column, NameFits, namesText, OnNewLine, addIf, AddedTo, Added, NamesFit, NamesWritten}
@@ -305,7 +306,7 @@ name-bytes name w = encode-append (decode name) (44 ∷ []) ∙ rw (w, encode-as
 
 line-bytes : (indent : List ℕ) (level : ℕ) (name : List ℕ) → Indent indent level → WellFormed name → encode (times level indent ++ withComma (decode name)) ≡ lay indent level (name ++ 44 ∷ [])
 line-bytes indent level name p w =
-    encode-append (times level indent) (withComma (decode name)) ∙ rw (name-bytes name w, encode-ascii (times level indent) (ascii-times level indent (blank-all-ascii indent (p .blank))))
+    encode-append (times level indent) (withComma (decode name)) ∙ rw (name-bytes name w, encode-ascii (times level indent) (ascii-times level indent (blank-ascii indent (p .blank))))
 
 -- the text of a line that grows by a name
 grown-line : (eol cur name : List ℕ) (done : List (List ℕ)) → WellFormed name

@@ -26,6 +26,7 @@ use Rattle.rules.proofs.ScanBytes.{encodeCells, classify-encode, chars-classify
 use Rattle.rules.proofs.CellsLaws.{cells-bytes}
 use Rattle.rules.proofs.Twelve.{twelve-lines}
 use Rattle.rules.proofs.WordsBytes.{encodePieces, balanced-encode, keywords-encode}
+use Rattle.rules.proofs.Prefix.{markedChars, marks-chars}
 use Rattle.rules.proofs.OperatorsBytes.{byteMarks, encodeMarks, marks-encode, loosest-encode, cut-encode}
 use Rattle.split_operation.specs.declared.pass.Cut.{Cut}
 use Rattle.split_operation.specs.declared.pass.Break.{Break}
@@ -74,21 +75,12 @@ module _ (table line class : List ℕ) (w : WellFormed line) (k : Classed line c
 
 -- ---- every piece is well-formed
 
-markChars : List OpMark → List ℕ
-markChars [] = []
-markChars (m ∷ ms) = m .ch ∷ markChars ms
-
-chars-marks : (table : List ℕ) (s : Ops) (xs : List Cell) → markChars (marksFrom table s xs) ≡ charsOf xs
-unfolding markChars marksFrom charsOf
-chars-marks table s [] = refl
-chars-marks table s (x ∷ xs) = rw (chars-marks table (opStep table s x (charsOf xs) .after) xs)
-
 record PieceScalars (p : Pieces) : Type 0 where
   first : Scalars (p .first)
   rest : AllScalars (p .rest)
 
-cut-scalars : (p : ℕ) (ms : List OpMark) → Scalars (markChars ms) → PieceScalars (cutBefore p ms)
-unfolding markChars cutBefore atMark
+cut-scalars : (p : ℕ) (ms : List OpMark) → Scalars (markedChars ms) → PieceScalars (cutBefore p ms)
+unfolding markedChars cutBefore atMark
 cut-scalars p [] s = record { first = tt; rest = tt }
 cut-scalars p (m ∷ ms) s = go (eqb (m .strength) p) (cut-scalars p ms (s .1))
   where
@@ -99,7 +91,7 @@ cut-scalars p (m ∷ ms) s = go (eqb (m .strength) p) (cut-scalars p ms (s .1))
 pieces-scalars : (table line : List ℕ) (p : ℕ) → PieceScalars (cutBefore p (topLevelOps table (classify Carry.Code (decode line))))
 unfolding topLevelOps
 pieces-scalars table line p =
-    cut-scalars p _ (subst Scalars (sym (chars-marks table noOps (classify Carry.Code (decode line)) ∙ chars-classify Carry.Code (decode line))) (decode-scalars line))
+    cut-scalars p _ (subst Scalars (sym (marks-chars table noOps (classify Carry.Code (decode line)) ∙ chars-classify Carry.Code (decode line))) (decode-scalars line))
 
 lines-trimmed : (indent : List ℕ) (level : ℕ) (ls : List (List ℕ)) → AllScalars ls
     → restLines indent level (map encode ls) ≡ map (λ (l : List ℕ). lay indent level (encode l)) (map trim ls)

@@ -20,7 +20,8 @@ use Rattle.scan.specs.Classified.{ClassifiedAt}
 use Rattle.format.specs.Region.{Only}
 use Rattle.format.specs.Respaced.{Normalized, Unchanged}
 use Rattle.format.specs.Stack.{stacked, Closers, Fits, Settled}
-use Rattle.format.proofs.OnlyLaws.{only-same, only-wider, only-then, only-part-before, length-part}
+use Rattle.format.proofs.OnlyLaws.{only-same, only-wider, only-then, only-part-before}
+use Rattle.buffer.proofs.RegionLaws.{length-part}
 use Rattle.line.specs.Holds.{Classes}
 use Rattle.line.proofs.HoldsLaws.{stack-counted}
 use Rattle.step.specs.declared.Going.{Going}

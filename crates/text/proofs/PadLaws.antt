@@ -9,7 +9,7 @@ use lib.Dec.{eqb}
 use lib.ListN.{length, length-append}
 use Rattle.unicode.specs.Unicode.{encodeChar, encode, size, isWhite, trimStart, trimEnd}
 use Rattle.unicode.proofs.Tests.{by-test, and-left, and-right}
-use Rattle.unicode.proofs.Decode.{Ascii, encode-nil, encode-cons, encode-ascii, encode-append}
+use Rattle.unicode.proofs.Decode.{Ascii, ascii-append, encode-nil, encode-cons, encode-ascii, encode-append}
 use Rattle.unicode.proofs.Table.{Shape, one, two, three, four, shape}
 use Rattle.unicode.proofs.Trim.{White, white-append, start-append-white, start-white, start-other, end-append, end-none, end-split}
 use Rattle.buffer.specs.Repeat.{times}
@@ -42,10 +42,6 @@ blanks-of (c ∷ cs) e =
     let b = blank-is c (eqb c 32) (eqb c 9) refl refl (and-left (isBlank c) (allBlank cs) e) in
     let r = blanks-of cs (and-right (isBlank c) (allBlank cs) e) in
     record { white = (b .0, r .white); ascii = (b .1, r .ascii) }
-
-ascii-append : (a b : List ℕ) → Ascii a → Ascii b → Ascii (a ++ b)
-ascii-append [] b p q = q
-ascii-append (c ∷ a) b p q = (p .0, ascii-append a b (p .1) q)
 
 blanks-times : (n : ℕ) (w : List ℕ) → Blanks w → Blanks (times n w)
 unfolding times

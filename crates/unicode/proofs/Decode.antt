@@ -146,6 +146,10 @@ abbrev pub Ascii : List ℕ → Type 0
 Ascii [] = Unit {0}
 Ascii (c ∷ cs) = (c < 0x80) × Ascii cs
 
+pub ascii-append : (a b : List ℕ) → Ascii a → Ascii b → Ascii (a ++ b)
+ascii-append [] b p q = q
+ascii-append (c ∷ a) b p q = (p .0, ascii-append a b (p .1) q)
+
 pub ascii-scalars : (cs : List ℕ) → Ascii cs → Scalars cs
 ascii-scalars [] a = tt
 ascii-scalars (c ∷ cs) a = (scalar-low c (omega arith), ascii-scalars cs (a .1))

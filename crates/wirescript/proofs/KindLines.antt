@@ -20,7 +20,8 @@ use Rattle.rules.proofs.LinesBytes.{rust-one, rust-more}
 use Rattle.scan.specs.Classified.{carryDepth, Classified}
 use Rattle.call.specs.Formatted.{LineEnd}
 use Rattle.call.proofs.LineCuts.{Last, More, Cut, last, more, cut, whole, part-of, cr-fits}
-use Rattle.wirescript.specs.Kind.{byteKinds, firstOf, lineAt, SourceFits}
+use Rattle.split.specs.Text.{firstOf}
+use Rattle.wirescript.specs.Kind.{byteKinds, lineAt, SourceFits}
 use Rattle.wirescript.proofs.KindBytes.{byteKindIn, kindFrom, kind-bytes}
 
 -- ---- Rust's lines of those pieces
@@ -31,7 +32,7 @@ rust-none = refl
 
 module _ (s : List ℕ) (e : Last s) where
   pub line-last : s ≡ lineAt s
-  unfolding lineAt
+  unfolding lineAt firstOf
   line-last = rw e (go s)
     where
       go : (s : List ℕ) → s ≡ firstOf (rustLines (s ∷ []))
@@ -48,7 +49,7 @@ module _ (s : List ℕ) (e : Last s) where
 
 module _ (s : List ℕ) (k : ℕ) (e : More s k) where
   pub line-more : dropCr (take k s) ≡ lineAt s
-  unfolding lineAt
+  unfolding lineAt firstOf
   line-more = rw (e, rust-more)
 
   pub kind-more : (y : Carry) (n col : ℕ) → kindFrom y s (suc n) col ≡ kindFrom (carryAfter y (dropCr (take k s))) (drop (suc k) s) n col
@@ -56,7 +57,7 @@ module _ (s : List ℕ) (k : ℕ) (e : More s k) where
   kind-more y n col = rw (e, rust-more)
 
 pub kind-here : (s : List ℕ) (y : Carry) (col : ℕ) → kindFrom y s 0 col ≡ getD (byteKinds (begin y) (lineAt s)) col TextKind.Code
-unfolding byteKindIn byteKinds lineAt
+unfolding byteKindIn byteKinds lineAt firstOf
 kind-here s y col = go (rustLines (pieces (splitOn "\n" s)))
   where
     go : (ls : List (List ℕ)) → byteKindIn y ls 0 col ≡ getD (byteKinds (begin y) (firstOf ls)) col TextKind.Code

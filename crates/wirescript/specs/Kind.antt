@@ -4,6 +4,7 @@ use mathlib.Core.List.{List, [], _∷_}
 use mathlib.Core.Path.{_≡_}
 use lib.ListN.{length, replicate}
 use Rattle.unicode.specs.Unicode.{tail, WellFormed}
+use Rattle.split.specs.Text.{firstOf}
 use Rattle.rules.specs.Basics.{choose, pieces, splitOn}
 use Rattle.rules.specs.Scan.{next}
 use Rattle.rules.specs.TextKind.{inInterpolation, kindOf, rustLines, kindOutcomeOf, kindAnswer}
@@ -22,10 +23,6 @@ byteKinds t [] = []
 byteKinds t (b ∷ s) =
     let r = byteKinds (next t (b ∷ s)) s in
     choose (tail b) r (kindOf (next t (b ∷ s) .class) (inInterpolation (t .mode)) ∷ r)
-
-abbrev pub firstOf : List (List ℕ) → List ℕ
-firstOf [] = []
-firstOf (l ∷ ls) = l
 
 -- the first of a text's lines, as Rust's `lines` cuts them, or nothing
 unfoldable pub lineAt : List ℕ → List ℕ

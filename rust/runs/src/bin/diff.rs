@@ -2,8 +2,8 @@
 //!
 //!     diff [--seconds N] [--sources N] [--seed N] [--threads N] [--stage NAME] [--standin]
 //!
-//! Without a limit every stage with an end is run whole, and the others for 200,000
-//! sources. `--seconds` is for all stages, `--sources` for each. `--standin` puts the Rust
+//! Without a limit it is the full run, of some minutes: every stage with an end whole, the
+//! others up to a number of checks. `--seconds` is for all stages, `--sources` for each. `--standin` puts the Rust
 //! in the library's place. The first difference is made small and printed, with status 1.
 
 use runs::compare::{Buffers, Check};
@@ -23,8 +23,15 @@ struct Limits {
 /// How many checks a thread takes at a time.
 const BATCH: u64 = 64;
 
-/// A random stage's sources where no limit is given.
-const ENDLESS: u64 = 200_000;
+/// How many checks a stage without an end makes where no limit is given: some tens of seconds each.
+fn usual(stage: &str) -> u64 {
+    match stage {
+        "short" => 20_000_000,
+        "refusals" => 5_000_000,
+        "kinds" => 2_000_000,
+        _ => 400_000,
+    }
+}
 
 /// Runs a stage; gives the checks made, and the first that differs.
 fn run(
@@ -38,7 +45,7 @@ fn run(
         (Some(count), None) => count,
         (None, Some(n)) => n,
         (None, None) if time.is_some() => u64::MAX,
-        (None, None) => ENDLESS,
+        (None, None) => usual(&stage.name),
     };
     let start = Instant::now();
     let (next, done, stop) = (AtomicU64::new(0), AtomicU64::new(0), AtomicBool::new(false));

@@ -9,6 +9,7 @@
 
 use runs::grammar;
 use runs::random::Random;
+use runs::texts;
 use std::hint::black_box;
 use std::time::Instant;
 use upstream::{FormatOptions, format_with, text_kind_at};
@@ -53,8 +54,8 @@ fn closes(source: &str) -> bool {
     format_with(&format!("{source}\nx\n"), &FormatOptions::default()).ends_with("\nx\n")
 }
 
-/// The sources in the Rust project's own tests, as string literals of several lines: what builders
-/// write. They are read from the folder of its source.
+/// The sources in the Rust project's own tests, as string literals of several lines: real ones, but
+/// small, with short lines. They are read from the folder of its source.
 fn tests_of_the_rust(size: usize) -> String {
     let folder = std::env::var("WIRESCRIPT_SRC").unwrap_or_else(|_| {
         concat!(env!("CARGO_MANIFEST_DIR"), "/../../../shared/docs/src").into()
@@ -71,9 +72,21 @@ fn tests_of_the_rust(size: usize) -> String {
     repeated(&sources, size.max(sources.len()))
 }
 
+/// Lines as builders write them, from templates; each block is closed at once.
+fn templates(size: usize) -> String {
+    let (_, text) = texts::texts().swap_remove(0);
+    cut(text.replace("{\n", "{\n}\n"), size)
+}
+
 const INPUTS: &[Input] = &[
     Input {
-        name: "realistic",
+        name: "templates",
+        indent: "  ",
+        width: hundred,
+        make: templates,
+    },
+    Input {
+        name: "the Rust's test sources",
         indent: "  ",
         width: hundred,
         make: tests_of_the_rust,

@@ -26,7 +26,7 @@ const BATCH: u64 = 64;
 /// How many checks a stage without an end makes where no limit is given: some tens of seconds each.
 fn usual(stage: &str) -> u64 {
     match stage {
-        "short" => 20_000_000,
+        "short" => 40_000_000,
         "refusals" => 5_000_000,
         "kinds" => 2_000_000,
         _ => 400_000,

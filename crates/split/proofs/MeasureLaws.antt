@@ -95,8 +95,10 @@ trimmed-part s a e n m w p q =
     let r : part (part s a e) n (length (part s a e)) ≡ drop n (part s a e) = part-from (part s a e) n in
     let f : n + m ≤ e - a = omega (arith, l, p .fits, q .fits, ap length r, length-drop n (part s a e)) in
     let t : take m (part (part s a e) n (length (part s a e))) ≡ part s (a + n) (a + n + m) = ap (take m) r ∙ part-part s a e n m f in
+    let g : a + n - a ≡ n = omega arith in
     record {
       after = omega arith;
+      front = rw g p;
       order = omega arith;
       fits = omega (arith, w .order);
       well = subst WellFormed t (q .well);

@@ -1,11 +1,12 @@
 -- Columns and parts of a line.
-use Prim.Native.Nat.{ℕ, _+_, _*_, _^_, _≤_, _<_}
+use Prim.Native.Nat.{ℕ, _+_, _-_, _*_, _^_, _≤_, _<_}
 use mathlib.Core.Bool.{true}
 use mathlib.Core.List.{List}
 use mathlib.Core.Path.{_≡_}
 use lib.ListN.{length}
 use Rattle.buffer.specs.Buffer.{part}
 use Rattle.unicode.specs.Unicode.{decode, WellFormed, trim}
+use Rattle.unicode.specs.Places.{TrimmedStart}
 use Rattle.rules.specs.Options.{Options, allBlank, indentOf, measure}
 use Rattle.split.specs.declared.Part.{Part}
 
@@ -35,9 +36,10 @@ pub record Within (s : List ℕ) (a e : ℕ) : Type 0 where
   pub fits : e ≤ length s
   pub well : WellFormed (part s a e)
 
--- r is the part from a up to e, trimmed
+-- r is the part from a up to e, trimmed, and it starts where white space alone goes
 pub record Trimmed (s : List ℕ) (a e : ℕ) (r : Part) : Type 0 where
   pub after : a ≤ r .start
+  pub front : TrimmedStart (part s a e) (r .start - a)
   pub order : r .start ≤ r .end
   pub fits : r .end ≤ e
   pub well : WellFormed (part s (r .start) (r .end))

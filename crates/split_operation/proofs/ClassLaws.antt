@@ -10,7 +10,7 @@ use lib.Seq.{length-take-le, take-at, drop-at, drop-drop, take-take}
 use borrow.Author.Tests.{eqb-true}
 use Rattle.buffer.specs.Buffer.{part}
 use Rattle.unicode.specs.Unicode.{encodeChar, encode, decode, WellFormed, isWhite, trimStart}
-use Rattle.unicode.specs.Places.{TrimmedStart, TrimmedEnd}
+use Rattle.unicode.specs.Places.{TrimmedStart}
 use Rattle.unicode.proofs.Decode.{encode-append}
 use Rattle.unicode.proofs.Table.{High, none, also, Bytes, single, several, bytes}
 use Rattle.unicode.proofs.Tests.{by-test, and-left, and-right}
@@ -26,9 +26,9 @@ use Rattle.rules.proofs.ScanBytes.{label}
 use Rattle.rules.proofs.CellsLaws.{length-classBytes, length-classify}
 use Rattle.rules.proofs.Prefix.{Begins, scan-prefix}
 use Rattle.split.specs.declared.Part.{Part}
-use Rattle.split.specs.Measure.{Within}
-use Rattle.split.proofs.MeasureLaws.{part-length, trimmed-part}
-use Rattle.split_operation.specs.Operation.{Classed, FirstPiece}
+use Rattle.split.specs.Measure.{Trimmed}
+use Rattle.split.proofs.MeasureLaws.{part-length}
+use Rattle.split_operation.specs.Operation.{Classed}
 
 pub class-length : (line class : List ℕ) → Classed line class → length class ≡ length line
 class-length line class k = ap length (k .classes) ∙ length-classBytes (classify Carry.Code line) ∙ length-classify Carry.Code line
@@ -123,10 +123,6 @@ part-classed v p z class q k =
 
 -- ---- the first piece
 
-pub first-piece : (line : List ℕ) (e n m : ℕ) → Within line 0 e → TrimmedStart (part line 0 e) n → TrimmedEnd (part (part line 0 e) n (length (part line 0 e))) m
-    → FirstPiece line e (record { start = n; end = n + m })
-first-piece line e n m w p q = let z : 0 + n ≡ n = omega arith in record { trimmed = rw z at (trimmed-part line 0 e n m w p q); start = p }
-
 -- what is trimmed of its start
 front-quiet : (s : List ℕ) (n : ℕ) → WellFormed s → TrimmedStart s n → Quiet (take n s)
 front-quiet s n w t =
@@ -142,17 +138,18 @@ parts l a e h =
     let k : a + (e - a) ≡ e = omega arith in
     sym (ap (λ (r : List ℕ). take a l ++ r) (ap (λ (j : ℕ). part l a e ++ drop j l) (sym k) ∙ ap (λ (r : List ℕ). part l a e ++ r) (sym (drop-drop (e - a) a l)) ∙ take-append-drop (e - a) (drop a l)) ∙ take-append-drop a l)
 
-pub piece-classed : (line class : List ℕ) (e : ℕ) (t : Part) → Classed line class → e ≤ length line → WellFormed (part line 0 e) → FirstPiece line e t
+pub piece-classed : (line class : List ℕ) (e : ℕ) (t : Part) → Classed line class → e ≤ length line → WellFormed (part line 0 e) → Trimmed line 0 e t
     → Classed (part line (t .start) (t .end)) (part class (t .start) (t .end))
 piece-classed line class e t k h w f =
     let z : part line 0 e ≡ take e line = (let y : e - 0 ≡ e = omega arith in rw y) in
-    let l : t .start ≤ e = omega (arith, f .trimmed .order, f .trimmed .fits) in
+    let s : t .start - 0 ≡ t .start = omega arith in
+    let l : t .start ≤ e = omega (arith, f .order, f .fits) in
     let front : take (t .start) (part line 0 e) ≡ take (t .start) line = ap (take (t .start)) z ∙ take-take (t .start) e line l in
-    let q : Quiet (take (t .start) line) = subst Quiet front (front-quiet (part line 0 e) (t .start) w (f .start)) in
+    let q : Quiet (take (t .start) line) = subst Quiet front (front-quiet (part line 0 e) (t .start) w (rw s at (f .front))) in
     let n : length (take (t .start) line) ≡ t .start = length-take-le (t .start) line (omega arith) in
-    let m : length (part line (t .start) (t .end)) ≡ t .end - t .start = part-length line (t .start) (t .end) (omega (arith, f .trimmed .fits)) in
-    let i : t .start + length (part line (t .start) (t .end)) ≡ t .end = omega (arith, f .trimmed .order) in
-    let c : Classed (take (t .start) line ++ (part line (t .start) (t .end) ++ drop (t .end) line)) class = subst (λ (x : List ℕ). Classed x class) (parts line (t .start) (t .end) (f .trimmed .order)) k in
+    let m : length (part line (t .start) (t .end)) ≡ t .end - t .start = part-length line (t .start) (t .end) (omega (arith, f .fits)) in
+    let i : t .start + length (part line (t .start) (t .end)) ≡ t .end = omega (arith, f .order) in
+    let c : Classed (take (t .start) line ++ (part line (t .start) (t .end) ++ drop (t .end) line)) class = subst (λ (x : List ℕ). Classed x class) (parts line (t .start) (t .end) (f .order)) k in
     let r = part-classed (take (t .start) line) (part line (t .start) (t .end)) (drop (t .end) line) class q c in
     subst (λ (j : ℕ). Classed (part line (t .start) (t .end)) (part class (t .start) j)) i
     (subst (λ (j : ℕ). Classed (part line (t .start) (t .end)) (part class j (j + length (part line (t .start) (t .end))))) n r)

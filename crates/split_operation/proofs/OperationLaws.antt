@@ -36,7 +36,7 @@ use Rattle.split_operation.specs.declared.OperationSplit.{OperationSplit
 use Rattle.split.specs.Measure.{Measured, Indent, IndentMeasured, Within, Trimmed}
 use Rattle.split.specs.Text.{indented, lay, AllWell, following, lastOf, LineRoom, LineWritten, Fits, lineRoom}
 use Rattle.split_operation.specs.Pass.{fresh, Sound, Breakable, Cutting, breakStrength, restFrom, cutsAt, NextOp, Unbroken, BreakFound}
-use Rattle.split_operation.specs.Operation.{Broken, trimBytes, restLines, RestFits, After, RestWritten, Classed, OperationFits, LineFits, roundStrength, RoundBreak, FirstPiece, firstLine, otherLines, PiecesWritten, brokenIn, FirstBroken}
+use Rattle.split_operation.specs.Operation.{Broken, trimBytes, restLines, RestFits, After, RestWritten, Classed, OperationFits, LineFits, roundStrength, RoundBreak, firstLine, otherLines, PiecesWritten, brokenIn, FirstBroken}
 use Rattle.split.proofs.MeasureLaws.{measure-append, part-length}
 use Rattle.split.proofs.TextLaws.{AllScalars, all-well, following-append, last-append, written-lines, lay-encode, indent-short, level-fits, deeper-fits}
 use Rattle.split_operation.proofs.ClassLaws.{class-length, piece-classed}
@@ -408,10 +408,7 @@ module _ (table line class indent : List ℕ) (level : ℕ) (eol : List ℕ) (ma
     pub first-within : Within line 0 (c .place)
     first-within = record { order = zero-le; fits = q .fits; well = cutting .well }
 
-    module _ (t : Part) (f : FirstPiece line (c .place) t) where
-      abbrev u : Trimmed line 0 (c .place) t
-      u = f .trimmed
-
+    module _ (t : Part) (u : Trimmed line 0 (c .place) t) where
       abbrev piece : List ℕ
       piece = part line (t .start) (t .end)
 
@@ -434,7 +431,7 @@ module _ (table line class indent : List ℕ) (level : ℕ) (eol : List ℕ) (ma
               size = omega (arith, piece-length, q .fits, pre .size);
               room = omega (arith, piece-length, q .fits, pre .room);
             };
-            classed = piece-classed line class (c .place) t (asks .classed) (q .fits) (cutting .well) f;
+            classed = piece-classed line class (c .place) t (asks .classed) (q .fits) (cutting .well) u;
           }
 
       first-text : decode piece ≡ trim (piecesAt table line p .first)

@@ -7,15 +7,13 @@ use lib.Dec.{ltb, eqb}
 use lib.ListN.{length}
 use Rattle.buffer.specs.Buffer.{part, Appended}
 use Rattle.unicode.specs.Unicode.{encode, decode, WellFormed, trim}
-use Rattle.unicode.specs.Places.{TrimmedStart}
 use Rattle.rules.specs.declared.Carry.{Carry}
 use Rattle.rules.specs.Basics.{choose, isEmpty, Pieces}
 use Rattle.rules.specs.Scan.{Cell, classify, allCodeOrStr}
 use Rattle.rules.specs.ClassBytes.{classBytes, cellsOf}
 use Rattle.rules.specs.Options.{indentOf, overWide}
 use Rattle.rules.specs.SplitOperation.{breakFirst}
-use Rattle.split.specs.declared.Part.{Part}
-use Rattle.split.specs.Measure.{Indent, Trimmed}
+use Rattle.split.specs.Measure.{Indent}
 use Rattle.split.specs.Text.{indented, lay, AllWell, following, lastOf, Written, Fits, lineRoom}
 use Rattle.split_operation.specs.Pass.{breakStrength, restFrom, Sound, Breakable, NextOp, fresh}
 use Rattle.split_operation.specs.declared.pass.Break.{Break}
@@ -79,11 +77,6 @@ roundStrength table indent level max rounds line cells =
 pub record RoundBreak (table indent : List ℕ) (level max rounds : ℕ) (line class : List ℕ) (r : Break) : Type 0 where
   pub strength : r .strength ≡ roundStrength table indent level max rounds line (cellsOf line class)
   pub cut : (r .strength ≡ 0 → ⊥) → NextOp table (r .strength) line class 0 fresh (r .cut)
-
--- the part before e, trimmed
-pub record FirstPiece (line : List ℕ) (e : ℕ) (r : Part) : Type 0 where
-  pub trimmed : Trimmed line 0 e r
-  pub start : TrimmedStart (part line 0 e) (r .start)
 
 -- the lines of pieces, as bytes
 abbrev pub firstLine : List ℕ → ℕ → Pieces → List ℕ

@@ -5,14 +5,11 @@ ghost use mathlib.Core.Path.{_≡_};
 ghost use Rattle.unicode.specs.Unicode.{decode};
 ghost use Rattle.rules.specs.Options.{Options};
 ghost use Rattle.rules.specs.SplitOperation.{strengths, splitOperation};
-ghost use Rattle.split.specs.Measure.{Within};
-ghost use Rattle.split_operation.specs.Operation.{LineFits, Broken, RestFits, RestWritten, RoundBreak, FirstPiece, FirstBroken, OperationFits};
+ghost use Rattle.split_operation.specs.Operation.{LineFits, Broken, RestFits, RestWritten, RoundBreak, FirstBroken, OperationFits};
 use pass::Break;
-use pass::Cut;
 use pass::find_break;
 use pass::next_op;
 use pass::unbroken;
-use split::Part;
 use split::indent_column;
 use split::measure_from;
 use split::trim_part;
@@ -55,18 +52,18 @@ fn write_rest(
     table: &[u8; 21],
     line: &[u8],
     class: &[u8],
-    strength: u8,
-    cut: Cut,
+    b: Break,
     indent: &[u8],
     level: usize,
     eol: &[u8],
     out: &mut [u8],
     first: OperationSplit,
 ) -> OperationSplit
-    requires { ⌜ RestFits (now table) strength (now line) (now class) cut (now indent) level (now eol) first ⌝ }
-    ensures { λ r. ⌜ RestWritten (now (table .entry)) strength (now (line .entry)) (now (class .entry)) cut (now (indent .entry)) level (now (eol .entry)) (now (out .entry)) (now (out .exit)) first r ⌝ }
+    requires { ⌜ RestFits (now table) (b .strength) (now line) (now class) (b .cut) (now indent) level (now eol) first ⌝ }
+    ensures { λ r. ⌜ RestWritten (now (table .entry)) (b .strength) (now (line .entry)) (now (class .entry)) (b .cut) (now (indent .entry)) level (now (eol .entry)) (now (out .entry)) (now (out .exit)) first r ⌝ }
 {
-    let mut c = cut;
+    let strength = b.strength;
+    let mut c = b.cut;
     let mut r = first;
     while c.place < line.len() {
         let from = c.place;
@@ -108,20 +105,6 @@ fn round_break(
     find_break(table, line, class)
 }
 
-// The part before a cut, trimmed. What is trimmed of its start is white space, so that a scan of the part by itself starts as the line's does.
-fn first_piece(line: &[u8], e: usize) -> Part
-    requires { ⌜ Within (now line) 0 e ⌝ }
-    ensures { λ r. ⌜ FirstPiece (now (line .entry)) e r ⌝ }
-{
-    let p = &line[0..e];
-    let n = unicode::trim_start(p);
-    let m = unicode::trim_end(&p[n..]);
-    Part {
-        start: n,
-        end: n + m,
-    }
-}
-
 // A line, its first piece broken again in so many rounds while it is too wide.
 fn break_first(
     table: &[u8; 21],
@@ -148,33 +131,13 @@ fn break_first(
         };
     }
     let cut = b.cut;
-    let p = first_piece(line, cut.place);
+    let p = trim_part(line, 0, cut.place);
     let a = p.start;
     let e = p.end;
-    let first = break_first(
-        table,
-        &line[a..e],
-        &class[a..e],
-        indent,
-        level,
-        eol,
-        max,
-        rounds - 1,
-        out,
-        at,
-    );
-    write_rest(
-        table,
-        line,
-        class,
-        b.strength,
-        cut,
-        indent,
-        level + 1,
-        eol,
-        out,
-        first,
-    )
+    let l = &line[a..e];
+    let k = &class[a..e];
+    let first = break_first(table, l, k, indent, level, eol, max, rounds - 1, out, at);
+    write_rest(table, line, class, b, indent, level + 1, eol, out, first)
 }
 
 // An over-wide line of code and strings with its class bytes, broken before its loosest operators. Where there is nothing to break at, that is

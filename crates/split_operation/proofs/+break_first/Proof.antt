@@ -9,7 +9,7 @@ use Rattle.split_operation.proofs.break_first.Reads as break-first
 use Rattle.split_operation.proofs.break_first.Kinds as break-first-kinds
 use Rattle.split_operation.proofs.+break_first.Lts-break_first as break-first-lts
 use Rattle.buffer.proofs.append_indented.Reads as append-indented-reads
-use Rattle.split_operation.proofs.first_piece.Reads as first-piece-reads
+use Rattle.split.proofs.trim_part.Reads as trim-part-reads
 use Rattle.split_operation.proofs.round_break.Reads as round-break-reads
 use Rattle.split_operation.proofs.write_rest.Reads as write-rest-reads
 use Rattle.split_operation.proofs.+break_first.{statement}
@@ -31,8 +31,8 @@ break-first-round-break-requires : (t : ℕ) → break-first-lts.Need-round-brea
   round-break-reads.Learnt,
   append-indented-reads.Asked,
   append-indented-reads.Learnt,
-  first-piece-reads.Asked,
-  first-piece-reads.Learnt,
+  trim-part-reads.Asked,
+  trim-part-reads.Learnt,
   break-first-below t,
   break-first.Post,
   write-rest-reads.Asked,
@@ -45,8 +45,8 @@ break-first-append-indented-requires : (t : ℕ) → break-first-lts.Need-append
   round-break-reads.Learnt,
   append-indented-reads.Asked,
   append-indented-reads.Learnt,
-  first-piece-reads.Asked,
-  first-piece-reads.Learnt,
+  trim-part-reads.Asked,
+  trim-part-reads.Learnt,
   break-first-below t,
   break-first.Post,
   write-rest-reads.Asked,
@@ -59,8 +59,8 @@ break-first-same-length : (t : ℕ) → break-first-lts.Need-same-length (
   round-break-reads.Learnt,
   append-indented-reads.Asked,
   append-indented-reads.Learnt,
-  first-piece-reads.Asked,
-  first-piece-reads.Learnt,
+  trim-part-reads.Asked,
+  trim-part-reads.Learnt,
   break-first-below t,
   break-first.Post,
   write-rest-reads.Asked,
@@ -73,8 +73,8 @@ break-first-returns : (t : ℕ) → break-first-lts.Need-returns (
   round-break-reads.Learnt,
   append-indented-reads.Asked,
   append-indented-reads.Learnt,
-  first-piece-reads.Asked,
-  first-piece-reads.Learnt,
+  trim-part-reads.Asked,
+  trim-part-reads.Learnt,
   break-first-below t,
   break-first.Post,
   write-rest-reads.Asked,
@@ -82,139 +82,139 @@ break-first-returns : (t : ℕ) → break-first-lts.Need-returns (
 ) (break-first-at t) break-first.Post
 break-first-returns t c = first-whole _ _ _ _ _ _ _ _ _ (c .before .before .before .before .before .before .before .before .before .before .before .before .pre .1) _ _ _ _ (c .before .before .before .before .before .before .round-break .ensures) (c .before .before .before .before .if1 .taken) (c .before .before .append-indented .ensures)
 
-break-first-first-piece-requires : (t : ℕ) → break-first-lts.Need-first-piece-requires (
+break-first-trim-part-requires : (t : ℕ) → break-first-lts.Need-trim-part-requires (
   round-break-reads.Asked,
   round-break-reads.Learnt,
   append-indented-reads.Asked,
   append-indented-reads.Learnt,
-  first-piece-reads.Asked,
-  first-piece-reads.Learnt,
+  trim-part-reads.Asked,
+  trim-part-reads.Learnt,
   break-first-below t,
   break-first.Post,
   write-rest-reads.Asked,
   write-rest-reads.Learnt,
 ) (break-first-at t) break-first.Post
-break-first-first-piece-requires t c κs = first-within _ _ _ _ _ _ _ _ _ (c .before .before .before .before .before .before .before .before .before .pre .1) _ (c .before .before .before .round-break .ensures) (c .before .if1 .left)
+break-first-trim-part-requires t c κs = first-within _ _ _ _ _ _ _ _ _ (c .before .before .before .before .before .before .before .before .before .pre .1) _ (c .before .before .before .round-break .ensures) (c .before .if1 .left)
+
+break-first-sub-l : (t : ℕ) → break-first-lts.Need-sub-l (
+  round-break-reads.Asked,
+  round-break-reads.Learnt,
+  append-indented-reads.Asked,
+  append-indented-reads.Learnt,
+  trim-part-reads.Asked,
+  trim-part-reads.Learnt,
+  break-first-below t,
+  break-first.Post,
+  write-rest-reads.Asked,
+  write-rest-reads.Learnt,
+) (break-first-at t) break-first.Post
+break-first-sub-l t c = search needs
+
+break-first-part-l-start : (t : ℕ) → break-first-lts.Need-part-l-start (
+  round-break-reads.Asked,
+  round-break-reads.Learnt,
+  append-indented-reads.Asked,
+  append-indented-reads.Learnt,
+  trim-part-reads.Asked,
+  trim-part-reads.Learnt,
+  break-first-below t,
+  break-first.Post,
+  write-rest-reads.Asked,
+  write-rest-reads.Learnt,
+) (break-first-at t) break-first.Post
+break-first-part-l-start t c = search needs
+
+break-first-part-l-end : (t : ℕ) → break-first-lts.Need-part-l-end (
+  round-break-reads.Asked,
+  round-break-reads.Learnt,
+  append-indented-reads.Asked,
+  append-indented-reads.Learnt,
+  trim-part-reads.Asked,
+  trim-part-reads.Learnt,
+  break-first-below t,
+  break-first.Post,
+  write-rest-reads.Asked,
+  write-rest-reads.Learnt,
+) (break-first-at t) break-first.Post
+break-first-part-l-end t c = let t = c .trim-part .ensures in let f = t .fits in let o = t .order in let q = c .before .before .before .before .round-break .ensures .cut (c .before .before .if1 .left) .fits in search needs
+
+break-first-sub-k : (t : ℕ) → break-first-lts.Need-sub-k (
+  round-break-reads.Asked,
+  round-break-reads.Learnt,
+  append-indented-reads.Asked,
+  append-indented-reads.Learnt,
+  trim-part-reads.Asked,
+  trim-part-reads.Learnt,
+  break-first-below t,
+  break-first.Post,
+  write-rest-reads.Asked,
+  write-rest-reads.Learnt,
+) (break-first-at t) break-first.Post
+break-first-sub-k t c = search needs
+
+break-first-part-k-start : (t : ℕ) → break-first-lts.Need-part-k-start (
+  round-break-reads.Asked,
+  round-break-reads.Learnt,
+  append-indented-reads.Asked,
+  append-indented-reads.Learnt,
+  trim-part-reads.Asked,
+  trim-part-reads.Learnt,
+  break-first-below t,
+  break-first.Post,
+  write-rest-reads.Asked,
+  write-rest-reads.Learnt,
+) (break-first-at t) break-first.Post
+break-first-part-k-start t c = search needs
+
+break-first-part-k-end : (t : ℕ) → break-first-lts.Need-part-k-end (
+  round-break-reads.Asked,
+  round-break-reads.Learnt,
+  append-indented-reads.Asked,
+  append-indented-reads.Learnt,
+  trim-part-reads.Asked,
+  trim-part-reads.Learnt,
+  break-first-below t,
+  break-first.Post,
+  write-rest-reads.Asked,
+  write-rest-reads.Learnt,
+) (break-first-at t) break-first.Post
+break-first-part-k-end t c = let k = class-length _ _ (c .before .before .before .before .before .before .before .before .before .before .before .pre .1 .classed) in let t = c .before .trim-part .ensures in let f = t .fits in let o = t .order in let q = c .before .before .before .before .before .round-break .ensures .cut (c .before .before .before .if1 .left) .fits in search needs
 
 break-first-sub-break-first : (t : ℕ) → break-first-lts.Need-sub-break-first (
   round-break-reads.Asked,
   round-break-reads.Learnt,
   append-indented-reads.Asked,
   append-indented-reads.Learnt,
-  first-piece-reads.Asked,
-  first-piece-reads.Learnt,
+  trim-part-reads.Asked,
+  trim-part-reads.Learnt,
   break-first-below t,
   break-first.Post,
   write-rest-reads.Asked,
   write-rest-reads.Learnt,
 ) (break-first-at t) break-first.Post
-break-first-sub-break-first t c = search needs
-
-break-first-part-break-first-start : (t : ℕ) → break-first-lts.Need-part-break-first-start (
-  round-break-reads.Asked,
-  round-break-reads.Learnt,
-  append-indented-reads.Asked,
-  append-indented-reads.Learnt,
-  first-piece-reads.Asked,
-  first-piece-reads.Learnt,
-  break-first-below t,
-  break-first.Post,
-  write-rest-reads.Asked,
-  write-rest-reads.Learnt,
-) (break-first-at t) break-first.Post
-break-first-part-break-first-start t c = search needs
-
-break-first-part-break-first-end : (t : ℕ) → break-first-lts.Need-part-break-first-end (
-  round-break-reads.Asked,
-  round-break-reads.Learnt,
-  append-indented-reads.Asked,
-  append-indented-reads.Learnt,
-  first-piece-reads.Asked,
-  first-piece-reads.Learnt,
-  break-first-below t,
-  break-first.Post,
-  write-rest-reads.Asked,
-  write-rest-reads.Learnt,
-) (break-first-at t) break-first.Post
-break-first-part-break-first-end t c = let t = c .first-piece .ensures .trimmed in let f = t .fits in let o = t .order in let q = c .before .before .before .before .round-break .ensures .cut (c .before .before .if1 .left) .fits in search needs
-
-break-first-sub-break-first-2 : (t : ℕ) → break-first-lts.Need-sub-break-first-2 (
-  round-break-reads.Asked,
-  round-break-reads.Learnt,
-  append-indented-reads.Asked,
-  append-indented-reads.Learnt,
-  first-piece-reads.Asked,
-  first-piece-reads.Learnt,
-  break-first-below t,
-  break-first.Post,
-  write-rest-reads.Asked,
-  write-rest-reads.Learnt,
-) (break-first-at t) break-first.Post
-break-first-sub-break-first-2 t c = search needs
-
-break-first-part-break-first-start-2 : (t : ℕ) → break-first-lts.Need-part-break-first-start-2 (
-  round-break-reads.Asked,
-  round-break-reads.Learnt,
-  append-indented-reads.Asked,
-  append-indented-reads.Learnt,
-  first-piece-reads.Asked,
-  first-piece-reads.Learnt,
-  break-first-below t,
-  break-first.Post,
-  write-rest-reads.Asked,
-  write-rest-reads.Learnt,
-) (break-first-at t) break-first.Post
-break-first-part-break-first-start-2 t c = search needs
-
-break-first-part-break-first-end-2 : (t : ℕ) → break-first-lts.Need-part-break-first-end-2 (
-  round-break-reads.Asked,
-  round-break-reads.Learnt,
-  append-indented-reads.Asked,
-  append-indented-reads.Learnt,
-  first-piece-reads.Asked,
-  first-piece-reads.Learnt,
-  break-first-below t,
-  break-first.Post,
-  write-rest-reads.Asked,
-  write-rest-reads.Learnt,
-) (break-first-at t) break-first.Post
-break-first-part-break-first-end-2 t c = let k = class-length _ _ (c .before .before .before .before .before .before .before .before .before .before .before .pre .1 .classed) in let t = c .before .first-piece .ensures .trimmed in let f = t .fits in let o = t .order in let q = c .before .before .before .before .before .round-break .ensures .cut (c .before .before .before .if1 .left) .fits in search needs
-
-break-first-sub-break-first-3 : (t : ℕ) → break-first-lts.Need-sub-break-first-3 (
-  round-break-reads.Asked,
-  round-break-reads.Learnt,
-  append-indented-reads.Asked,
-  append-indented-reads.Learnt,
-  first-piece-reads.Asked,
-  first-piece-reads.Learnt,
-  break-first-below t,
-  break-first.Post,
-  write-rest-reads.Asked,
-  write-rest-reads.Learnt,
-) (break-first-at t) break-first.Post
-break-first-sub-break-first-3 t c = some-rounds _ (rounds-left _ _ _ _ _ _ _ _ (c .before .before .before .before .before .before .round-break .ensures) (c .before .before .before .before .if1 .left))
+break-first-sub-break-first t c = some-rounds _ (rounds-left _ _ _ _ _ _ _ _ (c .before .before .before .before .before .before .round-break .ensures) (c .before .before .before .before .if1 .left))
 
 break-first-break-first-requires : (t : ℕ) → break-first-lts.Need-break-first-requires (
   round-break-reads.Asked,
   round-break-reads.Learnt,
   append-indented-reads.Asked,
   append-indented-reads.Learnt,
-  first-piece-reads.Asked,
-  first-piece-reads.Learnt,
+  trim-part-reads.Asked,
+  trim-part-reads.Learnt,
   break-first-below t,
   break-first.Post,
   write-rest-reads.Asked,
   write-rest-reads.Learnt,
 ) (break-first-at t) break-first.Post
-break-first-break-first-requires t c κs = (fewer-rounds (c .before .before .before .before .before .before .before .before .before .before .before .before .before .pre .0) (rounds-left _ _ _ _ _ _ _ _ (c .before .before .before .before .before .before .before .round-break .ensures) (c .before .before .before .before .before .if1 .left)), first-fits _ _ _ _ _ _ _ _ _ (c .before .before .before .before .before .before .before .before .before .before .before .before .before .pre .1) _ (c .before .before .before .before .before .before .before .round-break .ensures) (c .before .before .before .before .before .if1 .left) _ (c .before .before .before .first-piece .ensures))
+break-first-break-first-requires t c κs = (fewer-rounds (c .before .before .before .before .before .before .before .before .before .before .before .before .before .pre .0) (rounds-left _ _ _ _ _ _ _ _ (c .before .before .before .before .before .before .before .round-break .ensures) (c .before .before .before .before .before .if1 .left)), first-fits _ _ _ _ _ _ _ _ _ (c .before .before .before .before .before .before .before .before .before .before .before .before .before .pre .1) _ (c .before .before .before .before .before .before .before .round-break .ensures) (c .before .before .before .before .before .if1 .left) _ (c .before .before .before .trim-part .ensures))
 
 break-first-add-write-rest : (t : ℕ) → break-first-lts.Need-add-write-rest (
   round-break-reads.Asked,
   round-break-reads.Learnt,
   append-indented-reads.Asked,
   append-indented-reads.Learnt,
-  first-piece-reads.Asked,
-  first-piece-reads.Learnt,
+  trim-part-reads.Asked,
+  trim-part-reads.Learnt,
   break-first-below t,
   break-first.Post,
   write-rest-reads.Asked,
@@ -227,22 +227,22 @@ break-first-write-rest-requires : (t : ℕ) → break-first-lts.Need-write-rest-
   round-break-reads.Learnt,
   append-indented-reads.Asked,
   append-indented-reads.Learnt,
-  first-piece-reads.Asked,
-  first-piece-reads.Learnt,
+  trim-part-reads.Asked,
+  trim-part-reads.Learnt,
   break-first-below t,
   break-first.Post,
   write-rest-reads.Asked,
   write-rest-reads.Learnt,
 ) (break-first-at t) break-first.Post
-break-first-write-rest-requires t c κs = rest-fits _ _ _ _ _ _ _ _ _ (c .before .before .before .before .before .before .before .before .before .before .before .before .before .before .before .before .before .pre .1) _ (c .before .before .before .before .before .before .before .before .before .before .before .round-break .ensures) (c .before .before .before .before .before .before .before .before .before .if1 .left) _ (c .before .before .before .before .before .before .before .first-piece .ensures) _ _ _ (c .before .before .before .break-first .ensures)
+break-first-write-rest-requires t c κs = rest-fits _ _ _ _ _ _ _ _ _ (c .before .before .before .before .before .before .before .before .before .before .before .before .before .before .before .before .before .pre .1) _ (c .before .before .before .before .before .before .before .before .before .before .before .round-break .ensures) (c .before .before .before .before .before .before .before .before .before .if1 .left) _ (c .before .before .before .before .before .before .before .trim-part .ensures) _ _ _ (c .before .before .before .break-first .ensures)
 
 break-first-same-length-2 : (t : ℕ) → break-first-lts.Need-same-length-2 (
   round-break-reads.Asked,
   round-break-reads.Learnt,
   append-indented-reads.Asked,
   append-indented-reads.Learnt,
-  first-piece-reads.Asked,
-  first-piece-reads.Learnt,
+  trim-part-reads.Asked,
+  trim-part-reads.Learnt,
   break-first-below t,
   break-first.Post,
   write-rest-reads.Asked,
@@ -255,14 +255,14 @@ break-first-returns-2 : (t : ℕ) → break-first-lts.Need-returns-2 (
   round-break-reads.Learnt,
   append-indented-reads.Asked,
   append-indented-reads.Learnt,
-  first-piece-reads.Asked,
-  first-piece-reads.Learnt,
+  trim-part-reads.Asked,
+  trim-part-reads.Learnt,
   break-first-below t,
   break-first.Post,
   write-rest-reads.Asked,
   write-rest-reads.Learnt,
 ) (break-first-at t) break-first.Post
-break-first-returns-2 t c = first-broken _ _ _ _ _ _ _ _ _ (c .before .before .before .before .before .before .before .before .before .before .before .before .before .before .before .before .before .before .before .before .pre .1) _ (c .before .before .before .before .before .before .before .before .before .before .before .before .before .before .round-break .ensures) (c .before .before .before .before .before .before .before .before .before .before .before .before .if1 .left) _ (c .before .before .before .before .before .before .before .before .before .before .first-piece .ensures) _ _ _ (c .before .before .before .before .before .before .break-first .ensures) _ _ (c .before .before .write-rest .ensures)
+break-first-returns-2 t c = first-broken _ _ _ _ _ _ _ _ _ (c .before .before .before .before .before .before .before .before .before .before .before .before .before .before .before .before .before .before .before .before .pre .1) _ (c .before .before .before .before .before .before .before .before .before .before .before .before .before .before .round-break .ensures) (c .before .before .before .before .before .before .before .before .before .before .before .before .if1 .left) _ (c .before .before .before .before .before .before .before .before .before .before .trim-part .ensures) _ _ _ (c .before .before .before .before .before .before .break-first .ensures) _ _ (c .before .before .write-rest .ensures)
 
 pub +break-first-spec : {M : Type 1} → statement M
 +break-first-spec = close μ-break-first λ t. break-first-lts.spec (
@@ -270,8 +270,8 @@ pub +break-first-spec : {M : Type 1} → statement M
   round-break-reads.Learnt,
   append-indented-reads.Asked,
   append-indented-reads.Learnt,
-  first-piece-reads.Asked,
-  first-piece-reads.Learnt,
+  trim-part-reads.Asked,
+  trim-part-reads.Learnt,
   break-first-below t,
   break-first.Post,
   write-rest-reads.Asked,
@@ -283,14 +283,14 @@ pub +break-first-spec : {M : Type 1} → statement M
     (break-first-append-indented-requires t)
     (break-first-same-length t)
     (break-first-returns t)
-    (break-first-first-piece-requires t)
+    (break-first-trim-part-requires t)
+    (break-first-sub-l t)
+    (break-first-part-l-start t)
+    (break-first-part-l-end t)
+    (break-first-sub-k t)
+    (break-first-part-k-start t)
+    (break-first-part-k-end t)
     (break-first-sub-break-first t)
-    (break-first-part-break-first-start t)
-    (break-first-part-break-first-end t)
-    (break-first-sub-break-first-2 t)
-    (break-first-part-break-first-start-2 t)
-    (break-first-part-break-first-end-2 t)
-    (break-first-sub-break-first-3 t)
     (break-first-break-first-requires t)
     (break-first-add-write-rest t)
     (break-first-write-rest-requires t)

@@ -6,10 +6,10 @@ use Rattle.split_operation.proofs.write_rest.Statement.{statement}
 use Rattle.split_operation.proofs.write_rest.Tie as tie
 
 abbrev Inv-loop : tie.InvT-loop
-Inv-loop table line class strength indent level eol out₀ c₀ r₀ out c r = Writing table strength line class c₀ indent level eol out₀ r₀ out c r
+Inv-loop table line class indent level eol out₀ strength c₀ r₀ out c r = Writing table strength line class c₀ indent level eol out₀ r₀ out c r
 
 abbrev μ-loop : tie.MeasureT-loop
-μ-loop table line class strength indent level eol out₀ c₀ r₀ out c r = length line - c .place
+μ-loop table line class indent level eol out₀ strength c₀ r₀ out c r = length line - c .place
 
 loop-holds : tie.Need-loop-holds Inv-loop μ-loop
 loop-holds c = search (needs, writing-start)

@@ -15,7 +15,7 @@ use Rattle.rules.specs.Brackets.{levels}
 use Rattle.rules.specs.Line.{Formatter, dropBlank, broken, fitted, spacedLine, placedLine}
 use Rattle.rules.specs.declared.Carry.{Carry}
 use Rattle.rules.specs.declared.PrintWidth.{PrintWidth}
-use Rattle.format.specs.Stack.{stacked}
+use Rattle.format.specs.Stack.{stacked, Closers}
 use Rattle.format.specs.Words.{declarationOf, sameOf}
 use Rattle.format.specs.declared.words.Declaration.{Declaration}
 use Rattle.text.specs.Text.{Text, Ordered}
@@ -32,12 +32,17 @@ pub record GoesOn (line class : List ℕ) : Type 0 where
   pub trimmed : trimEnd (decode line) ≡ decode line
   pub classes : class ≡ classBytes (classify Carry.Code line)
 
--- what the code knows before the line: the text, the open brackets in scratch, and the previous line's two facts
+-- what the code knows before the line: the text, the open brackets in scratch, the previous line's two facts
 pub record Knows (eol : List ℕ) (f : Formatter) (b : Before) (out scratch : List ℕ) : Type 0 where
   pub text : Text eol (f .lines) (b .text) out
   pub stack : stacked scratch (b .base) (b .depth) ≡ f .stack
   pub decl : b .decl ≡ declarationOf (f .prev)
   pub brace : b .brace ≡ lastIs (is "}") (f .prev)
+
+-- and of the line itself, from its bytes
+pub record Heads (line : List ℕ) (b : Before) : Type 0 where
+  pub closers : Closers line (b .closers)
+  pub declares : b .declares ≡ declarationOf line
 
 -- what it asks
 pub record Asks (b : Before) (scratch : List ℕ) : Type 0 where

@@ -13,21 +13,23 @@ ghost use Rattle.rules.specs.Scan.{classify, allCodeOrStr};
 ghost use Rattle.rules.specs.declared.Carry.{Carry};
 ghost use Rattle.rules.specs.declared.PrintWidth.{PrintWidth};
 ghost use Rattle.line.specs.Holds.{ValidIndent};
-ghost use Rattle.place.specs.Placing.{GoesOn, Asks, Puts, spacedBy, placedBy, Level, dropsBlank, Wide, aloneIn, breakWidth, Lays, Breaks};
+ghost use Rattle.place.specs.Placing.{GoesOn, Heads, Asks, Puts, spacedBy, placedBy, Level, dropsBlank, Wide, aloneIn, breakWidth, Lays, Breaks};
 use format::words::Declaration;
 use line::kept::takes_else;
 use rules::LineEnding;
 use rules::PrintWidth;
 use text::Written;
 
-// What is known before the line: the text so far, the stack of open brackets, which lies in scratch from base on, and of the previous line which
-// declaration it is and whether it ends in `}`.
+// What is known before the line is put: the text so far, the stack of open brackets, which lies in scratch from base on, of the previous line which
+// declaration it is and whether it ends in `}`, and of this line its leading closers and which declaration it is.
 pub struct Before {
     pub text: Written,
     pub base: usize,
     pub depth: usize,
     pub decl: Declaration,
     pub brace: bool,
+    pub closers: usize,
+    pub declares: Declaration,
 }
 
 // The text after the line, and what the line adds to the counts.
@@ -182,6 +184,7 @@ fn lay_line(
 ) -> Placed
     requires { ⌜ ValidIndent (now indent) ⌝ }
     requires { ⌜ GoesOn (now line) (now class) ⌝ }
+    requires { ⌜ Heads (now line) b ⌝ }
     requires { ⌜ Asks b (now scratch) ⌝ }
     ensures { λ r. ⌜ Puts (placedBy marker (decode (now (line .entry)))) (now (indent .entry)) width (asStr ending) (length (now (line .entry))) b (now (out .entry)) (now (scratch .entry)) r (now (out .exit)) ⌝ }
 {
@@ -189,11 +192,11 @@ fn lay_line(
     let base = b.base;
     let depth = b.depth;
     let before = b.decl;
-    let closers = format::brackets::leading_closers(line);
+    let closers = b.closers;
+    let d = b.declares;
     let left = format::brackets::pop_closers(depth, closers);
     let continued = format::words::continues(line, closers, b.brace);
     let level = level_of(scratch, base, left, continued);
-    let d = format::words::declaration_of(line);
     let drops = drops_blank(depth, d, before);
     let max = break_width(width, marker, continued, closers);
     fit_line(line, class, indent, level, max, ending, drops, out, t)
@@ -213,6 +216,7 @@ pub fn place_line(
 ) -> Placed
     requires { ⌜ ValidIndent (now indent) ⌝ }
     requires { ⌜ GoesOn (now line) (now class) ⌝ }
+    requires { ⌜ Heads (now line) b ⌝ }
     requires { ⌜ Asks b (now scratch) ⌝ }
     ensures { λ r. ⌜ Puts (spacedBy marker (decode (now (line .entry)))) (now (indent .entry)) width (asStr ending) (length (now (line .entry))) b (now (out .entry)) (now (scratch .entry)) r (now (out .exit)) ⌝ }
 {

@@ -93,12 +93,13 @@ unfolding stacked
 length-stacked buf base zero = refl
 length-stacked buf base (suc n) = ap suc (length-stacked buf base n)
 
-module _ (line scratch scratch′ : List ℕ) (unit : ℕ) (g : Going) (depth closers left deep : ℕ) (well : WellFormed line) (goes : Goes line scratch unit g) (l : left ≡ depth - closers) where
-  counts : (L : List ℕ) → goingLine line scratch unit g ≡ L → Closers L closers
+module _ (line scratch scratch′ : List ℕ) (unit : ℕ) (g : Going) (depth closers left deep : ℕ) (well : WellFormed line) (goes : Goes line scratch unit g) (l : left ≡ depth - closers)
+    (k : Closers (encode (respaced (decode line))) closers) where
+  counts : (L : List ℕ) → goingLine line scratch unit g ≡ L
       → Settled scratch scratch′ (5 * unit) left (length L)
       (scanBrackets (drop closers (cellsOf L (part scratch (g .«class_at») (g .«class_at» + length L)))) (stacked scratch (5 * unit) left)) deep
       → Counts (respaced (decode line)) scratch scratch′ (5 * unit) depth (length line) deep
-  counts L e k w =
+  counts L e w =
       let n : g .len ≡ length L = sym (goes .long) ∙ ap length e in
       let classes : Classes Carry.Code L scratch (g .«class_at») (g .carry) =
       record {
@@ -107,28 +108,30 @@ module _ (line scratch scratch′ : List ℕ) (unit : ℕ) (g : Going) (depth cl
         depth = omega (arith, goes .depth, n);
       } in
       let t : decode L ≡ respaced (decode line) = ap decode (sym e) ∙ goes .text in
+      let well′ : WellFormed L = subst WellFormed e (goes .well) in
+      let k′ : Closers L closers = subst (λ (s : List ℕ). Closers s closers) (sym (sym well′ ∙ ap encode t)) k in
       let s : stacked scratch′ (5 * unit) deep ≡ countBrackets (leadingClosers (respaced (decode line))) (classify Carry.Code (respaced (decode line))) (stacked scratch (5 * unit) depth) =
-      rw t at (stack-counted (subst WellFormed e (goes .well)) classes depth k l w refl) in
+      rw t at (stack-counted well′ classes depth k′ l w refl) in
       record {
         stack = s;
         most = omega (arith, length-stacked scratch′ (5 * unit) deep, ap length s, length-stacked scratch (5 * unit) depth, height-spaced (decode line) (leadingClosers (respaced (decode line))) (stacked scratch (5 * unit) depth), length-size (decode line), ap length well);
         long = w .only .long;
       }
 
-  pub counts-own : g .own ≡ true → Closers line closers
+  pub counts-own : g .own ≡ true
       → Settled scratch scratch′ (5 * unit) left (length line)
       (scanBrackets (drop closers (cellsOf line (part scratch (g .«class_at») (g .«class_at» + length line)))) (stacked scratch (5 * unit) left)) deep
       → Counts (respaced (decode line)) scratch scratch′ (5 * unit) depth (length line) deep
-  counts-own e k w = counts line (choose-true (g .own) line _ e) k w
+  counts-own e w = counts line (choose-true (g .own) line _ e) w
 
-  pub counts-spaced : g .own ≡ false → Closers (part scratch unit (unit + g .len)) closers
+  pub counts-spaced : g .own ≡ false
       → Settled scratch scratch′ (5 * unit) left (g .len)
       (scanBrackets (drop closers (cellsOf (part scratch unit (unit + g .len)) (part scratch (g .«class_at») (g .«class_at» + g .len)))) (stacked scratch (5 * unit) left)) deep
       → Counts (respaced (decode line)) scratch scratch′ (5 * unit) depth (length line) deep
-  counts-spaced e k w =
+  counts-spaced e w =
       let p : goingLine line scratch unit g ≡ part scratch unit (unit + g .len) = choose-false (g .own) line _ e in
       let n : length (part scratch unit (unit + g .len)) ≡ g .len = ap length (sym p) ∙ goes .long in
-      counts (part scratch unit (unit + g .len)) p k
+      counts (part scratch unit (unit + g .len)) p
       (subst (λ (m : ℕ). Settled scratch scratch′ (5 * unit) left m
       (scanBrackets (drop closers (cellsOf (part scratch unit (unit + g .len)) (part scratch (g .«class_at») (g .«class_at» + m)))) (stacked scratch (5 * unit) left)) deep) (sym n) w)
 

@@ -5,7 +5,7 @@ use mathlib.Core.Bool.{Bool, false}
 use mathlib.Core.List.{List, [], _∷_}
 use mathlib.Core.Path.{_≡_, sym, ap, _∙_, subst}
 use lib.ListN.{length}
-use Rattle.unicode.specs.Unicode.{decode, WellFormed, trimEnd}
+use Rattle.unicode.specs.Unicode.{encode, decode, WellFormed, trimEnd}
 use Rattle.buffer.specs.Buffer.{part}
 use Rattle.rules.specs.Basics.{is, isEmpty, lastIs}
 use Rattle.rules.specs.Scan.{classify}
@@ -15,9 +15,10 @@ use Rattle.rules.specs.Spacing.{respaced}
 use Rattle.rules.specs.declared.Carry.{Carry}
 use Rattle.rules.specs.declared.PrintWidth.{PrintWidth}
 use Rattle.rules.proofs.SpacedLine.{spaced-trimmed, length-size}
+use Rattle.format.specs.Stack.{Closers}
 use Rattle.format.specs.Words.{declarationOf}
 use Rattle.format.specs.declared.words.Declaration.{Declaration}
-use Rattle.place.specs.Placing.{GoesOn, Knows, Asks, Puts, spacedBy}
+use Rattle.place.specs.Placing.{GoesOn, Heads, Knows, Asks, Puts, spacedBy}
 use Rattle.place.specs.declared.Before.{Before}
 use Rattle.place.specs.declared.Placed.{Placed}
 use Rattle.line.specs.Holds.{Holds, Ready}
@@ -26,7 +27,8 @@ use Rattle.line.proofs.HoldsLaws.{declaration-bytes, brace-bytes}
 use Rattle.step.specs.declared.Going.{Going}
 use Rattle.step.specs.Going.{SolidLine, goingLine, Goes, beforeOf, PutOn}
 
-knows : {eol : List ℕ} {unit : ℕ} {f : Formatter} {st : State} {out scratch : List ℕ} → Holds eol unit f st out scratch → Knows eol f (beforeOf st unit) out scratch
+knows : {eol : List ℕ} {unit closers : ℕ} {declares : Declaration} {f : Formatter} {st : State} {out scratch : List ℕ} → Holds eol unit f st out scratch
+    → Knows eol f (beforeOf st unit closers declares) out scratch
 knows h = record { text = h .text; stack = h .stack; decl = h .decl; brace = h .brace }
 
 some-length : (l : List ℕ) → isEmpty l ≡ false → 1 ≤ length l
@@ -38,8 +40,8 @@ pub some-bytes : (line : List ℕ) → WellFormed line → isEmpty (decode line)
 some-bytes line w e = omega (arith, some-length (decode line) e, length-size (decode line), ap length w)
 
 module _ (line scratch : List ℕ) (unit : ℕ) (st : State) (ready : Ready st scratch unit (length line)) (solid : SolidLine line) where
-  pub asks : (b : Before) → b ≡ beforeOf st unit → Asks b scratch
-  asks b e =
+  pub asks : (b : Before) (closers : ℕ) (declares : Declaration) → b ≡ beforeOf st unit closers declares → Asks b scratch
+  asks b closers declares e =
       let n = some-bytes line (solid .well) (solid .some) in
       subst (λ (x : Before). Asks x scratch) (sym e)
       (record {
@@ -70,20 +72,24 @@ module _ (line scratch : List ℕ) (unit : ℕ) (st : State) (ready : Ready st s
           classes = goes .classes ∙ ap (λ (s : List ℕ). classBytes (classify Carry.Code s)) (sym e);
         }
 
-    pub put-on : (marker : Bool) (indent : List ℕ) (width : PrintWidth) (eol out out′ : List ℕ) (p : Placed) (decl : Declaration) (brace : Bool) (b : Before)
-        → b ≡ beforeOf st unit → Puts (spacedBy marker (decode L)) indent width eol (length L) b out scratch p out′
-        → decl ≡ declarationOf L → brace ≡ lastIs (is "}") L
+    pub heads : (b : Before) (closers : ℕ) (declares : Declaration) → b ≡ beforeOf st unit closers declares → Closers L closers → declares ≡ declarationOf L → Heads L b
+    heads b closers declares e′ k d = subst (Heads L) (sym e′) (record { closers = k; declares = d })
+
+    pub put-on : (marker : Bool) (indent : List ℕ) (width : PrintWidth) (eol out out′ : List ℕ) (p : Placed) (closers : ℕ) (decl : Declaration) (brace : Bool) (b : Before)
+        → b ≡ beforeOf st unit closers decl → Puts (spacedBy marker (decode L)) indent width eol (length L) b out scratch p out′
+        → Closers L closers → decl ≡ declarationOf L → brace ≡ lastIs (is "}") L
         → PutOn marker (respaced (decode line)) indent width eol (length line) unit st out scratch
-        (record { text = p .text; imports = p .imports; blanks = p .blanks; decl = decl; brace = brace }) out′
-    put-on marker indent width eol out out′ p decl brace b e′ w ed eb =
-        let x : Puts (spacedBy marker (decode L)) indent width eol (length L) (beforeOf st unit) out scratch p out′ =
+        (record { text = p .text; imports = p .imports; blanks = p .blanks; closers = closers; decl = decl; brace = brace }) out′
+    put-on marker indent width eol out out′ p closers decl brace b e′ w ek ed eb =
+        let x : Puts (spacedBy marker (decode L)) indent width eol (length L) (beforeOf st unit closers decl) out scratch p out′ =
         subst (λ (y : Before). Puts (spacedBy marker (decode L)) indent width eol (length L) y out scratch p out′) e′ w in
-        let v : Puts (spacedBy marker (respaced (decode line))) indent width eol (length L) (beforeOf st unit) out scratch p out′ =
-        subst (λ (l : List ℕ). Puts (spacedBy marker l) indent width eol (length L) (beforeOf st unit) out scratch p out′) going-text x in
+        let v : Puts (spacedBy marker (respaced (decode line))) indent width eol (length L) (beforeOf st unit closers decl) out scratch p out′ =
+        subst (λ (l : List ℕ). Puts (spacedBy marker l) indent width eol (length L) (beforeOf st unit closers decl) out scratch p out′) going-text x in
         record {
           text = λ o f u h. v .text o f u (knows h);
           imports = λ o f u h. v .imports o f u (knows h);
           blanks = λ o f u h. v .blanks o f u (knows h);
+          closers = subst (λ (s : List ℕ). Closers s closers) (sym going-well ∙ ap encode going-text) ek;
           decl = ed ∙ declaration-bytes L going-well ∙ ap declarationOf going-text;
           brace = eb ∙ brace-bytes L going-well ∙ ap (lastIs (is "}")) going-text;
           ordered = v .ordered;

@@ -4,7 +4,7 @@ use mathlib.Core.Bool.{Bool, true, false}
 use mathlib.Core.List.{List}
 use mathlib.Core.Path.{_≡_}
 use lib.ListN.{length}
-use Rattle.unicode.specs.Unicode.{decode, trimEnd, WellFormed}
+use Rattle.unicode.specs.Unicode.{encode, decode, trimEnd, WellFormed}
 use Rattle.buffer.specs.Buffer.{part}
 use Rattle.rules.specs.Basics.{choose, is, isEmpty, lastIs}
 use Rattle.rules.specs.Scan.{classify, carryAfter}
@@ -20,8 +20,9 @@ use Rattle.rules.specs.declared.Ignore.{Ignore}
 use Rattle.rules.specs.declared.PrintWidth.{PrintWidth}
 use Rattle.scan.specs.Classified.{carryDepth}
 use Rattle.format.specs.Region.{Only}
-use Rattle.format.specs.Stack.{stacked}
+use Rattle.format.specs.Stack.{stacked, Closers}
 use Rattle.format.specs.Words.{declarationOf}
+use Rattle.format.specs.declared.words.Declaration.{Declaration}
 use Rattle.text.specs.Text.{Text, Ordered}
 use Rattle.place.specs.Placing.{spacedBy}
 use Rattle.place.specs.declared.Before.{Before}
@@ -103,9 +104,18 @@ formatOf o raw f = formatLine o f raw
 abbrev pub ignoreOf : Bool → Ignore
 ignoreOf marker = choose marker Ignore.NextLine Ignore.Nothing
 
--- what is known before the line
-abbrev pub beforeOf : State → ℕ → Before
-beforeOf st unit = record { text = st .text; base = 5 * unit; depth = st .depth; decl = st .decl; brace = st .brace }
+-- what is known before the line is put
+abbrev pub beforeOf : State → ℕ → ℕ → Declaration → Before
+beforeOf st unit closers declares =
+    record {
+      text = st .text;
+      base = 5 * unit;
+      depth = st .depth;
+      decl = st .decl;
+      brace = st .brace;
+      closers = closers;
+      declares = declares;
+    }
 
 -- the record after the line
 abbrev pub afterLine : State → Put → ℕ → Ignore → Carry → State
@@ -127,6 +137,7 @@ pub record PutOn (marker : Bool) (l indent : List ℕ) (width : PrintWidth) (eol
   pub text : (o : Options) (f : Formatter) → Uses o indent width → Holds eol unit f st out scratch → Text eol (spacedBy marker l o f .lines) (r .text) out′
   pub imports : (o : Options) (f : Formatter) → Uses o indent width → Holds eol unit f st out scratch → spacedBy marker l o f .importsSplit ≡ f .importsSplit + r .imports
   pub blanks : (o : Options) (f : Formatter) → Uses o indent width → Holds eol unit f st out scratch → spacedBy marker l o f .blankNames ≡ f .blankNames + r .blanks
+  pub closers : Closers (encode l) (r .closers)
   pub decl : r .decl ≡ declarationOf l
   pub brace : r .brace ≡ lastIs (is "}") l
   pub ordered : Ordered (r .text)

@@ -3,7 +3,7 @@ ghost use mathlib.Core.Path.{_≡_};
 ghost use mathlib.Core.Bool.{false};
 ghost use Prim.Native.Nat.{_+_, _*_, _≤_, _<_, _^_};
 ghost use lib.ListN.{length};
-ghost use Rattle.unicode.specs.Unicode.{decode, WellFormed};
+ghost use Rattle.unicode.specs.Unicode.{encode, decode, WellFormed};
 ghost use Rattle.rules.specs.Basics.{isEmpty};
 ghost use Rattle.rules.specs.Lines.{asStr};
 ghost use Rattle.rules.specs.Line.{protects, inCodeNow};
@@ -12,6 +12,7 @@ ghost use Rattle.rules.specs.Scan.{classify};
 ghost use Rattle.rules.specs.Spacing.{respaced};
 ghost use Rattle.rules.specs.ClassBytes.{classBytes};
 ghost use Rattle.rules.specs.declared.Carry.{Carry};
+ghost use Rattle.format.specs.Stack.{Closers};
 ghost use Rattle.line.specs.Holds.{Classes, Ready, Stepped, TrimmedLine, Uses, ValidIndent};
 ghost use Rattle.place.specs.Placing.{spacedBy};
 ghost use Rattle.step.specs.Going.{markerIn, keptOf, aloneOf, SolidLine, Marks, Room, Goes, Went, Counts, beforeOf, PutOn, afterLine, codeOf, formatOf, ignoreOf};
@@ -39,11 +40,12 @@ pub struct Going {
     pub carry: Carry,
 }
 
-// The text after the line, what the line adds to the counts, and what the next line asks of it.
+// The text after the line, what the line adds to the counts, its leading closers, and what the next line asks of it.
 pub struct Put {
     pub text: Written,
     pub imports: usize,
     pub blanks: usize,
+    pub closers: usize,
     pub decl: Declaration,
     pub brace: bool,
 }
@@ -76,31 +78,35 @@ fn go_on(line: &[u8], scratch: &mut [u8], unit: usize, after: Carry) -> Going
 }
 
 // Its brackets, the leading closers popped first.
-fn count_going(line: &[u8], scratch: &mut [u8], unit: usize, g: Going, depth: usize) -> usize
+fn count_going(
+    line: &[u8],
+    scratch: &mut [u8],
+    unit: usize,
+    g: Going,
+    closers: usize,
+    depth: usize,
+) -> usize
     requires { ⌜ WellFormed (now line) ⌝ }
     requires { ⌜ Room (now scratch) unit (length (now line)) ⌝ }
     requires { ⌜ Goes (now line) (now scratch) unit g ⌝ }
+    requires { ⌜ Closers (encode (respaced (decode (now line)))) closers ⌝ }
     requires { ⌜ depth + length (now line) ≤ unit ⌝ }
     ensures { λ r. ⌜ Counts (respaced (decode (now (line .entry)))) (now (scratch .entry)) (now (scratch .exit)) (5 * unit) depth (length (now (line .entry))) r ⌝ }
 {
     let len = g.len;
     let class_at = g.class_at;
     let base = 5 * unit;
+    let left = format::brackets::pop_closers(depth, closers);
     if g.own {
-        let closers = format::brackets::leading_closers(line);
-        let left = format::brackets::pop_closers(depth, closers);
         return format::brackets::scan_brackets(line, scratch, class_at, base, left, closers);
     }
-    let end = unit + len;
-    let closers = format::brackets::leading_closers(&scratch[unit..end]);
-    let left = format::brackets::pop_closers(depth, closers);
     format::brackets::scan_brackets_at(scratch, unit, len, class_at, base, left, closers)
 }
 
-// What is known before the line.
-fn before_of(st: State, unit: usize) -> Before
+// What is known before the line is put.
+fn before_of(st: State, unit: usize, closers: usize, declares: Declaration) -> Before
     requires { ⌜ unit ≤ 1048576 ⌝ }
-    ensures { λ r. ⌜ r ≡ beforeOf st unit ⌝ }
+    ensures { λ r. ⌜ r ≡ beforeOf st unit closers declares ⌝ }
 {
     let text = st.text;
     let decl = st.decl;
@@ -110,6 +116,8 @@ fn before_of(st: State, unit: usize) -> Before
         depth: st.depth,
         decl,
         brace: st.brace,
+        closers,
+        declares,
     }
 }
 
@@ -138,14 +146,16 @@ fn put_going<'a>(
     let end = class_at + len;
     let l = format::spacing::line_that_goes_on(line, scratch, own, unit, len);
     let class = &scratch[class_at..end];
-    let b = before_of(st, unit);
+    let closers = format::brackets::leading_closers(l);
+    let decl = format::words::declaration_of(l);
+    let b = before_of(st, unit, closers, decl);
     let p = place::place_line(l, class, marker, indent, width, ending, out, scratch, b);
     let text = p.text;
-    let decl = format::words::declaration_of(l);
     Put {
         text,
         imports: p.imports,
         blanks: p.blanks,
+        closers,
         decl,
         brace: format::else_line::ends_in_brace(l),
     }
@@ -216,7 +226,7 @@ fn spaced_line(
         st,
     );
     let depth = st.depth;
-    let deep = count_going(line, scratch, unit, g, depth);
+    let deep = count_going(line, scratch, unit, g, p.closers, depth);
     let carry = g.carry;
     after_line(st, p, deep, ignore_of(marker), carry)
 }

@@ -7,42 +7,21 @@ use Rattle.step.proofs.count_going.Tie as tie
 mul-base : tie.Need-mul-base
 mul-base c = search needs
 
-leading-closers-requires : tie.Need-leading-closers-requires
-leading-closers-requires c κs = search needs
-
 pop-closers-requires : tie.Need-pop-closers-requires
 pop-closers-requires c κs = search needs
 
 scan-brackets-requires : tie.Need-scan-brackets-requires
 scan-brackets-requires c κs =
-    let s = c .before .before .before .before .before .before .pre .1 in
-    count-room _ _ _ _ _ _ _ (s .0) (s .1 .0) (s .1 .1) (omega (arith, c .before .pop-closers .ensures)) (own-length _ _ _ _ (s .1 .0) (c .before .before .before .if1 .taken))
+    let s = c .before .before .before .before .before .pre .1 in
+    count-room _ _ _ _ _ _ _ (s .0) (s .1 .0) (s .1 .1 .1) (omega (arith, c .before .before .pop-closers .ensures)) (own-length _ _ _ _ (s .1 .0) (c .before .if1 .taken))
 
 same-length : tie.Need-same-length
 same-length c = search needs
 
 returns : tie.Need-returns
 returns c =
-    let s = c .before .before .before .before .before .before .before .before .before .pre in
-    counts-own _ _ _ _ _ _ _ _ _ (s .0) (s .1 .1 .0) (c .before .before .before .before .pop-closers .ensures) (c .before .before .before .before .before .before .if1 .taken) (c .before .before .before .before .before .leading-closers .ensures) (c .before .before .scan-brackets .ensures)
-
-add-end : tie.Need-add-end
-add-end c = search needs
-
-sub-leading-closers : tie.Need-sub-leading-closers
-sub-leading-closers c = search needs
-
-part-leading-closers-start : tie.Need-part-leading-closers-start
-part-leading-closers-start c = search needs
-
-part-leading-closers-end : tie.Need-part-leading-closers-end
-part-leading-closers-end c = search needs
-
-leading-closers-requires-2 : tie.Need-leading-closers-requires-2
-leading-closers-requires-2 c κs = search needs
-
-pop-closers-requires-2 : tie.Need-pop-closers-requires-2
-pop-closers-requires-2 c κs = search needs
+    let s = c .before .before .before .before .before .before .before .before .pre in
+    counts-own _ _ _ _ _ _ _ _ _ (s .0) (s .1 .1 .0) (c .before .before .before .before .before .pop-closers .ensures) (s .1 .1 .1 .0) (c .before .before .before .before .if1 .taken) (c .before .before .scan-brackets .ensures)
 
 scan-brackets-at-requires : tie.Need-scan-brackets-at-requires
 scan-brackets-at-requires c κs = search needs
@@ -52,25 +31,18 @@ same-length-2 c = search needs
 
 returns-2 : tie.Need-returns-2
 returns-2 c =
-    let s = c .before .before .before .before .before .before .before .before .before .before .before .pre in
-    counts-spaced _ _ _ _ _ _ _ _ _ (s .0) (s .1 .1 .0) (c .before .before .before .before .pop-closers2 .ensures) (c .before .before .before .before .before .before .before .before .if1 .left) (c .before .before .before .before .before .leading-closers2 .ensures) (c .before .before .scan-brackets-at .ensures)
+    let s = c .before .before .before .before .before .before .before .before .pre in
+    counts-spaced _ _ _ _ _ _ _ _ _ (s .0) (s .1 .1 .0) (c .before .before .before .before .before .pop-closers .ensures) (s .1 .1 .1 .0) (c .before .before .before .before .if1 .left) (c .before .before .scan-brackets-at .ensures)
 
 pub count-going-spec : {M : Type 1} → statement M
 count-going-spec =
     tie.close
     (tie.spec
     mul-base
-    leading-closers-requires
     pop-closers-requires
     scan-brackets-requires
     same-length
     returns
-    add-end
-    sub-leading-closers
-    part-leading-closers-start
-    part-leading-closers-end
-    leading-closers-requires-2
-    pop-closers-requires-2
     scan-brackets-at-requires
     same-length-2
     returns-2)

@@ -21,7 +21,7 @@ count-going-requires : tie.Need-count-going-requires
 count-going-requires c κs =
     let s = c .before .before .before .before .before .before .before .before .before .before .before .before .before .before .pre in
     let w = c .before .before .before .before .before .before .before .before .go-on .ensures in
-    (s .1 .0 .well, (ready-room _ (s .0) (w .only .long), (w .goes, s .0 .depth)))
+    (s .1 .0 .well, (ready-room _ (s .0) (w .only .long), (w .goes, (c .before .before .before .put-going .ensures .closers, s .0 .depth))))
 
 ignore-of-requires : tie.Need-ignore-of-requires
 ignore-of-requires c κs = search needs
@@ -33,7 +33,7 @@ after-line-requires c κs =
     (omega (arith, s .imports, s .limit, p .few), omega (arith, s .blanks, s .limit, p .fewer))
 
 same-length : tie.Need-same-length
-same-length c = search needs
+same-length c = c .before .before .before .before .count-going .ensures .long ∙ c .before .before .before .before .before .before .before .before .before .before .before .before .before .go-on .ensures .only .long
 
 same-length-2 : tie.Need-same-length-2
 same-length-2 c = search needs

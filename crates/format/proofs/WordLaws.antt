@@ -17,7 +17,7 @@ use Rattle.rules.specs.Words.{startsWithWord, operators, whiteOrParen, startsWi
 use Rattle.rules.specs.Line.{continues}
 use Rattle.rules.proofs.StartsBytes.{on-decode, allAscii, not-ascii, starts-encode, starts-column, first-encode, closers-encode}
 use Rattle.rules.proofs.WordsBytes.{word-encode}
-use Rattle.format.specs.Stack.{Closers}
+use Rattle.basics.specs.Closers.{Closers}
 use Rattle.format.specs.Words.{whiteOr, ones, pairs, follows, Continues, declarationOf, sameOf}
 use Rattle.format.specs.declared.words.Declaration.{Declaration}
 

@@ -1,6 +1,4 @@
-// The leaves of the line step, a module for each of document 01's stations.
-pub mod brackets;
+// Leaves of the line step, a module for each of document 01's stations: words, `else`, the marker. Spacing and brackets are crates of their own.
 pub mod else_line;
 pub mod marker;
-pub mod spacing;
 pub mod words;

@@ -6,7 +6,7 @@ ghost use lib.ListN.{length, getD};
 ghost use Rattle.unicode.specs.Unicode.{decode, WellFormed};
 ghost use Rattle.rules.specs.Basics.{codes, is, at, firstIs};
 ghost use Rattle.rules.specs.Words.{startsWithWord, operators, startsWithBinaryOp};
-ghost use Rattle.format.specs.Stack.{Closers};
+ghost use Rattle.basics.specs.Closers.{Closers};
 ghost use Rattle.format.specs.Words.{whiteOr, ones, pairs, follows, declarationOf, sameOf, Continues};
 use basics::is_blank;
 use basics::starts_with;

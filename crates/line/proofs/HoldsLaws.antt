@@ -35,12 +35,13 @@ use Rattle.rules.proofs.ScanBytes.{encodeCells, carry-encode}
 use Rattle.rules.proofs.BracketsBytes.{brackets-encode, count-closers}
 use Rattle.rules.proofs.CellsLaws.{cells-classify, cells-bytes, length-classBytes, length-classify}
 use Rattle.scan.specs.Classified.{carryDepth, Classified}
-use Rattle.format.specs.Region.{Only}
-use Rattle.format.specs.Stack.{stacked, Closers, Fits, Settled}
+use Rattle.basics.specs.Region.{Only}
+use Rattle.basics.specs.Closers.{Closers}
+use Rattle.brackets.specs.Stack.{stacked, Fits, Settled}
 use Rattle.format.specs.Words.{declarationOf}
 use Rattle.format.specs.Else.{Facts}
 use Rattle.format.specs.declared.else_line.LineFacts.{LineFacts}
-use Rattle.format.proofs.StackLaws.{stacked-drop}
+use Rattle.brackets.proofs.StackLaws.{stacked-drop}
 use Rattle.text.specs.Text.{isFirst, isJoinable, Line}
 use Rattle.text.proofs.LinesLaws.{kind-first, kind-joinable}
 use Rattle.text.proofs.StepLaws.{text-nothing, nothing-ordered}

@@ -19,9 +19,10 @@ use Rattle.rules.specs.declared.Carry.{Carry}
 use Rattle.rules.specs.declared.Ignore.{Ignore}
 use Rattle.rules.proofs.Choose.{choose-true}
 use Rattle.scan.specs.Classified.{Classified}
-use Rattle.format.specs.Stack.{stacked, Closers, Settled}
+use Rattle.basics.specs.Closers.{Closers}
+use Rattle.brackets.specs.Stack.{stacked, Settled}
 use Rattle.format.specs.Words.{declarationOf}
-use Rattle.format.proofs.StackLaws.{stacked-past}
+use Rattle.brackets.proofs.StackLaws.{stacked-past}
 use Rattle.format.specs.declared.words.Declaration.{Declaration}
 use Rattle.text.specs.Text.{isFirst, Adds}
 use Rattle.text.specs.declared.Written.{Written}

@@ -58,7 +58,7 @@ pub fn inside_line(
     let facts = format::else_line::line_facts(shown);
     let joins = takes_else(facts);
     let next = text::push_line(out, t, ending, false, b"", 0, shown, facts.trimmed, joins);
-    let deep = format::brackets::scan_brackets(raw, scratch, 0, 5 * unit, st.depth, 0);
+    let deep = brackets::scan_brackets(raw, scratch, 0, 5 * unit, st.depth, 0);
     let decl = format::words::declaration_of(line);
     State {
         text: next,
@@ -125,9 +125,9 @@ pub fn protected_line(
     let facts = format::else_line::line_facts(raw);
     let joins = takes_else(facts);
     let next = text::push_line(out, t, ending, false, b"", 0, raw, facts.trimmed, joins);
-    let closers = format::brackets::leading_closers(line);
-    let left = format::brackets::pop_closers(depth, closers);
-    let deep = format::brackets::scan_brackets(line, scratch, 0, 5 * unit, left, closers);
+    let closers = brackets::leading_closers(line);
+    let left = brackets::pop_closers(depth, closers);
+    let deep = brackets::scan_brackets(line, scratch, 0, 5 * unit, left, closers);
     let decl = format::words::declaration_of(line);
     State {
         text: next,

@@ -19,10 +19,11 @@ use Rattle.rules.specs.declared.Carry.{Carry}
 use Rattle.rules.specs.declared.PrintWidth.{PrintWidth}
 use Rattle.rules.proofs.Choose.{choose-true, choose-false}
 use Rattle.rules.proofs.StartsBytes.{on-decode, closers-encode}
-use Rattle.format.specs.Stack.{stacked, Closers}
+use Rattle.basics.specs.Closers.{Closers}
+use Rattle.brackets.specs.Stack.{stacked}
 use Rattle.format.specs.Words.{Continues, declarationOf}
 use Rattle.format.specs.declared.words.Declaration.{Declaration}
-use Rattle.format.proofs.StackLaws.{stacked-drop}
+use Rattle.brackets.proofs.StackLaws.{stacked-drop}
 use Rattle.format.proofs.WordLaws.{same-declaration-by}
 use Rattle.text.specs.Text.{Text, Joins, isJoinable}
 use Rattle.text.specs.declared.Written.{Written}

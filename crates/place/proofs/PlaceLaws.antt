@@ -15,7 +15,7 @@ use Rattle.buffer.specs.Repeat.{times}
 use Rattle.buffer.proofs.RepeatLaws.{times-within}
 use Rattle.rules.specs.Basics.{choose, is, lastIs}
 use Rattle.rules.specs.Options.{defaults, withIndent, indentOf, measure, overWide}
-use Rattle.format.specs.Stack.{Levels}
+use Rattle.brackets.specs.Stack.{Levels}
 use Rattle.text.specs.Text.{ElseLine}
 use Rattle.split.specs.Measure.{Measured, IndentMeasured}
 use Rattle.line.specs.Holds.{ValidIndent}

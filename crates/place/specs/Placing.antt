@@ -15,7 +15,8 @@ use Rattle.rules.specs.Brackets.{levels}
 use Rattle.rules.specs.Line.{Formatter, dropBlank, broken, fitted, spacedLine, placedLine}
 use Rattle.rules.specs.declared.Carry.{Carry}
 use Rattle.rules.specs.declared.PrintWidth.{PrintWidth}
-use Rattle.format.specs.Stack.{stacked, Closers}
+use Rattle.basics.specs.Closers.{Closers}
+use Rattle.brackets.specs.Stack.{stacked}
 use Rattle.format.specs.Words.{declarationOf, sameOf}
 use Rattle.format.specs.declared.words.Declaration.{Declaration}
 use Rattle.text.specs.Text.{Text, Ordered}

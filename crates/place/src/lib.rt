@@ -45,7 +45,7 @@ fn level_of(scratch: &[u8], base: usize, left: usize, continued: bool) -> usize
     requires { ⌜ left ≤ 1048575 ⌝ }
     ensures { λ r. ⌜ Level (now (scratch .entry)) base left continued r ⌝ }
 {
-    let n = format::brackets::levels_of(scratch, base, left);
+    let n = brackets::levels_of(scratch, base, left);
     if continued {
         return n + 1;
     }
@@ -194,7 +194,7 @@ fn lay_line(
     let before = b.decl;
     let closers = b.closers;
     let d = b.declares;
-    let left = format::brackets::pop_closers(depth, closers);
+    let left = brackets::pop_closers(depth, closers);
     let continued = format::words::continues(line, closers, b.brace);
     let level = level_of(scratch, base, left, continued);
     let drops = drops_blank(depth, d, before);

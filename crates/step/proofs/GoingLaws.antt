@@ -17,10 +17,11 @@ use Rattle.rules.specs.declared.Carry.{Carry}
 use Rattle.rules.proofs.Choose.{choose-true, choose-false}
 use Rattle.rules.proofs.SpacedLine.{spaced-bytes, height-spaced, length-size}
 use Rattle.scan.specs.Classified.{ClassifiedAt}
-use Rattle.format.specs.Region.{Only}
-use Rattle.format.specs.Respaced.{Normalized, Unchanged}
-use Rattle.format.specs.Stack.{stacked, Closers, Fits, Settled}
-use Rattle.format.proofs.OnlyLaws.{only-same, only-wider, only-then, only-part-before}
+use Rattle.basics.specs.Region.{Only}
+use Rattle.basics.specs.Closers.{Closers}
+use Rattle.spacing.specs.Respaced.{Normalized, Unchanged}
+use Rattle.brackets.specs.Stack.{stacked, Fits, Settled}
+use Rattle.basics.proofs.OnlyLaws.{only-same, only-wider, only-then, only-part-before}
 use Rattle.buffer.proofs.RegionLaws.{length-part}
 use Rattle.line.specs.Holds.{Classes}
 use Rattle.line.proofs.HoldsLaws.{stack-counted}

@@ -15,7 +15,7 @@ use Rattle.rules.specs.Spacing.{respaced}
 use Rattle.rules.specs.declared.Carry.{Carry}
 use Rattle.rules.specs.declared.PrintWidth.{PrintWidth}
 use Rattle.rules.proofs.SpacedLine.{spaced-trimmed, length-size}
-use Rattle.format.specs.Stack.{Closers}
+use Rattle.basics.specs.Closers.{Closers}
 use Rattle.format.specs.Words.{declarationOf}
 use Rattle.format.specs.declared.words.Declaration.{Declaration}
 use Rattle.place.specs.Placing.{GoesOn, Heads, Knows, Asks, Puts, spacedBy}

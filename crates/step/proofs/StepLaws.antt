@@ -24,10 +24,10 @@ use Rattle.rules.specs.declared.Ignore.{Ignore}
 use Rattle.rules.specs.declared.PrintWidth.{PrintWidth}
 use Rattle.rules.proofs.Choose.{choose-true, choose-false, choose-case}
 use Rattle.scan.specs.Classified.{Classified}
-use Rattle.format.specs.Region.{Only}
+use Rattle.basics.specs.Region.{Only}
 use Rattle.format.specs.Words.{declarationOf}
-use Rattle.format.proofs.OnlyLaws.{only-same}
-use Rattle.format.proofs.StackLaws.{stacked-past}
+use Rattle.basics.proofs.OnlyLaws.{only-same}
+use Rattle.brackets.proofs.StackLaws.{stacked-past}
 use Rattle.format.proofs.ElseLaws.{decode-some}
 use Rattle.line.specs.Holds.{Holds, Ready, Stepped, TrimmedLine, Classes, Uses, insideOf, protectedOf}
 use Rattle.line.specs.declared.state.State.{State}

@@ -19,8 +19,9 @@ use Rattle.rules.specs.declared.Carry.{Carry}
 use Rattle.rules.specs.declared.Ignore.{Ignore}
 use Rattle.rules.specs.declared.PrintWidth.{PrintWidth}
 use Rattle.scan.specs.Classified.{carryDepth}
-use Rattle.format.specs.Region.{Only}
-use Rattle.format.specs.Stack.{stacked, Closers}
+use Rattle.basics.specs.Region.{Only}
+use Rattle.basics.specs.Closers.{Closers}
+use Rattle.brackets.specs.Stack.{stacked}
 use Rattle.format.specs.Words.{declarationOf}
 use Rattle.format.specs.declared.words.Declaration.{Declaration}
 use Rattle.text.specs.Text.{Text, Ordered}

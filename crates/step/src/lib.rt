@@ -12,7 +12,7 @@ ghost use Rattle.rules.specs.Scan.{classify};
 ghost use Rattle.rules.specs.Spacing.{respaced};
 ghost use Rattle.rules.specs.ClassBytes.{classBytes};
 ghost use Rattle.rules.specs.declared.Carry.{Carry};
-ghost use Rattle.format.specs.Stack.{Closers};
+ghost use Rattle.basics.specs.Closers.{Closers};
 ghost use Rattle.line.specs.Holds.{Classes, Ready, Stepped, TrimmedLine, Uses, ValidIndent};
 ghost use Rattle.place.specs.Placing.{spacedBy};
 ghost use Rattle.step.specs.Going.{markerIn, keptOf, aloneOf, SolidLine, Marks, Room, Goes, Went, Counts, beforeOf, PutOn, afterLine, codeOf, formatOf, ignoreOf};
@@ -58,7 +58,7 @@ fn go_on(line: &[u8], scratch: &mut [u8], unit: usize, after: Carry) -> Going
     ensures { λ r. ⌜ Went (now (line .entry)) (now (scratch .entry)) (now (scratch .exit)) unit r ⌝ }
 {
     let n = line.len();
-    if format::spacing::is_spaced(line, &scratch[..n]) {
+    if spacing::is_spaced(line, &scratch[..n]) {
         return Going {
             own: true,
             len: n,
@@ -66,7 +66,7 @@ fn go_on(line: &[u8], scratch: &mut [u8], unit: usize, after: Carry) -> Going
             carry: after,
         };
     }
-    let len = format::spacing::normalize_spacing(line, scratch, 0, unit);
+    let len = spacing::normalize_spacing(line, scratch, 0, unit);
     let class_at = 3 * unit;
     let carry = scan::within::classify_at(scratch, unit, len, class_at);
     Going {
@@ -96,11 +96,11 @@ fn count_going(
     let len = g.len;
     let class_at = g.class_at;
     let base = 5 * unit;
-    let left = format::brackets::pop_closers(depth, closers);
+    let left = brackets::pop_closers(depth, closers);
     if g.own {
-        return format::brackets::scan_brackets(line, scratch, class_at, base, left, closers);
+        return brackets::scan_brackets(line, scratch, class_at, base, left, closers);
     }
-    format::brackets::scan_brackets_at(scratch, unit, len, class_at, base, left, closers)
+    brackets::scan_brackets_at(scratch, unit, len, class_at, base, left, closers)
 }
 
 // What is known before the line is put.
@@ -144,9 +144,9 @@ fn put_going<'a>(
     let len = g.len;
     let class_at = g.class_at;
     let end = class_at + len;
-    let l = format::spacing::line_that_goes_on(line, scratch, own, unit, len);
+    let l = spacing::line_that_goes_on(line, scratch, own, unit, len);
     let class = &scratch[class_at..end];
-    let closers = format::brackets::leading_closers(l);
+    let closers = brackets::leading_closers(l);
     let decl = format::words::declaration_of(l);
     let b = before_of(st, unit, closers, decl);
     let p = place::place_line(l, class, marker, indent, width, ending, out, scratch, b);

@@ -65,7 +65,7 @@ pub extern "C" fn wirescript_test_normalize_spacing(line: &[u8], scratch: &mut [
     if scratch.len() < 3 * n {
         return 0;
     }
-    format::spacing::normalize_spacing(line, scratch, 0, n) as u64
+    spacing::normalize_spacing(line, scratch, 0, n) as u64
 }
 
 // Whether the line is spaced already.
@@ -74,7 +74,7 @@ pub extern "C" fn wirescript_test_is_spaced(line: &[u8], classes: &[u8]) -> bool
     if classes.len() < line.len() {
         return false;
     }
-    format::spacing::is_spaced(line, classes)
+    spacing::is_spaced(line, classes)
 }
 
 // The brackets of the line: scratch holds its n class bytes, and after them the stack of `depth` entries; the new depth is given.
@@ -95,5 +95,5 @@ pub extern "C" fn wirescript_test_scan_brackets(
     if scratch.len() < 2 * n + d {
         return 0;
     }
-    format::brackets::scan_brackets(line, scratch, 0, n, d, 0) as u64
+    brackets::scan_brackets(line, scratch, 0, n, d, 0) as u64
 }

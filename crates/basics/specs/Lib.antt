@@ -1,0 +1,3 @@
+-- What contracts above cite besides the rules.
+pub mod Region
+pub mod Closers

@@ -1,0 +1,2 @@
+-- The laws that this crate's proofs and the crates above share.
+pub mod StackLaws

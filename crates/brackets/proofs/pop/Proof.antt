@@ -1,0 +1,29 @@
+use borrow.Author.Needs.{needs}
+use Rattle.brackets.proofs.StackLaws.{pop-none, pop-flat, pop-level}
+use Rattle.brackets.proofs.pop.Statement.{statement}
+use Rattle.brackets.proofs.pop.Tie as tie
+
+returns : tie.Need-returns
+returns c = search (needs, pop-none)
+
+sub-m : tie.Need-sub-m
+sub-m c = search needs
+
+add-if2 : tie.Need-add-if2
+add-if2 c = search needs
+
+shared-slice-read-if2 : tie.Need-shared-slice-read-if2
+shared-slice-read-if2 c = search needs
+
+returns-2 : tie.Need-returns-2
+returns-2 c = search (needs, pop-flat)
+
+add-t8 : tie.Need-add-t8
+add-t8 c = search needs
+
+returns-3 : tie.Need-returns-3
+returns-3 c = search (needs, pop-level)
+
+pub pop-spec : {M : Type 1} → statement M
+pop-spec =
+    tie.close (tie.spec returns sub-m add-if2 shared-slice-read-if2 returns-2 add-t8 returns-3)

@@ -1,0 +1,76 @@
+use borrow.Author.Needs.{needs}
+use Prim.Native.Nat.{_+_, _-_}
+use lib.ListN.{length}
+use Rattle.buffer.specs.Buffer.{part}
+use Rattle.brackets.proofs.StackLaws.{Scanning, scanning-start, scan-skip, scan-more, scan-end}
+use Rattle.brackets.proofs.scan_brackets.Statement.{statement}
+use Rattle.brackets.proofs.scan_brackets.Tie as tie
+
+abbrev Inv-loop : tie.InvT-loop
+Inv-loop line scratch₀ class-at base depth skip t₀ i₀ scratch t i = Scanning line (part scratch₀ class-at (class-at + length line)) (length line) scratch₀ base depth skip scratch t i
+
+abbrev μ-loop : tie.MeasureT-loop
+μ-loop line scratch₀ class-at base depth skip t₀ i₀ scratch t i = length line - i
+
+loop-holds : tie.Need-loop-holds Inv-loop μ-loop
+loop-holds c = search (needs, scanning-start)
+
+shared-slice-read-c : tie.Need-shared-slice-read-c Inv-loop μ-loop
+shared-slice-read-c c = search needs
+
+is-idle-requires : tie.Need-is-idle-requires Inv-loop μ-loop
+is-idle-requires c κs = search needs
+
+add-i : tie.Need-add-i Inv-loop μ-loop
+add-i c = search needs
+
+loop-less : tie.Need-loop-less Inv-loop μ-loop
+loop-less c = search needs
+
+loop-again : tie.Need-loop-again Inv-loop μ-loop
+loop-again c = search (needs, scan-skip)
+
+add-bracket-step : tie.Need-add-bracket-step Inv-loop μ-loop
+add-bracket-step c = search needs
+
+slice-read-bracket-step : tie.Need-slice-read-bracket-step Inv-loop μ-loop
+slice-read-bracket-step c = search needs
+
+bracket-step-requires : tie.Need-bracket-step-requires Inv-loop μ-loop
+bracket-step-requires c κs = search needs
+
+add-i-2 : tie.Need-add-i-2 Inv-loop μ-loop
+add-i-2 c = search needs
+
+loop-less-2 : tie.Need-loop-less-2 Inv-loop μ-loop
+loop-less-2 c = search needs
+
+loop-again-2 : tie.Need-loop-again-2 Inv-loop μ-loop
+loop-again-2 c = search (needs, scan-more)
+
+same-length : tie.Need-same-length Inv-loop μ-loop
+same-length c = search needs
+
+returns : tie.Need-returns Inv-loop μ-loop
+returns c = search (needs, scan-end)
+
+pub scan-brackets-spec : {M : Type 1} → statement M
+scan-brackets-spec =
+    tie.close
+    (tie.spec
+    Inv-loop
+    μ-loop
+    loop-holds
+    shared-slice-read-c
+    is-idle-requires
+    add-i
+    loop-less
+    loop-again
+    add-bracket-step
+    slice-read-bracket-step
+    bracket-step-requires
+    add-i-2
+    loop-less-2
+    loop-again-2
+    same-length
+    returns)

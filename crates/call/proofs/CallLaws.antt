@@ -33,7 +33,8 @@ use Rattle.options.specs.declared.FormatOptions.{FormatOptions}
 use Rattle.text.specs.Text.{Finished}
 use Rattle.line.specs.Holds.{Holds, ValidIndent}
 use Rattle.line.specs.declared.state.State.{State}
-use Rattle.call.specs.Formatted.{Passed, LinesDone, optionsWith, outcomeIn, Fitted, RefusedCall}
+use Rattle.lines.specs.Lines.{Passed, LinesDone}
+use Rattle.call.specs.Formatted.{optionsWith, outcomeIn, Fitted, RefusedCall}
 use Rattle.call.specs.Answered.{callOf, Ran, FormatAnswered}
 
 -- ---- the ending of the lines, and whether one more follows

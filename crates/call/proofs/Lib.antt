@@ -1,5 +1,2 @@
--- Laws of the loop over the lines and of the call, for this crate and those above it.
-pub mod LineCuts
-pub mod LineChars
-pub mod LoopLaws
+-- Laws of the call, for this crate and those above it.
 pub mod CallLaws

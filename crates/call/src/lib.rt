@@ -8,7 +8,6 @@ use rules::Refusal;
 
 pub mod answer;
 pub mod assembly;
-pub mod lines;
 
 pub const MAX_SOURCE: usize = 1048576;
 

@@ -18,8 +18,8 @@ use Rattle.rules.specs.Scan.{begin, carryAfter}
 use Rattle.rules.specs.TextKind.{rustLines, textKindAt}
 use Rattle.rules.proofs.LinesBytes.{rust-one, rust-more}
 use Rattle.scan.specs.Classified.{carryDepth, Classified}
-use Rattle.call.specs.Formatted.{LineEnd}
-use Rattle.call.proofs.LineCuts.{Last, More, Cut, last, more, cut, whole, part-of, cr-fits}
+use Rattle.lines.specs.Lines.{LineEnd}
+use Rattle.lines.proofs.LineCuts.{Last, More, Cut, last, more, cut, whole, part-of, cr-fits}
 use Rattle.split.specs.Text.{firstOf}
 use Rattle.wirescript.specs.Kind.{byteKinds, lineAt, SourceFits}
 use Rattle.wirescript.proofs.KindBytes.{byteKindIn, kindFrom, kind-bytes}

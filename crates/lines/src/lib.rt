@@ -3,7 +3,7 @@ ghost use mathlib.Core.Path.{_≡_};
 ghost use Prim.Native.Nat.{_+_, _≤_};
 ghost use lib.ListN.{length};
 ghost use Rattle.rules.specs.Lines.{asStr, dropCr};
-ghost use Rattle.call.specs.Formatted.{LfAmong, Ending, LineEnd, Passed, LinesDone};
+ghost use Rattle.lines.specs.Lines.{LfAmong, Ending, LineEnd, Passed, LinesDone};
 use line::state::State;
 use rules::LineEnding;
 use rules::PrintWidth;

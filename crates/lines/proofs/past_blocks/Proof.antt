@@ -1,12 +1,12 @@
--- `call::lines::past_blocks` meets its contract: the invariant is `Ending`, whose laws are in proofs/LineCuts.antt.
+-- `lines::past_blocks` meets its contract: the invariant is `Ending`, whose laws are in proofs/LineCuts.antt.
 use Prim.Native.Nat.{_-_}
 use borrow.Author.Needs.{needs}
 use native.Mathlib.Omega.{arith}
 use lib.ListN.{length}
-use Rattle.call.specs.Formatted.{Ending}
-use Rattle.call.proofs.LineCuts.{ending-start, ending-block}
-use Rattle.call.proofs.lines.past_blocks.Statement.{statement}
-use Rattle.call.proofs.lines.past_blocks.Tie as tie
+use Rattle.lines.specs.Lines.{Ending}
+use Rattle.lines.proofs.LineCuts.{ending-start, ending-block}
+use Rattle.lines.proofs.past_blocks.Statement.{statement}
+use Rattle.lines.proofs.past_blocks.Tie as tie
 
 abbrev Inv-loop : tie.InvT-loop
 Inv-loop source at i₀ i = Ending source at i

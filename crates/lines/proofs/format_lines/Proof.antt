@@ -2,9 +2,9 @@ use borrow.Author.Needs.{needs}
 use native.Mathlib.Omega.{arith}
 use Prim.Native.Nat.{_-_, _+_}
 use lib.ListN.{length}
-use Rattle.call.proofs.LoopLaws.{Reached, reached-start, reached-ready, reached-well, reached-more, reached-end}
-use Rattle.call.proofs.lines.format_lines.Statement.{statement}
-use Rattle.call.proofs.lines.format_lines.Tie as tie
+use Rattle.lines.proofs.LoopLaws.{Reached, reached-start, reached-ready, reached-well, reached-more, reached-end}
+use Rattle.lines.proofs.format_lines.Statement.{statement}
+use Rattle.lines.proofs.format_lines.Tie as tie
 
 abbrev Inv-loop : tie.InvT-loop
 Inv-loop source indent width ending out₀ scratch₀ unit st₀ at₀ out scratch st at = Reached source indent width ending out₀ scratch₀ out scratch st at

@@ -23,9 +23,9 @@ use Rattle.text.specs.Text.{Ordered}
 use Rattle.line.specs.Holds.{Holds, Ready, Stepped, Uses, begin}
 use Rattle.line.proofs.HoldsLaws.{begin-holds}
 use Rattle.line.specs.declared.state.State.{State}
-use Rattle.call.specs.Formatted.{LineEnd, Passed, LinesDone}
-use Rattle.call.proofs.LineCuts.{Last, More, whole, part-of, cr-fits}
-use Rattle.call.proofs.LineChars.{lines-well, lines-decode}
+use Rattle.lines.specs.Lines.{LineEnd, Passed, LinesDone}
+use Rattle.lines.proofs.LineCuts.{Last, More, whole, part-of, cr-fits}
+use Rattle.lines.proofs.LineChars.{lines-well, lines-decode}
 
 -- ---- the line that starts at `at` and those after it
 

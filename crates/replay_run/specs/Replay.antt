@@ -9,9 +9,9 @@ use Rattle.buffer.specs.Buffer.{part}
 use Rattle.rules.specs.Basics.{choose, same, splitOn}
 use Rattle.rules.specs.Call.{Call, outcomeOf, answerOf, textOf}
 use Rattle.call.specs.Answered.{callOf}
-use Rattle.replay.specs.Stored.{caseAt, indentOf, answerAt, endOf}
-use Rattle.replay.specs.declared.list.Case.{Case}
-use Rattle.replay.specs.declared.run.Progress.{Progress}
+use Rattle.replay_run.specs.Stored.{caseAt, indentOf, answerAt, endOf}
+use Rattle.replay_run.specs.declared.list.Case.{Case}
+use Rattle.replay_run.specs.declared.Progress.{Progress}
 
 -- a case's call, with an output of n bytes and a scratch of m
 abbrev pub callIn : List ℕ → Case → ℕ → ℕ → Call

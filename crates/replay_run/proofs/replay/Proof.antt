@@ -2,9 +2,9 @@ use borrow.Author.Needs.{needs}
 use native.Mathlib.Omega.{arith}
 use Prim.Native.Nat.{_-_}
 use lib.ListN.{length}
-use Rattle.replay.proofs.RunLaws.{Replaying, replaying-start, replaying-ready, replaying-more, replaying-end}
-use Rattle.replay.proofs.run.replay.Statement.{statement}
-use Rattle.replay.proofs.run.replay.Tie as tie
+use Rattle.replay_run.proofs.RunLaws.{Replaying, replaying-start, replaying-ready, replaying-more, replaying-end}
+use Rattle.replay_run.proofs.replay.Statement.{statement}
+use Rattle.replay_run.proofs.replay.Tie as tie
 
 abbrev Inv-loop : tie.InvT-loop
 Inv-loop list output₀ scratch₀ p₀ output scratch p = Replaying list output₀ scratch₀ output scratch p

@@ -1,9 +1,9 @@
 use borrow.Author.Needs.{needs}
 use Prim.Native.Nat.{_-_}
 use lib.ListN.{length}
-use Rattle.replay.proofs.ListLaws.{Reading, reading-start, reading-low, reading-high, reading-full, reading-more, reading-end}
-use Rattle.replay.proofs.list.number_at.Statement.{statement}
-use Rattle.replay.proofs.list.number_at.Tie as tie
+use Rattle.replay_run.proofs.ListLaws.{Reading, reading-start, reading-low, reading-high, reading-full, reading-more, reading-end}
+use Rattle.replay_run.proofs.list.number_at.Statement.{statement}
+use Rattle.replay_run.proofs.list.number_at.Tie as tie
 
 abbrev Inv-loop : tie.InvT-loop
 Inv-loop list at n₀ i₀ n i = Reading list at n i

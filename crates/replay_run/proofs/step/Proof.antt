@@ -1,7 +1,7 @@
 use borrow.Author.Needs.{needs}
-use Rattle.replay.proofs.RunLaws.{step-comment, step-cut, step-agreed, step-differed}
-use Rattle.replay.proofs.run.step.Statement.{statement}
-use Rattle.replay.proofs.run.step.Tie as tie
+use Rattle.replay_run.proofs.RunLaws.{step-comment, step-cut, step-agreed, step-differed}
+use Rattle.replay_run.proofs.step.Statement.{statement}
+use Rattle.replay_run.proofs.step.Tie as tie
 
 shared-slice-read-if1 : tie.Need-shared-slice-read-if1
 shared-slice-read-if1 c = search needs

@@ -5,8 +5,8 @@ use mathlib.Core.Path.{_≡_}
 use lib.Dec.{leb, ltb}
 use lib.ListN.{length, drop}
 use Rattle.rules.specs.Basics.{choose}
-use Rattle.replay.specs.declared.list.Number.{Number}
-use Rattle.replay.specs.declared.list.Case.{Case}
+use Rattle.replay_run.specs.declared.list.Number.{Number}
+use Rattle.replay_run.specs.declared.list.Case.{Case}
 
 -- the number that n and the digits that follow it spell, and the place after the byte that ends it
 unfoldable pub numberAt : ℕ → ℕ → List ℕ → Number

@@ -2,11 +2,13 @@
 ghost use mathlib.Core.Path.{_≡_};
 ghost use Prim.Native.Nat.{_+_, _≤_, _<_};
 ghost use lib.ListN.{length};
-ghost use Rattle.replay.specs.Stored.{CaseIn};
-ghost use Rattle.replay.specs.Replay.{agrees as agreesWith, agreed, differed, Counts, StepReady, Stepped, begin, replayed};
+ghost use Rattle.replay_run.specs.Stored.{CaseIn};
+ghost use Rattle.replay_run.specs.Replay.{agrees as agreesWith, agreed, differed, Counts, StepReady, Stepped, begin, replayed};
 use crate::list::Case;
 use crate::list::case_at;
 use libc::STDOUT_FILENO;
+
+mod list;
 
 // How far the list is read, how many sources stood there, and how many of them gave another text.
 pub struct Progress {

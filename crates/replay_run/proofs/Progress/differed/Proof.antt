@@ -1,6 +1,6 @@
 use borrow.Author.Needs.{needs}
-use Rattle.replay.proofs.run.Progress.differed.Statement.{statement}
-use Rattle.replay.proofs.run.Progress.differed.Tie as tie
+use Rattle.replay_run.proofs.Progress.differed.Statement.{statement}
+use Rattle.replay_run.proofs.Progress.differed.Tie as tie
 
 add-number : tie.Need-add-number
 add-number c = search needs

@@ -7,7 +7,7 @@ use mathlib.Core.Path.{_≡_, refl, _∙_}
 use borrow.Author.Tests.{lt-ltb, le-ltb, lt-leb}
 use Rattle.io.specs.Digits.{digits, glyph}
 use Rattle.rules.specs.Basics.{choose}
-use Rattle.replay.specs.Stored.{numberAt, numberIn}
+use Rattle.replay_run.specs.Stored.{numberAt, numberIn}
 
 -- one digit more
 next-digit : (n d at : ℕ) (t : List ℕ) → n < 100000000 → d < 10 → numberAt n at (glyph d ∷ t) ≡ numberAt (n * 10 + d) (at + 1) t

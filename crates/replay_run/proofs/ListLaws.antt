@@ -11,8 +11,8 @@ use borrow.Author.Tests.{lt-ltb, le-ltb, le-leb, lt-leb}
 use lib.ListN.{length, getD, drop, drop-of-length-le}
 use lib.Seq.{drop-cons}
 use Rattle.rules.specs.Basics.{choose}
-use Rattle.replay.specs.Stored.{numberAt, numberIn, NumberRead, caseOf, caseAt, CaseRead}
-use Rattle.replay.specs.declared.list.Number.{Number}
+use Rattle.replay_run.specs.Stored.{numberAt, numberIn, NumberRead, caseOf, caseAt, CaseRead}
+use Rattle.replay_run.specs.declared.list.Number.{Number}
 
 pub record Reading (list : List ℕ) (at n i : ℕ) : Type 0 where
   pub from : at ≤ i

@@ -1,9 +1,9 @@
 use borrow.Author.Needs.{needs}
 use mathlib.Core.Path.{sym}
 use lib.Seq.{length-take-le}
-use Rattle.replay.proofs.RunLaws.{text-fits, refused, told}
-use Rattle.replay.proofs.run.agrees.Statement.{statement}
-use Rattle.replay.proofs.run.agrees.Tie as tie
+use Rattle.replay_run.proofs.RunLaws.{text-fits, refused, told}
+use Rattle.replay_run.proofs.agrees.Statement.{statement}
+use Rattle.replay_run.proofs.agrees.Tie as tie
 
 add-indent : tie.Need-add-indent
 add-indent c = search needs

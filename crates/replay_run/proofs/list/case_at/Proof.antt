@@ -1,7 +1,7 @@
 use borrow.Author.Needs.{needs}
-use Rattle.replay.proofs.ListLaws.{case-read}
-use Rattle.replay.proofs.list.case_at.Statement.{statement}
-use Rattle.replay.proofs.list.case_at.Tie as tie
+use Rattle.replay_run.proofs.ListLaws.{case-read}
+use Rattle.replay_run.proofs.list.case_at.Statement.{statement}
+use Rattle.replay_run.proofs.list.case_at.Tie as tie
 
 number-at-requires : tie.Need-number-at-requires
 number-at-requires c κs = search needs

@@ -20,10 +20,10 @@ use Rattle.rules.specs.declared.Answer.{Answer}
 use Rattle.rules.proofs.CallLaws.{Delivered, delivered}
 use Rattle.call.specs.Answered.{FormatAnswered}
 use Rattle.lines.specs.Lines.{LineEnd}
-use Rattle.replay.specs.Stored.{caseAt, CaseRead, answerAt, endOf}
-use Rattle.replay.specs.Replay.{callIn, agrees, agreed, differed, caseSize, counted, stepped, replayed, begin, Counts, StepReady, Stepped}
-use Rattle.replay.specs.declared.list.Case.{Case}
-use Rattle.replay.specs.declared.run.Progress.{Progress}
+use Rattle.replay_run.specs.Stored.{caseAt, CaseRead, answerAt, endOf}
+use Rattle.replay_run.specs.Replay.{callIn, agrees, agreed, differed, caseSize, counted, stepped, replayed, begin, Counts, StepReady, Stepped}
+use Rattle.replay_run.specs.declared.list.Case.{Case}
+use Rattle.replay_run.specs.declared.Progress.{Progress}
 
 -- ---- equal texts
 

@@ -2,7 +2,7 @@
 // `width`, `line_ending` and `final_newline`. After them stand the source, the indent, the answer and LF.
 ghost use Prim.Native.Nat.{_≤_};
 ghost use lib.ListN.{length};
-ghost use Rattle.replay.specs.Stored.{NumberRead, CaseRead};
+ghost use Rattle.replay_run.specs.Stored.{NumberRead, CaseRead};
 
 pub struct Number {
     pub value: usize,

@@ -3,3 +3,4 @@ pub mod IdentLaws
 pub mod StartsLaws
 pub mod OnlyLaws
 pub mod ClassPicks
+pub mod ScanSteps

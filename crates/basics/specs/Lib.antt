@@ -1,3 +1,4 @@
 -- What contracts above cite besides the rules.
 pub mod Region
 pub mod Closers
+pub mod Depth

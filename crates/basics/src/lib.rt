@@ -1,6 +1,7 @@
-// Tests of a byte, and of what a slice starts with.
+// Tests of a byte, and of what a slice starts with; the quotes.
 ghost use mathlib.Core.Path.{_≡_};
 ghost use Rattle.rules.specs.Basics.{isBlank, isOpener, isCloser, isIdent, startsWith};
+ghost use Rattle.rules.specs.Scan.{quote};
 
 pub fn is_blank(c: u8) -> bool
     ensures { λ r. ⌜ r ≡ isBlank c ⌝ }
@@ -58,6 +59,13 @@ pub fn is_ident(c: u8) -> bool
         return false;
     }
     c <= b'z'
+}
+
+// The character that ends a string.
+pub fn quote_of(double: bool) -> u8
+    ensures { λ r. ⌜ r ≡ quote double ⌝ }
+{
+    if double { b'"' } else { b'\'' }
 }
 
 // Whether line starts with word.

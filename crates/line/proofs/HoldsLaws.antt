@@ -34,7 +34,8 @@ use Rattle.rules.proofs.StartsBytes.{on-decode, steady-is, starts-encode, last-
 use Rattle.rules.proofs.ScanBytes.{encodeCells, carry-encode}
 use Rattle.rules.proofs.BracketsBytes.{brackets-encode, count-closers}
 use Rattle.rules.proofs.CellsLaws.{cells-classify, cells-bytes, length-classBytes, length-classify}
-use Rattle.scan.specs.Classified.{carryDepth, Classified}
+use Rattle.basics.specs.Depth.{carryDepth}
+use Rattle.scan.specs.Classified.{Classified}
 use Rattle.basics.specs.Region.{Only}
 use Rattle.basics.specs.Closers.{Closers}
 use Rattle.brackets.specs.Stack.{stacked, Fits, Settled}

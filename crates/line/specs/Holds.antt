@@ -14,7 +14,7 @@ use Rattle.rules.specs.Line.{Formatter, insideLine, blankLine, protectedLine}
 use Rattle.rules.specs.declared.Carry.{Carry}
 use Rattle.rules.specs.declared.Ignore.{Ignore}
 use Rattle.rules.specs.declared.PrintWidth.{PrintWidth}
-use Rattle.scan.specs.Classified.{carryDepth}
+use Rattle.basics.specs.Depth.{carryDepth}
 use Rattle.brackets.specs.Stack.{stacked}
 use Rattle.format.specs.Words.{declarationOf}
 use Rattle.format.specs.declared.words.Declaration.{Declaration}

@@ -17,7 +17,7 @@ use Rattle.rules.specs.declared.LineEnding.{LineEnding}
 use Rattle.rules.specs.declared.EndOfLine.{EndOfLine}
 use Rattle.rules.specs.declared.FinalNewline.{FinalNewline}
 use Rattle.rules.specs.declared.PrintWidth.{PrintWidth}
-use Rattle.scan.specs.Classified.{carryDepth}
+use Rattle.basics.specs.Depth.{carryDepth}
 use Rattle.split.specs.Text.{AllWell}
 use Rattle.text.specs.Text.{Ordered}
 use Rattle.line.specs.Holds.{Holds, Ready, Stepped, Uses, begin}

@@ -7,8 +7,9 @@ use lib.ListN.{length, take, drop, drop-of-length-le, take-append-drop}
 use Rattle.rules.specs.declared.Carry.{Carry}
 use Rattle.rules.specs.Scan.{scan, final, classesOf, classify, carryAfter, begin, modeOf, openAfter}
 use Rattle.rules.specs.ClassBytes.{classBytes}
+use Rattle.basics.specs.Depth.{carryDepth}
 use Rattle.scan.specs.declared.Stop.{Stop}
-use Rattle.scan.specs.Classified.{carryDepth, Classified}
+use Rattle.scan.specs.Classified.{Classified}
 use Rattle.scan.specs.Stretch.{Scanned, Stretch}
 use Rattle.scan.proofs.ScannedLaws.{scanned-start, scanned-then}
 

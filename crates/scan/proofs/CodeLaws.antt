@@ -18,8 +18,8 @@ use Rattle.rules.specs.declared.Carry.{Carry}
 use Rattle.rules.specs.declared.Mode.{Mode}
 use Rattle.rules.specs.Basics.{startsWith, at}
 use Rattle.rules.specs.Scan.{one, quote, markAt, modeOf}
+use Rattle.basics.specs.Depth.{carryDepth}
 use Rattle.scan.specs.declared.Stop.{Stop}
-use Rattle.scan.specs.Classified.{carryDepth}
 use Rattle.scan.specs.Stretch.{Scanned, PairRead, Stretch, fresh, startsInCode, Quiet}
 use Rattle.scan.proofs.StartsLaws.{starts-is, starts-not, starts-other, starts-more, starts-reach}
 use Rattle.scan.proofs.MarkLaws.{code-escape, code-double, code-single, code-line, code-block, code-prefab, code-plain, block-open, block-end, block-close, block-plain, prefab-end, prefab-plain}

@@ -1,4 +1,3 @@
-pub mod NextLaws
 pub mod StartsLaws
 pub mod MarkLaws
 pub mod ScannedLaws
@@ -6,5 +5,3 @@ pub mod StringLaws
 pub mod CodeLaws
 pub mod ClassifyLaws
 pub mod CodeEnd
-pub mod ScanLaws
-pub mod WithinLaws

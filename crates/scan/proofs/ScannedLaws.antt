@@ -1,20 +1,19 @@
 -- Reading on: from one mark to the next, over a mark of several bytes, at the line's end.
 use Prim.Native.Nat.{ℕ, zero, suc, _+_, _-_, _<_, _≤_}
 use mathlib.Core.Path.{_≡_, refl, _∙_}
-use mathlib.Core.List.{List, [], _∷_, _++_, append-assoc}
+use mathlib.Core.List.{List, [], _∷_}
 use native.Mathlib.Nat.{le-refl, add-zero}
-use native.Mathlib.Numerals.{add-one}
 use native.Mathlib.Omega.{arith}
-use lib.ListN.{length, take, drop, set, replicate, length-set, drop-of-length-le}
-use lib.Seq.{drop-cons, take-suc-set, drop-set-lt}
+use lib.ListN.{length, drop, set, replicate, length-set, drop-of-length-le}
+use lib.Seq.{drop-set-lt}
 use Rattle.buffer.specs.Buffer.{put}
-use Rattle.scan.proofs.ScanLaws.{classes-more, final-more}
 use Rattle.buffer.proofs.RegionLaws.{put-nil, put-put, set-put}
 use Rattle.rules.specs.declared.Class.{Class}
 use Rattle.rules.specs.declared.Mode.{Mode}
 use Rattle.rules.specs.declared.Mark.{Mark}
 use Rattle.rules.specs.Scan.{long, one, next, markAt, scan, final, classesOf, openAfter}
 use Rattle.rules.specs.ClassBytes.{classByte, classBytes}
+use Rattle.basics.proofs.ScanSteps.{written-more, classes-more, final-more}
 use Rattle.scan.specs.Stretch.{Moved, Scanned, fresh}
 
 pub moved-start : (line : List ℕ) (a : ℕ) (class : List ℕ) → a ≤ length line → Moved line a class a class
@@ -78,10 +77,6 @@ module _ {line : List ℕ} {t : Mark} {a e : ℕ} {x y : List ℕ} where
         carry = p .carry ∙ rw (final-fresh k m);
         beyond = p .beyond;
       }
-
--- a byte that is written at the place reached
-written-more : (done rest : List ℕ) (i b : ℕ) → i < length done → take i done ++ (b ∷ rest) ≡ take (i + 1) (set done i b) ++ rest
-written-more done rest i b l = rw (add-one, take-suc-set, append-assoc)
 
 module _ (line : List ℕ) (t : Mark) (i : ℕ) (class : List ℕ) (u : Mark) (b : ℕ) (l : i < length line) (room : length line ≤ length class) where
   -- one byte

@@ -12,7 +12,7 @@ use Rattle.rules.specs.Basics.{is}
 use Rattle.rules.specs.Scan.{long, one, markAt, scan, final, openAfter, begin}
 use Rattle.rules.specs.ClassBytes.{classByte, classBytes}
 use Rattle.scan.specs.declared.Stop.{Stop}
-use Rattle.scan.specs.Classified.{carryDepth}
+use Rattle.basics.specs.Depth.{carryDepth}
 
 -- a byte at which a mark of code can start that is not one character of code
 unfoldable pub startsInCode : ℕ → Bool

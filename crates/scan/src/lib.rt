@@ -1,18 +1,17 @@
 // What each byte of a line is part of: code, a string, a comment, or a prefab.
 // Code, a block comment and a prefab have a function each, which reads on until another of them begins or the line ends. Strings and `//` comments
 // end with their line, so they are read within code.
-pub mod mark;
-pub mod within;
-
 ghost use mathlib.Core.Path.{_≡_};
 ghost use mathlib.Core.List.{_∷_, []};
 ghost use Prim.Native.Nat.{_+_, _<_, _≤_, _^_};
 ghost use lib.ListN.{length, drop};
 ghost use Rattle.rules.specs.Basics.{startsWith};
 ghost use Rattle.rules.specs.Scan.{quote};
-ghost use Rattle.scan.specs.Classified.{carryDepth, Classified};
+ghost use Rattle.basics.specs.Depth.{carryDepth};
+ghost use Rattle.scan.specs.Classified.{Classified};
 ghost use Rattle.scan.specs.CodeEnd.{codeLength, Comments, NoComment, onlyCodeOrStr};
 ghost use Rattle.scan.specs.Stretch.{Room, Inside, At, Deep, PairRead, InnerRead, InterpRead, DollarRead, Scanned, Stretch, fresh, startsInCode, Quiet};
+use basics::quote_of;
 use rules::Carry;
 use rules::Mode;
 
@@ -110,7 +109,7 @@ fn inner(line: &[u8], at: usize, k: bool, class: &mut [u8]) -> usize
     requires { ⌜ Room (now line) at (now class) ⌝ }
     ensures { λ r. ⌜ InnerRead (now (line .entry)) at k (now (class .entry)) r (now (class .exit)) ⌝ }
 {
-    let end = mark::quote_of(k);
+    let end = quote_of(k);
     let mut i = at;
     while i < line.len() {
         let b = line[i];
@@ -183,7 +182,7 @@ fn quoted(line: &[u8], at: usize, q: bool, class: &mut [u8]) -> usize
     requires { ⌜ Room (now line) at (now class) ⌝ }
     ensures { λ r. ⌜ Scanned (now (line .entry)) (fresh (Mode.Quoted q)) at (now (class .entry)) (fresh Mode.Code) r (now (class .exit)) ⌝ }
 {
-    let end = mark::quote_of(q);
+    let end = quote_of(q);
     let mut i = at;
     while i < line.len() {
         let b = line[i];

@@ -16,7 +16,7 @@ use Rattle.rules.specs.Brackets.{leadingClosers, scanBrackets, countBrackets}
 use Rattle.rules.specs.declared.Carry.{Carry}
 use Rattle.rules.proofs.Choose.{choose-true, choose-false}
 use Rattle.rules.proofs.SpacedLine.{spaced-bytes, height-spaced, length-size}
-use Rattle.scan.specs.Classified.{ClassifiedAt}
+use Rattle.marks.specs.Within.{ClassifiedAt}
 use Rattle.basics.specs.Region.{Only}
 use Rattle.basics.specs.Closers.{Closers}
 use Rattle.spacing.specs.Respaced.{Normalized, Unchanged}

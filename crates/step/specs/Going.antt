@@ -18,7 +18,7 @@ use Rattle.rules.specs.Line.{Formatter, protects, codeLine, formatLine}
 use Rattle.rules.specs.declared.Carry.{Carry}
 use Rattle.rules.specs.declared.Ignore.{Ignore}
 use Rattle.rules.specs.declared.PrintWidth.{PrintWidth}
-use Rattle.scan.specs.Classified.{carryDepth}
+use Rattle.basics.specs.Depth.{carryDepth}
 use Rattle.basics.specs.Region.{Only}
 use Rattle.basics.specs.Closers.{Closers}
 use Rattle.brackets.specs.Stack.{stacked}

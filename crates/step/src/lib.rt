@@ -68,7 +68,7 @@ fn go_on(line: &[u8], scratch: &mut [u8], unit: usize, after: Carry) -> Going
     }
     let len = spacing::normalize_spacing(line, scratch, 0, unit);
     let class_at = 3 * unit;
-    let carry = scan::within::classify_at(scratch, unit, len, class_at);
+    let carry = marks::within::classify_at(scratch, unit, len, class_at);
     Going {
         own: false,
         len,

@@ -17,7 +17,8 @@ use Rattle.rules.specs.Lines.{dropCr}
 use Rattle.rules.specs.Scan.{begin, carryAfter}
 use Rattle.rules.specs.TextKind.{rustLines, textKindAt}
 use Rattle.rules.proofs.LinesBytes.{rust-one, rust-more}
-use Rattle.scan.specs.Classified.{carryDepth, Classified}
+use Rattle.basics.specs.Depth.{carryDepth}
+use Rattle.scan.specs.Classified.{Classified}
 use Rattle.lines.specs.Lines.{LineEnd}
 use Rattle.lines.proofs.LineCuts.{Last, More, Cut, last, more, cut, whole, part-of, cr-fits}
 use Rattle.split.specs.Text.{firstOf}

@@ -15,8 +15,8 @@ use Rattle.rules.specs.declared.Mark.{Mark}
 use Rattle.rules.specs.declared.TextKind.{TextKind}
 use Rattle.rules.specs.Scan.{next, begin}
 use Rattle.rules.specs.TextKind.{inInterpolation, kindOf}
-use Rattle.scan.specs.Classified.{depthOf}
-use Rattle.scan.proofs.NextLaws.{next-shallow}
+use Rattle.basics.specs.Depth.{depthOf}
+use Rattle.marks.proofs.NextLaws.{next-shallow}
 use Rattle.wirescript.specs.Kind.{byteKinds}
 use Rattle.wirescript.proofs.KindBytes.{bytes-tail, bytes-first, kinds-fit}
 

@@ -5,7 +5,7 @@ ghost use lib.ListN.{length, getD, drop};
 ghost use Rattle.unicode.specs.Unicode.{decode};
 ghost use Rattle.rules.specs.Scan.{begin};
 ghost use Rattle.rules.specs.TextKind.{inInterpolation, kindOf, textKindAt, kindOutcomeOf, kindNumber, kindAnswer};
-ghost use Rattle.scan.specs.Classified.{carryDepth};
+ghost use Rattle.basics.specs.Depth.{carryDepth};
 ghost use Rattle.wirescript.specs.Kind.{byteKinds, lineAt, SourceFits};
 use call::MAX_SOURCE;
 use call::answer::number_of;
@@ -63,12 +63,12 @@ fn kind_in_line(line: &[u8], carry: Carry, column: CharColumn) -> TextKind
     if line.len() <= column.0 {
         return TextKind::Code;
     }
-    let mut t = scan::mark::begin(carry);
+    let mut t = marks::begin(carry);
     let mut left = column.0;
     let mut i = 0;
     while i < line.len() {
         let before = t.mode;
-        t = scan::mark::next_mark(&line[i..], t);
+        t = marks::next_mark(&line[i..], t);
         if unicode::is_tail(line[i]) {
             i += 1;
             continue;

@@ -1,7 +1,7 @@
 // Inner functions for the runs beside the Rust's own: no part of what a host links. Each checks what the function asks, and answers zeros
 // where it does not hold.
 ghost use Prim.Native.Nat.{_≤_};
-ghost use Rattle.scan.specs.Classified.{carryDepth};
+ghost use Rattle.basics.specs.Depth.{carryDepth};
 use rules::Carry;
 
 // What is open: 0 code, 1 a block comment of this depth, 2 a prefab.

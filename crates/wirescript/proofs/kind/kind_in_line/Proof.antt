@@ -5,7 +5,7 @@ use native.Mathlib.Omega.{arith}
 use borrow.Author.Needs.{needs}
 use lib.ListN.{length}
 use Rattle.rules.specs.declared.Mark.{Mark}
-use Rattle.scan.specs.Classified.{depthOf}
+use Rattle.basics.specs.Depth.{depthOf}
 use Rattle.wirescript.proofs.KindMarks.{past-line, Counting, counting-start, counting-tail, counting-found, counting-more, counting-end}
 use Rattle.wirescript.proofs.kind.kind_in_line.Statement.{statement}
 use Rattle.wirescript.proofs.kind.kind_in_line.Tie as tie

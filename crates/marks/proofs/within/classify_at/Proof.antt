@@ -1,0 +1,90 @@
+use mathlib.Core.Path.{ap}
+use Rattle.rules.specs.declared.Mark.{Mark}
+use Rattle.basics.specs.Depth.{depthOf}
+use Prim.Native.Nat.{_-_}
+use native.Mathlib.Omega.{arith}
+use borrow.Author.Needs.{needs}
+use Rattle.marks.proofs.WithinLaws.{Within, within-start, within-more, within-end}
+use Rattle.marks.proofs.within.classify_at.Statement.{statement}
+use Rattle.marks.proofs.within.classify_at.Tie as tie
+
+abbrev Inv-loop : tie.InvT-loop
+Inv-loop buf₀ at n class-at end t₀ i₀ buf t i = Within buf₀ at n class-at t₀ buf t i
+
+abbrev μ-loop : tie.MeasureT-loop
+μ-loop buf₀ at n class-at end t₀ i₀ buf t i = n - i
+
+add-end : tie.Need-add-end Inv-loop μ-loop
+add-end c = search needs
+
+begin-requires : tie.Need-begin-requires Inv-loop μ-loop
+begin-requires c κs = tt
+
+loop-holds : tie.Need-loop-holds Inv-loop μ-loop
+loop-holds c = within-start _ _ _ _ _
+
+add-p : tie.Need-add-p Inv-loop μ-loop
+add-p c = search needs
+
+sub-next-mark : tie.Need-sub-next-mark Inv-loop μ-loop
+sub-next-mark c = search needs
+
+part-next-mark-start : tie.Need-part-next-mark-start Inv-loop μ-loop
+part-next-mark-start c = search needs
+
+part-next-mark-end : tie.Need-part-next-mark-end Inv-loop μ-loop
+part-next-mark-end c = search needs
+
+next-mark-requires : tie.Need-next-mark-requires Inv-loop μ-loop
+next-mark-requires c κs = omega (arith, c .before .before .before .loop .inv .reached .depth, c .before .before .before .before .before .before .pre .small, ap (λ (x : Mark). depthOf (x .mode)) (c .before .before .before .before .begin .ensures))
+
+class-byte-requires : tie.Need-class-byte-requires Inv-loop μ-loop
+class-byte-requires c κs = tt
+
+add-buf : tie.Need-add-buf Inv-loop μ-loop
+add-buf c = search needs
+
+slice-write-buf : tie.Need-slice-write-buf Inv-loop μ-loop
+slice-write-buf c = search needs
+
+add-i : tie.Need-add-i Inv-loop μ-loop
+add-i c = search needs
+
+loop-less : tie.Need-loop-less Inv-loop μ-loop
+loop-less c = search needs
+
+loop-again : tie.Need-loop-again Inv-loop μ-loop
+loop-again c = within-more (c .before .before .before .before .before .before .before .before .pre) (c .before .before .before .before .before .loop .inv) (c .before .next-mark .result) (c .class-byte .result) (c .before .before .before .before .loop-test .taken) (c .before .next-mark .ensures) (c .class-byte .ensures)
+
+open-after-requires : tie.Need-open-after-requires Inv-loop μ-loop
+open-after-requires c κs = tt
+
+same-length : tie.Need-same-length Inv-loop μ-loop
+same-length c = c .before .before .loop .inv .long
+
+returns : tie.Need-returns Inv-loop μ-loop
+returns c = within-end (c .before .before .before .before .before .pre) (c .before .before .loop .inv) _ (c .before .loop-test .left) (c .before .before .before .begin .ensures) (c .open-after .ensures)
+
+pub classify-at-spec : {M : Type 1} → statement M
+classify-at-spec =
+    tie.close
+    (tie.spec
+    Inv-loop
+    μ-loop
+    add-end
+    begin-requires
+    loop-holds
+    add-p
+    sub-next-mark
+    part-next-mark-start
+    part-next-mark-end
+    next-mark-requires
+    class-byte-requires
+    add-buf
+    slice-write-buf
+    add-i
+    loop-less
+    loop-again
+    open-after-requires
+    same-length
+    returns)

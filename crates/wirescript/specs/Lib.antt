@@ -1,4 +1,3 @@
 -- What the contracts cite.
-pub mod Kind
 pub mod Config
 pub mod Settings

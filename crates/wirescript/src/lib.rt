@@ -1,12 +1,11 @@
 // What a host links.
 mod config;
-mod kind;
 mod number;
 pub mod settings;
 
 ghost use lib.ListN.{length};
 ghost use Rattle.call.specs.Answered.{callOf, FormatAnswered};
-ghost use Rattle.wirescript.specs.Kind.{KindAnswered};
+ghost use Rattle.text_kind.specs.Kind.{KindAnswered};
 use rules::Answer;
 use rules::Kind;
 use unicode::CharColumn;
@@ -21,7 +20,7 @@ pub extern "C" fn wirescript_text_kind_at(
 ) -> Kind
     ensures { λ r. ⌜ KindAnswered (now (source .entry)) line column (now (scratch .entry)) (now (scratch .exit)) r ⌝ }
 {
-    let answer = kind::answer(source, line as usize, CharColumn(column as usize), scratch);
+    let answer = text_kind::answer(source, line as usize, CharColumn(column as usize), scratch);
     buffer::zero(scratch);
     answer
 }

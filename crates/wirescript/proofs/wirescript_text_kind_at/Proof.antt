@@ -1,6 +1,6 @@
--- `wirescript::wirescript_text_kind_at` meets its contract: the answer is that of `kind::answer`, and the scratch is cleared after it.
+-- `wirescript::wirescript_text_kind_at` meets its contract: the answer is that of `text_kind::answer`, and the scratch is cleared after it.
 use borrow.Author.Needs.{needs}
-use Rattle.wirescript.proofs.KindCall.{answered}
+use Rattle.text_kind.proofs.KindCall.{answered}
 use Rattle.wirescript.proofs.wirescript_text_kind_at.Statement.{statement}
 use Rattle.wirescript.proofs.wirescript_text_kind_at.Tie as tie
 

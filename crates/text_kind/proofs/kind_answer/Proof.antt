@@ -1,6 +1,6 @@
 use borrow.Author.Needs.{needs}
-use Rattle.wirescript.proofs.kind.kind_answer.Statement.{statement}
-use Rattle.wirescript.proofs.kind.kind_answer.Tie as tie
+use Rattle.text_kind.proofs.kind_answer.Statement.{statement}
+use Rattle.text_kind.proofs.kind_answer.Tie as tie
 
 enum-known-o : tie.Need-enum-known-o
 enum-known-o c = search needs

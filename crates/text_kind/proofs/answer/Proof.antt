@@ -1,8 +1,8 @@
 use mathlib.Core.Path.{ap, _∙_}
 use borrow.Author.Needs.{needs}
 use Rattle.rules.specs.TextKind.{kindAnswer}
-use Rattle.wirescript.proofs.kind.answer.Statement.{statement}
-use Rattle.wirescript.proofs.kind.answer.Tie as tie
+use Rattle.text_kind.proofs.answer.Statement.{statement}
+use Rattle.text_kind.proofs.answer.Tie as tie
 
 outcome-of-requires : tie.Need-outcome-of-requires
 outcome-of-requires c κs = search needs

@@ -1,9 +1,9 @@
--- `wirescript::kind::text_kind_at` meets its contract: the invariant is `Seeking`, whose laws are in proofs/KindLines.antt.
+-- `text_kind::text_kind_at` meets its contract: the invariant is `Seeking`, whose laws are in proofs/KindLines.antt.
 use native.Mathlib.Omega.{arith}
 use borrow.Author.Needs.{needs}
-use Rattle.wirescript.proofs.KindLines.{Seeking, seeking-start, seeking-past, seeking-more, seeking-room, seeking-line, seeking-found}
-use Rattle.wirescript.proofs.kind.text_kind_at.Statement.{statement}
-use Rattle.wirescript.proofs.kind.text_kind_at.Tie as tie
+use Rattle.text_kind.proofs.KindLines.{Seeking, seeking-start, seeking-past, seeking-more, seeking-room, seeking-line, seeking-found}
+use Rattle.text_kind.proofs.text_kind_at.Statement.{statement}
+use Rattle.text_kind.proofs.text_kind_at.Tie as tie
 
 abbrev Inv-loop : tie.InvT-loop
 Inv-loop source line column scratch₀ carry₀ at₀ left₀ scratch carry at left = Seeking source line (column .0) scratch₀ scratch carry at left

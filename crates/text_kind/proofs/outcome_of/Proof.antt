@@ -1,8 +1,8 @@
--- `wirescript::kind::outcome_of` meets its contract: a law for each way out (proofs/KindCall.antt).
+-- `text_kind::outcome_of` meets its contract: a law for each way out (proofs/KindCall.antt).
 use borrow.Author.Needs.{needs}
-use Rattle.wirescript.proofs.KindCall.{outcomes, source-fits}
-use Rattle.wirescript.proofs.kind.outcome_of.Statement.{statement}
-use Rattle.wirescript.proofs.kind.outcome_of.Tie as tie
+use Rattle.text_kind.proofs.KindCall.{outcomes, source-fits}
+use Rattle.text_kind.proofs.outcome_of.Statement.{statement}
+use Rattle.text_kind.proofs.outcome_of.Tie as tie
 
 returns : tie.Need-returns
 returns c = search (needs, outcomes)

@@ -1,8 +1,8 @@
 use borrow.Author.Needs.{needs}
 use Rattle.rules.specs.TextKind.{kindOf}
 use Rattle.rules.specs.Basics.{choose}
-use Rattle.wirescript.proofs.kind.kind_of.Statement.{statement}
-use Rattle.wirescript.proofs.kind.kind_of.Tie as tie
+use Rattle.text_kind.proofs.kind_of.Statement.{statement}
+use Rattle.text_kind.proofs.kind_of.Tie as tie
 
 enum-told : tie.Need-enum-told
 enum-told c = search needs

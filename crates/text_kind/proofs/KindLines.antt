@@ -22,8 +22,8 @@ use Rattle.scan.specs.Classified.{Classified}
 use Rattle.lines.specs.Lines.{LineEnd}
 use Rattle.lines.proofs.LineCuts.{Last, More, Cut, last, more, cut, whole, part-of, cr-fits}
 use Rattle.split.specs.Text.{firstOf}
-use Rattle.wirescript.specs.Kind.{byteKinds, lineAt, SourceFits}
-use Rattle.wirescript.proofs.KindBytes.{byteKindIn, kindFrom, kind-bytes}
+use Rattle.text_kind.specs.Kind.{byteKinds, lineAt, SourceFits}
+use Rattle.text_kind.proofs.KindBytes.{byteKindIn, kindFrom, kind-bytes}
 
 -- ---- Rust's lines of those pieces
 

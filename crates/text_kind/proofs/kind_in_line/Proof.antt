@@ -1,4 +1,4 @@
--- `wirescript::kind::kind_in_line` meets its contract: the invariant is `Counting`, whose laws are in proofs/KindMarks.antt.
+-- `text_kind::kind_in_line` meets its contract: the invariant is `Counting`, whose laws are in proofs/KindMarks.antt.
 use Prim.Native.Nat.{_-_}
 use mathlib.Core.Path.{ap}
 use native.Mathlib.Omega.{arith}
@@ -6,9 +6,9 @@ use borrow.Author.Needs.{needs}
 use lib.ListN.{length}
 use Rattle.rules.specs.declared.Mark.{Mark}
 use Rattle.basics.specs.Depth.{depthOf}
-use Rattle.wirescript.proofs.KindMarks.{past-line, Counting, counting-start, counting-tail, counting-found, counting-more, counting-end}
-use Rattle.wirescript.proofs.kind.kind_in_line.Statement.{statement}
-use Rattle.wirescript.proofs.kind.kind_in_line.Tie as tie
+use Rattle.text_kind.proofs.KindMarks.{past-line, Counting, counting-start, counting-tail, counting-found, counting-more, counting-end}
+use Rattle.text_kind.proofs.kind_in_line.Statement.{statement}
+use Rattle.text_kind.proofs.kind_in_line.Tie as tie
 
 abbrev Inv-loop : tie.InvT-loop
 Inv-loop line t₀ left₀ i₀ t left i = Counting line t₀ left₀ t left i

@@ -1,7 +1,7 @@
 use borrow.Author.Needs.{needs}
 use Rattle.rules.specs.TextKind.{inInterpolation}
-use Rattle.wirescript.proofs.kind.in_interpolation.Statement.{statement}
-use Rattle.wirescript.proofs.kind.in_interpolation.Tie as tie
+use Rattle.text_kind.proofs.in_interpolation.Statement.{statement}
+use Rattle.text_kind.proofs.in_interpolation.Tie as tie
 
 enum-told : tie.Need-enum-told
 enum-told c = search needs

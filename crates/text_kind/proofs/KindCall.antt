@@ -14,7 +14,7 @@ use Rattle.rules.specs.declared.Kind.{Kind}
 use Rattle.rules.specs.Basics.{choose}
 use Rattle.rules.specs.Call.{maxSource, scratchNeeded}
 use Rattle.rules.specs.TextKind.{textKindAt, kindOutcomeOf, kindAnswer}
-use Rattle.wirescript.specs.Kind.{SourceFits, KindAnswered}
+use Rattle.text_kind.specs.Kind.{SourceFits, KindAnswered}
 
 module _ (source : List ℕ) (line col scratch : ℕ) where
   pub too-long : maxSource < length source → KindOutcome.Refused Refusal.SourceTooLong ≡ kindOutcomeOf source line col scratch

@@ -6,7 +6,7 @@ ghost use Rattle.unicode.specs.Unicode.{decode};
 ghost use Rattle.rules.specs.Scan.{begin};
 ghost use Rattle.rules.specs.TextKind.{inInterpolation, kindOf, textKindAt, kindOutcomeOf, kindNumber, kindAnswer};
 ghost use Rattle.basics.specs.Depth.{carryDepth};
-ghost use Rattle.wirescript.specs.Kind.{byteKinds, lineAt, SourceFits};
+ghost use Rattle.text_kind.specs.Kind.{byteKinds, lineAt, SourceFits};
 use call::MAX_SOURCE;
 use call::answer::number_of;
 use call::answer::place_of;

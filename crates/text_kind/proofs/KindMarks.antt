@@ -17,8 +17,8 @@ use Rattle.rules.specs.Scan.{next, begin}
 use Rattle.rules.specs.TextKind.{inInterpolation, kindOf}
 use Rattle.basics.specs.Depth.{depthOf}
 use Rattle.marks.proofs.NextLaws.{next-shallow}
-use Rattle.wirescript.specs.Kind.{byteKinds}
-use Rattle.wirescript.proofs.KindBytes.{bytes-tail, bytes-first, kinds-fit}
+use Rattle.text_kind.specs.Kind.{byteKinds}
+use Rattle.text_kind.proofs.KindBytes.{bytes-tail, bytes-first, kinds-fit}
 
 abbrev kindAt : Mark → List ℕ → ℕ → TextKind
 kindAt t s col = getD (byteKinds t s) col TextKind.Code

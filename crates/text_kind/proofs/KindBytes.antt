@@ -22,7 +22,7 @@ use Rattle.rules.proofs.Choose.{choose-case}
 use Rattle.rules.proofs.StartsBytes.{on-decode}
 use Rattle.rules.proofs.ScanBytes.{rest, mark-high, Fit, fit-one, next-fit, next-single, next-high, carry-encode}
 use Rattle.rules.proofs.LinesBytes.{rust-lines-bytes}
-use Rattle.wirescript.specs.Kind.{byteKinds}
+use Rattle.text_kind.specs.Kind.{byteKinds}
 
 -- ---- the clauses, one at a time
 

@@ -1,9 +1,9 @@
 use mathlib.Core.Path.{_∙_}
 use borrow.Author.Needs.{needs}
 use Rattle.buffer.proofs.RegionLaws.{part-from}
-use Rattle.wirescript.proofs.KindLines.{line-end-last, line-end-more}
-use Rattle.wirescript.proofs.kind.line_at.Statement.{statement}
-use Rattle.wirescript.proofs.kind.line_at.Tie as tie
+use Rattle.text_kind.proofs.KindLines.{line-end-last, line-end-more}
+use Rattle.text_kind.proofs.line_at.Statement.{statement}
+use Rattle.text_kind.proofs.line_at.Tie as tie
 
 line-end-requires : tie.Need-line-end-requires
 line-end-requires c κs = search needs

@@ -2,14 +2,12 @@
 ghost use lib.ListN.{length};
 ghost use Rattle.call.specs.Formatted.{RefusedCall};
 ghost use Rattle.call.specs.Answered.{callOf, Ran, FormatAnswered};
+use answer::MAX_SOURCE;
 use rules::Answer;
 use rules::Outcome;
 use rules::Refusal;
 
-pub mod answer;
 pub mod assembly;
-
-pub const MAX_SOURCE: usize = 1048576;
 
 // Both buffers are cleared.
 fn refuse(output: &mut [u8], scratch: &mut [u8], why: Refusal) -> Outcome

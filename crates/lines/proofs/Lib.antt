@@ -1,4 +1,3 @@
 -- Laws of the lines of a source, for this crate and those above it.
-pub mod LineCuts
 pub mod LineChars
 pub mod LoopLaws

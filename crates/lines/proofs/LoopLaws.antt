@@ -23,8 +23,9 @@ use Rattle.text.specs.Text.{Ordered}
 use Rattle.line.specs.Holds.{Holds, Ready, Stepped, Uses, begin}
 use Rattle.line.proofs.HoldsLaws.{begin-holds}
 use Rattle.line.specs.declared.state.State.{State}
-use Rattle.lines.specs.Lines.{LineEnd, Passed, LinesDone}
-use Rattle.lines.proofs.LineCuts.{Last, More, whole, part-of, cr-fits}
+use Rattle.line_ends.specs.LineEnds.{LineEnd}
+use Rattle.lines.specs.Lines.{Passed, LinesDone}
+use Rattle.line_ends.proofs.LineCuts.{Last, More, whole, part-of, cr-fits}
 use Rattle.lines.proofs.LineChars.{lines-well, lines-decode}
 
 -- ---- the line that starts at `at` and those after it

@@ -81,7 +81,7 @@ fn step(list: &[u8], p: Progress, output: &mut [u8], scratch: &mut [u8]) -> Prog
 {
     let at = p.at;
     if list[at] == b'#' {
-        let end = lines::line_end(list, at);
+        let end = line_ends::line_end(list, at);
         return Progress {
             at: end + 1,
             sources: p.sources,

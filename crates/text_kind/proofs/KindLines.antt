@@ -19,8 +19,8 @@ use Rattle.rules.specs.TextKind.{rustLines, textKindAt}
 use Rattle.rules.proofs.LinesBytes.{rust-one, rust-more}
 use Rattle.basics.specs.Depth.{carryDepth}
 use Rattle.scan.specs.Classified.{Classified}
-use Rattle.lines.specs.Lines.{LineEnd}
-use Rattle.lines.proofs.LineCuts.{Last, More, Cut, last, more, cut, whole, part-of, cr-fits}
+use Rattle.line_ends.specs.LineEnds.{LineEnd}
+use Rattle.line_ends.proofs.LineCuts.{Last, More, Cut, last, more, cut, whole, part-of, cr-fits}
 use Rattle.split.specs.Text.{firstOf}
 use Rattle.text_kind.specs.Kind.{byteKinds, lineAt, SourceFits}
 use Rattle.text_kind.proofs.KindBytes.{byteKindIn, kindFrom, kind-bytes}

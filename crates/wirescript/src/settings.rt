@@ -6,8 +6,8 @@ ghost use Rattle.wirescript.specs.Config.{Config, config, validConfig, r
 ghost use Rattle.wirescript.specs.Settings.{Setting, Settled, fitted, settingOf, indentSetting, configSetting};
 use crate::config;
 use crate::number;
-use call::answer::number_of;
-use call::answer::place_of;
+use answer::number_of;
+use answer::place_of;
 use options::Changed;
 use options::FormatOptions;
 use rules::Refusal;

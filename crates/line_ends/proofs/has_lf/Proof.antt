@@ -1,10 +1,10 @@
--- `lines::has_lf` meets its contract: the invariant is `LfAmong`, whose laws are in proofs/LineCuts.antt.
+-- `has_lf` meets its contract: the invariant is `LfAmong`, whose laws are in proofs/LineCuts.antt.
 use Prim.Native.Nat.{_-_}
 use native.Mathlib.Omega.{arith}
-use Rattle.lines.specs.Lines.{LfAmong}
-use Rattle.lines.proofs.LineCuts.{among-start, among-more, among-all}
-use Rattle.lines.proofs.has_lf.Statement.{statement}
-use Rattle.lines.proofs.has_lf.Tie as tie
+use Rattle.line_ends.specs.LineEnds.{LfAmong}
+use Rattle.line_ends.proofs.LineCuts.{among-start, among-more, among-all}
+use Rattle.line_ends.proofs.has_lf.Statement.{statement}
+use Rattle.line_ends.proofs.has_lf.Tie as tie
 
 abbrev Inv-loop : tie.InvT-loop
 Inv-loop source at any₀ k₀ any k = LfAmong source at k any

@@ -18,7 +18,7 @@ use lib.Seq.{drop-cons}
 use Rattle.unicode.proofs.Tests.{by-test}
 use Rattle.rules.specs.Basics.{choose, Pieces, pieces, atSep, splitOn}
 use Rattle.rules.specs.Lines.{consCr, dropCr}
-use Rattle.lines.specs.Lines.{LfAmong, Ending, LineEnd}
+use Rattle.line_ends.specs.LineEnds.{LfAmong, Ending, LineEnd}
 
 -- ---- the first piece of a text
 

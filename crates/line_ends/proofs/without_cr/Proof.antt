@@ -1,9 +1,9 @@
 use native.Mathlib.Omega.{arith}
 use borrow.Author.Needs.{needs}
 use lib.ListN.{length-take}
-use Rattle.lines.proofs.LineCuts.{cr-none, cr-goes, cr-stays}
-use Rattle.lines.proofs.without_cr.Statement.{statement}
-use Rattle.lines.proofs.without_cr.Tie as tie
+use Rattle.line_ends.proofs.LineCuts.{cr-none, cr-goes, cr-stays}
+use Rattle.line_ends.proofs.without_cr.Statement.{statement}
+use Rattle.line_ends.proofs.without_cr.Tie as tie
 
 returns : tie.Need-returns
 returns c = cr-none _ (c .if1 .taken)

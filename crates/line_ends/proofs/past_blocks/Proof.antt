@@ -3,10 +3,10 @@ use Prim.Native.Nat.{_-_}
 use borrow.Author.Needs.{needs}
 use native.Mathlib.Omega.{arith}
 use lib.ListN.{length}
-use Rattle.lines.specs.Lines.{Ending}
-use Rattle.lines.proofs.LineCuts.{ending-start, ending-block}
-use Rattle.lines.proofs.past_blocks.Statement.{statement}
-use Rattle.lines.proofs.past_blocks.Tie as tie
+use Rattle.line_ends.specs.LineEnds.{Ending}
+use Rattle.line_ends.proofs.LineCuts.{ending-start, ending-block}
+use Rattle.line_ends.proofs.past_blocks.Statement.{statement}
+use Rattle.line_ends.proofs.past_blocks.Tie as tie
 
 abbrev Inv-loop : tie.InvT-loop
 Inv-loop source at i₀ i = Ending source at i

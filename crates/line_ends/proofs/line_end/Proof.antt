@@ -1,11 +1,11 @@
--- `lines::line_end` meets its contract: the invariant is `Ending`, whose laws are in proofs/LineCuts.antt.
+-- `line_end` meets its contract: the invariant is `Ending`, whose laws are in proofs/LineCuts.antt.
 use Prim.Native.Nat.{_-_}
 use borrow.Author.Needs.{needs}
 use lib.ListN.{length}
-use Rattle.lines.specs.Lines.{Ending}
-use Rattle.lines.proofs.LineCuts.{ending-here, ending-more, ending-lf, ending-last}
-use Rattle.lines.proofs.line_end.Statement.{statement}
-use Rattle.lines.proofs.line_end.Tie as tie
+use Rattle.line_ends.specs.LineEnds.{Ending}
+use Rattle.line_ends.proofs.LineCuts.{ending-here, ending-more, ending-lf, ending-last}
+use Rattle.line_ends.proofs.line_end.Statement.{statement}
+use Rattle.line_ends.proofs.line_end.Tie as tie
 
 abbrev Inv-loop : tie.InvT-loop
 Inv-loop source at i₀ i = Ending source at i

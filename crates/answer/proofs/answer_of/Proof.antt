@@ -1,6 +1,6 @@
 use borrow.Author.Needs.{needs}
-use Rattle.call.proofs.answer.answer_of.Statement.{statement}
-use Rattle.call.proofs.answer.answer_of.Tie as tie
+use Rattle.answer.proofs.answer_of.Statement.{statement}
+use Rattle.answer.proofs.answer_of.Tie as tie
 
 enum-known-o : tie.Need-enum-known-o
 enum-known-o c = search needs

@@ -1,10 +1,12 @@
 // What a host is told: an outcome in numbers.
 ghost use mathlib.Core.Path.{_≡_};
 ghost use Rattle.rules.specs.Call.{numberOf, placeOf, answerOf};
-use crate::MAX_SOURCE;
 use rules::Answer;
 use rules::Outcome;
 use rules::Refusal;
+
+// The bytes that a source may have.
+pub const MAX_SOURCE: usize = 1048576;
 
 pub fn number_of(r: Refusal) -> u64
     ensures { λ n. ⌜ n ≡ numberOf r ⌝ }

@@ -1,9 +1,9 @@
 -- What the contracts say of places in a list s of bytes.
 use Prim.Native.Nat.{ℕ, _+_, _-_, _<_, _≤_}
-use mathlib.Core.Bool.{true, false, cond}
+use mathlib.Core.Bool.{Bool, true, false, cond}
 use mathlib.Core.List.{List, [], _∷_, _++_}
 use mathlib.Core.Path.{_≡_}
-use lib.ListN.{length, take, drop}
+use lib.ListN.{length, getD, take, drop}
 use lib.Dec.{T, ltb}
 use Rattle.unicode.specs.Unicode.{isScalar, encodeChar, seqAt, codeAt, decode, prefixLen, WellFormed, isWhite, trimStart, trimEnd}
 
@@ -11,6 +11,16 @@ use Rattle.unicode.specs.Unicode.{isScalar, encodeChar, seqAt, codeAt, d
 pub record SeqAt (s : List ℕ) (i r : ℕ) : Type 0 where
   pub is : r ≡ seqAt (drop i s)
   pub fits : i + r ≤ length s
+
+-- any is false only where the n bytes from `at` on are ASCII
+pub record HighAmong (s : List ℕ) (at n : ℕ) (any : Bool) : Type 0 where
+  pub none : any ≡ false → (j : ℕ) → j < n → getD s (at + j) 0 < 0x80
+
+-- the bytes from `at` up to r are ASCII
+pub record AsciiRun (s : List ℕ) (at r : ℕ) : Type 0 where
+  pub from : at ≤ r
+  pub within : r ≤ length s
+  pub ascii : (j : ℕ) → at + j < r → getD s (at + j) 0 < 0x80
 
 -- the character at i takes n bytes
 pub record Step (s : List ℕ) (i n : ℕ) : Type 0 where

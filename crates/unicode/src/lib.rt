@@ -3,7 +3,7 @@ ghost use mathlib.Core.Path.{_≡_};
 ghost use Prim.Native.Nat.{ℕ, _+_, _-_, _≤_, _<_};
 ghost use lib.ListN.{length, getD, take, drop};
 ghost use Rattle.unicode.specs.Unicode.{within, tail, second, seqLen, prefixLen, codeOf, codeAt, decode, WellFormed, width, isWhite, firstIsWhite};
-ghost use Rattle.unicode.specs.Places.{SeqAt, Step, Back, WhiteAt, WhiteBefore, TrimmedStart, TrimmedEnd, Column, unitsOf, leadOf};
+ghost use Rattle.unicode.specs.Places.{SeqAt, HighAmong, AsciiRun, Step, Back, WhiteAt, WhiteBefore, TrimmedStart, TrimmedEnd, Column, unitsOf, leadOf};
 
 // A place in a slice: how many bytes stand before it.
 pub struct ByteOffset(pub usize);
@@ -105,21 +105,66 @@ pub fn seq_at(s: &[u8], i: usize) -> usize
     seq_len(b0, b1, b2, b3)
 }
 
-// The length of the longest well-formed prefix. A byte below 80 hex is passed as it is.
+// Whether a byte that is not ASCII stands among the 16 bytes from `at` on. It makes no branch, so that the 16 are tested at once.
+fn has_high(s: &[u8], at: usize) -> bool
+    requires { ⌜ at + 16 ≤ length (now s) ⌝ }
+    ensures { λ r. ⌜ HighAmong (now (s .entry)) at 16 r ⌝ }
+{
+    let mut any = false;
+    let mut k: usize = 0;
+    while k < 16 {
+        any = any | (127 < s[at + k]);
+        k += 1;
+    }
+    any
+}
+
+// Past the blocks of 16 bytes that are ASCII.
+fn past_blocks(s: &[u8], at: usize) -> usize
+    requires { ⌜ at ≤ length (now s) ⌝ }
+    ensures { λ r. ⌜ AsciiRun (now (s .entry)) at r ⌝ }
+{
+    let mut i = at;
+    while s.len() - i >= 16 {
+        if has_high(s, i) {
+            return i;
+        }
+        i += 16;
+    }
+    i
+}
+
+// Past the bytes that are ASCII. Where there are none, that is told at once.
+fn past_ascii(s: &[u8], at: usize) -> usize
+    requires { ⌜ at ≤ length (now s) ⌝ }
+    ensures { λ r. ⌜ AsciiRun (now (s .entry)) at r ⌝ }
+{
+    if at < s.len() {
+        if 127 < s[at] {
+            return at;
+        }
+    }
+    let mut i = past_blocks(s, at);
+    while i < s.len() {
+        if 127 < s[i] {
+            return i;
+        }
+        i += 1;
+    }
+    i
+}
+
+// The length of the longest well-formed prefix.
 pub fn well_formed_prefix(s: &[u8]) -> usize
     ensures { λ r. ⌜ r ≡ prefixLen (now (s .entry)) ⌝ }
 {
-    let mut i = 0;
+    let mut i = past_ascii(s, 0);
     while i < s.len() {
-        if s[i] < 0x80 {
-            i += 1;
-        } else {
-            let n = seq_at(s, i);
-            if n == 0 {
-                return i;
-            }
-            i += n;
+        let n = seq_at(s, i);
+        if n == 0 {
+            return i;
         }
+        i = past_ascii(s, i + n);
     }
     i
 }

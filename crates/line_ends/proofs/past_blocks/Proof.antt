@@ -1,4 +1,4 @@
--- `lines::past_blocks` meets its contract: the invariant is `Ending`, whose laws are in proofs/LineCuts.antt.
+-- `past_blocks` meets its contract: the invariant is `Ending`, whose laws are in proofs/LineCuts.antt.
 use Prim.Native.Nat.{_-_}
 use borrow.Author.Needs.{needs}
 use native.Mathlib.Omega.{arith}

@@ -1,9 +1,10 @@
--- `unicode::well_formed_prefix` meets its contract: the invariant is `PrefixScan`, whose laws, one for each way through a turn, are in proofs/Scan.antt.
+-- `unicode::well_formed_prefix` meets its contract: the invariant is `PrefixScan`, whose laws are in proofs/Scan.antt.
 -- Assumes nothing.
 use Prim.Native.Nat.{_-_}
 use borrow.Author.Needs.{needs}
+use native.Mathlib.Omega.{arith}
 use lib.ListN.{length}
-use Rattle.unicode.proofs.Scan.{PrefixScan, prefix-begin, prefix-on, prefix-ascii, prefix-stop, prefix-end}
+use Rattle.unicode.proofs.Scan.{PrefixScan, prefix-begin, prefix-on, prefix-run, prefix-stop, prefix-end}
 use Rattle.unicode.proofs.well_formed_prefix.Statement.{statement}
 use Rattle.unicode.proofs.well_formed_prefix.Tie as tie
 
@@ -13,20 +14,11 @@ Inv-loop s i₀ i = PrefixScan s i
 abbrev μ-loop : tie.MeasureT-loop
 μ-loop s i₀ i = length s - i
 
+past-ascii-requires : tie.Need-past-ascii-requires Inv-loop μ-loop
+past-ascii-requires c κs = search needs
+
 loop-holds : tie.Need-loop-holds Inv-loop μ-loop
-loop-holds c = prefix-begin _
-
-shared-slice-read-if1 : tie.Need-shared-slice-read-if1 Inv-loop μ-loop
-shared-slice-read-if1 c = search needs
-
-add-i : tie.Need-add-i Inv-loop μ-loop
-add-i c = search needs
-
-loop-less : tie.Need-loop-less Inv-loop μ-loop
-loop-less c = search needs
-
-loop-again : tie.Need-loop-again Inv-loop μ-loop
-loop-again c = search (needs, prefix-ascii)
+loop-holds c = prefix-run _ _ _ (prefix-begin _) (c .past-ascii .ensures)
 
 seq-at-requires : tie.Need-seq-at-requires Inv-loop μ-loop
 seq-at-requires c κs = search needs
@@ -34,14 +26,17 @@ seq-at-requires c κs = search needs
 returns : tie.Need-returns Inv-loop μ-loop
 returns c = search (needs, prefix-stop)
 
-add-i-2 : tie.Need-add-i-2 Inv-loop μ-loop
-add-i-2 c = search needs
+add-past-ascii : tie.Need-add-past-ascii Inv-loop μ-loop
+add-past-ascii c = search needs
 
-loop-less-2 : tie.Need-loop-less-2 Inv-loop μ-loop
-loop-less-2 c = search needs
+past-ascii-requires-2 : tie.Need-past-ascii-requires-2 Inv-loop μ-loop
+past-ascii-requires-2 c κs = search needs
 
-loop-again-2 : tie.Need-loop-again-2 Inv-loop μ-loop
-loop-again-2 c = search (needs, prefix-on)
+loop-less : tie.Need-loop-less Inv-loop μ-loop
+loop-less c = omega (arith, c .past-ascii2 .ensures .from, c .before .if1 .left)
+
+loop-again : tie.Need-loop-again Inv-loop μ-loop
+loop-again c = prefix-run _ _ _ (prefix-on _ _ _ (c .before .before .before .before .loop .inv) (omega arith) (c .before .before .seq-at .ensures) (c .before .if1 .left)) (c .past-ascii2 .ensures)
 
 returns-2 : tie.Need-returns-2 Inv-loop μ-loop
 returns-2 c = search (needs, prefix-end)
@@ -52,14 +47,12 @@ well-formed-prefix-spec =
     (tie.spec
     Inv-loop
     μ-loop
+    past-ascii-requires
     loop-holds
-    shared-slice-read-if1
-    add-i
-    loop-less
-    loop-again
     seq-at-requires
     returns
-    add-i-2
-    loop-less-2
-    loop-again-2
+    add-past-ascii
+    past-ascii-requires-2
+    loop-less
+    loop-again
     returns-2)

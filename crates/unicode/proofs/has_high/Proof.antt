@@ -1,0 +1,48 @@
+-- `unicode::has_high` meets its contract: the invariant is `HighAmong`, whose laws are in proofs/Scan.antt.
+use Prim.Native.Nat.{_-_}
+use native.Mathlib.Omega.{arith}
+use Rattle.unicode.specs.Places.{HighAmong}
+use Rattle.unicode.proofs.Scan.{high-start, high-more, high-all}
+use Rattle.unicode.proofs.has_high.Statement.{statement}
+use Rattle.unicode.proofs.has_high.Tie as tie
+
+abbrev Inv-loop : tie.InvT-loop
+Inv-loop s at any₀ k₀ any k = HighAmong s at k any
+
+abbrev μ-loop : tie.MeasureT-loop
+μ-loop s at any₀ k₀ any k = 16 - k
+
+loop-holds : tie.Need-loop-holds Inv-loop μ-loop
+loop-holds c = high-start _ _
+
+add-any : tie.Need-add-any Inv-loop μ-loop
+add-any c = omega arith
+
+shared-slice-read-any : tie.Need-shared-slice-read-any Inv-loop μ-loop
+shared-slice-read-any c = omega arith
+
+add-k : tie.Need-add-k Inv-loop μ-loop
+add-k c = omega arith
+
+loop-less : tie.Need-loop-less Inv-loop μ-loop
+loop-less c = omega arith
+
+loop-again : tie.Need-loop-again Inv-loop μ-loop
+loop-again c = high-more (c .before .before .loop .inv)
+
+returns : tie.Need-returns Inv-loop μ-loop
+returns c = high-all (c .before .loop .inv) (omega arith)
+
+pub has-high-spec : {M : Type 1} → statement M
+has-high-spec =
+    tie.close
+    (tie.spec
+    Inv-loop
+    μ-loop
+    loop-holds
+    add-any
+    shared-slice-read-any
+    add-k
+    loop-less
+    loop-again
+    returns)

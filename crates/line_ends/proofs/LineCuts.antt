@@ -1,6 +1,5 @@
 -- Lines, cut on bytes.
 --     Ending                        the loops of `past_blocks` and `line_end`, for the first LF
---     LfAmong                       the loop of `has_lf`
 --     Last, More, cut, whole, part-of   a text's pieces: all of it, or up to its first LF and from there on
 --     cr-none, cr-goes, cr-stays    one CR at a line's end; cr-fits
 use Prim.Native.Nat.{ℕ, zero, suc, _+_, _-_, _<_, _≤_, zero-le}
@@ -11,14 +10,14 @@ use mathlib.Core.Bool.{Bool, true, false, _||_, true≢false}
 use mathlib.Core.List.{List, [], _∷_}
 use mathlib.Core.Path.{_≡_, refl, sym, ap, subst, _∙_}
 use lib.Dec.{eqb}
-use borrow.Author.Count.{below-more}
 use borrow.Author.Tests.{eq-eqb, ne-eqb, eqb-true, eqb-false}
 use lib.ListN.{length, getD, take, drop, length-take, length-drop, drop-of-length-le}
 use lib.Seq.{drop-cons}
+use Rattle.unicode.specs.Places.{NoneAmong}
 use Rattle.unicode.proofs.Tests.{by-test}
 use Rattle.rules.specs.Basics.{choose, Pieces, pieces, atSep, splitOn}
 use Rattle.rules.specs.Lines.{consCr, dropCr}
-use Rattle.line_ends.specs.LineEnds.{LfAmong, Ending, LineEnd}
+use Rattle.line_ends.specs.LineEnds.{lfAt, Ending, LineEnd}
 
 -- ---- the first piece of a text
 
@@ -70,21 +69,8 @@ ending-none s at i r (suc n) h none =
     let e : i + n + 1 ≡ i + suc n = omega arith in
     rw e at (ending-more s at (i + n) q (omega arith) (none n (omega arith)))
 
-pub ending-block : {s : List ℕ} {at i : ℕ} {any : Bool} → Ending s at i → i + 16 ≤ length s → LfAmong s i 16 any → any ≡ false → Ending s at (i + 16)
-ending-block {s} {at} {i} r h a e = ending-none s at i r 16 h (a .none e)
-
--- ---- the bytes of a block, one after the other
-
-pub among-start : (s : List ℕ) (at : ℕ) → LfAmong s at 0 false
-among-start s at = record { none = λ e j l. absurd (omega arith) }
-
-pub among-more : {s : List ℕ} {at k : ℕ} {any : Bool} → LfAmong s at k any → LfAmong s at (k + 1) (any || eqb (getD s (at + k) 0) 10)
-among-more {any = true} a = record { none = λ e. absurd (true≢false e) }
-among-more {s} {at} {k} {any = false} a =
-    record { none = λ e. below-more (λ (j : ℕ). getD s (at + j) 0 ≡ 10 → ⊥) k (a .none refl) (eqb-false _ _ e) }
-
-pub among-all : {s : List ℕ} {at k : ℕ} {any : Bool} → LfAmong s at k any → 16 ≤ k → LfAmong s at 16 any
-among-all a l = record { none = λ e j h. a .none e j (omega arith) }
+pub ending-block : {s : List ℕ} {at i : ℕ} {any : Bool} → Ending s at i → i + 16 ≤ length s → NoneAmong (lfAt s) i 16 any → any ≡ false → Ending s at (i + 16)
+ending-block {s} {at} {i} r h a e = ending-none s at i r 16 h (λ j l. eqb-false _ _ (a .none e j l))
 
 -- ---- the pieces of a text, by the length of the first
 

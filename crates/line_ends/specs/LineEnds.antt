@@ -1,8 +1,9 @@
 -- Where a line ends.
-use Prim.Native.Nat.{ℕ, _+_, _≤_, _<_}
-use mathlib.Core.Bool.{Bool, false}
+use Prim.Native.Nat.{ℕ, _+_, _≤_}
+use mathlib.Core.Bool.{Bool}
 use mathlib.Core.List.{List}
 use mathlib.Core.Path.{_≡_}
+use lib.Dec.{eqb}
 use lib.ListN.{length, getD, drop}
 use Rattle.rules.specs.Basics.{splitOn}
 
@@ -18,6 +19,6 @@ pub record Ending (s : List ℕ) (at i : ℕ) : Type 0 where
   pub within : i ≤ length s
   pub same : at + length (splitOn "\n" (drop at s) .first) ≡ i + length (splitOn "\n" (drop i s) .first)
 
--- any says whether one of the n bytes from `at` on is an LF
-pub record LfAmong (s : List ℕ) (at n : ℕ) (any : Bool) : Type 0 where
-  pub none : any ≡ false → (j : ℕ) → j < n → getD s (at + j) 0 ≡ 10 → ⊥
+-- the byte at i is an LF
+abbrev pub lfAt : List ℕ → ℕ → Bool
+lfAt s i = eqb (getD s i 0) 10

@@ -2,13 +2,14 @@
 ghost use mathlib.Core.Path.{_≡_};
 ghost use Prim.Native.Nat.{_+_, _≤_};
 ghost use lib.ListN.{length};
+ghost use Rattle.unicode.specs.Places.{NoneAmong};
 ghost use Rattle.rules.specs.Lines.{dropCr};
-ghost use Rattle.line_ends.specs.LineEnds.{LfAmong, Ending, LineEnd};
+ghost use Rattle.line_ends.specs.LineEnds.{lfAt, Ending, LineEnd};
 
 // Whether an LF stands among the 16 bytes from `at` on. It makes no branch, so that the 16 are tested at once.
 fn has_lf(source: &[u8], at: usize) -> bool
     requires { ⌜ at + 16 ≤ length (now source) ⌝ }
-    ensures { λ r. ⌜ LfAmong (now (source .entry)) at 16 r ⌝ }
+    ensures { λ r. ⌜ NoneAmong (lfAt (now (source .entry))) at 16 r ⌝ }
 {
     let mut any = false;
     let mut k: usize = 0;

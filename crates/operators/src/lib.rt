@@ -1,4 +1,6 @@
 // top_level_ops: where the binary operators outside every bracket are, byte by byte.
+pub mod first;
+
 ghost use mathlib.Core.Path.{_≡_};
 ghost use mathlib.Core.Bool.{not, _&&_, _||_};
 ghost use mathlib.Core.List.{[], _∷_};

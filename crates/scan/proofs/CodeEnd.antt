@@ -5,7 +5,6 @@ use mathlib.Core.Path.{_≡_, refl, sym, ap, _∙_}
 use mathlib.Core.List.{List, [], _∷_}
 use native.Mathlib.Numerals.{add-one}
 use native.Mathlib.Omega.{arith}
-use borrow.Author.Count.{below-more}
 use borrow.Author.Tests.{eq-eqb, ne-eqb, le-leb, lt-leb, eqb-false}
 use lib.Dec.{eqb}
 use lib.ListN.{length, getD, take, drop, drop-of-length-le}
@@ -15,9 +14,8 @@ use Rattle.rules.specs.Scan.{cell, codePart, commentPart, allCodeOrStr, isLineC
 use Rattle.rules.specs.ClassBytes.{cellsOf, classOf}
 use Rattle.rules.proofs.CellsLaws.{comment-byte, code-or-str-byte}
 use Rattle.rules.proofs.Choose.{choose-true, choose-false}
-use Rattle.scan.specs.CodeEnd.{codeLength, Comments, NoComment, onlyCodeOrStr}
-use Rattle.scan.proofs.CodeLaws.{or-right}
-use Rattle.unicode.proofs.Tests.{neither-left}
+use Rattle.scan.specs.CodeEnd.{codeLength, commentAt, NoComment, onlyCodeOrStr}
+use Rattle.unicode.specs.Places.{NoneAmong}
 
 -- none of the first i class bytes is a `//` comment's
 pub record Passed (ks : List ℕ) (i : ℕ) : Type 0 where
@@ -48,16 +46,6 @@ module _ {ks : List ℕ} {i : ℕ} (p : Passed ks i) where
 
 -- ---- blocks
 
-pub comments-start : (ks : List ℕ) (at : ℕ) → Comments ks at 0 false
-comments-start ks at = record { none = λ e j h. absurd (omega arith) }
-
-pub comments-more : (ks : List ℕ) (at k : ℕ) (any : Bool) → Comments ks at k any → Comments ks at (k + 1) (any || eqb (getD ks (at + k) 0) 2)
-comments-more ks at k any w =
-    record { none = λ q. below-more (λ (j : ℕ). getD ks (at + j) 0 ≡ 2 → ⊥) k (w .none (neither-left any (eqb (getD ks (at + k) 0) 2) q)) (eqb-false _ _ (or-right any (eqb (getD ks (at + k) 0) 2) q)) }
-
-pub comments-end : (ks : List ℕ) (at k n : ℕ) (any : Bool) → Comments ks at k any → n ≤ k → Comments ks at n any
-comments-end ks at k n any w h = record { none = λ q j l. w .none q j (omega arith) }
-
 passed-by : (ks : List ℕ) (n i : ℕ) → Passed ks i → i + n ≤ length ks → ((j : ℕ) → j < n → getD ks (i + j) 0 ≡ 2 → ⊥) → Passed ks (i + n)
 passed-by ks zero i w h f = let e : i + 0 ≡ i = omega arith in rw e w
 passed-by ks (suc n) i w h f =
@@ -68,15 +56,15 @@ passed-by ks (suc n) i w h f =
     shift : (j : ℕ) → i + suc j ≡ i + 1 + j
     shift j = omega arith
 
-pub passed-block : (ks : List ℕ) (i n : ℕ) (r : Bool) → Passed ks i → i + n ≤ length ks → Comments ks i n r → r ≡ false → Passed ks (i + n)
-passed-block ks i n r w h o e = passed-by ks n i w h (o .none e)
+pub passed-block : (ks : List ℕ) (i n : ℕ) (r : Bool) → Passed ks i → i + n ≤ length ks → NoneAmong (commentAt ks) i n r → r ≡ false → Passed ks (i + n)
+passed-block ks i n r w h o e = passed-by ks n i w h (λ j l. eqb-false _ _ (o .none e j l))
 
-pub no-comment : (ks : List ℕ) (i : ℕ) (r : Bool) → Passed ks i → 16 ≤ length ks → length ks - 16 ≤ i → i ≤ length ks → Comments ks (length ks - 16) 16 r → r ≡ false
+pub no-comment : (ks : List ℕ) (i : ℕ) (r : Bool) → Passed ks i → 16 ≤ length ks → length ks - 16 ≤ i → i ≤ length ks → NoneAmong (commentAt ks) (length ks - 16) 16 r → r ≡ false
     → NoComment ks true
 no-comment ks i r w h l m o e =
     let n : ℕ = length ks - i in
     let q : i + n ≡ length ks = omega arith in
-    let f : (j : ℕ) → j < n → getD ks (i + j) 0 ≡ 2 → ⊥ = λ j p. let a : length ks - 16 + (i + j - (length ks - 16)) ≡ i + j = omega arith in rw a at (o .none e (i + j - (length ks - 16)) (omega arith)) in
+    let f : (j : ℕ) → j < n → getD ks (i + j) 0 ≡ 2 → ⊥ = λ j p. let a : length ks - 16 + (i + j - (length ks - 16)) ≡ i + j = omega arith in rw a at (eqb-false (getD ks (length ks - 16 + (i + j - (length ks - 16))) 0) 2 (o .none e (i + j - (length ks - 16)) (omega arith))) in
     record { none = λ z. sym (passed-end (rw q at (passed-by ks n i w (omega arith) f)) (omega arith)) }
 
 pub no-comment-no : (ks : List ℕ) → NoComment ks false

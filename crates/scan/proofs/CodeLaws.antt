@@ -5,13 +5,12 @@ use mathlib.Core.Path.{_≡_, refl, sym, ap, _∙_}
 use mathlib.Core.List.{List, [], _∷_, _++_}
 use native.Mathlib.Nat.{le-refl, add-zero}
 use native.Mathlib.Omega.{arith}
-use borrow.Author.Count.{below-more}
 use borrow.Author.Tests.{eqb-false}
 use lib.Dec.{eqb}
 use lib.ListN.{length, getD, take, drop, set, replicate, length-replicate, length-drop, length-set}
 use lib.Seq.{length-take-le}
 use Rattle.buffer.specs.Buffer.{put}
-use Rattle.unicode.proofs.Tests.{neither-left}
+use Rattle.unicode.specs.Places.{NoneAmong}
 use Rattle.buffer.proofs.RegionLaws.{put-back, put-nil, put-put, set-put}
 use Rattle.rules.specs.declared.Class.{Class}
 use Rattle.rules.specs.declared.Carry.{Carry}
@@ -20,7 +19,7 @@ use Rattle.rules.specs.Basics.{startsWith, at}
 use Rattle.rules.specs.Scan.{one, quote, markAt, modeOf}
 use Rattle.basics.specs.Depth.{carryDepth}
 use Rattle.scan.specs.declared.Stop.{Stop}
-use Rattle.scan.specs.Stretch.{Scanned, PairRead, Stretch, fresh, startsInCode, Quiet}
+use Rattle.scan.specs.Stretch.{Scanned, PairRead, Stretch, fresh, startsInCode, startsAt}
 use Rattle.scan.proofs.StartsLaws.{starts-is, starts-not, starts-other, starts-more, starts-reach}
 use Rattle.scan.proofs.MarkLaws.{code-escape, code-double, code-single, code-line, code-block, code-prefab, code-plain, block-open, block-end, block-close, block-plain, prefab-end, prefab-plain}
 use Rattle.scan.proofs.ScannedLaws.{scanned-start, scanned-then, scanned-one, then-one, scanned-long, scanned-comment}
@@ -142,28 +141,6 @@ module _ (line : List ℕ) (i : ℕ) (class : List ℕ) (l : i < length line) (r
   pub plain-one : startsInCode (getD line i 0) ≡ false → Scanned line (fresh Mode.Code) i class (fresh Mode.Code) (i + 1) (set class i 0)
   plain-one e = scanned-one line Mode.Code i class Class.Code Mode.Code 0 l room (not-among e) refl
 
--- the eight bytes that `quiet` looks at: any says whether one of the first k can start something
-pub record Looked (line : List ℕ) (at : ℕ) (any : Bool) (k : ℕ) : Type 0 where
-  pub none : any ≡ false → (j : ℕ) → j < k → startsInCode (getD line (at + j) 0) ≡ false
-
-pub looked-start : (line : List ℕ) (at : ℕ) → Looked line at false 0
-looked-start line at = record { none = λ e j l. absurd (omega arith) }
-
-pub or-right : (a b : Bool) → (a || b) ≡ false → b ≡ false
-or-right true b e = absurd (true≢false e)
-or-right false b e = e
-
-not-true : (b : Bool) → not b ≡ true → b ≡ false
-not-true true e = absurd (true≢false (sym e))
-not-true false e = refl
-
-module _ {line : List ℕ} {at : ℕ} {any : Bool} {k : ℕ} (p : Looked line at any k) where
-  pub looked-more : {r : Bool} → r ≡ startsInCode (getD line (at + k) 0) → Looked line at (any || r) (k + 1)
-  looked-more {r} e = record { none = λ f. below-more (λ (j : ℕ). startsInCode (getD line (at + j) 0) ≡ false) k (p .none (neither-left any r f)) (sym e ∙ or-right any r f) }
-
-  pub looked-end : 8 ≤ k → Quiet line at 8 (not any)
-  looked-end l = record { none = λ f j h. p .none (not-true any f) j (omega arith) }
-
 -- so many bytes of code
 plain-run : (line : List ℕ) (n i : ℕ) (class : List ℕ) → i + n ≤ length line → length line ≤ length class → ((j : ℕ) → j < n → startsInCode (getD line (i + j) 0) ≡ false)
     → Scanned line (fresh Mode.Code) i class (fresh Mode.Code) (i + n) (put class i (replicate n 0))
@@ -180,13 +157,13 @@ plain-run line (suc n) i class l room none =
     shift k = omega arith
 
 pub plain-eight : {line : List ℕ} {a i : ℕ} {x class : List ℕ} → Scanned line (fresh Mode.Code) a x (fresh Mode.Code) i class → (y : List ℕ) (r : Bool) → length line ≤ length x → i + 8 ≤ length line
-    → Quiet line i 8 r → r ≡ true → y ≡ replicate (length (take (i + 8 - i) (drop i class))) 0
+    → NoneAmong (startsAt line) i 8 (not r) → r ≡ true → y ≡ replicate (length (take (i + 8 - i) (drop i class))) 0
     → Scanned line (fresh Mode.Code) a x (fresh Mode.Code) (i + 8) (take i class ++ (y ++ drop (i + 8 - i) (drop i class)))
 plain-eight {line} {a} {i} {x} {class} p y r room l q e f =
     let n : i + 8 - i ≡ 8 = omega arith in
     let k : length line ≤ length class = omega (arith, p .moved .as-long) in
     let g : y ≡ replicate (length (take 8 (drop i class))) 0 = rw n at f in
-    rw (n, filled class y i 8 0 (omega arith) g) (scanned-then p (plain-run line 8 i class l k (q .none e)))
+    rw (n, filled class y i 8 0 (omega arith) g) (scanned-then p (plain-run line 8 i class l k (q .none (ap not e))))
 
 -- bytes of code, then what starts there, or the line's end
 module _ {line : List ℕ} {a i : ℕ} {x y : List ℕ} (p : Scanned line (fresh Mode.Code) a x (fresh Mode.Code) i y) where

@@ -3,6 +3,7 @@ use Prim.Native.Nat.{ℕ, suc, _+_, _<_}
 use mathlib.Core.Bool.{Bool, true, false, _&&_}
 use mathlib.Core.List.{List, [], _∷_}
 use mathlib.Core.Path.{_≡_}
+use lib.Dec.{eqb}
 use lib.ListN.{length, getD}
 use Rattle.rules.specs.Basics.{choose}
 use Rattle.rules.specs.Scan.{isLineComment, isCodeOrStr}
@@ -13,9 +14,9 @@ unfoldable pub codeLength : List ℕ → ℕ
 codeLength [] = 0
 codeLength (k ∷ ks) = let r = suc (codeLength ks) in choose (isLineComment (classOf k)) 0 r
 
--- r says whether one of the n class bytes from `at` on is one of a `//` comment
-pub record Comments (ks : List ℕ) (at n : ℕ) (r : Bool) : Type 0 where
-  pub none : r ≡ false → (j : ℕ) → j < n → getD ks (at + j) 0 ≡ 2 → ⊥
+-- the class byte at i is one of a `//` comment
+abbrev pub commentAt : List ℕ → ℕ → Bool
+commentAt ks i = eqb (getD ks i 0) 2
 
 -- if r says so, none is
 pub record NoComment (ks : List ℕ) (r : Bool) : Type 0 where

@@ -18,9 +18,8 @@ use Rattle.basics.specs.Depth.{carryDepth}
 unfoldable pub startsInCode : ℕ → Bool
 startsInCode b = is "\\" b || is "\"" b || is "'" b || is "/" b || is "$" b
 
--- r says whether none of the n bytes from `at` on is such a byte
-pub record Quiet (line : List ℕ) (at n : ℕ) (r : Bool) : Type 0 where
-  pub none : r ≡ true → (k : ℕ) → k < n → startsInCode (getD line (at + k) 0) ≡ false
+abbrev pub startsAt : List ℕ → ℕ → Bool
+startsAt line i = startsInCode (getD line i 0)
 
 -- `at` is a place of the line or its end, and its class bytes have room
 pub record Room (line : List ℕ) (at : ℕ) (class : List ℕ) : Type 0 where

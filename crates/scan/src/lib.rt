@@ -2,15 +2,17 @@
 // Code, a block comment and a prefab have a function each, which reads on until another of them begins or the line ends. Strings and `//` comments
 // end with their line, so they are read within code.
 ghost use mathlib.Core.Path.{_≡_};
+ghost use mathlib.Core.Bool.{not};
 ghost use mathlib.Core.List.{_∷_, []};
 ghost use Prim.Native.Nat.{_+_, _<_, _≤_, _^_};
 ghost use lib.ListN.{length, drop};
+ghost use Rattle.unicode.specs.Places.{NoneAmong};
 ghost use Rattle.rules.specs.Basics.{startsWith};
 ghost use Rattle.rules.specs.Scan.{quote};
 ghost use Rattle.basics.specs.Depth.{carryDepth};
 ghost use Rattle.scan.specs.Classified.{Classified};
-ghost use Rattle.scan.specs.CodeEnd.{codeLength, Comments, NoComment, onlyCodeOrStr};
-ghost use Rattle.scan.specs.Stretch.{Room, Inside, At, Deep, PairRead, InnerRead, InterpRead, DollarRead, Scanned, Stretch, fresh, startsInCode, Quiet};
+ghost use Rattle.scan.specs.CodeEnd.{codeLength, commentAt, NoComment, onlyCodeOrStr};
+ghost use Rattle.scan.specs.Stretch.{Room, Inside, At, Deep, PairRead, InnerRead, InterpRead, DollarRead, Scanned, Stretch, fresh, startsInCode, startsAt};
 use basics::quote_of;
 use rules::Carry;
 use rules::Mode;
@@ -42,7 +44,7 @@ fn starts_in_code(b: u8) -> bool
 // Whether none of the eight bytes from `at` on can start something in code. It makes no branch, so that the eight are tested at once.
 fn quiet(line: &[u8], at: usize) -> bool
     requires { ⌜ at + 8 ≤ length (now line) ⌝ }
-    ensures { λ r. ⌜ Quiet (now (line .entry)) at 8 r ⌝ }
+    ensures { λ r. ⌜ NoneAmong (startsAt (now (line .entry))) at 8 (not r) ⌝ }
 {
     let mut any = false;
     let mut k: usize = 0;
@@ -428,7 +430,7 @@ pub fn classify(line: &[u8], carry: Carry, class: &mut [u8]) -> Carry
 // Whether one of the sixteen class bytes from `at` on is one of a `//` comment.
 fn any_comment(class: &[u8], at: usize) -> bool
     requires { ⌜ at + 16 ≤ length (now class) ⌝ }
-    ensures { λ r. ⌜ Comments (now (class .entry)) at 16 r ⌝ }
+    ensures { λ r. ⌜ NoneAmong (commentAt (now (class .entry))) at 16 r ⌝ }
 {
     let mut any = false;
     let mut k: usize = 0;

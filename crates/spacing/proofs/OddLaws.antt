@@ -5,16 +5,16 @@ use mathlib.Core.List.{List}
 use mathlib.Core.Path.{_≡_, refl, sym, _∙_}
 use native.Mathlib.Numerals.{add-one}
 use native.Mathlib.Omega.{arith}
-use borrow.Author.Count.{below-more}
 use borrow.Author.Tests.{eqb-true, eqb-false}
 use lib.Dec.{eqb}
 use lib.ListN.{length, getD}
 use mathlib.Core.Logic.{_⊎_, inl, inr}
+use Rattle.unicode.specs.Places.{NoneAmong}
 use Rattle.unicode.proofs.Tests.{by-test, split, neither-left}
 use Rattle.rules.specs.Basics.{is, isBlank, isCloser}
 use Rattle.rules.specs.Scan.{isCode}
 use Rattle.rules.specs.ClassBytes.{classOf}
-use Rattle.spacing.specs.Respaced.{InCode, NoBlank, Keeping, sieve, oddAt, Odd, Clear}
+use Rattle.spacing.specs.Respaced.{InCode, NoBlank, Keeping, sieve, oddAt, Clear}
 use Rattle.spacing.proofs.KeptLaws.{kept-other, kept-char, space-then, comma-gap, blank-first, blank-last, keeping-start, keeping-more}
 
 -- ---- what the tests say
@@ -133,18 +133,7 @@ module _ (line ks : List ℕ) (r : Bool) (long : length line ≤ length ks) (w :
 
 -- ---- the loops
 
--- any says whether one of the first k bytes from `at` on is odd
-pub odd-start : (line ks : List ℕ) (at : ℕ) → Odd line ks at 0 false
-odd-start line ks at = record { none = λ e j h. absurd (omega arith) }
-
-pub odd-more : (line ks : List ℕ) (at k : ℕ) (any r : Bool) → Odd line ks at k any → r ≡ oddAt line ks (at + k) → Odd line ks at (k + 1) (any || r)
-odd-more line ks at k any r w e =
-    record { none = λ q. below-more (λ (j : ℕ). oddAt line ks (at + j) ≡ false) k (w .none (neither-left any r q)) (sym e ∙ after any true r q refl) }
-
-pub odd-end : (line ks : List ℕ) (at k w : ℕ) (any : Bool) → Odd line ks at k any → w ≤ k → Odd line ks at w any
-odd-end line ks at k w any v h = record { none = λ q j l. v .none q j (omega arith) }
-
--- neither-left of the first i bytes is odd
+-- none of the first i bytes is odd
 pub record Cleared (line ks : List ℕ) (i : ℕ) : Type 0 where
   pub none : (j : ℕ) → j < i → oddAt line ks j ≡ false
 
@@ -152,7 +141,7 @@ pub cleared-start : (line ks : List ℕ) → Cleared line ks 0
 cleared-start line ks = record { none = λ j h. absurd (omega arith) }
 
 -- w more from `at` on, where the first i are clear
-pub cleared-more : (line ks : List ℕ) (i at w : ℕ) (r : Bool) → Cleared line ks i → at ≤ i → Odd line ks at w r → r ≡ false → Cleared line ks (at + w)
+pub cleared-more : (line ks : List ℕ) (i at w : ℕ) (r : Bool) → Cleared line ks i → at ≤ i → NoneAmong (oddAt line ks) at w r → r ≡ false → Cleared line ks (at + w)
 cleared-more line ks i at w r v h o e = record { none = λ j l. go j l (split j at) }
   where
     go : (j : ℕ) → j < at + w → (j < at) ⊎ (at ≤ j) → oddAt line ks j ≡ false
@@ -161,16 +150,16 @@ cleared-more line ks i at w r v h o e = record { none = λ j l. go j l (split j 
 
 -- and the last w of those that two bytes follow
 clear-all : (line ks : List ℕ) (i w : ℕ) (r : Bool) → Cleared line ks i → 0 < w → w + 2 ≤ length line → length line - (w + 2) ≤ i
-    → Odd line ks (length line - (w + 2)) w r → r ≡ false → Clear line ks true
+    → NoneAmong (oddAt line ks) (length line - (w + 2)) w r → r ≡ false → Clear line ks true
 clear-all line ks i w r v p h l o e =
     let u = cleared-more line ks i (length line - (w + 2)) w r v l o e in
     record { long = λ q. omega arith; none = λ q j m. u .none j (omega arith) }
 
-pub clear-short : (line ks : List ℕ) (r s : Bool) → (10 ≤ length line) × (length line ≤ 18) → Odd line ks 0 8 r → r ≡ false → Odd line ks (length line - 10) 8 s → s ≡ false
+pub clear-short : (line ks : List ℕ) (r s : Bool) → (10 ≤ length line) × (length line ≤ 18) → NoneAmong (oddAt line ks) 0 8 r → r ≡ false → NoneAmong (oddAt line ks) (length line - 10) 8 s → s ≡ false
     → Clear line ks true
 clear-short line ks r s h o e q f = clear-all line ks 8 8 s (cleared-more line ks 0 0 8 r (cleared-start line ks) (omega arith) o e) (omega arith) (h .0) (omega (arith, h .1)) q f
 
-pub clear-long : (line ks : List ℕ) (i : ℕ) (r : Bool) → 18 ≤ length line → Cleared line ks i → length line - 18 ≤ i → Odd line ks (length line - 18) 16 r → r ≡ false
+pub clear-long : (line ks : List ℕ) (i : ℕ) (r : Bool) → 18 ≤ length line → Cleared line ks i → length line - 18 ≤ i → NoneAmong (oddAt line ks) (length line - 18) 16 r → r ≡ false
     → Clear line ks true
 clear-long line ks i r h v l o e = clear-all line ks i 16 r v (omega arith) h l o e
 

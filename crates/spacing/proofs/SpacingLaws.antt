@@ -7,12 +7,12 @@ use mathlib.Core.Path.{_≡_, refl, sym, ap, _∙_}
 use native.Mathlib.Nat.{le-refl}
 use native.Mathlib.Numerals.{add-one}
 use native.Mathlib.Omega.{arith}
-use borrow.Author.Count.{below-more}
 use borrow.Author.Tests.{eqb-true, eqb-false, ne-eqb}
 use lib.Dec.{eqb}
 use lib.ListN.{length, getD, take, drop, set, length-drop}
 use lib.Seq.{take-suc, take-suc-set, drop-set-add, getD-drop}
 use Rattle.buffer.specs.Buffer.{part}
+use Rattle.unicode.specs.Places.{NoneAmong}
 use Rattle.unicode.proofs.Tests.{split}
 use Rattle.rules.specs.Basics.{choose, isBlank}
 use Rattle.rules.specs.Scan.{Cell, cell, isCode}
@@ -22,7 +22,7 @@ use Rattle.rules.specs.declared.Gap.{Gap}
 use Rattle.rules.proofs.Choose.{choose-true, choose-false}
 use Rattle.rules.proofs.CellsLaws.{Folding, fold-start, fold-more, fold-end}
 use Rattle.basics.specs.Region.{Only}
-use Rattle.spacing.specs.Respaced.{textAt, spacedAt, Trimmed, Wrote, Plain, Dropped, Others, Run, Place, Normalized}
+use Rattle.spacing.specs.Respaced.{textAt, spacedAt, Trimmed, Wrote, Plain, Dropped, otherAt, Run, Place, Normalized}
 use Rattle.spacing.specs.declared.Respaced.{Respaced}
 use Rattle.basics.proofs.OnlyLaws.{only-same, only-set, only-wider, only-then, read-now}
 use Rattle.buffer.proofs.RegionLaws.{length-part}
@@ -149,37 +149,23 @@ dropped-no c gap = record { yes = λ q. absurd (true≢false (sym q)) }
 pub dropped-space : (c : ℕ) (gap : Gap) → gap ≡ Gap.Space → Dropped c gap (eqb c 32)
 dropped-space c gap e = record { yes = λ q. (e, eqb-true c 32 q) }
 
-pub others-start : (line : List ℕ) (at : ℕ) → Others line at 0 false
-others-start line at = record { none = λ e j h. absurd (omega arith) }
-
-pub others-more : (line : List ℕ) (at k : ℕ) (any : Bool) → Others line at k any → Others line at (k + 1) (any || not (eqb (getD line (at + k) 0) 32))
-others-more line at k any w = record { none = λ q. below-more (λ (j : ℕ). getD line (at + j) 0 ≡ 32) k (w .none (left any (eqb (getD line (at + k) 0) 32) q)) (eqb-true _ _ (right any (eqb (getD line (at + k) 0) 32) q)) }
-  where
-    left : (x y : Bool) → (x || not y) ≡ false → x ≡ false
-    left true y e = e
-    left false y e = refl
-
-    right : (x y : Bool) → (x || not y) ≡ false → y ≡ true
-    right true y e = absurd (true≢false e)
-    right false true e = refl
-    right false false e = absurd (true≢false e)
-
-pub others-end : (line : List ℕ) (at k n : ℕ) (any : Bool) → Others line at k any → n ≤ k → Others line at n any
-others-end line at k n any w h = record { none = λ q j l. w .none q j (omega arith) }
+not-false : (b : Bool) → not b ≡ false → b ≡ true
+not-false true e = refl
+not-false false e = absurd (true≢false e)
 
 pub run-none : (line : List ℕ) (a : ℕ) → a ≤ length line → Run line a a
 run-none line a h = record { on = le-refl a; within = h; spaces = λ j p q. absurd (omega arith) }
 
 module _ (line : List ℕ) (a i : ℕ) (w : Run line a i) where
-  pub run-block : (n : ℕ) (r : Bool) → i + n ≤ length line → Others line i n r → r ≡ false → Run line a (i + n)
+  pub run-block : (n : ℕ) (r : Bool) → i + n ≤ length line → NoneAmong (otherAt line) i n r → r ≡ false → Run line a (i + n)
   run-block n r h o e = record { on = omega (arith, w .on); within = h; spaces = λ j p q. go j p q (split j i) }
     where
       go : (j : ℕ) → a ≤ j → j < i + n → (j < i) ⊎ (i ≤ j) → getD line j 0 ≡ 32
       go j p q (inl l) = w .spaces j p l
-      go j p q (inr l) = let m : i + (j - i) ≡ j = omega arith in rw m at (o .none e (j - i) (omega arith))
+      go j p q (inr l) = let m : i + (j - i) ≡ j = omega arith in rw m at (eqb-true (getD line (i + (j - i)) 0) 32 (not-false (eqb (getD line (i + (j - i)) 0) 32) (o .none e (j - i) (omega arith))))
 
   pub run-more : i < length line → getD line i 0 ≡ 32 → Run line a (i + 1)
-  run-more h e = run-block 1 false (omega arith) (record { none = λ q j l. let m : i + j ≡ i = omega arith in rw m e }) refl
+  run-more h e = run-block 1 false (omega arith) (record { none = λ q j l. let m : i + j ≡ i = omega arith in rw (m, e) }) refl
 
 -- ---- the loop over the line
 

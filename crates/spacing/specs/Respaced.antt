@@ -41,9 +41,9 @@ pub record Plain (c : ℕ) (gap : Gap) (r : Bool) : Type 0 where
 pub record Dropped (c : ℕ) (gap : Gap) (r : Bool) : Type 0 where
   pub yes : r ≡ true → (gap ≡ Gap.Space) × (c ≡ 32)
 
--- r says whether one of the n bytes from `at` on is no space
-pub record Others (line : List ℕ) (at n : ℕ) (r : Bool) : Type 0 where
-  pub none : r ≡ false → (j : ℕ) → j < n → getD line (at + j) 0 ≡ 32
+-- the byte at i is no space
+abbrev pub otherAt : List ℕ → ℕ → Bool
+otherAt line i = not (eqb (getD line i 0) 32)
 
 -- a run of spaces, from a up to e
 pub record Run (line : List ℕ) (a e : ℕ) : Type 0 where
@@ -101,10 +101,6 @@ odd x y z k l = sieve (isBlank x) (is "," y) (eqb k 0) (is "\\" x) (is " " x) (i
 
 abbrev pub oddAt : List ℕ → List ℕ → ℕ → Bool
 oddAt line ks i = odd (getD line i 0) (getD line (i + 1) 0) (getD line (i + 2) 0) (getD ks i 0) (getD ks (i + 1) 0)
-
--- r says whether one of the n bytes from `at` on is odd
-pub record Odd (line ks : List ℕ) (at n : ℕ) (r : Bool) : Type 0 where
-  pub none : r ≡ false → (j : ℕ) → j < n → oddAt line ks (at + j) ≡ false
 
 -- if r says so, none is that two bytes follow
 pub record Clear (line ks : List ℕ) (r : Bool) : Type 0 where

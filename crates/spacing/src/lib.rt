@@ -1,6 +1,7 @@
 // Spacing: the respaced line, written into scratch, and the test whether a line is spaced already.
 ghost use mathlib.Core.Path.{_≡_};
 ghost use mathlib.Core.Bool.{_&&_, true, false};
+ghost use Rattle.unicode.specs.Places.{NoneAmong};
 ghost use Rattle.rules.specs.declared.Gap.{Gap};
 ghost use mathlib.Core.List.{_++_, _∷_, []};
 ghost use Prim.Native.Nat.{_+_, _<_, _≤_};
@@ -10,7 +11,7 @@ ghost use Rattle.rules.specs.Basics.{choose, isBlank};
 ghost use Rattle.rules.specs.Scan.{cell, isCode};
 ghost use Rattle.rules.specs.ClassBytes.{classOf, cellsOf};
 ghost use Rattle.rules.specs.Spacing.{spaced, putPlain, putAfterComma, putAt};
-ghost use Rattle.spacing.specs.Respaced.{textAt, Trimmed, Wrote, Plain, Dropped, Others, Run, Place, Normalized, InCode, KeptAt, NoBlank, Keeping, odd, Odd, Clear, Unchanged};
+ghost use Rattle.spacing.specs.Respaced.{textAt, Trimmed, Wrote, Plain, Dropped, otherAt, Run, Place, Normalized, InCode, KeptAt, NoBlank, Keeping, odd, oddAt, Clear, Unchanged};
 use basics::is_blank;
 use basics::is_closer;
 use rules::Gap;
@@ -148,7 +149,7 @@ fn is_plain(c: u8, gap: Gap) -> bool
 // Whether one of the sixteen bytes from `at` on is no space.
 fn any_other(line: &[u8], at: usize) -> bool
     requires { ⌜ at + 16 ≤ length (now line) ⌝ }
-    ensures { λ r. ⌜ Others (now (line .entry)) at 16 r ⌝ }
+    ensures { λ r. ⌜ NoneAmong (otherAt (now (line .entry))) at 16 r ⌝ }
 {
     let mut any = false;
     let mut k: usize = 0;
@@ -367,7 +368,7 @@ fn is_odd(x: u8, y: u8, z: u8, k: u8, l: u8) -> bool
 // The same of eight bytes from `at` on, and of sixteen.
 fn odd_eight(line: &[u8], class: &[u8], at: usize) -> bool
     requires { ⌜ (at + 10 ≤ length (now line)) × (length (now line) ≤ length (now class)) ⌝ }
-    ensures { λ r. ⌜ Odd (now (line .entry)) (now (class .entry)) at 8 r ⌝ }
+    ensures { λ r. ⌜ NoneAmong (oddAt (now (line .entry)) (now (class .entry))) at 8 r ⌝ }
 {
     let mut any = false;
     let mut k: usize = 0;
@@ -381,7 +382,7 @@ fn odd_eight(line: &[u8], class: &[u8], at: usize) -> bool
 
 fn odd_sixteen(line: &[u8], class: &[u8], at: usize) -> bool
     requires { ⌜ (at + 18 ≤ length (now line)) × (length (now line) ≤ length (now class)) ⌝ }
-    ensures { λ r. ⌜ Odd (now (line .entry)) (now (class .entry)) at 16 r ⌝ }
+    ensures { λ r. ⌜ NoneAmong (oddAt (now (line .entry)) (now (class .entry))) at 16 r ⌝ }
 {
     let mut any = false;
     let mut k: usize = 0;

@@ -21,13 +21,15 @@ use Rattle.rules.specs.Scan.{Cell, charsOf, classify, allCodeOrStr}
 use Rattle.rules.specs.ClassBytes.{cellsOf}
 use Rattle.rules.specs.Options.{Options, indentOf, measure, overWide}
 use Rattle.rules.specs.SplitOperation.{strengths, Ops, OpMark, opStep, noOps, marksFrom, topLevelOps, hasWord, isBalanced, keywords, loosest, atMark, cutBefore, trimmed, breakAt, splitOnce, nextBreak, breakOn, breakFirst, layPieces, splitOperation}
-use Rattle.rules.proofs.Choose.{choose-true, choose-false}
+use Rattle.rules.proofs.Choose.{choose-true, choose-false, choose-case}
 use Rattle.rules.proofs.ScanBytes.{encodeCells, classify-encode, chars-classify, all-encode}
-use Rattle.rules.proofs.CellsLaws.{cells-bytes}
+use Rattle.rules.proofs.CellsLaws.{cells-bytes, chars-cells}
 use Rattle.rules.proofs.Twelve.{twelve-lines}
 use Rattle.rules.proofs.WordsBytes.{encodePieces, balanced-encode, keywords-encode}
 use Rattle.rules.proofs.Prefix.{markedChars, marks-chars}
 use Rattle.rules.proofs.OperatorsBytes.{byteMarks, encodeMarks, marks-encode, loosest-encode, cut-encode}
+use Rattle.operators.specs.First.{anyStarts}
+use Rattle.operators.proofs.FirstLaws.{loosest-none}
 use Rattle.split_operation.specs.declared.pass.Cut.{Cut}
 use Rattle.split_operation.specs.declared.pass.Break.{Break}
 use Rattle.split.specs.declared.Part.{Part}
@@ -179,6 +181,17 @@ module _ (table indent : List ℕ) (level max rounds : ℕ) (line class : List �
     unfolding roundStrength overWide
     round-wide r h e =
         record { strength = e .strength ∙ sym (choose-false _ _ _ (ne-eqb rounds 0 some) ∙ choose-true _ _ _ (rw columns (lt-ltb max n h))); cut = e .cut }
+
+  break-none : anyStarts line ≡ false → length line ≤ length class → breakStrength table (cellsOf line class) ≡ 0
+  unfolding breakStrength
+  break-none e h =
+      choose-case (λ (n : ℕ). n ≡ 0) (λ _. refl) (λ _. choose-case (λ (n : ℕ). n ≡ 0) (λ _. refl)
+      (λ _. loosest-none table (cellsOf line class) noOps (ap anyStarts (chars-cells line class h) ∙ e)))
+
+  pub round-plain : (r : Break) (b : Bool) → Unbroken r → length line ≤ length class → b ≡ anyStarts line → b ≡ false → RoundBreak table indent level max rounds line class r
+  unfolding roundStrength
+  round-plain r b u h q e =
+      none-round r u (choose-case (λ (n : ℕ). 0 ≡ n) (λ _. refl) (λ _. choose-case (λ (n : ℕ). 0 ≡ n) (λ _. sym (break-none (sym q ∙ e) h)) (λ _. refl)))
 
   -- what the strength says of the round
   module _ (w : WellFormed line) (k : Classed line class) where

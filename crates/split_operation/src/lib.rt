@@ -6,6 +6,7 @@ ghost use Rattle.unicode.specs.Unicode.{decode};
 ghost use Rattle.rules.specs.Options.{Options};
 ghost use Rattle.rules.specs.SplitOperation.{strengths, splitOperation};
 ghost use Rattle.split_operation.specs.Operation.{LineFits, Broken, RestFits, RestWritten, RoundBreak, FirstBroken, OperationFits};
+use operators::first::has_operator;
 use pass::Break;
 use pass::find_break;
 use pass::next_op;
@@ -82,7 +83,7 @@ fn write_rest(
     r
 }
 
-// Where a first line is broken: nowhere if it fits, or if no rounds are left.
+// Where a first line is broken: nowhere if it fits, if no rounds are left, or if none of its bytes starts an operator, which is told at once.
 fn round_break(
     table: &[u8; 21],
     line: &[u8],
@@ -102,7 +103,10 @@ fn round_break(
     if end.0 <= max {
         return unbroken();
     }
-    find_break(table, line, class)
+    if has_operator(line) {
+        return find_break(table, line, class);
+    }
+    unbroken()
 }
 
 // A line, its first piece broken again in so many rounds while it is too wide.

@@ -4,21 +4,19 @@
 --     stops        where no sequence starts, nothing is read
 --     at-end       at the end nothing is left
 --     wf-sequence  in a well-formed rest a sequence starts
---     HighAmong, AsciiRun    the loops over bytes that are ASCII
+--     AsciiRun     the loops over bytes that are ASCII
 use Prim.Native.Nat.{ℕ, zero, suc, _+_, _-_, _<_, _≤_}
-use mathlib.Core.Bool.{Bool, true, false, _||_, true≢false}
+use mathlib.Core.Bool.{Bool, false}
 use mathlib.Core.List.{List, _∷_, _++_}
 use mathlib.Core.Logic.{_⊎_, inl, inr}
 use mathlib.Core.Path.{_≡_, refl, sym, ap, _∙_, subst}
 use native.Mathlib.Omega.{arith}
 use native.Mathlib.Nat.{le-refl, add-zero}
-use lib.Dec.{ltb}
-use borrow.Author.Count.{below-more}
 use borrow.Author.Tests.{ltb-false}
 use lib.ListN.{length, getD, drop, length-drop, length-append}
 use lib.Seq.{drop-drop, drop-length, getD-drop}
 use Rattle.unicode.specs.Unicode.{encodeChar, encode, size, seqLen, codeOf, seqAt, codeAt, chars, decode, prefixLen, WellFormed}
-use Rattle.unicode.specs.Places.{Step, SeqAt, HighAmong, AsciiRun}
+use Rattle.unicode.specs.Places.{Step, SeqAt, NoneAmong, highAt, AsciiRun}
 use Rattle.unicode.proofs.Tests.{split}
 use Rattle.unicode.proofs.Table.{len-1, code-1, lead-2, lead-3, lead-4}
 use Rattle.unicode.proofs.Decode.{decode-step, decode-stop, Read, read, wf-step}
@@ -118,17 +116,6 @@ prefix-end s i q h = let e : i ≡ length s = omega arith in omega (arith, at-en
 
 -- ---- a run of ASCII
 
-pub high-start : (s : List ℕ) (at : ℕ) → HighAmong s at 0 false
-high-start s at = record { none = λ e j l. absurd (omega arith) }
-
-pub high-more : {s : List ℕ} {at k : ℕ} {any : Bool} → HighAmong s at k any → HighAmong s at (k + 1) (any || ltb 127 (getD s (at + k) 0))
-high-more {any = true} a = record { none = λ e. absurd (true≢false e) }
-high-more {s} {at} {k} {any = false} a =
-    record { none = λ e. below-more (λ (j : ℕ). getD s (at + j) 0 < 0x80) k (a .none refl) (let h = ltb-false 127 (getD s (at + k) 0) e in omega arith) }
-
-pub high-all : {s : List ℕ} {at k : ℕ} {any : Bool} → HighAmong s at k any → 16 ≤ k → HighAmong s at 16 any
-high-all a l = record { none = λ e j h. a .none e j (omega arith) }
-
 pub run-start : (s : List ℕ) (at : ℕ) → at ≤ length s → AsciiRun s at at
 run-start s at h = record { from = le-refl at; within = h; ascii = λ j l. absurd (omega arith) }
 
@@ -148,8 +135,8 @@ module _ {s : List ℕ} {at i : ℕ} (r : AsciiRun s at i) where
   pub run-one : i < length s → getD s i 0 ≤ 127 → AsciiRun s at (i + 1)
   run-one h b = run-more 1 (omega arith) (λ j l. let e : i + j ≡ i = omega arith in rw e (omega arith))
 
-  pub run-block : {any : Bool} → i + 16 ≤ length s → HighAmong s i 16 any → any ≡ false → AsciiRun s at (i + 16)
-  run-block h a e = run-more 16 h (a .none e)
+  pub run-block : {any : Bool} → i + 16 ≤ length s → NoneAmong (highAt s) i 16 any → any ≡ false → AsciiRun s at (i + 16)
+  run-block h a e = run-more 16 h (λ j l. let b = ltb-false 127 (getD s (i + j) 0) (a .none e j l) in omega arith)
 
 -- the prefix goes on past it
 prefix-past : (s : List ℕ) (i n : ℕ) → PrefixScan s i → i + n ≤ length s → ((j : ℕ) → j < n → getD s (i + j) 0 < 0x80) → PrefixScan s (i + n)

@@ -12,9 +12,13 @@ pub record SeqAt (s : List ℕ) (i r : ℕ) : Type 0 where
   pub is : r ≡ seqAt (drop i s)
   pub fits : i + r ≤ length s
 
--- any is false only where the n bytes from `at` on are ASCII
-pub record HighAmong (s : List ℕ) (at n : ℕ) (any : Bool) : Type 0 where
-  pub none : any ≡ false → (j : ℕ) → j < n → getD s (at + j) 0 < 0x80
+-- any is false only where none of the n places from `at` on passes the test p
+pub record NoneAmong (p : ℕ → Bool) (at n : ℕ) (any : Bool) : Type 0 where
+  pub none : any ≡ false → (j : ℕ) → j < n → p (at + j) ≡ false
+
+-- the byte at i is not ASCII
+abbrev pub highAt : List ℕ → ℕ → Bool
+highAt s i = ltb 127 (getD s i 0)
 
 -- the bytes from `at` up to r are ASCII
 pub record AsciiRun (s : List ℕ) (at r : ℕ) : Type 0 where

@@ -3,7 +3,7 @@ ghost use mathlib.Core.Path.{_≡_};
 ghost use Prim.Native.Nat.{ℕ, _+_, _-_, _≤_, _<_};
 ghost use lib.ListN.{length, getD, take, drop};
 ghost use Rattle.unicode.specs.Unicode.{within, tail, second, seqLen, prefixLen, codeOf, codeAt, decode, WellFormed, width, isWhite, firstIsWhite};
-ghost use Rattle.unicode.specs.Places.{SeqAt, HighAmong, AsciiRun, Step, Back, WhiteAt, WhiteBefore, TrimmedStart, TrimmedEnd, Column, unitsOf, leadOf};
+ghost use Rattle.unicode.specs.Places.{SeqAt, NoneAmong, highAt, AsciiRun, Step, Back, WhiteAt, WhiteBefore, TrimmedStart, TrimmedEnd, Column, unitsOf, leadOf};
 
 // A place in a slice: how many bytes stand before it.
 pub struct ByteOffset(pub usize);
@@ -108,7 +108,7 @@ pub fn seq_at(s: &[u8], i: usize) -> usize
 // Whether a byte that is not ASCII stands among the 16 bytes from `at` on. It makes no branch, so that the 16 are tested at once.
 fn has_high(s: &[u8], at: usize) -> bool
     requires { ⌜ at + 16 ≤ length (now s) ⌝ }
-    ensures { λ r. ⌜ HighAmong (now (s .entry)) at 16 r ⌝ }
+    ensures { λ r. ⌜ NoneAmong (highAt (now (s .entry))) at 16 r ⌝ }
 {
     let mut any = false;
     let mut k: usize = 0;

@@ -1,13 +1,15 @@
--- `has_lf` meets its contract: the invariant is `LfAmong`, whose laws are in proofs/LineCuts.antt.
+-- `has_lf` meets its contract: the invariant is `NoneAmong`.
 use Prim.Native.Nat.{_-_}
 use native.Mathlib.Omega.{arith}
-use Rattle.line_ends.specs.LineEnds.{LfAmong}
-use Rattle.line_ends.proofs.LineCuts.{among-start, among-more, among-all}
+use mathlib.Core.Path.{refl}
+use Rattle.unicode.specs.Places.{NoneAmong}
+use Rattle.unicode.proofs.Among.{among-start, among-more, among-all}
+use Rattle.line_ends.specs.LineEnds.{lfAt}
 use Rattle.line_ends.proofs.has_lf.Statement.{statement}
 use Rattle.line_ends.proofs.has_lf.Tie as tie
 
 abbrev Inv-loop : tie.InvT-loop
-Inv-loop source at any₀ k₀ any k = LfAmong source at k any
+Inv-loop source at any₀ k₀ any k = NoneAmong (lfAt source) at k any
 
 abbrev μ-loop : tie.MeasureT-loop
 μ-loop source at any₀ k₀ any k = 16 - k
@@ -28,10 +30,10 @@ loop-less : tie.Need-loop-less Inv-loop μ-loop
 loop-less c = omega arith
 
 loop-again : tie.Need-loop-again Inv-loop μ-loop
-loop-again c = among-more (c .before .before .loop .inv)
+loop-again c = among-more _ _ _ _ _ (c .before .before .loop .inv) refl
 
 returns : tie.Need-returns Inv-loop μ-loop
-returns c = among-all (c .before .loop .inv) (omega arith)
+returns c = among-all _ _ _ _ _ (c .before .loop .inv) (omega arith)
 
 pub has-lf-spec : {M : Type 1} → statement M
 has-lf-spec =

@@ -1,19 +1,21 @@
 use borrow.Author.Needs.{needs}
 use Prim.Native.Nat.{_-_}
 use native.Mathlib.Omega.{arith}
-use Rattle.scan.specs.CodeEnd.{Comments}
-use Rattle.scan.proofs.CodeEnd.{comments-start, comments-more, comments-end}
+use mathlib.Core.Path.{refl}
+use Rattle.unicode.specs.Places.{NoneAmong}
+use Rattle.unicode.proofs.Among.{among-start, among-more, among-all}
+use Rattle.scan.specs.CodeEnd.{commentAt}
 use Rattle.scan.proofs.any_comment.Statement.{statement}
 use Rattle.scan.proofs.any_comment.Tie as tie
 
 abbrev Inv-loop : tie.InvT-loop
-Inv-loop class at any₀ k₀ any k = Comments class at k any
+Inv-loop class at any₀ k₀ any k = NoneAmong (commentAt class) at k any
 
 abbrev μ-loop : tie.MeasureT-loop
 μ-loop class at any₀ k₀ any k = 16 - k
 
 loop-holds : tie.Need-loop-holds Inv-loop μ-loop
-loop-holds c = comments-start _ _
+loop-holds c = among-start _ _
 
 add-any : tie.Need-add-any Inv-loop μ-loop
 add-any c = search needs
@@ -28,10 +30,10 @@ loop-less : tie.Need-loop-less Inv-loop μ-loop
 loop-less c = search needs
 
 loop-again : tie.Need-loop-again Inv-loop μ-loop
-loop-again c = comments-more _ _ _ _ (c .before .before .loop .inv)
+loop-again c = among-more _ _ _ _ _ (c .before .before .loop .inv) refl
 
 returns : tie.Need-returns Inv-loop μ-loop
-returns c = comments-end _ _ _ _ _ (c .before .loop .inv) (omega arith)
+returns c = among-all _ _ _ _ _ (c .before .loop .inv) (omega arith)
 
 pub any-comment-spec : {M : Type 1} → statement M
 any-comment-spec =

@@ -1,18 +1,21 @@
 use borrow.Author.Needs.{needs}
 use native.Mathlib.Omega.{arith}
 use Prim.Native.Nat.{_-_}
-use Rattle.scan.proofs.CodeLaws.{Looked, looked-start, looked-more, looked-end}
+use mathlib.Core.Bool.{Bool·not-not}
+use Rattle.unicode.specs.Places.{NoneAmong}
+use Rattle.unicode.proofs.Among.{among-start, among-more, among-all}
+use Rattle.scan.specs.Stretch.{startsAt}
 use Rattle.scan.proofs.quiet.Statement.{statement}
 use Rattle.scan.proofs.quiet.Tie as tie
 
 abbrev Inv-loop : tie.InvT-loop
-Inv-loop line at any₀ k₀ any k = Looked line at any k
+Inv-loop line at any₀ k₀ any k = NoneAmong (startsAt line) at k any
 
 abbrev μ-loop : tie.MeasureT-loop
 μ-loop line at any₀ k₀ any k = 8 - k
 
 loop-holds : tie.Need-loop-holds Inv-loop μ-loop
-loop-holds c = looked-start _ _
+loop-holds c = among-start _ _
 
 add-starts-in-code : tie.Need-add-starts-in-code Inv-loop μ-loop
 add-starts-in-code c = omega arith
@@ -30,10 +33,10 @@ loop-less : tie.Need-loop-less Inv-loop μ-loop
 loop-less c = omega arith
 
 loop-again : tie.Need-loop-again Inv-loop μ-loop
-loop-again c = looked-more (c .before .before .before .loop .inv) (c .starts-in-code .ensures)
+loop-again c = among-more _ _ _ _ _ (c .before .before .before .loop .inv) (c .starts-in-code .ensures)
 
 returns : tie.Need-returns Inv-loop μ-loop
-returns c = looked-end (c .before .loop .inv) (omega arith)
+returns c = rw Bool·not-not (among-all _ _ _ _ _ (c .before .loop .inv) (omega arith))
 
 pub quiet-spec : {M : Type 1} → statement M
 quiet-spec =

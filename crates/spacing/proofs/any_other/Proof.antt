@@ -1,19 +1,21 @@
 use borrow.Author.Needs.{needs}
 use Prim.Native.Nat.{_-_}
 use native.Mathlib.Omega.{arith}
-use Rattle.spacing.specs.Respaced.{Others}
-use Rattle.spacing.proofs.SpacingLaws.{others-start, others-more, others-end}
+use mathlib.Core.Path.{refl}
+use Rattle.unicode.specs.Places.{NoneAmong}
+use Rattle.unicode.proofs.Among.{among-start, among-more, among-all}
+use Rattle.spacing.specs.Respaced.{otherAt}
 use Rattle.spacing.proofs.any_other.Statement.{statement}
 use Rattle.spacing.proofs.any_other.Tie as tie
 
 abbrev Inv-loop : tie.InvT-loop
-Inv-loop line at any₀ k₀ any k = Others line at k any
+Inv-loop line at any₀ k₀ any k = NoneAmong (otherAt line) at k any
 
 abbrev μ-loop : tie.MeasureT-loop
 μ-loop line at any₀ k₀ any k = 16 - k
 
 loop-holds : tie.Need-loop-holds Inv-loop μ-loop
-loop-holds c = others-start _ _
+loop-holds c = among-start _ _
 
 add-any : tie.Need-add-any Inv-loop μ-loop
 add-any c = search needs
@@ -28,10 +30,10 @@ loop-less : tie.Need-loop-less Inv-loop μ-loop
 loop-less c = search needs
 
 loop-again : tie.Need-loop-again Inv-loop μ-loop
-loop-again c = others-more _ _ _ _ (c .before .before .loop .inv)
+loop-again c = among-more _ _ _ _ _ (c .before .before .loop .inv) refl
 
 returns : tie.Need-returns Inv-loop μ-loop
-returns c = search (needs, others-end)
+returns c = search (needs, among-all)
 
 pub any-other-spec : {M : Type 1} → statement M
 any-other-spec =

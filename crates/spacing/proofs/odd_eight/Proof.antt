@@ -1,19 +1,20 @@
 use borrow.Author.Needs.{needs}
 use Prim.Native.Nat.{_-_}
 use native.Mathlib.Omega.{arith}
-use Rattle.spacing.specs.Respaced.{Odd}
-use Rattle.spacing.proofs.OddLaws.{odd-start, odd-more, odd-end}
+use Rattle.unicode.specs.Places.{NoneAmong}
+use Rattle.unicode.proofs.Among.{among-start, among-more, among-all}
+use Rattle.spacing.specs.Respaced.{oddAt}
 use Rattle.spacing.proofs.odd_eight.Statement.{statement}
 use Rattle.spacing.proofs.odd_eight.Tie as tie
 
 abbrev Inv-loop : tie.InvT-loop
-Inv-loop line class at any₀ k₀ any k = Odd line class at k any
+Inv-loop line class at any₀ k₀ any k = NoneAmong (oddAt line class) at k any
 
 abbrev μ-loop : tie.MeasureT-loop
 μ-loop line class at any₀ k₀ any k = 8 - k
 
 loop-holds : tie.Need-loop-holds Inv-loop μ-loop
-loop-holds c = odd-start _ _ _
+loop-holds c = among-start _ _
 
 add-i : tie.Need-add-i Inv-loop μ-loop
 add-i c = search needs
@@ -52,10 +53,10 @@ loop-less : tie.Need-loop-less Inv-loop μ-loop
 loop-less c = search needs
 
 loop-again : tie.Need-loop-again Inv-loop μ-loop
-loop-again c = search (needs, odd-more)
+loop-again c = search (needs, among-more)
 
 returns : tie.Need-returns Inv-loop μ-loop
-returns c = search (needs, odd-end)
+returns c = search (needs, among-all)
 
 pub odd-eight-spec : {M : Type 1} → statement M
 odd-eight-spec =

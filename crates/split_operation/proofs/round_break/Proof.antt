@@ -1,5 +1,5 @@
 use borrow.Author.Needs.{needs}
-use Rattle.split_operation.proofs.OperationLaws.{round-none, round-fits, round-wide}
+use Rattle.split_operation.proofs.OperationLaws.{round-none, round-fits, round-wide, round-plain}
 use Rattle.split_operation.proofs.round_break.Statement.{statement}
 use Rattle.split_operation.proofs.round_break.Tie as tie
 
@@ -21,11 +21,20 @@ unbroken-requires-2 c κs = search needs
 returns-2 : tie.Need-returns-2
 returns-2 c = round-fits _ _ _ _ _ _ _ (c .before .before .before .before .before .if1 .left) _ _ (c .before .before .before .before .indent-column .ensures) (c .before .before .before .measure-from .ensures) _ (c .unbroken2 .ensures) (c .before .if2 .taken)
 
+has-operator-requires : tie.Need-has-operator-requires
+has-operator-requires c κs = search needs
+
 find-break-requires : tie.Need-find-break-requires
 find-break-requires c κs = search needs
 
 returns-3 : tie.Need-returns-3
-returns-3 c = round-wide _ _ _ _ _ _ _ (c .before .before .before .before .before .if1 .left) _ _ (c .before .before .before .before .indent-column .ensures) (c .before .before .before .measure-from .ensures) _ (c .before .if2 .left) (c .find-break .ensures)
+returns-3 c = round-wide _ _ _ _ _ _ _ (c .before .before .before .before .before .before .before .if1 .left) _ _ (c .before .before .before .before .before .before .indent-column .ensures) (c .before .before .before .before .before .measure-from .ensures) _ (c .before .before .before .if2 .left) (c .find-break .ensures)
+
+unbroken-requires-3 : tie.Need-unbroken-requires-3
+unbroken-requires-3 c κs = search needs
+
+returns-4 : tie.Need-returns-4
+returns-4 c = round-plain _ _ _ _ _ _ _ _ _ (c .unbroken3 .ensures) (c .before .before .before .before .before .before .before .before .before .before .before .pre .breaks .long) (c .before .before .has-operator .ensures) (c .before .if3 .left)
 
 pub round-break-spec : {M : Type 1} → statement M
 round-break-spec =
@@ -37,5 +46,8 @@ round-break-spec =
     measure-from-requires
     unbroken-requires-2
     returns-2
+    has-operator-requires
     find-break-requires
-    returns-3)
+    returns-3
+    unbroken-requires-3
+    returns-4)

@@ -1,19 +1,20 @@
--- `unicode::has_high` meets its contract: the invariant is `HighAmong`, whose laws are in proofs/Scan.antt.
+-- `unicode::has_high` meets its contract: the invariant is `NoneAmong`, whose laws are in proofs/Among.antt.
 use Prim.Native.Nat.{_-_}
 use native.Mathlib.Omega.{arith}
-use Rattle.unicode.specs.Places.{HighAmong}
-use Rattle.unicode.proofs.Scan.{high-start, high-more, high-all}
+use mathlib.Core.Path.{refl}
+use Rattle.unicode.specs.Places.{NoneAmong, highAt}
+use Rattle.unicode.proofs.Among.{among-start, among-more, among-all}
 use Rattle.unicode.proofs.has_high.Statement.{statement}
 use Rattle.unicode.proofs.has_high.Tie as tie
 
 abbrev Inv-loop : tie.InvT-loop
-Inv-loop s at any₀ k₀ any k = HighAmong s at k any
+Inv-loop s at any₀ k₀ any k = NoneAmong (highAt s) at k any
 
 abbrev μ-loop : tie.MeasureT-loop
 μ-loop s at any₀ k₀ any k = 16 - k
 
 loop-holds : tie.Need-loop-holds Inv-loop μ-loop
-loop-holds c = high-start _ _
+loop-holds c = among-start _ _
 
 add-any : tie.Need-add-any Inv-loop μ-loop
 add-any c = omega arith
@@ -28,10 +29,10 @@ loop-less : tie.Need-loop-less Inv-loop μ-loop
 loop-less c = omega arith
 
 loop-again : tie.Need-loop-again Inv-loop μ-loop
-loop-again c = high-more (c .before .before .loop .inv)
+loop-again c = among-more _ _ _ _ _ (c .before .before .loop .inv) refl
 
 returns : tie.Need-returns Inv-loop μ-loop
-returns c = high-all (c .before .loop .inv) (omega arith)
+returns c = among-all _ _ _ _ _ (c .before .loop .inv) (omega arith)
 
 pub has-high-spec : {M : Type 1} → statement M
 has-high-spec =

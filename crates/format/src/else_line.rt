@@ -1,8 +1,8 @@
 // Else: a plain `else`, and the facts of a line that it may join.
 ghost use mathlib.Core.Path.{_≡_};
-ghost use Rattle.unicode.specs.Unicode.{decode, WellFormed};
+ghost use Rattle.unicode.specs.Unicode.{decode, trimEnd, WellFormed};
 ghost use Rattle.rules.specs.Basics.{is, lastIs};
-ghost use Rattle.rules.specs.Else.{startsIf, isPlainElse};
+ghost use Rattle.rules.specs.Else.{startsIf, isPlainElse, joinable};
 ghost use Rattle.format.specs.Else.{ifWord, plainRest, Facts};
 use crate::words::starts_white_or;
 use basics::is_ident;
@@ -73,6 +73,19 @@ pub fn ends_in_brace(line: &[u8]) -> bool
         return false;
     }
     line[n - 1] == b'}'
+}
+
+// Whether an `else` can be joined to a line that is trimmed at its end. Most lines do not end in `}`.
+pub fn trimmed_takes_else(line: &[u8]) -> bool
+    requires { ⌜ WellFormed (now line) ⌝ }
+    requires { ⌜ trimEnd (decode (now line)) ≡ decode (now line) ⌝ }
+    ensures { λ r. ⌜ r ≡ joinable (decode (now (line .entry))) ⌝ }
+{
+    if ends_in_brace(line) {
+        let a = unicode::trim_start(line);
+        return !starts_with(&line[a..], b"else");
+    }
+    false
 }
 
 // The facts of a line that an `else` may join: its length trimmed at the end, whether it then ends in `}`, and whether, trimmed at the start,

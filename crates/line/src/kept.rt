@@ -12,7 +12,7 @@ use rules::Ignore;
 use rules::LineEnding;
 
 // Whether an else can be joined to a line with these facts.
-pub fn takes_else(facts: LineFacts) -> bool
+fn takes_else(facts: LineFacts) -> bool
     ensures { λ r. ⌜ r ≡ (facts .brace && not (facts .«else_first»)) ⌝ }
 {
     if facts.else_first {

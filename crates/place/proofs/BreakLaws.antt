@@ -15,13 +15,12 @@ use Rattle.rules.specs.Options.{Options, allBlank}
 use Rattle.rules.specs.SplitImport.{Laid, splitImport}
 use Rattle.rules.specs.SplitOperation.{strengths, splitOperation}
 use Rattle.rules.specs.Assembly.{joined}
+use Rattle.rules.specs.Else.{joinable}
 use Rattle.rules.specs.Line.{dropBlank, orOperation, broken}
 use Rattle.rules.specs.declared.Carry.{Carry}
 use Rattle.rules.specs.declared.LineEnding.{LineEnding}
 use Rattle.rules.proofs.SplitLines.{Newest, newest, newest-one, alone-line, import-lines, operation-lines, operation-several, operation-alone}
 use Rattle.rules.proofs.SplitSizes.{Fit, import-fits, operation-fits}
-use Rattle.format.specs.Else.{Facts}
-use Rattle.format.specs.declared.else_line.LineFacts.{LineFacts}
 use Rattle.split.specs.Text.{indented, Fits}
 use Rattle.split_import.specs.Import.{Given, ImportFits}
 use Rattle.split_import.specs.declared.ImportSplit.{ImportSplit}
@@ -33,7 +32,7 @@ use Rattle.text.proofs.PadLaws.{some-size}
 use Rattle.text.proofs.StepLaws.{ending, grown-ordered, lines-done, lines-grown}
 use Rattle.place.specs.declared.Placed.{Placed}
 use Rattle.line.specs.Holds.{ValidIndent}
-use Rattle.line.proofs.HoldsLaws.{brace-bytes, line-told}
+use Rattle.line.proofs.HoldsLaws.{brace-bytes}
 use Rattle.place.specs.Placing.{GoesOn, Breaks, aloneIn}
 
 size-line : (m : List ℕ) → isEmpty m ≡ false → 1 ≤ size m
@@ -187,11 +186,11 @@ module _
             (λ o k. rw (ends, brace-bytes line (g .well)) (newest (operation-several (operation-lines strengths o (blank-of o k) max level (decode line) (g .trimmed)) (sym (made o k .more) ∙ more))))
             reached is
 
-        pub alone-breaks : (facts : LineFacts) (j : Bool) (u : Written) (p : Placed) → Facts line facts → j ≡ (facts .brace && not (facts .«else_first»))
+        pub alone-breaks : (j : Bool) (u : Written) (p : Placed) → j ≡ joinable (decode line)
             → r .more ≡ false → u ≡ afterLines (r .next) j → p ≡ aloneIn u → Breaks max indent (decode line) level (asStr e) drops (length line) out t p o3
-        alone-breaks facts j u p w q more reached is =
+        alone-breaks j u p q more reached is =
             operation-breaks j u p
-            (λ o k. rw (operation-alone (operation-lines strengths o (blank-of o k) max level (decode line) (g .trimmed)) (sym (made o k .more) ∙ more), line-told line facts j (g .well) w q .takes)
+            (λ o k. rw (operation-alone (operation-lines strengths o (blank-of o k) max level (decode line) (g .trimmed)) (sym (made o k .more) ∙ more), q)
             (newest-one (alone-line o (blank-of o k) level (decode line) (some-of (decode line) (omega (arith, long, g .some))) (g .trimmed))))
             reached is
           where

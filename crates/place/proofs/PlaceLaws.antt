@@ -4,19 +4,22 @@ use mathlib.Core.Bool.{Bool, true, false}
 use mathlib.Core.List.{List, [], _∷_, _++_}
 use mathlib.Core.Path.{_≡_, refl, sym, ap, _∙_}
 use native.Mathlib.Omega.{arith}
+use native.Mathlib.Nat.{le-refl}
 use borrow.Author.Tests.{le-ltb, lt-ltb}
 use lib.Dec.{ltb}
-use lib.ListN.{length, length-append}
-use Rattle.unicode.specs.Unicode.{encodeChar, encode, decode, size, units, width, WellFormed}
+use lib.ListN.{length, take, length-append}
+use lib.Seq.{take-all}
+use Rattle.unicode.specs.Unicode.{encodeChar, encode, decode, size, units, width, trimEnd, WellFormed}
 use Rattle.unicode.proofs.Table.{Shape, one, two, three, four, shape}
 use Rattle.unicode.proofs.Decode.{encode-cons}
 use Rattle.unicode.proofs.Bytewise.{width-nil, width-cons, width-append}
 use Rattle.buffer.specs.Repeat.{times}
 use Rattle.buffer.proofs.RepeatLaws.{times-within}
 use Rattle.rules.specs.Basics.{choose, is, lastIs}
+use Rattle.rules.specs.Else.{joinable}
 use Rattle.rules.specs.Options.{defaults, withIndent, indentOf, measure, overWide}
 use Rattle.brackets.specs.Stack.{Levels}
-use Rattle.text.specs.Text.{ElseLine}
+use Rattle.text.specs.Text.{Line, ElseLine}
 use Rattle.split.specs.Measure.{Measured, IndentMeasured}
 use Rattle.line.specs.Holds.{ValidIndent}
 use Rattle.line.proofs.HoldsLaws.{brace-bytes}
@@ -88,3 +91,9 @@ else-goes line class j g e =
 
 pub indent-small : (indent : List ℕ) (level : ℕ) → ValidIndent indent → level ≤ 1048576 → length (times level indent) ≤ 67108864
 indent-small indent level v h = omega (arith, times-within level indent {a = 1048576} {b = 64} h (v .short))
+
+-- what `push_line` is told of a line that is trimmed at its end
+pub trimmed-told : (line : List ℕ) (joins : Bool) → WellFormed line → trimEnd (decode line) ≡ decode line → joins ≡ joinable (decode line) → Line line (length line) joins
+trimmed-told line joins w t e =
+    let k : take (length line) line ≡ line = take-all (length line) line (le-refl (length line)) in
+    record { well = w; trims = record { fits = le-refl (length line); well = rw k w; text = ap decode k ∙ sym t }; takes = e }

@@ -4,7 +4,7 @@ ghost use mathlib.Core.Bool.{true, false};
 ghost use Rattle.rules.specs.Basics.{choose};
 ghost use Prim.Native.Nat.{_+_, _≤_, _<_};
 ghost use lib.ListN.{length};
-ghost use Rattle.unicode.specs.Unicode.{decode, WellFormed};
+ghost use Rattle.unicode.specs.Unicode.{decode, trimEnd, WellFormed};
 ghost use Rattle.buffer.specs.Repeat.{times};
 ghost use Rattle.rules.specs.Lines.{asStr};
 ghost use mathlib.Core.List.{_++_};
@@ -15,7 +15,6 @@ ghost use Rattle.rules.specs.declared.PrintWidth.{PrintWidth};
 ghost use Rattle.line.specs.Holds.{ValidIndent};
 ghost use Rattle.place.specs.Placing.{GoesOn, Heads, Asks, Puts, spacedBy, placedBy, Level, dropsBlank, Wide, aloneIn, breakWidth, Lays, Breaks};
 use format::words::Declaration;
-use line::kept::takes_else;
 use rules::LineEnding;
 use rules::PrintWidth;
 use text::Written;
@@ -78,7 +77,7 @@ fn over_wide(indent: &[u8], level: usize, line: &[u8], max: usize) -> bool
     max < end.0
 }
 
-// The line indented, alone.
+// The line indented, alone. It is trimmed at its end.
 fn push_one(
     line: &[u8],
     indent: &[u8],
@@ -91,12 +90,12 @@ fn push_one(
     requires { ⌜ ValidIndent (now indent) ⌝ }
     requires { ⌜ level ≤ 1048576 ⌝ }
     requires { ⌜ WellFormed (now line) × (length (now line) ≤ 2097152) ⌝ }
+    requires { ⌜ trimEnd (decode (now line)) ≡ decode (now line) ⌝ }
     requires { ⌜ Ordered t × (t .at .0 ≤ 1152921504606846976) ⌝ }
     ensures { λ r. ⌜ Adds (asStr ending) drops (times level (now (indent .entry)) ++ decode (now (line .entry))) (now (out .entry)) t (now (out .exit)) r ⌝ }
 {
-    let facts = format::else_line::line_facts(line);
-    let joins = takes_else(facts);
-    let tail = facts.trimmed;
+    let joins = format::else_line::trimmed_takes_else(line);
+    let tail = line.len();
     text::push_line(out, t, ending, drops, indent, level, line, tail, joins)
 }
 
@@ -265,6 +264,6 @@ fn break_line(
     if o.more {
         return alone(text::after_lines(o.next, brace));
     }
-    let facts = format::else_line::line_facts(line);
-    alone(text::after_lines(o.next, takes_else(facts)))
+    let joins = format::else_line::trimmed_takes_else(line);
+    alone(text::after_lines(o.next, joins))
 }

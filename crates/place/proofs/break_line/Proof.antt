@@ -67,13 +67,10 @@ returns-2 c =
     several-breaks _ _ _ _ _ _ _ _ _ _ _ (s .pre .0) (s .pre .1 .0) (s .pre .1 .1 .0) (a .as-str .ensures) (t .continue-text .ensures) _ _ (i .before .before .ends-in-brace .ensures) _ _ (i .split-import .ensures)
     (o .before .before .if1 .left) _ _ (o .split-operation .ensures) _ _ (c .before .before .if2 .taken) (c .before .after-lines2 .ensures) (c .alone .ensures)
 
-line-facts-requires : tie.Need-line-facts-requires
-line-facts-requires c κs =
+trimmed-takes-else-requires : tie.Need-trimmed-takes-else-requires
+trimmed-takes-else-requires c κs =
     let s = c .before .before .before .before .before .before .before .before .before .before .before .before .before .before .before .before .before .before .before .before .before in
-    s .pre .1 .1 .0 .well
-
-takes-else-requires : tie.Need-takes-else-requires
-takes-else-requires c κs = search needs
+    (s .pre .1 .1 .0 .well, s .pre .1 .1 .0 .trimmed)
 
 after-lines-requires-3 : tie.Need-after-lines-requires-3
 after-lines-requires-3 c κs = search needs
@@ -83,20 +80,20 @@ alone-requires-2 c κs = search needs
 
 same-length-3 : tie.Need-same-length-3
 same-length-3 c =
-    let o = c .before .before .before .before .before .before in
+    let o = c .before .before .before .before .before in
     let i = o .before .before .before .before .before in
     o .out3 .given ∙ i .out2 .given ∙ i .before .before .before .before .before .before .before .out .given
 
 returns-3 : tie.Need-returns-3
 returns-3 c =
-    let o = c .before .before .before .before .before .before .before in
+    let o = c .before .before .before .before .before .before in
     let i = o .before .before .before .before .before in
     let a = i .before .before .before in
     let t = a .before .before .before .before in
     let s = t .before .before .before .before .before .before in
     alone-breaks _ _ _ _ _ _ _ _ _ _ _ (s .pre .0) (s .pre .1 .0) (s .pre .1 .1 .0) (a .as-str .ensures) (t .continue-text .ensures) _ _ (i .before .before .ends-in-brace .ensures) _ _ (i .split-import .ensures)
-    (o .before .before .if1 .left) _ _ (o .split-operation .ensures) _ _ _ _ (c .before .before .before .line-facts .ensures) (c .before .before .takes-else .ensures)
-    (c .before .before .before .before .if2 .left) (c .before .after-lines3 .ensures) (c .alone2 .ensures)
+    (o .before .before .if1 .left) _ _ (o .split-operation .ensures) _ _ _ (c .before .before .trimmed-takes-else .ensures)
+    (c .before .before .before .if2 .left) (c .before .after-lines3 .ensures) (c .alone2 .ensures)
 
 pub break-line-spec : {M : Type 1} → statement M
 break-line-spec =
@@ -115,8 +112,7 @@ break-line-spec =
     alone-requires
     same-length-2
     returns-2
-    line-facts-requires
-    takes-else-requires
+    trimmed-takes-else-requires
     after-lines-requires-3
     alone-requires-2
     same-length-3

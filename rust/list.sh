@@ -13,7 +13,7 @@ cargo build --release --quiet --bin oracle
 cat << END
 # Sources, and the texts that the Rust formatter gives for them. crates/replay formats each source and compares.
 # Made by rust/list.sh $seed $count, which is \`oracle\` with seed $seed and count $count. The answers are those of \`format_with\` of
-# Meshiest/wirescript, compiled unchanged. Its copy names no commit; the SHA-256 sums of its files, as NOTICE has them:
+# Meshiest/wirescript, commit 8393f639ce, compiled unchanged. The SHA-256 sums of its files, as NOTICE has them:
 $(sed 's/^/#     /' <<< "$sums")
 # No source is stored twice with the same options, and none that the Rust can't take, so there are no refusals.
 # A case: the lengths of source, indent and answer, then width_set, width, line_ending, final_newline; then source, indent, answer, LF.

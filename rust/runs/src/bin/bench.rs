@@ -2,6 +2,10 @@
 //! on the same inputs in one run. Prints a markdown table.
 //!
 //!     bench [--only NAME] [--small]
+//!     bench --names | --once NAME
+//!
+//! `--names` prints the inputs' names, and `--once` has the library format one of them at 64 KiB,
+//! once: `counts.sh` counts the instructions of that call.
 //!
 //! Times are the best of several runs. The formatter's buffers are kept between runs, and
 //! each call clears them itself. A run of the Rust that may take over a few seconds, judged
@@ -256,6 +260,9 @@ const INPUTS: &[Input] = &[
     },
 ];
 
+/// The smallest size of an input.
+const SMALL: usize = 64 << 10;
+
 /// Seconds that one run of the Rust may take.
 const MOST: f64 = 4.0;
 
@@ -329,16 +336,38 @@ fn kind_rows(sizes: &[usize], formatter: &mut Formatter) {
     }
 }
 
+/// The library alone, once.
+fn once(name: &str) {
+    let input = INPUTS.iter().find(|input| input.name == name);
+    let input = input.unwrap_or_else(|| panic!("no input is called {name}"));
+    let source = cut((input.make)(SMALL), SMALL);
+    let width = (input.width)(SMALL) as u64;
+    let options = Options::new().indent(input.indent).width(Some(width));
+    let mut formatter = Formatter::new();
+    black_box(formatter.format(&source, &options)).expect("accepted");
+}
+
 fn main() {
     let arguments: Vec<String> = std::env::args().skip(1).collect();
-    let only = arguments
-        .iter()
-        .position(|a| a == "--only")
-        .and_then(|i| arguments.get(i + 1));
+    let after = |flag: &str| {
+        let place = arguments.iter().position(|a| a == flag)?;
+        arguments.get(place + 1)
+    };
+    if arguments.iter().any(|a| a == "--names") {
+        for input in INPUTS {
+            println!("{}", input.name);
+        }
+        return;
+    }
+    if let Some(name) = after("--once") {
+        once(name);
+        return;
+    }
+    let only = after("--only");
     let sizes: &[usize] = if arguments.iter().any(|a| a == "--small") {
-        &[64 << 10]
+        &[SMALL]
     } else {
-        &[64 << 10, 256 << 10, 1 << 20]
+        &[SMALL, 256 << 10, 1 << 20]
     };
     println!("| input | source | text | Rust | ours | Rust / ours | ours |");
     println!("|---|--:|--:|--:|--:|--:|--:|");

@@ -1,7 +1,7 @@
 //! Formats Wirescript, through a library of which every function is proved against its
 //! rules (`libwirescript.a`).
 //!
-//! ```no_run
+//! ```
 //! use wirescript_format::{Options, format};
 //!
 //! let formatted = format("f(a ,b)", &Options::new())?;
@@ -12,6 +12,7 @@
 //! An editor keeps a [`Formatter`], which reuses its buffers. [`raw`] has the exported
 //! functions as they are, for callers with buffers of their own.
 
+mod interface;
 mod options;
 pub mod raw;
 mod refusal;

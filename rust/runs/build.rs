@@ -1,6 +1,7 @@
 //! With the feature `parts`: links `libwirescript_parts.a` from the folder of `libwirescript.a`, which the
 //! build script of `wirescript_format` tells.
 
+#[allow(dead_code)]
 #[path = "../wirescript_format/archive.rs"]
 mod archive;
 

@@ -1,8 +1,10 @@
 //! The runs find what they must: each fault of the stand-in is found, and without one
 //! nothing is.
 
+use runs::call::Call;
 use runs::compare::{Buffers, Check};
 use runs::library::{Fault, Standin};
+use runs::safe::SafeCall;
 use runs::shrink::shrink;
 use runs::stages;
 
@@ -29,8 +31,10 @@ fn each_fault_is_found_and_made_small() {
         let library = Standin(Some(fault));
         let found = first(&library, 20_000).unwrap_or_else(|| panic!("{fault:?} is not found"));
         let small = shrink(&library, found);
-        if let Check::Format(call) = &small {
-            assert!(call.source.len() <= 40, "{fault:?}: {small:?}");
+        if let Check::Format(Call { source, .. }) | Check::Safe(SafeCall::Format { source, .. }) =
+            &small
+        {
+            assert!(source.len() <= 40, "{fault:?}: {small:?}");
         }
         assert!(
             Buffers::default().check(&library, &small).is_some(),

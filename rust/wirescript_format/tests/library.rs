@@ -2,7 +2,7 @@
 
 use wirescript_format::{
     EditorConfig, EndOfLine, Formatter, IndentSize, IndentStyle, LineEnding, MAX_SOURCE,
-    MaxLineLength, Options, Refusal, TextKind, format, raw, text_kind_at,
+    MaxLineLength, Options, Refusal, TextKind, format, text_kind_at,
 };
 
 fn text(source: &str, options: &Options) -> String {
@@ -147,10 +147,4 @@ fn a_refused_step_changes_nothing() {
     let bad = Options::new().indent("q");
     assert_eq!(bad.indent_with(false, 2), Err(Refusal::BadOption));
     assert_eq!(bad, Options::new().indent("q"));
-}
-
-/// A number that the archive gives: the crate's own stands in the name of the symbol that it calls.
-#[test]
-fn the_archive_tells_its_interface() {
-    assert!(raw::interface() > 0);
 }

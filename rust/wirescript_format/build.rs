@@ -15,7 +15,8 @@ fn main() {
 
 fn link() -> Result<(), String> {
     let here = PathBuf::from(env::var_os("CARGO_MANIFEST_DIR").expect("set by cargo"));
-    let usual = here.join("../../target/staticlib");
+    let root = here.ancestors().nth(2).expect("two folders above");
+    let usual = root.join("target/staticlib");
     let folder = archive::folder(env::var_os("WIRESCRIPT_LIB").as_deref(), &usual)?;
     let archive = archive::archive(&folder, "wirescript")?;
     println!("cargo::rerun-if-changed={}", archive.display());

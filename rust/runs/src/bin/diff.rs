@@ -2,10 +2,10 @@
 //!
 //!     diff [--seconds N] [--sources N] [--seed N] [--threads N] [--stage NAME] [--standin]
 //!
-//! Without a limit it is the full run, of some minutes: every stage with an end whole, the
-//! others up to a number of checks. `--seconds` is for all stages, `--sources` for each; the first batch of a stage is made
-//! whatever the time. `--standin` puts the Rust in the library's place. The first difference is made small and printed, with
-//! status 1; a stage that made no check gives status 1 too.
+//! Without a limit it is the full run, of some minutes: every stage with an end whole, the others
+//! up to a number of checks. `--seconds` is for all stages, `--sources` for each; the first batch of
+//! a stage is made whatever the time. `--standin` puts the Rust in the library's place. The first
+//! difference is made small and printed, with status 1; a stage that made no check gives status 1 too.
 
 use runs::compare::{Buffers, Check};
 use runs::library::{Library, Linked, Standin};

@@ -309,57 +309,57 @@ fn cases() -> Vec<Check> {
     ]
 }
 
-/// Through the safe functions: imports whose two counts differ, the cases of the rules, and each refusal
-/// that these functions can tell.
+/// Through the safe functions: imports whose two counts differ, kinds, setting steps, the cases of the
+/// rules, and each refusal that these functions can tell. What is quick comes first.
 fn safe_cases() -> Vec<Check> {
-    let format = |source: &[u8], options: &FormatOptions, most: Option<Size>| {
-        Check::Safe(SafeCall::Format {
-            source: source.into(),
-            options: options.clone(),
-            most,
+    [
+        safe_imports(),
+        safe_kinds(),
+        safe_indents(),
+        safe_rules(),
+        safe_refusals(),
+    ]
+    .concat()
+}
+
+/// A source through the function `format`, and through a formatter whose texts have at most about as many bytes.
+fn safe_formats(source: &[u8], options: &FormatOptions) -> Vec<Check> {
+    let sizes = [0, 1, -1, 4000].map(|more| Some(Size::Needed(more)));
+    [None]
+        .into_iter()
+        .chain(sizes)
+        .map(|most| {
+            Check::Safe(SafeCall::Format {
+                source: source.into(),
+                options: options.clone(),
+                most,
+            })
         })
-    };
-    let mut checks = Vec::new();
-    let mut both = |source: &[u8], options: &FormatOptions| {
-        checks.push(format(source, options, None));
-        for more in [0, 1, -1, 4000] {
-            checks.push(format(source, options, Some(Size::Needed(more))));
-        }
-    };
+        .collect()
+}
+
+fn safe_imports() -> Vec<Check> {
     let narrow = FormatOptions {
         print_width: Some(10),
         ..FormatOptions::default()
     };
-    for names in [
+    let lists = [
         &["a,b"][..],
         &["a,,,b"],
         &[",", "a"],
         &["a,b", ",a,b", "c,d"],
         &["a,,b,,c,,", ",,,d"],
-    ] {
-        let imports = names.iter().map(|n| format!("import {{{n}}} from \"l\"\n"));
-        both(imports.collect::<String>().as_bytes(), &narrow);
-    }
-    for check in cases() {
-        if let Check::Format(call) = check
-            && let Some(options) = call.options()
-        {
-            both(&call.source, &options);
-        }
-    }
-    for indent in ["q", "\u{a0}", "\0", &" ".repeat(64), &"\t".repeat(65)] {
-        let options = FormatOptions {
-            indent: indent.into(),
-            ..FormatOptions::default()
-        };
-        both(b"{\na", &options);
-        both(b"\xff", &options);
-    }
-    let plain = FormatOptions::default();
-    both(b"a\xff", &plain);
-    both("(\n".repeat(500).as_bytes(), &plain);
-    checks.push(format(&vec![b'a'; MIB], &plain, None));
-    checks.push(format(&vec![b'a'; MIB + 1], &plain, None));
+    ];
+    let import = |names: &&str| format!("import {{{names}}} from \"l\"\n");
+    lists
+        .iter()
+        .map(|names| names.iter().map(import).collect::<String>())
+        .flat_map(|source| safe_formats(source.as_bytes(), &narrow))
+        .collect()
+}
+
+fn safe_kinds() -> Vec<Check> {
+    let mut checks = Vec::new();
     for source in [&b"a \"s\" // c"[..], b"\xff", &vec![b'a'; MIB + 1]] {
         for column in [0, 3, 8, u64::MAX] {
             checks.push(Check::Safe(SafeCall::Kind {
@@ -369,6 +369,11 @@ fn safe_cases() -> Vec<Check> {
             }));
         }
     }
+    checks
+}
+
+fn safe_indents() -> Vec<Check> {
+    let mut checks = Vec::new();
     for options in starting_options() {
         for (tabs, size) in [(true, 8), (false, 3), (true, 65), (false, 64), (false, 65)] {
             checks.push(Check::Safe(SafeCall::Indent {
@@ -377,6 +382,40 @@ fn safe_cases() -> Vec<Check> {
                 size,
             }));
         }
+    }
+    checks
+}
+
+fn safe_rules() -> Vec<Check> {
+    let mut checks = Vec::new();
+    for check in cases() {
+        if let Check::Format(call) = check
+            && let Some(options) = call.options()
+        {
+            checks.extend(safe_formats(&call.source, &options));
+        }
+    }
+    checks
+}
+
+fn safe_refusals() -> Vec<Check> {
+    let mut checks = Vec::new();
+    for indent in ["q", "\u{a0}", "\0", &" ".repeat(64), &"\t".repeat(65)] {
+        let options = FormatOptions {
+            indent: indent.into(),
+            ..FormatOptions::default()
+        };
+        checks.extend(safe_formats(b"{\na", &options));
+        checks.extend(safe_formats(b"\xff", &options));
+    }
+    let plain = FormatOptions::default();
+    for source in [
+        &b"a\xff"[..],
+        "(\n".repeat(500).as_bytes(),
+        &vec![b'a'; MIB],
+        &vec![b'a'; MIB + 1],
+    ] {
+        checks.extend(safe_formats(source, &plain));
     }
     checks
 }

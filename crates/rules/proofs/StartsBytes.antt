@@ -4,7 +4,7 @@
 --     starts-encode, starts-cons    startsWith, for an ASCII text; and after a first character of its own
 --     drop-ascii, take-ascii        an ASCII front: as many bytes as characters; drop-starts, starts-column after startsWith
 --     first-encode, last-encode, then-encode, empty-encode, same-encode     the tests of Basics
---     closers-encode, drop-closers, slashes-encode                          leading closers and slashes
+--     closers-encode, drop-closers                          leading closers
 use Prim.Native.Nat.{ℕ, zero, suc, _<_, _≤_}
 use Prim.Native.Char.{Char, code}
 use native.Mathlib.Omega.{arith}
@@ -20,7 +20,6 @@ use Rattle.unicode.proofs.Tests.{by-test, and-left, and-right}
 use Rattle.unicode.proofs.Table.{encodeChar-1, High, none, also, Bytes, single, several, bytes}
 use Rattle.unicode.proofs.Decode.{encode-nil, scalars-right, decode-scalars, decode-encode, wf-encode}
 use Rattle.rules.specs.Basics.{choose, is, isBlank, isOpener, isCloser, isIdent, isEmpty, same, startsWith, firstIs, lastIs, startsThen}
-use Rattle.rules.specs.Words.{dropSlashes}
 use Rattle.rules.specs.Brackets.{leadingClosers}
 use Rattle.rules.proofs.Choose.{choose-case}
 
@@ -239,12 +238,3 @@ closers-ascii (c ∷ cs) =
 
 pub drop-closers : (l : List ℕ) → drop (leadingClosers l) (encode l) ≡ encode (drop (leadingClosers l) l)
 drop-closers l = drop-ascii (leadingClosers l) l (closers-ascii l)
-
-pub slashes-encode : (l : List ℕ) → dropSlashes (encode l) ≡ encode (dropSlashes l)
-unfolding dropSlashes encode choose
-slashes-encode [] = refl
-slashes-encode (c ∷ cs) = go (encodeChar c) refl (bytes c) (slashes-encode cs)
-  where
-    go : (bs : List ℕ) → encodeChar c ≡ bs → Bytes c bs → dropSlashes (encode cs) ≡ encode (dropSlashes cs) → dropSlashes (bs ++ encode cs) ≡ encode (dropSlashes (c ∷ cs))
-    go bs q (single h) e = rw (e, choose-map encode (is "/" c), q)
-    go bs q (several {b = b} hc hb hs) e = rw (steady-is "/" refl b hb, steady-is "/" refl c hc, q)

@@ -1,35 +1,15 @@
--- How many of the first characters pass a test: on bytes, and the loop that counts them.
---     leading-encode, leading-ascii     a test that no character from 80 hex on passes
+-- How many of the first characters pass a test: the loop that counts them. (On bytes: StartsBytes.)
 --     Passing, passing-start, passing-more, passing-stop, passing-end     a loop that has passed i characters
 use Prim.Native.Nat.{ℕ, suc, _+_, _≤_, _<_, zero-le}
 use native.Mathlib.Omega.{arith}
 use native.Mathlib.Numerals.{add-one}
 use mathlib.Core.Bool.{Bool, true, false}
-use mathlib.Core.List.{List, [], _∷_, _++_}
-use mathlib.Core.Path.{_≡_, refl, sym, _∙_}
-use lib.ListN.{length, getD, take, drop, drop-of-length-le}
+use mathlib.Core.List.{List}
+use mathlib.Core.Path.{_≡_, _∙_}
+use lib.ListN.{length, getD, drop, drop-of-length-le}
 use lib.Seq.{drop-cons}
-use Rattle.unicode.specs.Unicode.{encodeChar, encode}
-use Rattle.unicode.proofs.Table.{Bytes, single, several, bytes}
 use Rattle.rules.specs.Basics.{choose, leading}
-use Rattle.rules.proofs.Choose.{choose-case, choose-true, choose-false}
-use Rattle.rules.proofs.StartsBytes.{allAscii, Steady, low-of}
-
-module _ (p : ℕ → Bool) where
-  pub leading-encode : Steady p false → (l : List ℕ) → leading p (encode l) ≡ leading p l
-  unfolding leading encode choose
-  leading-encode f [] = refl
-  leading-encode f (c ∷ cs) = go (encodeChar c) (bytes c) (leading-encode f cs)
-    where
-      go : (bs : List ℕ) → Bytes c bs → leading p (encode cs) ≡ leading p cs → leading p (bs ++ encode cs) ≡ leading p (c ∷ cs)
-      go bs (single h) e = rw e
-      go bs (several {b = b} hc hb hs) e = rw (f b hb, f c hc)
-
-  pub leading-ascii : Steady p false → (l : List ℕ) → allAscii (take (leading p l) l) ≡ true
-  unfolding leading
-  leading-ascii f [] = refl
-  leading-ascii f (c ∷ cs) =
-      choose-case (λ (n : ℕ). allAscii (take n (c ∷ cs)) ≡ true) (λ e. rw (low-of p f c e) (leading-ascii f cs)) (λ e. refl)
+use Rattle.rules.proofs.Choose.{choose-true, choose-false}
 
 -- the first i characters of s pass the test
 pub record Passing (p : ℕ → Bool) (s : List ℕ) (i : ℕ) : Type 0 where

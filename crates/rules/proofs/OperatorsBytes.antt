@@ -22,8 +22,7 @@ use Rattle.rules.specs.Words.{operators}
 use Rattle.rules.specs.SplitOperation.{endsOperand, atomChar, atomLen, startsPair, Ops, OpStep, token, operator, escape, bracket, oneCharStep, twoCharStep, codeStep, freshStep, opStepAt, opStep, OpMark, opMark, marksFrom, noOps, topLevelOps, looser, loosest, atMark, cutBefore}
 use Rattle.rules.specs.OperatorBytes.{byteStep, byteMarks}
 use Rattle.rules.proofs.Choose.{choose-case}
-use Rattle.rules.proofs.StartsBytes.{allAscii, Steady, not-ascii, low-of, steady-is, steady-blank, steady-opener, steady-closer, steady-ident, starts-cons, starts-ascii, first-encode, take-ascii, drop-ascii}
-use Rattle.rules.proofs.Leading.{leading-encode, leading-ascii}
+use Rattle.rules.proofs.StartsBytes.{allAscii, Steady, not-ascii, low-of, steady-is, steady-blank, steady-opener, steady-closer, steady-ident, starts-cons, starts-ascii, first-encode, take-ascii, drop-ascii, leading-encode, leading-ascii}
 use Rattle.rules.proofs.ScanBytes.{label, encodeCells, chars-encodeCells}
 use Rattle.rules.proofs.WordsBytes.{encodePieces}
 

@@ -12,7 +12,7 @@ use Rattle.unicode.specs.Unicode.{Scalars, encode, decode, WellFormed, isWhite,
 use Rattle.unicode.proofs.Tests.{and-left}
 use Rattle.unicode.proofs.Decode.{decode-encode, decode-scalars, wf-encode, scalars-left, scalars-right}
 use Rattle.buffer.proofs.RegionLaws.{part-from}
-use Rattle.rules.specs.Basics.{choose, is, isEmpty, startsWith, startsThen, keep}
+use Rattle.rules.specs.Basics.{choose, is, isEmpty, startsWith, startsThen, keep, leading}
 use Rattle.rules.specs.Scan.{Cell, charsOf, classify, before, from, codePart, commentPart, isLineComment}
 use Rattle.rules.specs.ClassBytes.{classBytes, cellsOf}
 use Rattle.rules.specs.Words.{isMarkerText, isMarker, hasCode}
@@ -144,7 +144,7 @@ else-first [] h = absurd (no-start 101 _ (and-left _ _ (and-left _ _ h)))
 else-first (c ∷ l) h = (l, ap (λ (x : ℕ). x ∷ l) (starts-first c 101 l _ (and-left _ _ (and-left _ _ h))))
 
 pub else-closers : (l : List ℕ) → isPlainElse l ≡ true → leadingClosers l ≡ 0
-unfolding leadingClosers choose
+unfolding leadingClosers leading choose
 else-closers l h = rw (else-first l h .1)
 
 marker-first : (l : List ℕ) → isMarkerText l ≡ true → (t : List ℕ) × (l ≡ 47 ∷ t)

@@ -12,6 +12,8 @@ pub mod Brackets
 pub mod SplitImport
 pub mod SplitOperation
 pub mod Assembly
+pub mod Refusals
+pub mod Choices
 pub mod Call
 pub mod TextKind
 pub mod EditorConfig

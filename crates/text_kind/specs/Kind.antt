@@ -1,28 +1,22 @@
--- Text kinds, as the contracts say them: what a call leaves, and the kinds read off a line's bytes.
+-- Text kinds read off a line's bytes, and what their reading asks of a source.
 use Prim.Native.Nat.{ℕ, _+_, _≤_, _<_, _^_}
 use mathlib.Core.List.{List, [], _∷_}
 use mathlib.Core.Path.{_≡_}
-use lib.ListN.{length, replicate}
+use lib.ListN.{length}
 use Rattle.unicode.specs.Unicode.{tail, WellFormed}
 use Rattle.split.specs.Text.{firstOf}
 use Rattle.rules.specs.Basics.{choose, pieces, splitOn}
 use Rattle.rules.specs.Scan.{next}
-use Rattle.rules.specs.TextKind.{inInterpolation, kindOf, rustLines, kindOutcomeOf, kindAnswer}
+use Rattle.rules.specs.TextKind.{inInterpolation, classKind, rustLines}
 use Rattle.rules.specs.declared.Mark.{Mark}
 use Rattle.rules.specs.declared.TextKind.{TextKind}
-use Rattle.rules.specs.declared.Kind.{Kind}
-
--- the answer, and the scratch: all zeros, whatever stood there
-pub record KindAnswered (source : List ℕ) (line col : ℕ) (before after : List ℕ) (r : Kind) : Type 0 where
-  pub answer : r ≡ kindAnswer (kindOutcomeOf source line col (length before))
-  pub scratch : after ≡ replicate (length before) 0
 
 -- `kinds`, on bytes: the kind of each byte that starts a character; t is the mark before them
 unfoldable pub byteKinds : Mark → List ℕ → List TextKind
 byteKinds t [] = []
 byteKinds t (b ∷ s) =
     let r = byteKinds (next t (b ∷ s)) s in
-    choose (tail b) r (kindOf (next t (b ∷ s) .class) (inInterpolation (t .mode)) ∷ r)
+    choose (tail b) r (classKind (next t (b ∷ s) .class) (inInterpolation (t .mode)) ∷ r)
 
 -- the first of a text's lines, as Rust's `lines` cuts them, or nothing
 unfoldable pub lineAt : List ℕ → List ℕ

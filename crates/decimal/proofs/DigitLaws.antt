@@ -2,7 +2,7 @@
 --     digits-few, digits-more   the digits of a number below ten, and of another: those of its tenth, and one more
 --     digits-short              a number of 64 bits has at most 20
 --     Spelling                  the loop of `spell`
---     digits-appended           what `put_decimal` appends
+--     decimal-put               what `put_decimal` gives
 use Prim.Native.Nat.{ℕ, zero, suc, _+_, _-_, _*_, _/_, _%_, _^_, _≤_, _<_}
 use native.Mathlib.Omega.{arith}
 use native.Mathlib.Nat.{div-lt-self, div-lt-iff-lt-mul, pow-suc}
@@ -15,7 +15,7 @@ use lib.ListN.{length, drop, set, length-append, length-set}
 use lib.Seq.{drop-length, drop-cons, drop-set-lt, getD-set-same}
 use Rattle.buffer.specs.Buffer.{part, Appended}
 use Rattle.buffer.proofs.RegionLaws.{part-from}
-use Rattle.decimal.specs.Decimal.{digit, digitsWithin, digits, Spelled}
+use Rattle.decimal.specs.Decimal.{digit, digitsWithin, digits, Spelled, DecimalPut}
 
 -- ---- the definition's steps: enough of them are enough
 
@@ -130,9 +130,11 @@ module _ (n : ℕ) (room₀ room : List ℕ) (i rest : ℕ) (r : Spelling n room
       }
 
 -- the digits that stand at the end of room, appended
-pub digits-appended : (n : ℕ) (room x y : List ℕ) (size from at r : ℕ) → Spelled room n from → length room ≡ size
-    → Appended x y at (part room from size) r → Appended x y at (digits n) r
-digits-appended n room x y size from at r s e w = rw (← e, part-from, s .is) at w
+pub decimal-put : (n : ℕ) (room x y : List ℕ) (size from at r : ℕ) → n < 2 ^ 64 → Spelled room n from → length room ≡ size
+    → Appended x y at (part room from size) r → DecimalPut x y at n r
+decimal-put n room x y size from at r h s e w =
+    let a : Appended x y at (digits n) r = rw (← e, part-from, s .is) at w in
+    record { appended = a; short = omega (arith, a .next, digits-short n h) }
 
 -- ---- computed: 0, 9, 10 and 16385
 

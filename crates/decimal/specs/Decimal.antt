@@ -5,6 +5,7 @@ use mathlib.Core.List.{List, [], _∷_, _++_}
 use mathlib.Core.Path.{_≡_}
 use lib.Dec.{ltb}
 use lib.ListN.{length, drop}
+use Rattle.buffer.specs.Buffer.{Appended}
 
 -- the digit d; `0` is 48
 abbrev pub digit : ℕ → List ℕ
@@ -23,3 +24,8 @@ digits n = digitsWithin n n
 pub record Spelled (room : List ℕ) (n r : ℕ) : Type 0 where
   pub from : r ≤ length room
   pub is : drop r room ≡ digits n
+
+-- n's digits are appended to x at the place at; r is the next place
+pub record DecimalPut (x x′ : List ℕ) (at n r : ℕ) : Type 0 where
+  pub appended : Appended x x′ at (digits n) r
+  pub short : r ≤ at + 20

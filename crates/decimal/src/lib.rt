@@ -2,8 +2,7 @@
 ghost use mathlib.Core.Path.{_≡_};
 ghost use Prim.Native.Nat.{_+_, _≤_, _<_, _^_};
 ghost use lib.ListN.{length};
-ghost use Rattle.buffer.specs.Buffer.{Appended};
-ghost use Rattle.decimal.specs.Decimal.{digits, Spelled};
+ghost use Rattle.decimal.specs.Decimal.{digits, Spelled, DecimalPut};
 
 // Writes n's digits so that they end where room ends, and gives the place of the first.
 fn spell(room: &mut [u8], n: u64) -> usize
@@ -25,7 +24,7 @@ fn spell(room: &mut [u8], n: u64) -> usize
 // Writes n in decimal from the place at on, which may lie past the end, and gives the next place.
 pub fn put_decimal(out: &mut [u8], at: usize, n: u64) -> usize
     requires { ⌜ at + 20 < 2 ^ 64 ⌝ }
-    ensures { λ r. ⌜ Appended (now (out .entry)) (now (out .exit)) at (digits n) r ⌝ }
+    ensures { λ r. ⌜ DecimalPut (now (out .entry)) (now (out .exit)) at n r ⌝ }
 {
     let mut room = [0u8; 20];
     let from = spell(&mut room, n);

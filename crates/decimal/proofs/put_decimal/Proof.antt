@@ -1,5 +1,5 @@
 use borrow.Author.Needs.{needs}
-use Rattle.decimal.proofs.DigitLaws.{digits-short, digits-appended}
+use Rattle.decimal.proofs.DigitLaws.{digits-short, decimal-put}
 use Rattle.decimal.proofs.put_decimal.Statement.{statement}
 use Rattle.decimal.proofs.put_decimal.Tie as tie
 
@@ -25,7 +25,7 @@ same-length : tie.Need-same-length
 same-length c = search needs
 
 returns : tie.Need-returns
-returns c = digits-appended _ _ _ _ 20 _ _ _ (c .before .before .before .before .before .before .before .spell .ensures) (search needs) (c .before .before .append .ensures)
+returns c = decimal-put _ _ _ _ 20 _ _ _ (search needs) (c .before .before .before .before .before .before .before .spell .ensures) (search needs) (c .before .before .append .ensures)
 
 pub put-decimal-spec : {M : Type 1} → statement M
 put-decimal-spec =

@@ -8,7 +8,7 @@ use native.Mathlib.Nat.{not-suc-le-zero, le-of-suc-le-suc}
 use mathlib.Core.Bool.{Bool, true, false, not}
 use mathlib.Core.List.{List, [], _∷_, _++_}
 use mathlib.Core.Path.{_≡_, refl, sym, ap, _∙_}
-use borrow.Author.Tests.{lt-ltb, le-ltb, ltb-false}
+use borrow.Author.Tests.{lt-ltb, le-ltb}
 use lib.Dec.{ltb}
 use lib.ListN.{length, replicate, length-append}
 use Rattle.unicode.specs.Unicode.{wellFormed, prefixLen}
@@ -51,6 +51,11 @@ refusal-put number place {x} {e = e} {m = m} p q r s t =
     let w : Appended x e 0 (refusal number place) m = appended-append (appended-append (appended-append (appended-append p (q .appended)) r) (s .appended)) t in
     record { size = omega (arith, w .next); is = w .is }
 
+-- what is written fits
+fits-in : (n : ℕ) (out w : List ℕ) → out ≡ filled n w → length w ≤ length out
+unfolding filled
+fits-in n out w e = omega (arith, ap length e, length-append w (replicate (n - length w) 0))
+
 -- over zeros
 over-zeros : (n : ℕ) (l : List ℕ) → length l ≤ n → over (replicate n 0) l ≡ filled n l
 unfolding over filled
@@ -68,7 +73,9 @@ printed-refusal source x y number place r n z w e size h k =
     let s : length (refusal number place) ≤ n = omega (arith, refusal-short number place h k) in
     let p : over x (refusal number place) ≡ filled n (refusal number place) = rw z (over-zeros n (refusal number place) s) in
     let q : filled n (refusal number place) ≡ filled maxText (written source) = rw (size, e) in
-    record { size = w .size ∙ sym (ap length e); fits = omega (arith, w .size); is = w .is ∙ p ∙ q }
+    let i : y ≡ filled maxText (written source) = w .is ∙ p ∙ q in
+    let j : r ≡ length (written source) = w .size ∙ sym (ap length e) in
+    record { size = j; fits = omega (arith, fits-in maxText y (written source) i); is = i }
 
 pub too-long : (source : List ℕ) → maxInput < length source → written source ≡ refusal 1 maxInput
 unfolding written choose
@@ -116,14 +123,15 @@ module _
           refused = λ z. record { told = w ∙ sym (rw i); room = size; zeros = f .output ∙ rw e };
         }
 
-    called-text : (imports blanks : ℕ) → outcomeOf c ≡ Outcome.Formatted (length (textWith source)) imports blanks → length (textWith source) ≤ maxText
+    called-text : (imports blanks : ℕ) → outcomeOf c ≡ Outcome.Formatted (length (textWith source)) imports blanks
         → written source ≡ textWith source → Called source out (c .output) a
     unfolding outputOf
-    called-text imports blanks e h w =
+    called-text imports blanks e w =
         let i : a ≡ answerOf (Outcome.Formatted (length (textWith source)) imports blanks) = f .answer ∙ ap answerOf e in
-        let l : a .length ≡ length (textWith source) = ap (λ (b : Answer). b .length) i in
+        let l : a .length ≡ length (written source) = ap (λ (b : Answer). b .length) i ∙ sym (ap length w) in
+        let g : out ≡ filled maxText (written source) = f .output ∙ rw (e, text-is, size, w) in
         record {
-          accepted = λ z. record { size = l ∙ sym (ap length w); fits = omega arith; is = f .output ∙ rw (e, text-is, size, w) };
+          accepted = λ z. record { size = l; fits = omega (arith, fits-in maxText out (written source) g); is = g };
           refused = λ z. absurd (z (ap (λ (b : Answer). b .refusal) i));
         }
 
@@ -133,5 +141,5 @@ module _
         by-test (wellFormed source)
         (λ t. by-test (ltb maxText (length (textWith source)))
         (λ u. called-refused (Refusal.OutputShort (length (textWith source))) (outcome-is ∙ rw (t, u)) (written-is ∙ rw (t, u)))
-        (λ u. called-text (formatted c .importsSplit) (formatted c .blankNames) (outcome-is ∙ rw (t, u)) (ltb-false maxText (length (textWith source)) u) (written-is ∙ rw (t, u))))
+        (λ u. called-text (formatted c .importsSplit) (formatted c .blankNames) (outcome-is ∙ rw (t, u)) (written-is ∙ rw (t, u))))
         (λ t. called-refused (Refusal.NotUtf8 (prefixLen source)) (outcome-is ∙ rw t) (written-is ∙ rw t))

@@ -38,5 +38,5 @@ written source =
 -- what the program writes for source are the first r bytes of out; zeros stand after them
 pub record Printed (source out : List ℕ) (r : ℕ) : Type 0 where
   pub size : r ≡ length (written source)
-  pub fits : r ≤ maxText
+  pub fits : r ≤ length out
   pub is : out ≡ filled maxText (written source)

@@ -1,13 +1,13 @@
 -- From the call and the written refusal to what the program writes.
---     refusal-put                     the five pieces of a refusal
---     too-long, turned, refusal-short what `print` gives
---     called                          a call with the default options
+--     refusal-put                 the five pieces of a refusal
+--     printed-refusal, too-long   a refusal written over zeros; when it is the one for longer input
+--     called                      a call with the default options
 use Prim.Native.Nat.{ℕ, zero, suc, _+_, _-_, _^_, _≤_, _<_}
 use native.Mathlib.Omega.{arith}
 use native.Mathlib.Nat.{not-suc-le-zero, le-of-suc-le-suc}
-use mathlib.Core.Bool.{Bool, true, false, not}
+use mathlib.Core.Bool.{true, not}
 use mathlib.Core.List.{List, [], _∷_, _++_}
-use mathlib.Core.Path.{_≡_, refl, sym, ap, _∙_}
+use mathlib.Core.Path.{_≡_, sym, ap, _∙_}
 use borrow.Author.Tests.{lt-ltb, le-ltb}
 use lib.Dec.{ltb}
 use lib.ListN.{length, replicate, length-append}
@@ -26,7 +26,7 @@ use Rattle.rules.specs.declared.Outcome.{Outcome}
 use Rattle.rules.specs.declared.Answer.{Answer}
 use Rattle.call.specs.Answered.{FormatAnswered}
 use Rattle.wsfmt_run.specs.Program.{maxInput, maxText, refusal, textWith, written, Printed}
-use Rattle.wsfmt_run.specs.Steps.{Turned, Called}
+use Rattle.wsfmt_run.specs.Steps.{Called}
 
 -- ---- a refusal is written
 
@@ -92,8 +92,8 @@ numbered (Refusal.OutputShort n) e = omega arith
 
 -- a call with the default options, whose scratch is enough
 module _
-    (c : Call) (o : optionsOf c ≡ defaults) (v : validOptions c ≡ true) (short : length (c .source) ≤ maxInput) (room : scratchNeeded (c .source) ≤ c .scratch)
-    (size : c .output ≡ maxText) (a : Answer) (out work : List ℕ) (f : FormatAnswered c a out work)
+    (c : Call) (a : Answer) (out work : List ℕ) (f : FormatAnswered c a out work) (o : optionsOf c ≡ defaults) (v : validOptions c ≡ true)
+    (short : length (c .source) ≤ maxInput) (room : scratchNeeded (c .source) ≤ c .scratch) (size : c .output ≡ maxText)
   where
     abbrev source : List ℕ
     source = c .source

@@ -1,5 +1,4 @@
 use borrow.Author.Needs.{needs}
-use native.Mathlib.Omega.{arith}
 use mathlib.Core.Path.{refl}
 use Rattle.rules.specs.Options.{validIndent, allBlank}
 use Rattle.rules.specs.Call.{validOptions, optionsOf, widthNamed, endingNamed, newlineNamed}
@@ -18,7 +17,7 @@ format-call-requires c κs = search needs
 
 returns : tie.Need-returns
 unfolding optionsOf widthNamed endingNamed newlineNamed validOptions validIndent allBlank
-returns c = called _ refl refl (search needs) (search needs) (search needs) _ _ _ (c .before .format-call .ensures)
+returns c = called _ _ _ _ (c .before .format-call .ensures) refl refl (search needs) (search needs) (search needs)
 
 pub format-default-spec : {M : Type 1} → statement M
 format-default-spec =

@@ -113,7 +113,10 @@ fn compare(path: &str) -> io::Result<ExitCode> {
     let sources = sources();
     for (number, source) in sources.iter().enumerate() {
         if run(path, source)? != written(source) {
-            println!("program: source {number} differs: {:?}", source.escape_ascii());
+            println!(
+                "program: source {number} differs: {:?}",
+                source.escape_ascii()
+            );
             return Ok(ExitCode::FAILURE);
         }
     }

@@ -25,7 +25,7 @@ use Rattle.rules.specs.declared.Refusal.{Refusal}
 use Rattle.rules.specs.declared.Outcome.{Outcome}
 use Rattle.rules.specs.declared.Answer.{Answer}
 use Rattle.call.specs.Answered.{FormatAnswered}
-use Rattle.wsfmt_run.specs.Program.{maxInput, maxText, refusal, textWith, written, Printed}
+use Rattle.wsfmt_run.specs.Program.{maxInput, maxText, refusal, defaultText, written, Printed}
 use Rattle.wsfmt_run.specs.Steps.{Called}
 
 -- ---- a refusal is written
@@ -98,19 +98,19 @@ module _
     abbrev source : List ℕ
     source = c .source
 
-    text-is : textOf c ≡ textWith source
-    unfolding textOf formatted textWith
+    text-is : textOf c ≡ defaultText source
+    unfolding textOf formatted defaultText
     text-is = rw o
 
     -- the outcome: refusals 4 and 5, and the text
     outcome-is : outcomeOf c ≡ choose (not (wellFormed source)) (Outcome.Refused (Refusal.NotUtf8 (prefixLen source)))
-        (choose (ltb maxText (length (textWith source))) (Outcome.Refused (Refusal.OutputShort (length (textWith source))))
-        (Outcome.Formatted (length (textWith source)) (formatted c .importsSplit) (formatted c .blankNames)))
+        (choose (ltb maxText (length (defaultText source))) (Outcome.Refused (Refusal.OutputShort (length (defaultText source))))
+        (Outcome.Formatted (length (defaultText source)) (formatted c .importsSplit) (formatted c .blankNames)))
     unfolding outcomeOf choose
     outcome-is = rw (le-ltb maxSource (length source) (omega arith), v, le-ltb (c .scratch) (scratchNeeded source) room, text-is, size)
 
     written-is : written source ≡ choose (not (wellFormed source)) (refusal 4 (prefixLen source))
-        (choose (ltb maxText (length (textWith source))) (refusal 5 (length (textWith source))) (textWith source))
+        (choose (ltb maxText (length (defaultText source))) (refusal 5 (length (defaultText source))) (defaultText source))
     unfolding written choose
     written-is = rw (le-ltb maxInput (length source) short)
 
@@ -123,11 +123,11 @@ module _
           refused = λ z. record { told = w ∙ sym (rw i); room = size; zeros = f .output ∙ rw e };
         }
 
-    called-text : (imports blanks : ℕ) → outcomeOf c ≡ Outcome.Formatted (length (textWith source)) imports blanks
-        → written source ≡ textWith source → Called source out (c .output) a
+    called-text : (imports blanks : ℕ) → outcomeOf c ≡ Outcome.Formatted (length (defaultText source)) imports blanks
+        → written source ≡ defaultText source → Called source out (c .output) a
     unfolding outputOf
     called-text imports blanks e w =
-        let i : a ≡ answerOf (Outcome.Formatted (length (textWith source)) imports blanks) = f .answer ∙ ap answerOf e in
+        let i : a ≡ answerOf (Outcome.Formatted (length (defaultText source)) imports blanks) = f .answer ∙ ap answerOf e in
         let l : a .length ≡ length (written source) = ap (λ (b : Answer). b .length) i ∙ sym (ap length w) in
         let g : out ≡ filled maxText (written source) = f .output ∙ rw (e, text-is, size, w) in
         record {
@@ -139,7 +139,7 @@ module _
     unfolding choose
     called =
         by-test (wellFormed source)
-        (λ t. by-test (ltb maxText (length (textWith source)))
-        (λ u. called-refused (Refusal.OutputShort (length (textWith source))) (outcome-is ∙ rw (t, u)) (written-is ∙ rw (t, u)))
+        (λ t. by-test (ltb maxText (length (defaultText source)))
+        (λ u. called-refused (Refusal.OutputShort (length (defaultText source))) (outcome-is ∙ rw (t, u)) (written-is ∙ rw (t, u)))
         (λ u. called-text (formatted c .importsSplit) (formatted c .blankNames) (outcome-is ∙ rw (t, u)) (written-is ∙ rw (t, u))))
         (λ t. called-refused (Refusal.NotUtf8 (prefixLen source)) (outcome-is ∙ rw t) (written-is ∙ rw t))

@@ -14,7 +14,7 @@ use mathlib.Core.Path.{_≡_, refl, sym, ap, _∙_}
 use lib.Dec.{eqb}
 use lib.ListN.{length, getD, take, replicate, length-append}
 use lib.Seq.{take-suc, take-all, take-append-seam}
-use borrow.Author.Tests.{lt-ltb, le-ltb, eq-eqb}
+use borrow.Author.Tests.{eq-eqb}
 use Rattle.unicode.proofs.Tests.{split, and-left, and-right}
 use Rattle.rules.specs.Basics.{choose}
 use Rattle.rules.specs.Call.{filled}
@@ -22,31 +22,20 @@ use Rattle.rules.proofs.Choose.{choose-true, choose-false}
 use Rattle.short_texts.specs.declared.Place.{Place}
 use Rattle.short_texts.specs.declared.Given.{Given}
 use Rattle.short_texts.specs.Texts.{letters, led, ofLength, shorter, texts, AllLetters, Short}
-use Rattle.short_texts.specs.Steps.{given, ended, stepOf, placeAfter, givenBy, Comes, WholeRun}
+use Rattle.short_texts.specs.Steps.{placeAt, given, ended, stepOf, placeAfter, givenBy, Comes, WholeRun}
+use Rattle.short_texts.proofs.StepLaws.{step-in, step-out}
 use Rattle.short_texts.proofs.TextLaws.{length-of, length-shorter, length-texts, led-at, weight-pos}
 use Rattle.short_texts.proofs.TextLaws.{quotient-small, of-at, of-none, of-size}
-use Rattle.short_texts.proofs.TextLaws.{shorter-in, shorter-at, texts-in, texts-at}
-
-abbrev placeAt : ℕ → Place
-placeAt k = record { number = k }
+use Rattle.short_texts.proofs.TextLaws.{shorter-in, shorter-at, shorter-grows, texts-in, texts-at}
 
 -- ---- the steps
-
-step-in : (k : ℕ) → k < length texts → stepOf (placeAt k) ≡ given (getD texts k []) (k + 1)
-unfolding stepOf
-step-in k h = choose-true _ _ _ (lt-ltb _ _ h)
-
--- any other place is the end, and the place stays
-step-out : (p : Place) → length texts ≤ p .number → stepOf p ≡ ended p
-unfolding stepOf
-step-out p h = choose-false _ _ _ (le-ltb _ _ h)
 
 place-in : (k : ℕ) → k ≤ length texts → placeAfter k ≡ placeAt k
 unfolding placeAfter
 place-in zero h = refl
 place-in (suc k) h =
     ap (λ (p : Place). stepOf p .next) (place-in k (omega arith))
-    ∙ ap (λ (g : Given). g .next) (step-in k (omega arith))
+    ∙ ap (λ (g : Given). g .next) (step-in (placeAt k) (omega arith))
     ∙ ap placeAt (add-one k)
 
 place-out : (k : ℕ) → length texts ≤ k → placeAfter k ≡ placeAt (length texts)
@@ -68,7 +57,7 @@ end-out : (k : ℕ) → length texts ≤ k → stepOf (placeAfter k) ≡ ended (
 end-out k h = step-out (placeAfter k) (omega (arith, ap (λ (p : Place). p .number) (place-out k h)))
 
 more-in : (k : ℕ) → k < length texts → stepOf (placeAfter k) ≡ given (getD texts k []) (k + 1)
-more-in k h = ap stepOf (place-in k (omega arith)) ∙ step-in k h
+more-in k h = ap stepOf (place-in k (omega arith)) ∙ step-in (placeAt k) h
 
 -- the texts that the first k steps give are the list's first k, or all
 given-by : (k : ℕ) → givenBy k ≡ take k texts
@@ -266,7 +255,7 @@ module _ (p : Place) (g : Given) (e : g ≡ stepOf p) where
       go : (p .number < length texts) ⊎ (length texts ≤ p .number) → Gave p g
       go (inl h) =
           let t : List ℕ = getD texts (p .number) [] in
-          let f : g ≡ given t (p .number + 1) = e ∙ step-in (p .number) h in
+          let f : g ≡ given t (p .number + 1) = e ∙ step-in p h in
           record {
             within = h;
             is = rw f (take-append-seam t _);
@@ -280,19 +269,10 @@ module _ (p : Place) (g : Given) (e : g ≡ stepOf p) where
   told-end m = go (split (p .number) (length texts))
     where
       go : (p .number < length texts) ⊎ (length texts ≤ p .number) → length texts ≤ p .number
-      go (inl h) = absurd (true≢false (sym (ap (λ (x : Given). x .more) (e ∙ step-in (p .number) h)) ∙ m))
+      go (inl h) = absurd (true≢false (sym (ap (λ (x : Given). x .more) (e ∙ step-in p h)) ∙ m))
       go (inr h) = h
 
 -- ---- the texts of at most n characters: they stand first, in the same order
-
-pub shorter-grows : (m n : ℕ) → n ≤ m → length (shorter n) ≤ length (shorter m)
-shorter-grows m n h = go (split n m)
-  where
-    go : (n < m) ⊎ (m ≤ n) → length (shorter n) ≤ length (shorter m)
-    go (inl l) = omega (arith, shorter-in m n 0 l (weight-pos n))
-    go (inr l) =
-        let e : n ≡ m = omega arith in
-        rw e (omega arith)
 
 module _ (n k : ℕ) (h : k < length texts) where
   pub few-in : length (getD texts k []) ≤ n → k < length (shorter (suc n))

@@ -1,4 +1,4 @@
--- The loops of `text_of` and `step`.
+-- The loops of `text_of` and `give`; a step by its place.
 --     Spelling    i characters are written, and left is the number of the others
 --     Looking     all texts of fewer than n characters are passed, and left is the number among the others
 use Prim.Native.Nat.{ℕ, suc, _+_, _-_, _*_, _^_, _/_, _%_, _≤_, _<_, zero-le}
@@ -7,18 +7,20 @@ use native.Mathlib.Numerals.{add-one}
 use native.Mathlib.Omega.{arith}
 use mathlib.Core.Bool.{true}
 use mathlib.Core.List.{List, [], _∷_, _++_, append-nil, append-assoc}
+use mathlib.Core.Logic.{_⊎_, inl, inr}
 use mathlib.Core.Path.{_≡_, refl, sym, ap, _∙_}
 use lib.ListN.{length, getD, take, drop, set, replicate, length-set, take-append-drop}
 use lib.Seq.{take-suc-set, drop-set-lt, drop-drop}
 use borrow.Author.Tests.{lt-ltb, le-ltb}
+use Rattle.unicode.proofs.Tests.{split}
 use Rattle.rules.specs.Call.{filled}
 use Rattle.rules.proofs.Choose.{choose-true, choose-false}
 use Rattle.short_texts.specs.declared.Place.{Place}
 use Rattle.short_texts.specs.declared.Given.{Given}
 use Rattle.short_texts.specs.Texts.{letters, ofLength, shorter, texts}
-use Rattle.short_texts.specs.Steps.{Numbered, given, ended, stepOf}
+use Rattle.short_texts.specs.Steps.{Numbered, placeAt, given, ended, stepOf}
 use Rattle.short_texts.proofs.TextLaws.{length-shorter, weight-pos, quotient-small}
-use Rattle.short_texts.proofs.TextLaws.{of-at, of-none, of-size, texts-in, texts-at}
+use Rattle.short_texts.proofs.TextLaws.{of-at, of-none, of-size, shorter-grows, texts-at}
 
 -- ---- `text_of`
 
@@ -98,54 +100,55 @@ spelling-end n w₀ number t left w i h r k =
     ∙ ap (λ (l : List ℕ). take i t ++ l) (of-none left) ∙ append-nil (take i t) in
     sym (take-append-drop i t) ∙ rw (r .rest, s, f, e)
 
--- ---- `step`
+-- ---- `give`
 
 pub record Looking (number n w left : ℕ) : Type 0 where
-  pub within : n ≤ 7
+  pub within : n < 7
   pub weighs : w ≡ 12 ^ n
   pub is : number ≡ length (shorter n) + left
 
 pub looking-start : (number : ℕ) → Looking number 0 1 number
 unfolding shorter
-looking-start number = record { within = zero-le; weighs = refl; is = omega arith }
+looking-start number = record { within = omega arith; weighs = refl; is = omega arith }
 
 module _ (number n w left : ℕ) (r : Looking number n w left) where
-  pub looking-small : n < 7 → w ≤ 2985984
-  looking-small h = rw (r .weighs) (pow-le-pow-right {n = 12} (omega arith) {i = n} {j = 6} (omega arith))
+  pub looking-small : w ≤ 2985984
+  looking-small = rw (r .weighs) (pow-le-pow-right {n = 12} (omega arith) {i = n} {j = 6} (omega (arith, r .within)))
 
-  pub looking-numbered : n < 7 → left < w → Numbered n w left
-  looking-numbered h k = record { few = omega arith; weighs = r .weighs; small = k }
-
-  pub looking-in : n < 7 → left < w → number < length texts
-  looking-in h k = rw (r .is) (texts-in n left h (rw (r .weighs) at k))
-
-  pub looking-more : n < 7 → w ≤ left → Looking number (n + 1) (w * 12) (left - w)
+  pub looking-more : number < length texts → w ≤ left → Looking number (n + 1) (w * 12) (left - w)
+  unfolding texts
   looking-more h k =
+      let e : length (shorter (suc n)) ≤ number = omega (arith, r .is, r .weighs, length-shorter n) in
       record {
-        within = omega arith;
+        within = go e (split (suc n) 7);
         weighs = rw (r .weighs, add-one, pow-succ') (omega arith);
         is = rw add-one (omega (arith, r .is, r .weighs, length-shorter n));
       }
+    where
+      go : length (shorter (suc n)) ≤ number → (suc n < 7) ⊎ (7 ≤ suc n) → n + 1 < 7
+      go e (inl l) = omega arith
+      go e (inr l) = absurd (omega (arith, shorter-grows (suc n) 7 l))
 
-pub stepped : (p : Place) (n w left : ℕ) (t : List ℕ) → Looking (p .number) n w left → n < 7 → left < w
-    → t ≡ filled 6 (getD (ofLength n) left [])
-    → _≡_ {A = Given} (record { more = true; size = n; text = t; next = record { number = p .number + 1 } }) (stepOf p)
+  pub looking-numbered : left < w → Numbered n w left
+  looking-numbered k = record { few = omega (arith, r .within); weighs = r .weighs; small = k }
+
+  pub looking-end : (t : List ℕ) → left < w → t ≡ filled 6 (getD (ofLength n) left [])
+      → _≡_ {A = Given} (record { more = true; size = n; text = t; next = placeAt (number + 1) })
+      (given (getD texts number []) (number + 1))
+  looking-end t k e =
+      let b : left < 12 ^ n = rw (r .weighs) at k in
+      let f : getD texts number [] ≡ getD (ofLength n) left [] = rw (r .is) (texts-at n left (r .within) b) in
+      let g : length (getD texts number []) ≡ n = ap length f ∙ of-size n left b in
+      let d : t ≡ filled 6 (getD texts number []) = e ∙ ap (filled 6) (sym f) in
+      rw (← g, d)
+
+-- ---- `step`
+
+pub step-in : (p : Place) → p .number < length texts → stepOf p ≡ given (getD texts (p .number) []) (p .number + 1)
 unfolding stepOf
-stepped p n w left t r h k e =
-    let b : left < 12 ^ n = rw (r .weighs) at k in
-    let f : getD texts (p .number) [] ≡ getD (ofLength n) left [] = rw (r .is) (texts-at n left h b) in
-    let g : length (getD texts (p .number) []) ≡ n = ap length f ∙ of-size n left b in
-    let d : t ≡ filled 6 (getD texts (p .number) []) = e ∙ ap (filled 6) (sym f) in
-    whole n t g d ∙ sym (choose-true _ _ _ (lt-ltb _ _ (looking-in (p .number) n w left r h k)))
-  where
-    whole : (m : ℕ) (l : List ℕ) → length (getD texts (p .number) []) ≡ m → l ≡ filled 6 (getD texts (p .number) [])
-        → _≡_ {A = Given} (record { more = true; size = m; text = l; next = record { number = p .number + 1 } })
-        (given (getD texts (p .number) []) (p .number + 1))
-    whole m l g d = rw (← g, d)
+step-in p h = choose-true _ _ _ (lt-ltb _ _ h)
 
-pub stepped-end : (p : Place) (n w left : ℕ) → Looking (p .number) n w left → 7 ≤ n → ended p ≡ stepOf p
-unfolding stepOf texts
-stepped-end p n w left r h =
-    let e : n ≡ 7 = omega (arith, r .within) in
-    let k : length (shorter 7) ≤ p .number = rw (← e) (omega (arith, r .is)) in
-    sym (choose-false _ _ _ (le-ltb _ _ k))
+-- any other place is the end, and the place stays
+pub step-out : (p : Place) → length texts ≤ p .number → stepOf p ≡ ended p
+unfolding stepOf
+step-out p h = choose-false _ _ _ (le-ltb _ _ h)

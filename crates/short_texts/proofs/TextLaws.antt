@@ -122,6 +122,15 @@ shorter-at (suc m) n r h k = go (split n m) (λ l. shorter-at m n r l k)
         let e : n ≡ m = omega arith in
         rw e (getD-append-add (shorter m) (ofLength m) r [])
 
+pub shorter-grows : (m n : ℕ) → n ≤ m → length (shorter n) ≤ length (shorter m)
+shorter-grows m n h = go (split n m)
+  where
+    go : (n < m) ⊎ (m ≤ n) → length (shorter n) ≤ length (shorter m)
+    go (inl l) = omega (arith, shorter-in m n 0 l (weight-pos n))
+    go (inr l) =
+        let e : n ≡ m = omega arith in
+        rw e (omega arith)
+
 pub texts-in : (n r : ℕ) → n < 7 → r < 12 ^ n → length (shorter n) + r < length texts
 unfolding texts
 texts-in = shorter-in 7

@@ -11,12 +11,15 @@ use Rattle.short_texts.specs.declared.Place.{Place}
 use Rattle.short_texts.specs.declared.Given.{Given}
 use Rattle.short_texts.specs.Texts.{texts, Short}
 
+abbrev pub placeAt : ℕ → Place
+placeAt number = record { number = number }
+
 abbrev pub begin : Place
-begin = record { number = 0 }
+begin = placeAt 0
 
 -- the text t, and the place after it
 abbrev pub given : List ℕ → ℕ → Given
-given t next = record { more = true; size = length t; text = filled 6 t; next = record { number = next } }
+given t next = record { more = true; size = length t; text = filled 6 t; next = placeAt next }
 
 -- the end, and the place as it was
 abbrev pub ended : Place → Given

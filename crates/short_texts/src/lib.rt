@@ -2,11 +2,14 @@
 // One text a step; the state goes in by value and comes back.
 ghost use mathlib.Core.Path.{_≡_};
 ghost use mathlib.Core.List.{[]};
-ghost use Prim.Native.Nat.{_<_};
-ghost use lib.ListN.{getD};
+ghost use Prim.Native.Nat.{_+_, _<_};
+ghost use lib.ListN.{length, getD};
 ghost use Rattle.rules.specs.Call.{filled};
-ghost use Rattle.short_texts.specs.Texts.{letters, ofLength};
-ghost use Rattle.short_texts.specs.Steps.{Numbered, begin, stepOf};
+ghost use Rattle.short_texts.specs.Texts.{letters, ofLength, texts};
+ghost use Rattle.short_texts.specs.Steps.{Numbered, placeAt, begin, given, ended, stepOf};
+
+// How many texts there are.
+const TEXTS: usize = 3257437;
 
 // The state: how many texts came before.
 pub struct Place {
@@ -49,6 +52,40 @@ fn text_of(size: usize, weight: usize, number: usize) -> [u8; 6]
     t
 }
 
+// The text at a number, and the state after it.
+fn give(number: usize) -> Given
+    requires { ⌜ number < length texts ⌝ }
+    ensures { λ r. ⌜ r ≡ given (getD texts number []) (number + 1) ⌝ }
+{
+    let mut size = 0;
+    let mut weight = 1;
+    let mut left = number;
+    while weight <= left {
+        left -= weight;
+        weight *= 12;
+        size += 1;
+    }
+    let text = text_of(size, weight, left);
+    Given {
+        more: true,
+        size,
+        text,
+        next: Place { number: number + 1 },
+    }
+}
+
+// The end; the state stays.
+fn end_at(number: usize) -> Given
+    ensures { λ r. ⌜ r ≡ ended (placeAt number) ⌝ }
+{
+    Given {
+        more: false,
+        size: 0,
+        text: [0u8; 6],
+        next: Place { number },
+    }
+}
+
 // Before the first text.
 pub fn start() -> Place
     ensures { λ r. ⌜ r ≡ begin ⌝ }
@@ -60,28 +97,8 @@ pub fn start() -> Place
 pub fn step(p: Place) -> Given
     ensures { λ r. ⌜ r ≡ stepOf p ⌝ }
 {
-    let number = p.number;
-    let mut size = 0;
-    let mut weight = 1;
-    let mut left = number;
-    while size < 7 {
-        if left < weight {
-            let text = text_of(size, weight, left);
-            return Given {
-                more: true,
-                size,
-                text,
-                next: Place { number: number + 1 },
-            };
-        }
-        left -= weight;
-        weight *= 12;
-        size += 1;
+    if p.number < TEXTS {
+        return give(p.number);
     }
-    Given {
-        more: false,
-        size: 0,
-        text: [0u8; 6],
-        next: p,
-    }
+    end_at(p.number)
 }

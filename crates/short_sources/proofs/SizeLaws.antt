@@ -1,9 +1,12 @@
--- How long the text of a short source gets: with the default options, at most 456 bytes for a source of at most six characters.
-use Prim.Native.Nat.{ℕ, zero, suc, _+_, _*_, _≤_, _<_}
+-- How long the text of a short source gets: with the default options, at most 456 bytes for six characters.
+--     Within       how high the stack is, and how many characters the lines so far have with their endings
+--     line-within  a line adds at most its length to the first; 16 characters and twice its length to the second
+--     text-fits    so a source of at most 6 characters, which has at most 7 lines, stays within 7 × 16 and an ending
+use Prim.Native.Nat.{ℕ, suc, _+_, _*_, _≤_}
 use native.Mathlib.Omega.{arith}
 use mathlib.Core.Bool.{Bool, true, false, cond}
 use mathlib.Core.List.{List, [], _∷_, _++_, map, foldl}
-use mathlib.Core.Path.{_≡_, refl, sym, ap, _∙_, subst}
+use mathlib.Core.Path.{_≡_, refl, ap, _∙_}
 use lib.Dec.{ltb}
 use lib.ListN.{length, drop, length-append, length-drop}
 use borrow.Author.Tests.{le-ltb}
@@ -11,15 +14,16 @@ use Rattle.buffer.proofs.RepeatLaws.{length-times}
 use Rattle.unicode.specs.Unicode.{encodeChar, encode, units, width, trim, trimEnd}
 use Rattle.unicode.proofs.Tests.{cond-elim}
 use Rattle.unicode.proofs.Trim.{length-trim, length-trimEnd}
-use Rattle.rules.specs.Basics.{choose, is, isOpener, isEmpty, Pieces, pieces, atSep, splitOn, codes, count}
+use Rattle.rules.specs.Basics.{choose, is, isOpener, Pieces, pieces, atSep, splitOn, codes, count}
 use Rattle.rules.specs.Scan.{classify}
 use Rattle.rules.specs.Lines.{asStr, linesOf, dropCr}
-use Rattle.rules.specs.Options.{Options, defaults, indentOf, measure, overWide}
+use Rattle.rules.specs.Options.{defaults, indentOf, measure, overWide}
 use Rattle.rules.specs.Spacing.{respaced}
 use Rattle.rules.specs.Brackets.{Entry, levels, leadingClosers, countBrackets}
 use Rattle.rules.specs.Else.{joinElse}
-use Rattle.rules.specs.SplitImport.{Laid}
-use Rattle.rules.specs.Line.{Formatter, start, asWritten, insideLine, blankLine, protectedLine, elseLine, dropBlank, linesBefore, continues, levelOf, oneLine, broken, fitted, laid, placedLine, spacedLine, codeLine, formatLine}
+use Rattle.rules.specs.Line.{Formatter, start, asWritten, insideLine, blankLine, protectedLine, elseLine, dropBlank}
+use Rattle.rules.specs.Line.{linesBefore, continues, levelOf, oneLine, fitted, laid, placedLine, spacedLine, codeLine}
+use Rattle.rules.specs.Line.{formatLine}
 use Rattle.rules.specs.Assembly.{endingOf, dropEmpty, joined, lastEnding, finish, formatLines, formatWith}
 use Rattle.rules.specs.declared.Carry.{Carry}
 use Rattle.rules.specs.declared.LineEnding.{LineEnding}
@@ -37,7 +41,8 @@ width-within : (l : List ℕ) → width l ≤ 2 * length l
 unfolding width units
 width-within [] = omega arith
 width-within (c ∷ l) =
-    let one : cond (ltb c 0x10000) 1 2 ≤ 2 = cond-elim (λ (n : ℕ). n ≤ 2) (ltb c 0x10000) 1 2 (λ h. omega arith) (λ h. omega arith) in
+    let one : cond (ltb c 0x10000) 1 2 ≤ 2 =
+    cond-elim (λ (n : ℕ). n ≤ 2) (ltb c 0x10000) 1 2 (λ h. omega arith) (λ h. omega arith) in
     omega (arith, width-within l)
 
 char-within : (c : ℕ) → length (encodeChar c) ≤ 4
@@ -83,31 +88,41 @@ blank-within ((c ∷ l) ∷ ls) = omega arith
 
 before-within : (f : Formatter) (line : List ℕ) → room (linesBefore f line) ≤ room (f .lines)
 unfolding linesBefore
-before-within f line = choose-case (λ (ls : List (List ℕ)). room ls ≤ room (f .lines)) (λ h. blank-within (f .lines)) (λ h. omega arith)
+before-within f line =
+    choose-case (λ (ls : List (List ℕ)). room ls ≤ room (f .lines)) (λ h. blank-within (f .lines)) (λ h. omega arith)
 
 else-within : (line : List ℕ) (ls : List (List ℕ)) → room (joinElse line ls) ≤ room ls + (length line + 16)
 unfolding joinElse room
 else-within line [] = omega arith
 else-within line (l ∷ ls) = omega (arith, length-append (trimEnd l) (32 ∷ line), length-trimEnd l)
 
--- ---- one line: the text grows by at most 16 characters and two for each of the line's
+-- ---- one line
 
 record Within (height long : ℕ) (f : Formatter) : Type 0 where
   high : length (f .stack) ≤ height
   fits : room (f .lines) ≤ long
 
+-- n characters more
+abbrev Grown : ℕ → ℕ → ℕ → Formatter → Type 0
+Grown n height long = Within (height + n) (long + (2 * n + 16))
+
+at-most-one : (b : Bool) → choose b 1 0 ≤ 1
+at-most-one b = choose-case (λ (n : ℕ). n ≤ 1) (λ h. omega arith) (λ h. omega arith)
+
 levels-within : (s : List Entry) → levels s ≤ length s
 unfolding levels
 levels-within [] = omega arith
-levels-within (adds ∷ s) =
-    let one : choose adds 1 0 ≤ 1 = choose-case (λ (n : ℕ). n ≤ 1) (λ h. omega arith) (λ h. omega arith) in
-    omega (arith, levels-within s)
+levels-within (adds ∷ s) = omega (arith, at-most-one adds, levels-within s)
 
 level-within : (f : Formatter) (line : List ℕ) → levelOf f line ≤ length (f .stack) + 1
 unfolding levelOf
 level-within f line =
-    let one : choose (continues (f .prev) line) 1 0 ≤ 1 = choose-case (λ (n : ℕ). n ≤ 1) (λ h. omega arith) (λ h. omega arith) in
-    omega (arith, levels-within (drop (leadingClosers line) (f .stack)), length-drop (leadingClosers line) (f .stack))
+    omega (
+      arith,
+      at-most-one (continues (f .prev) line),
+      levels-within (drop (leadingClosers line) (f .stack)),
+      length-drop (leadingClosers line) (f .stack),
+    )
 
 indent-length : (level : ℕ) → length (indentOf defaults level) ≡ level * 2
 unfolding indentOf
@@ -121,7 +136,8 @@ module _ (level : ℕ) (line : List ℕ) (h : length (indentOf defaults level ++
       let l : List ℕ = indentOf defaults level ++ line in
       le-ltb 100 (0 + width l) (omega (arith, width-within l))
 
-  whole : (b : Bool) → fitted (choose b (PrintWidth.Columns 100) PrintWidth.Off) defaults level line ≡ oneLine (indentOf defaults level ++ line)
+  whole : (b : Bool) → fitted (choose b (PrintWidth.Columns 100) PrintWidth.Off) defaults level line
+      ≡ oneLine (indentOf defaults level ++ line)
   unfolding fitted choose
   whole true = choose-false _ _ _ narrow
   whole false = refl
@@ -133,7 +149,7 @@ written-within (Carry.Block d) raw = length-trimEnd raw
 written-within Carry.Prefab raw = omega arith
 
 module _ (f : Formatter) (height long : ℕ) (w : Within height long f) where
-  inside-within : (raw : List ℕ) → Within (height + length raw) (long + (2 * length raw + 16)) (insideLine f raw)
+  inside-within : (raw : List ℕ) → Grown (length raw) height long (insideLine f raw)
   unfolding insideLine room
   inside-within raw =
       record {
@@ -147,14 +163,14 @@ module _ (f : Formatter) (height long : ℕ) (w : Within height long f) where
         fits = omega (arith, w .fits, written-within (f .carry) raw);
       }
 
-  blank-line-within : (n : ℕ) → Within (height + n) (long + (2 * n + 16)) (blankLine f)
+  blank-line-within : (n : ℕ) → Grown n height long (blankLine f)
   unfolding blankLine room
   blank-line-within n =
-      choose-case (Within (height + n) (long + (2 * n + 16)))
+      choose-case (Grown n height long)
       (λ h. record { high = omega (arith, w .high); fits = omega (arith, w .fits) })
       (λ h. record { high = omega (arith, w .high); fits = omega (arith, w .fits) })
 
-  protected-within : (raw : List ℕ) → Within (height + length raw) (long + (2 * length raw + 16)) (protectedLine f raw)
+  protected-within : (raw : List ℕ) → Grown (length raw) height long (protectedLine f raw)
   unfolding protectedLine room
   protected-within raw =
       record {
@@ -170,7 +186,7 @@ module _ (f : Formatter) (height long : ℕ) (w : Within height long f) where
       }
 
   module _ (l : List ℕ) where
-    else-line-within : Within (height + length l) (long + (2 * length l + 16)) (elseLine f (respaced l))
+    else-line-within : Grown (length l) height long (elseLine f (respaced l))
     unfolding elseLine countBrackets
     else-line-within =
         record {
@@ -178,7 +194,8 @@ module _ (f : Formatter) (height long : ℕ) (w : Within height long f) where
           fits = omega (arith, w .fits, else-within (respaced l) (f .lines), respaced-within l);
         }
 
-    placed-within : (marker : Bool) → height + length l ≤ 6 → Within (height + length l) (long + (2 * length l + 16)) (placedLine defaults f marker (respaced l))
+    placed-within : (marker : Bool) → height + length l ≤ 6
+        → Grown (length l) height long (placedLine defaults f marker (respaced l))
     unfolding placedLine laid room
     placed-within marker few =
         let n : length (indentOf defaults (levelOf f (respaced l)) ++ respaced l) ≤ 14 + 2 * length l =
@@ -193,20 +210,26 @@ module _ (f : Formatter) (height long : ℕ) (w : Within height long f) where
         in
         record {
           high = omega (arith, w .high, height-spaced l (leadingClosers (respaced l)) (f .stack));
-          fits = rw (whole (levelOf f (respaced l)) (respaced l) (omega arith)) (omega (arith, w .fits, before-within f (respaced l)));
+          fits = rw (whole (levelOf f (respaced l)) (respaced l) (omega arith))
+              (omega (arith, w .fits, before-within f (respaced l)));
         }
 
-    spaced-within : (marker : Bool) → height + length l ≤ 6 → Within (height + length l) (long + (2 * length l + 16)) (spacedLine defaults f marker (respaced l))
+    spaced-within : (marker : Bool) → height + length l ≤ 6
+        → Grown (length l) height long (spacedLine defaults f marker (respaced l))
     unfolding spacedLine
     spaced-within marker few =
-        choose-case (Within (height + length l) (long + (2 * length l + 16))) (λ h. else-line-within) (λ h. placed-within marker few)
+        choose-case (Grown (length l) height long) (λ h. else-line-within) (λ h. placed-within marker few)
 
-  line-within : (raw : List ℕ) → height + length raw ≤ 6 → Within (height + length raw) (long + (2 * length raw + 16)) (formatLine defaults f raw)
+  line-within : (raw : List ℕ) → height + length raw ≤ 6
+      → Grown (length raw) height long (formatLine defaults f raw)
   unfolding formatLine codeLine
   line-within raw few =
-      let P : Formatter → Type 0 = Within (height + length raw) (long + (2 * length raw + 16)) in
-      let more : (g : Formatter) → Within (height + length (trim raw)) (long + (2 * length (trim raw) + 16)) g → P g =
-      λ g r. record { high = omega (arith, r .high, length-trim raw); fits = omega (arith, r .fits, length-trim raw) } in
+      let P : Formatter → Type 0 = Grown (length raw) height long in
+      let more : (g : Formatter) → Grown (length (trim raw)) height long g → P g =
+      λ g r. record {
+        high = omega (arith, r .high, length-trim raw);
+        fits = omega (arith, r .fits, length-trim raw);
+      } in
       choose-case P
       (λ h. choose-case P (λ i. blank-line-within (length raw))
       (λ i. choose-case P (λ j. protected-within raw)
@@ -219,16 +242,20 @@ charsIn : List (List ℕ) → ℕ
 charsIn [] = 0
 charsIn (l ∷ ls) = length l + charsIn ls
 
-lines-within : (raws : List (List ℕ)) (f : Formatter) (height long : ℕ) → Within height long f → height + charsIn raws ≤ 6
+lines-within : (raws : List (List ℕ)) (f : Formatter) (height long : ℕ) → Within height long f
+    → height + charsIn raws ≤ 6
     → Within 6 (long + (2 * charsIn raws + 16 * length raws)) (foldl (formatLine defaults) f raws)
 unfolding charsIn
 lines-within [] f height long w few = record { high = omega (arith, w .high); fits = omega (arith, w .fits) }
 lines-within (raw ∷ raws) f height long w few =
-    let r = lines-within raws (formatLine defaults f raw) (height + length raw) (long + (2 * length raw + 16)) (line-within f height long w raw (omega arith)) (omega arith) in
+    let g : Formatter = formatLine defaults f raw in
+    let k : Grown (length raw) height long g = line-within f height long w raw (omega arith) in
+    let r = lines-within raws g (height + length raw) (long + (2 * length raw + 16)) k (omega arith) in
     record { high = r .high; fits = omega (arith, r .fits) }
 
--- a source of n characters has as many lines as LFs, and one more
-piece-chars : (b : Bool) (c : ℕ) (q : Pieces) → charsIn (pieces (atSep b c q)) + length (pieces (atSep b c q)) ≡ suc (charsIn (pieces q) + length (pieces q))
+-- each LF ends a line: the characters of the lines and their number come to one more than the source's
+piece-chars : (b : Bool) (c : ℕ) (q : Pieces)
+    → charsIn (pieces (atSep b c q)) + length (pieces (atSep b c q)) ≡ suc (charsIn (pieces q) + length (pieces q))
 unfolding atSep charsIn
 piece-chars true c q = omega arith
 piece-chars false c q = omega arith

@@ -5,18 +5,17 @@ use Prim.Native.Nat.{ℕ, zero, suc, _≤_, _<_}
 use native.Mathlib.Nat.{not-suc-le-zero, le-of-suc-le-suc}
 use native.Mathlib.Omega.{arith}
 use mathlib.Core.Bool.{true, not}
-use mathlib.Core.List.{List, [], _∷_, _++_, append-assoc}
-use mathlib.Core.Path.{_≡_, refl, sym, ap, _∙_}
-use lib.ListN.{length, getD, take, length-append}
+use mathlib.Core.List.{List, [], _∷_}
+use mathlib.Core.Path.{_≡_, refl, ap, _∙_}
+use lib.ListN.{length, getD, take}
 use lib.Dec.{ltb}
 use borrow.Author.Tests.{le-ltb, ltb-true}
-use Rattle.unicode.specs.Unicode.{decode, encode, wellFormed}
+use Rattle.unicode.specs.Unicode.{decode, encode}
 use Rattle.unicode.proofs.Tests.{and-left, and-right}
 use Rattle.unicode.proofs.Decode.{Ascii, decode-ascii, wf-ascii, wf-test}
 use Rattle.buffer.specs.Buffer.{Appended}
 use Rattle.buffer.proofs.WriteLaws.{appended-append}
 use Rattle.decimal.specs.Decimal.{digits, DecimalPut}
-use Rattle.decimal.proofs.DigitLaws.{digits-short}
 use Rattle.rules.specs.Basics.{codes}
 use Rattle.rules.specs.Options.{Options, defaults, validIndent, allBlank}
 use Rattle.rules.specs.Assembly.{formatWith}

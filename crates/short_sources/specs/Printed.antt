@@ -75,6 +75,7 @@ pub record Paged (most : ℕ) (p : Place) (page : List ℕ) (r : Page) : Type 0 
 
 -- the pages from a place on, each from the place that the one before it handed on, one behind the other
 pub data Pages (most : ℕ) : Place → List ℕ → Type 0 where
-  last : {p : Place} {page : List ℕ} {r : Page} → Paged most p page r → r .more ≡ false → Pages most p (take (r .size) page)
+  last : {p : Place} {page : List ℕ} {r : Page} → Paged most p page r → r .more ≡ false
+      → Pages most p (take (r .size) page)
   more : {p : Place} {page : List ℕ} {r : Page} {rest : List ℕ} → Paged most p page r → Pages most (r .next) rest
       → Pages most p (take (r .size) page ++ rest)

@@ -21,7 +21,7 @@ use Rattle.rules.specs.Call.{filled}
 use Rattle.rules.proofs.Choose.{choose-true, choose-false}
 use Rattle.short_texts.specs.declared.Place.{Place}
 use Rattle.short_texts.specs.declared.Given.{Given}
-use Rattle.short_texts.specs.Texts.{letters, led, ofLength, shorter, texts, AllLetters, Short}
+use Rattle.short_texts.specs.Texts.{letters, ofLength, shorter, texts, AllLetters, Short}
 use Rattle.short_texts.specs.Steps.{placeAt, given, ended, stepOf, placeAfter, givenBy, Comes, WholeRun}
 use Rattle.short_texts.proofs.StepLaws.{step-in, step-out}
 use Rattle.short_texts.proofs.TextLaws.{length-of, length-shorter, length-texts, led-at, weight-pos}

@@ -1,6 +1,5 @@
 -- `main` is safe and ends: each page brings the last source nearer. What it reads and writes no contract can say.
 use Prim.Native.Nat.{_-_, _≤_}
-use native.Mathlib.Omega.{arith}
 use mathlib.Core.Path.{_≡_, sym}
 use lib.ListN.{length}
 use lib.Seq.{length-take-le}

@@ -4,16 +4,17 @@
 //!     short_sources | short [GREATEST]
 //!     short --expected GREATEST
 //!
-//! The first form compares standard input with the Rust's texts, source by source; the sources have at
-//! most GREATEST characters, 6 if it isn't given. The first difference is printed, with status 1. The
-//! second form prints what the program must print, with the Rust's texts: `crates/short_sources/stdout`.
+//! The first form compares standard input with the Rust's texts, source by source; the sources have
+//! at most GREATEST characters, 6 if it isn't given. The first difference is printed, with status 1.
+//! The second form prints what the program must print, with the Rust's texts:
+//! `crates/short_sources/stdout`.
 
 use runs::sources::TWELVE;
 use std::io::{self, BufReader, BufWriter, Read, Write};
 use std::process::ExitCode;
 use upstream::{FormatOptions, format_with};
 
-/// Calls `f` with each text of `left` more characters behind `text`, in order, until it gives false.
+/// Calls `f` with `text` and `left` more characters, each such text in order, until it gives false.
 fn each(
     text: &mut String,
     left: usize,

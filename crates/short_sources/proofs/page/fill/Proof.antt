@@ -3,17 +3,12 @@ use Prim.Native.Nat.{_-_}
 use mathlib.Core.Path.{sym}
 use lib.ListN.{length}
 use lib.Seq.{length-take-le}
-use native.Mathlib.Omega.{arith}
 use borrow.Author.Needs.{needs}
 use Rattle.short_texts.specs.Texts.{texts}
-use Rattle.short_sources.proofs.PageLaws.{Filling, filling-start, filling-more, filling-out, filling-end, filling-full}
-use Rattle.short_sources.proofs.PageLaws.{given-short, given-fits, given-less}
+use Rattle.short_sources.proofs.PageLaws.{Filling, filling-start, filling-more, filling-out, filling-end}
+use Rattle.short_sources.proofs.PageLaws.{filling-full, given-short, given-fits, given-less}
 use Rattle.short_sources.proofs.page.fill.Statement.{statement}
 use Rattle.short_sources.proofs.page.fill.Tie as tie
-use Rattle.short_sources.proofs.page.fill.Reads as reads
-use Rattle.short_sources.proofs.page.fill.Lts as lts
-use Rattle.short_sources.proofs.page.add_source.Reads as add-source-reads
-use Rattle.short_texts.proofs.step.Reads as step-reads
 
 abbrev Inv-loop : tie.InvT-loop
 Inv-loop page₀ most size₀ next₀ page size next = Filling most next₀ page₀ page size next

@@ -2,6 +2,7 @@
 use Prim.Native.Nat.{ℕ}
 use mathlib.Core.Bool.{Bool, true, false}
 use mathlib.Core.List.{List, [], _∷_, _++_, foldl}
+use Rattle.unicode.specs.Unicode.{encode, decode}
 use Rattle.rules.specs.Basics.{choose}
 use Rattle.rules.specs.Lines.{asStr, linesOf, dominantIn, endsInLf}
 use Rattle.rules.specs.Options.{Options, defaults, withIndent}
@@ -54,3 +55,7 @@ formatWith o source = finish o source (asStr (endingOf (o .endOfLine) source)) (
 -- format_wirescript: format_with with the default options and a given indent
 abbrev pub formatWirescript : List ℕ → List ℕ → Formatted
 formatWirescript indent source = formatWith (withIndent defaults indent) source
+
+-- the text of a source, both as bytes, with the default options: what a program writes
+unfoldable pub defaultText : List ℕ → List ℕ
+defaultText source = encode (formatWith defaults (decode source) .text)

@@ -21,11 +21,12 @@ use Rattle.rules.specs.Options.{defaults, indentOf, measure, overWide}
 use Rattle.rules.specs.Spacing.{respaced}
 use Rattle.rules.specs.Brackets.{Entry, levels, leadingClosers, countBrackets}
 use Rattle.rules.specs.Else.{joinElse}
-use Rattle.rules.specs.Line.{Formatter, start, asWritten, insideLine, blankLine, protectedLine, elseLine, dropBlank}
-use Rattle.rules.specs.Line.{linesBefore, continues, levelOf, oneLine, fitted, laid, placedLine, spacedLine, codeLine}
+use Rattle.rules.specs.Line.{Formatter, start, keptLine, asWritten, insideLine, blankLine, protectedLine, elseLine, dropBlank}
+use Rattle.rules.specs.Line.{linesBefore, continues, levelOf, oneLine, splitWide, laid, placedLine, spacedLine, codeLine}
 use Rattle.rules.specs.Line.{formatLine}
 use Rattle.rules.specs.Assembly.{endingOf, dropEmpty, joined, lastEnding, finish, formatLines, formatWith}
 use Rattle.rules.specs.declared.Carry.{Carry}
+use Rattle.rules.specs.declared.Ignore.{Ignore}
 use Rattle.rules.specs.declared.LineEnding.{LineEnding}
 use Rattle.rules.specs.declared.PrintWidth.{PrintWidth}
 use Rattle.rules.proofs.Choose.{choose-case, choose-false}
@@ -136,9 +137,9 @@ module _ (level : ℕ) (line : List ℕ) (h : length (indentOf defaults level ++
       let l : List ℕ = indentOf defaults level ++ line in
       le-ltb 100 (0 + width l) (omega (arith, width-within l))
 
-  whole : (b : Bool) → fitted (choose b (PrintWidth.Columns 100) PrintWidth.Off) defaults level line
+  whole : (b : Bool) → choose b (splitWide (PrintWidth.Columns 100) defaults level line) (oneLine (indentOf defaults level ++ line))
       ≡ oneLine (indentOf defaults level ++ line)
-  unfolding fitted choose
+  unfolding splitWide choose
   whole true = choose-false _ _ _ narrow
   whole false = refl
 
@@ -149,19 +150,23 @@ written-within (Carry.Block d) raw = length-trimEnd raw
 written-within Carry.Prefab raw = omega arith
 
 module _ (f : Formatter) (height long : ℕ) (w : Within height long f) where
-  inside-within : (raw : List ℕ) → Grown (length raw) height long (insideLine f raw)
-  unfolding insideLine room
-  inside-within raw =
+  kept-within : (size : ℕ) (shown line : List ℕ) (n : ℕ) (ignore : Ignore) → length shown ≤ size → length line ≤ size
+      → Grown size height long (keptLine f shown n line ignore)
+  unfolding keptLine room
+  kept-within size shown line n ignore h k =
       record {
         high = omega (
           arith,
           w .high,
-          brackets-height (classify (f .carry) raw) (f .stack),
-          ap (count isOpener) (chars-classify (f .carry) raw),
-          count-length isOpener raw,
+          count-height n (classify (f .carry) line) (f .stack),
+          ap (count isOpener) (chars-classify (f .carry) line),
+          count-length isOpener line,
         );
-        fits = omega (arith, w .fits, written-within (f .carry) raw);
+        fits = omega (arith, w .fits);
       }
+
+  inside-within : (raw : List ℕ) → Grown (length raw) height long (insideLine f raw)
+  inside-within raw = kept-within (length raw) (asWritten (f .carry) raw) raw 0 (f .ignore) (written-within (f .carry) raw) (omega arith)
 
   blank-line-within : (n : ℕ) → Grown n height long (blankLine f)
   unfolding blankLine room
@@ -171,19 +176,7 @@ module _ (f : Formatter) (height long : ℕ) (w : Within height long f) where
       (λ h. record { high = omega (arith, w .high); fits = omega (arith, w .fits) })
 
   protected-within : (raw : List ℕ) → Grown (length raw) height long (protectedLine f raw)
-  unfolding protectedLine room
-  protected-within raw =
-      record {
-        high = omega (
-          arith,
-          w .high,
-          count-height (leadingClosers (trim raw)) (classify Carry.Code (trim raw)) (f .stack),
-          ap (count isOpener) (chars-classify Carry.Code (trim raw)),
-          count-length isOpener (trim raw),
-          length-trim raw,
-        );
-        fits = omega (arith, w .fits);
-      }
+  protected-within raw = kept-within (length raw) raw (trim raw) (leadingClosers (trim raw)) Ignore.Nothing (omega arith) (length-trim raw)
 
   module _ (l : List ℕ) where
     else-line-within : Grown (length l) height long (elseLine f (respaced l))

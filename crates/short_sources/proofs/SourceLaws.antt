@@ -18,17 +18,19 @@ use Rattle.buffer.proofs.WriteLaws.{appended-append}
 use Rattle.decimal.specs.Decimal.{digits, DecimalPut}
 use Rattle.rules.specs.Basics.{codes}
 use Rattle.rules.specs.Options.{Options, defaults, validIndent, allBlank}
-use Rattle.rules.specs.Assembly.{formatWith}
-use Rattle.rules.specs.Call.{Call, maxSource, scratchNeeded, validOptions, optionsOf, widthNamed, endingNamed}
-use Rattle.rules.specs.Call.{newlineNamed, formatted, textOf, outcomeOf, answerOf}
+use Rattle.rules.specs.Assembly.{formatWith, defaultText}
+use Rattle.rules.specs.Refusals.{maxSource, scratchNeeded, refuseIf, tested, longSource, badOption, shortScratch, illFormed, shortOutput}
+use Rattle.rules.specs.Choices.{printWidthNamed, endOfLineNamed, finalNewlineNamed, isNamed, validOptions, optionsOf}
+use Rattle.rules.specs.Call.{Call, formatScratch, formatted, textOf, verdictOf, outcomeOf, answerOf}
 use Rattle.rules.specs.declared.Outcome.{Outcome}
 use Rattle.rules.specs.declared.Answer.{Answer}
 use Rattle.rules.proofs.Choose.{choose-false}
 use Rattle.rules.proofs.StartsBytes.{allAscii}
 use Rattle.rules.proofs.CallLaws.{delivered}
-use Rattle.call.specs.Answered.{callOf, FormatAnswered}
+use Rattle.call.specs.Ran.{callOf, numbersOf}
+use Rattle.call.specs.FormatAnswered.{FormatAnswered}
 use Rattle.short_texts.specs.Texts.{letters, AllLetters, Short}
-use Rattle.short_sources.specs.Printed.{textFor, printed, TextIn, Added}
+use Rattle.short_sources.specs.Printed.{printed, TextIn, Added}
 use Rattle.short_sources.proofs.SizeLaws.{text-fits}
 
 -- ---- a short source is ASCII
@@ -51,33 +53,32 @@ short-ascii (c ∷ t) h =
 
 -- the call, with an output of n bytes
 abbrev shortCall : List ℕ → ℕ → Call
-shortCall source n = callOf source (codes "  ") 1 100 0 1 n 512
+shortCall source n = callOf source (codes "  ") (numbersOf 1 100 0 1) n 512
 
 module _ (source : List ℕ) (n : ℕ) where
-  options-default : optionsOf (shortCall source n) ≡ defaults
-  unfolding optionsOf widthNamed endingNamed newlineNamed
+  options-default : optionsOf (shortCall source n .choices) ≡ defaults
+  unfolding optionsOf printWidthNamed endOfLineNamed finalNewlineNamed
   options-default = refl
 
-  text-is : textOf (shortCall source n) ≡ textFor source
-  unfolding textOf formatted textFor
+  text-is : textOf (shortCall source n) ≡ defaultText source
+  unfolding textOf formatted defaultText
   text-is = ap (λ (o : Options). encode (formatWith o (decode source) .text)) options-default
 
   module _ (s : Short source) where
-    text-short : length (textFor source) ≤ 456
-    unfolding textFor
+    text-short : length (defaultText source) ≤ 456
+    unfolding defaultText
     text-short = rw (decode-ascii source (short-ascii source (s .letters))) (text-fits source (s .few))
 
     -- no refusal applies
     accepted : 456 ≤ n → answerOf (outcomeOf (shortCall source n)) .refusal ≡ 0
-    unfolding outcomeOf validOptions validIndent allBlank
+    unfolding outcomeOf verdictOf tested refuseIf longSource badOption shortScratch illFormed shortOutput choose validOptions validIndent allBlank printWidthNamed endOfLineNamed finalNewlineNamed isNamed
     accepted h =
-        ap (λ (q : Outcome). answerOf q .refusal)
-        (choose-false _ _ _ (le-ltb maxSource (length source) (omega (arith, s .few)))
-        ∙ choose-false _ _ _ refl
-        ∙ choose-false _ _ _ (le-ltb 512 (scratchNeeded source) (omega (arith, s .few)))
-        ∙ choose-false _ _ _ (ap not (wf-test source (wf-ascii source (short-ascii source (s .letters)))))
-        ∙ choose-false _ _ _
-        (le-ltb n (length (textOf (shortCall source n))) (omega (arith, text-short, ap length text-is))))
+        rw (
+          le-ltb maxSource (length source) (omega (arith, s .few)),
+          le-ltb 512 (scratchNeeded formatScratch source) (omega (arith, s .few)),
+          wf-test source (wf-ascii source (short-ascii source (s .letters))),
+          le-ltb n (length (textOf (shortCall source n))) (omega (arith, text-short, ap length text-is)),
+        )
 
     pub called : 456 ≤ n → (a : Answer) (out work : List ℕ) → FormatAnswered (shortCall source n) a out work
         → TextIn source out (a .length)
@@ -85,7 +86,7 @@ module _ (source : List ℕ) (n : ℕ) where
         let c : Call = shortCall source n in
         let d = delivered c (outcomeOf c) refl (accepted h) in
         let m : a .length ≡ answerOf (outcomeOf c) .length = ap (λ (b : Answer). b .length) (f .answer) in
-        let l : a .length ≡ length (textFor source) = m ∙ d .long ∙ ap length text-is in
+        let l : a .length ≡ length (defaultText source) = m ∙ d .long ∙ ap length text-is in
         record { size = l; is = rw (m, f .output) (d .bytes ∙ text-is); short = omega (arith, l, text-short) }
 
 pub added : (source out page x y z : List ℕ) (n at behind from r : ℕ)
@@ -93,8 +94,8 @@ pub added : (source out page x y z : List ℕ) (n at behind from r : ℕ)
     → Appended y z from (take n out) r → Added page z at source r
 unfolding printed
 added source out page x y z n at behind from r t p q w =
-    let u : Appended y z from (textFor source) r = rw (t .is) at w in
-    let d : Appended page x at (digits (length (textFor source))) behind = rw (t .size) at (p .appended) in
+    let u : Appended y z from (defaultText source) r = rw (t .is) at w in
+    let d : Appended page x at (digits (length (defaultText source))) behind = rw (t .size) at (p .appended) in
     record {
       appended = appended-append d (appended-append q u);
       short = omega (arith, p .short, q .next, u .next, t .size, t .short);

@@ -4,12 +4,11 @@ use mathlib.Core.Bool.{true, false}
 use mathlib.Core.List.{List, [], _∷_, _++_}
 use mathlib.Core.Path.{_≡_}
 use lib.ListN.{length, take, drop}
-use Rattle.unicode.specs.Unicode.{within, decode, encode}
+use Rattle.unicode.specs.Unicode.{within}
 use Rattle.buffer.specs.Buffer.{Appended}
 use Rattle.decimal.specs.Decimal.{digits}
 use Rattle.rules.specs.Basics.{choose, is, codes}
-use Rattle.rules.specs.Options.{defaults}
-use Rattle.rules.specs.Assembly.{formatWith}
+use Rattle.rules.specs.Assembly.{defaultText}
 use Rattle.short_texts.specs.Texts.{shorter}
 use Rattle.short_texts.specs.declared.Place.{Place}
 use Rattle.short_sources.specs.declared.page.Page.{Page}
@@ -29,13 +28,9 @@ greatestIn (d ∷ c ∷ b ∷ rest) = 6
 
 -- ---- the sources, formatted
 
--- a source's text, with the default options
-unfoldable pub textFor : List ℕ → List ℕ
-textFor source = encode (formatWith defaults (decode source) .text)
-
 -- the text's length in bytes, in decimal; LF; the text
 unfoldable pub printed : List ℕ → List ℕ
-printed source = digits (length (textFor source)) ++ (codes "\n" ++ textFor source)
+printed source = digits (length (defaultText source)) ++ (codes "\n" ++ defaultText source)
 
 -- nothing stands between a text and the next length
 unfoldable pub printedAll : List (List ℕ) → List ℕ
@@ -54,8 +49,8 @@ printedFrom most p = printedAll (drop (p .number) (sources most))
 
 -- the first n bytes of out are the text of a short source
 pub record TextIn (source out : List ℕ) (n : ℕ) : Type 0 where
-  pub size : n ≡ length (textFor source)
-  pub is : take n out ≡ textFor source
+  pub size : n ≡ length (defaultText source)
+  pub is : take n out ≡ defaultText source
   pub short : n ≤ 456
 
 -- what is printed for a source stands in the page from the place at on; r is the next place

@@ -4,7 +4,8 @@ use mathlib.Core.Path.{_≡_, refl}
 use Rattle.decimal.specs.Decimal.{digits, digitsWithin}
 use Rattle.rules.specs.Basics.{codes}
 use Rattle.rules.proofs.Computing.{computing}
-use Rattle.wsfmt_run.specs.Program.{maxInput, refusal, defaultText, written}
+use Rattle.rules.specs.Assembly.{defaultText}
+use Rattle.wsfmt_run.specs.Program.{maxInput, refusal, written}
 
 texts : (written (codes "f(a ,b)") ≡ codes "f(a, b)\n") × (written [] ≡ codes "\n") × (written (97 ∷ 0xFF ∷ []) ≡ codes "refused 4 at 1\n")
 unfolding computing written defaultText refusal digits digitsWithin

@@ -20,12 +20,16 @@ use Rattle.decimal.specs.Decimal.{digits, DecimalPut}
 use Rattle.decimal.proofs.DigitLaws.{digits-short}
 use Rattle.rules.specs.Basics.{choose, codes}
 use Rattle.rules.specs.Options.{defaults}
-use Rattle.rules.specs.Call.{Call, maxSource, scratchNeeded, validOptions, optionsOf, formatted, textOf, outcomeOf, numberOf, placeOf, answerOf, filled, outputOf}
+use Rattle.rules.specs.Refusals.{maxSource, scratchNeeded, numberOf, placeOf, refuseIf, tested, longSource, badOption, shortScratch, illFormed, shortOutput}
+use Rattle.rules.specs.Choices.{validOptions, optionsOf}
+use Rattle.rules.specs.Call.{Call, formatScratch, formatted, textOf, verdictOf, outcomeOf, answerOf, filled, outputOf}
+use Rattle.rules.proofs.RefusalLaws.{numbered}
 use Rattle.rules.specs.declared.Refusal.{Refusal}
 use Rattle.rules.specs.declared.Outcome.{Outcome}
 use Rattle.rules.specs.declared.Answer.{Answer}
-use Rattle.call.specs.Answered.{FormatAnswered}
-use Rattle.wsfmt_run.specs.Program.{maxInput, maxText, refusal, defaultText, written, Printed}
+use Rattle.call.specs.FormatAnswered.{FormatAnswered}
+use Rattle.rules.specs.Assembly.{defaultText}
+use Rattle.wsfmt_run.specs.Program.{maxInput, maxText, refusal, written, Printed}
 use Rattle.wsfmt_run.specs.Steps.{Called}
 
 -- ---- a refusal is written
@@ -83,17 +87,10 @@ too-long source h = rw (lt-ltb maxInput (length source) h)
 
 -- ---- the call
 
-numbered : (r : Refusal) → numberOf r ≡ 0 → ⊥
-numbered Refusal.SourceTooLong e = omega arith
-numbered Refusal.BadOption e = omega arith
-numbered (Refusal.ScratchShort n) e = omega arith
-numbered (Refusal.NotUtf8 n) e = omega arith
-numbered (Refusal.OutputShort n) e = omega arith
-
 -- a call with the default options, whose scratch is enough
 module _
-    (c : Call) (a : Answer) (out work : List ℕ) (f : FormatAnswered c a out work) (o : optionsOf c ≡ defaults) (v : validOptions c ≡ true)
-    (short : length (c .source) ≤ maxInput) (room : scratchNeeded (c .source) ≤ c .scratch) (size : c .output ≡ maxText)
+    (c : Call) (a : Answer) (out work : List ℕ) (f : FormatAnswered c a out work) (o : optionsOf (c .choices) ≡ defaults) (v : validOptions (c .choices) ≡ true)
+    (short : length (c .source) ≤ maxInput) (room : scratchNeeded formatScratch (c .source) ≤ c .scratch) (size : c .output ≡ maxText)
   where
     abbrev source : List ℕ
     source = c .source
@@ -106,8 +103,12 @@ module _
     outcome-is : outcomeOf c ≡ choose (not (wellFormed source)) (Outcome.Refused (Refusal.NotUtf8 (prefixLen source)))
         (choose (ltb maxText (length (defaultText source))) (Outcome.Refused (Refusal.OutputShort (length (defaultText source))))
         (Outcome.Formatted (length (defaultText source)) (formatted c .importsSplit) (formatted c .blankNames)))
-    unfolding outcomeOf choose
-    outcome-is = rw (le-ltb maxSource (length source) (omega arith), v, le-ltb (c .scratch) (scratchNeeded source) room, text-is, size)
+    unfolding outcomeOf verdictOf tested refuseIf longSource badOption shortScratch illFormed shortOutput choose
+    outcome-is =
+        rw (le-ltb maxSource (length source) (omega arith), v, le-ltb (c .scratch) (scratchNeeded formatScratch source) room, text-is, size)
+        (by-test (wellFormed source)
+        (λ t. by-test (ltb maxText (length (defaultText source))) (λ u. rw (t, u)) (λ u. rw (t, u)))
+        (λ t. rw t))
 
     written-is : written source ≡ choose (not (wellFormed source)) (refusal 4 (prefixLen source))
         (choose (ltb maxText (length (defaultText source))) (refusal 5 (length (defaultText source))) (defaultText source))

@@ -5,11 +5,10 @@ use mathlib.Core.List.{List, _++_}
 use mathlib.Core.Path.{_≡_}
 use lib.Dec.{ltb}
 use lib.ListN.{length}
-use Rattle.unicode.specs.Unicode.{wellFormed, prefixLen, decode, encode}
+use Rattle.unicode.specs.Unicode.{wellFormed, prefixLen}
 use Rattle.decimal.specs.Decimal.{digits}
 use Rattle.rules.specs.Basics.{choose, codes}
-use Rattle.rules.specs.Options.{defaults}
-use Rattle.rules.specs.Assembly.{formatWith}
+use Rattle.rules.specs.Assembly.{defaultText}
 use Rattle.rules.specs.Call.{filled}
 
 -- reads standard input up to 4,096 bytes, formats into 16,384
@@ -22,10 +21,6 @@ maxText = 16384
 -- `refused N at P` and LF, in decimal
 unfoldable pub refusal : ℕ → ℕ → List ℕ
 refusal number place = codes "refused " ++ digits number ++ codes " at " ++ digits place ++ codes "\n"
-
--- the text of a source, formatted with the defaults
-unfoldable pub defaultText : List ℕ → List ℕ
-defaultText source = encode (formatWith defaults (decode source) .text)
 
 -- The text alone, or the refusal; longer input gives `refused 1 at 4096`. Of a call's refusals only 4 and 5 can
 -- apply: the source is short, the options are valid, and the scratch is long enough.

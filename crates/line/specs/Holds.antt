@@ -10,7 +10,7 @@ use Rattle.rules.specs.Basics.{is, lastIs}
 use Rattle.rules.specs.Scan.{classify, carryAfter}
 use Rattle.rules.specs.ClassBytes.{classBytes}
 use Rattle.rules.specs.Options.{Options, maxIndent, allBlank}
-use Rattle.rules.specs.Call.{maxSource}
+use Rattle.rules.specs.Refusals.{maxSource}
 use Rattle.rules.specs.Line.{Formatter, insideLine, blankLine, protectedLine}
 use Rattle.rules.specs.declared.Carry.{Carry}
 use Rattle.rules.specs.declared.Ignore.{Ignore}

@@ -5,7 +5,7 @@ use lib.ListN.{length}
 use Rattle.unicode.specs.Unicode.{decode, WellFormed}
 use Rattle.rules.specs.Lines.{linesOf}
 use Rattle.rules.specs.Options.{Options}
-use Rattle.rules.specs.Call.{maxSource}
+use Rattle.rules.specs.Refusals.{maxSource}
 use Rattle.rules.specs.Line.{start}
 use Rattle.rules.specs.Assembly.{formatLines}
 use Rattle.rules.specs.declared.PrintWidth.{PrintWidth}

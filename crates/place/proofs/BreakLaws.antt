@@ -26,7 +26,7 @@ use Rattle.split_import.specs.Import.{Given, ImportFits}
 use Rattle.split_import.specs.declared.ImportSplit.{ImportSplit}
 use Rattle.split_operation.specs.Operation.{Broken, OperationFits}
 use Rattle.split_operation.specs.declared.OperationSplit.{OperationSplit}
-use Rattle.rules.specs.Call.{maxSource}
+use Rattle.rules.specs.Refusals.{maxSource}
 use Rattle.text.specs.Text.{Text, Continued, afterLines, farPlace}
 use Rattle.text.specs.declared.Written.{Written}
 use Rattle.text.proofs.PadLaws.{some-size}

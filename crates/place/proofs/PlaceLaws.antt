@@ -17,7 +17,7 @@ use Rattle.buffer.specs.Repeat.{times}
 use Rattle.buffer.proofs.RepeatLaws.{times-within}
 use Rattle.rules.specs.Basics.{choose, is, lastIs}
 use Rattle.rules.specs.Else.{joinable}
-use Rattle.rules.specs.Call.{maxSource}
+use Rattle.rules.specs.Refusals.{maxSource}
 use Rattle.rules.specs.Options.{maxIndent, defaults, withIndent, indentOf, measure, overWide}
 use Rattle.brackets.specs.Stack.{Levels}
 use Rattle.text.specs.Text.{Line, ElseLine}

@@ -11,7 +11,7 @@ use Rattle.rules.specs.Basics.{choose, is, lastIs}
 use Rattle.rules.specs.Scan.{classify}
 use Rattle.rules.specs.ClassBytes.{classBytes}
 use Rattle.rules.specs.Options.{Options, overWide}
-use Rattle.rules.specs.Call.{maxSource}
+use Rattle.rules.specs.Refusals.{maxSource}
 use Rattle.rules.specs.Brackets.{levels}
 use Rattle.rules.specs.Line.{Formatter, dropBlank, broken, splitWide, spacedLine, placedLine}
 use Rattle.rules.specs.declared.Carry.{Carry}

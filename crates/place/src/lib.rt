@@ -9,7 +9,7 @@ ghost use Rattle.buffer.specs.Repeat.{times};
 ghost use Rattle.rules.specs.Lines.{asStr};
 ghost use mathlib.Core.List.{_++_};
 ghost use Rattle.text.specs.Text.{Adds, Joins, Ordered, farPlace};
-ghost use Rattle.rules.specs.Call.{maxSource};
+ghost use Rattle.rules.specs.Refusals.{maxSource};
 ghost use Rattle.rules.specs.Scan.{classify, allCodeOrStr};
 ghost use Rattle.rules.specs.declared.Carry.{Carry};
 ghost use Rattle.rules.specs.declared.PrintWidth.{PrintWidth};

@@ -8,7 +8,7 @@ ghost use Rattle.rules.specs.Basics.{isEmpty};
 ghost use Rattle.rules.specs.Lines.{asStr};
 ghost use Rattle.rules.specs.Line.{protects, inCodeNow};
 ghost use Rattle.rules.specs.Options.{Options};
-ghost use Rattle.rules.specs.Call.{maxSource};
+ghost use Rattle.rules.specs.Refusals.{maxSource};
 ghost use Rattle.rules.specs.Scan.{classify};
 ghost use Rattle.rules.specs.Spacing.{respaced};
 ghost use Rattle.rules.specs.ClassBytes.{classBytes};

@@ -15,7 +15,7 @@ use Rattle.rules.specs.Spacing.{normalizeSpacing}
 use Rattle.rules.specs.Words.{isMarker}
 use Rattle.rules.specs.Else.{joinElse}
 use Rattle.rules.specs.SplitImport.{Laid, splitImport}
-use Rattle.rules.specs.SplitOperation.{strengths}
+use Rattle.rules.specs.Operators.{strengths}
 use Rattle.rules.specs.Line.{Formatter, asWritten, insideLine, blankLine, protectedLine, elseLine, dropBlank, linesBefore, levelOf, oneLine, orOperation, broken, fitted, mayBreak, laid, placedLine, spacedLine, codeLine, formatLine}
 use Rattle.rules.specs.declared.Carry.{Carry}
 use Rattle.rules.specs.declared.PrintWidth.{PrintWidth}

@@ -14,7 +14,7 @@ use Rattle.rules.specs.declared.Class.{Class}
 use Rattle.rules.specs.Basics.{choose, same, oneOf, startsWith, isIdent, isOpener, isCloser}
 use Rattle.rules.specs.Scan.{cell, isCode}
 use Rattle.rules.specs.ClassBytes.{classOf, cellAt}
-use Rattle.rules.specs.Words.{operators}
+use Rattle.rules.specs.Operators.{operators}
 use Rattle.rules.specs.SplitOperation.{Ops, endsOperand, token, oneCharStep, codeStep, freshStep, opStepAt, inWord}
 use Rattle.rules.proofs.Choose.{choose-false}
 use Rattle.rules.proofs.StartsBytes.{low-of, steady-ident}

@@ -13,7 +13,8 @@ use Rattle.rules.specs.Lines.{asStr}
 use Rattle.rules.specs.Scan.{classify, allCodeOrStr}
 use Rattle.rules.specs.Options.{Options, allBlank}
 use Rattle.rules.specs.SplitImport.{Laid, splitImport}
-use Rattle.rules.specs.SplitOperation.{strengths, splitOperation}
+use Rattle.rules.specs.Operators.{strengths}
+use Rattle.rules.specs.SplitOperation.{splitOperation}
 use Rattle.rules.specs.Assembly.{joined}
 use Rattle.rules.specs.Else.{joinable}
 use Rattle.rules.specs.Line.{dropBlank, orOperation, broken}

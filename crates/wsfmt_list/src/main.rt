@@ -1,5 +1,6 @@
-// Does what wsfmt does for each source of a stored list, in which a zero byte ends each; writes the length of what wsfmt writes, LF, and that.
-// `stdin` and `stdout` are what the program `program` of rust/runs prints: the Rust's texts, and the refusals that 01 names.
+// Does what wsfmt does for each source of a stored list, in which a zero byte ends each. For each it writes the
+// length of what wsfmt writes, LF, and that. `stdin` and `stdout` are what `program sources` and `program written`
+// of rust/runs print: the Rust's texts, and the refusals that 01 names.
 ghost use Prim.Native.Nat.{_≤_, _<_};
 ghost use lib.ListN.{length};
 use libc::STDIN_FILENO;

@@ -29,7 +29,7 @@ use Rattle.rules.specs.declared.Outcome.{Outcome}
 use Rattle.rules.specs.declared.Answer.{Answer}
 use Rattle.rules.proofs.RefusalLaws.{numbered, test-on, test-off, pass, stop, one-test}
 use Rattle.call.specs.FormatAnswered.{FormatAnswered}
-use Rattle.wsfmt_run.specs.Program.{maxInput, maxText, refusal, textWith, written, Printed}
+use Rattle.wsfmt_run.specs.Program.{maxInput, maxText, refusal, defaultText, written, Printed}
 use Rattle.wsfmt_run.specs.Steps.{Called}
 
 -- ---- a refusal is written
@@ -96,8 +96,8 @@ module _
     abbrev source : List ℕ
     source = c .source
 
-    text-is : textOf c ≡ textWith source
-    unfolding textOf formatted textWith
+    text-is : textOf c ≡ defaultText source
+    unfolding textOf formatted defaultText
     text-is = rw o
 
     -- the tests: 1 to 3 let the call pass, 4 and 5 are left
@@ -112,17 +112,17 @@ module _
     unfolding illFormed
     not-utf8 t = tests-left ∙ stop _ _ _ (test-on _ _ (rw t))
 
-    last-test : wellFormed source ≡ true → verdictOf c ≡ shortOutput (length (textWith source)) maxText
+    last-test : wellFormed source ≡ true → verdictOf c ≡ shortOutput (length (defaultText source)) maxText
     unfolding illFormed
     last-test t = tests-left ∙ pass _ _ (test-off _ _ (rw t)) ∙ one-test _ ∙ rw (text-is, size)
 
     outcome-is : (u : Verdict) → verdictOf c ≡ u
-        → outcomeOf c ≡ outcomeAfter u (length (textWith source)) (formatted c .importsSplit) (formatted c .blankNames)
+        → outcomeOf c ≡ outcomeAfter u (length (defaultText source)) (formatted c .importsSplit) (formatted c .blankNames)
     unfolding outcomeOf
     outcome-is u e = rw (e, text-is)
 
     written-is : written source ≡ choose (not (wellFormed source)) (refusal 4 (prefixLen source))
-        (choose (ltb maxText (length (textWith source))) (refusal 5 (length (textWith source))) (textWith source))
+        (choose (ltb maxText (length (defaultText source))) (refusal 5 (length (defaultText source))) (defaultText source))
     unfolding written choose
     written-is = rw (le-ltb maxInput (length source) short)
 
@@ -135,11 +135,11 @@ module _
           refused = λ z. record { told = w ∙ sym (rw i); room = size; zeros = f .output ∙ rw e };
         }
 
-    called-text : (imports blanks : ℕ) → outcomeOf c ≡ Outcome.Formatted (length (textWith source)) imports blanks
-        → written source ≡ textWith source → Called source out (c .output) a
+    called-text : (imports blanks : ℕ) → outcomeOf c ≡ Outcome.Formatted (length (defaultText source)) imports blanks
+        → written source ≡ defaultText source → Called source out (c .output) a
     unfolding outputOf
     called-text imports blanks e w =
-        let i : a ≡ answerOf (Outcome.Formatted (length (textWith source)) imports blanks) = f .answer ∙ ap answerOf e in
+        let i : a ≡ answerOf (Outcome.Formatted (length (defaultText source)) imports blanks) = f .answer ∙ ap answerOf e in
         let l : a .length ≡ length (written source) = ap (λ (b : Answer). b .length) i ∙ sym (ap length w) in
         let g : out ≡ filled maxText (written source) = f .output ∙ rw (e, text-is, size, w) in
         record {
@@ -151,7 +151,7 @@ module _
     unfolding choose shortOutput
     called =
         by-test (wellFormed source)
-        (λ t. by-test (ltb maxText (length (textWith source)))
-        (λ u. called-refused (Refusal.OutputShort (length (textWith source))) (outcome-is _ (last-test t ∙ test-on _ _ u)) (written-is ∙ rw (t, u)))
+        (λ t. by-test (ltb maxText (length (defaultText source)))
+        (λ u. called-refused (Refusal.OutputShort (length (defaultText source))) (outcome-is _ (last-test t ∙ test-on _ _ u)) (written-is ∙ rw (t, u)))
         (λ u. called-text (formatted c .importsSplit) (formatted c .blankNames) (outcome-is _ (last-test t ∙ test-off _ _ u)) (written-is ∙ rw (t, u))))
         (λ t. called-refused (Refusal.NotUtf8 (prefixLen source)) (outcome-is _ (not-utf8 t)) (written-is ∙ rw t))

@@ -23,17 +23,18 @@ maxText = 16384
 unfoldable pub refusal : ℕ → ℕ → List ℕ
 refusal number place = codes "refused " ++ digits number ++ codes " at " ++ digits place ++ codes "\n"
 
--- the text, with the defaults
-unfoldable pub textWith : List ℕ → List ℕ
-textWith source = encode (formatWith defaults (decode source) .text)
+-- the text of a source, formatted with the defaults
+unfoldable pub defaultText : List ℕ → List ℕ
+defaultText source = encode (formatWith defaults (decode source) .text)
 
--- The text alone, or the refusal; longer input gives `refused 1 at 4096`. Of a call's refusals only 4 and 5 can apply here.
+-- The text alone, or the refusal; longer input gives `refused 1 at 4096`. Of a call's refusals only 4 and 5 can
+-- apply: the source is short, the options are valid, and the scratch is long enough.
 unfoldable pub written : List ℕ → List ℕ
 written source =
     choose (ltb maxInput (length source)) (refusal 1 maxInput)
     (choose (not (wellFormed source)) (refusal 4 (prefixLen source))
-    (choose (ltb maxText (length (textWith source))) (refusal 5 (length (textWith source)))
-    (textWith source)))
+    (choose (ltb maxText (length (defaultText source))) (refusal 5 (length (defaultText source)))
+    (defaultText source)))
 
 -- what the program writes for source are the first r bytes of out; zeros stand after them
 pub record Printed (source out : List ℕ) (r : ℕ) : Type 0 where

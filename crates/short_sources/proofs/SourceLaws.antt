@@ -16,7 +16,7 @@ use Rattle.unicode.proofs.Decode.{Ascii, decode-ascii, wf-ascii, wf-test}
 use Rattle.buffer.specs.Buffer.{Appended}
 use Rattle.buffer.proofs.WriteLaws.{appended-append}
 use Rattle.decimal.specs.Decimal.{digits, DecimalPut}
-use Rattle.rules.specs.Basics.{codes}
+use Rattle.rules.specs.Basics.{choose, codes}
 use Rattle.rules.specs.Options.{Options, defaults, validIndent, allBlank}
 use Rattle.rules.specs.Assembly.{formatWith, defaultText}
 use Rattle.rules.specs.Refusals.{maxSource, scratchNeeded, refuseIf, tested, longSource, badOption, shortScratch, illFormed, shortOutput}

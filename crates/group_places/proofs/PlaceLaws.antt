@@ -1,0 +1,344 @@
+-- The place of refusal 14: what stands before it begins an expression, and with the character there nothing does.
+use Prim.Native.Nat.{ℕ, zero, suc, _+_, _<_, _≤_}
+use mathlib.Core.Bool.{Bool, true, false, not, _&&_, _||_}
+use mathlib.Core.List.{List, [], _∷_, _++_, map, reverse, append-assoc, append-nil}
+use mathlib.Core.Path.{_≡_, refl, ap, sym, _∙_, subst}
+use native.Mathlib.Omega.{arith}
+use lib.Dec.{eqb, leb}
+use lib.ListN.{length, take, replicate, length-append}
+use lib.Seq.{take-at}
+use borrow.Author.Tests.{eqb-true}
+use Rattle.rules.specs.Basics.{choose, codes, same, oneOf, isIdent}
+use Rattle.rules.specs.Words.{operators}
+use Rattle.rules.specs.SplitOperation.{keywords}
+use Rattle.rules.proofs.Computing.{computing}
+use Rattle.rules.proofs.Choose.{choose-case, choose-true, choose-false}
+use Rattle.rules.proofs.Prefix.{same-eq}
+use Rattle.group_rules.specs.Expression.{maxDepth, Token, word, sign, operator, opener, closer, Stage, due, inName, inNumber, after, inOperator, State, state, Step, next, refused, startsOperator, openStep, closeStep, dueStep, afterStep, stageStep, step, Reading, read, refusedAt, ended, ending, onStep, readFrom, readingTo, reading}
+
+-- an expression is read
+abbrev IsRead : Reading → Type 0
+IsRead (read ts) = Unit {0}
+IsRead (refusedAt n p) = ⊥
+
+-- what goes on so that an expression is read
+pub record Completed (i : ℕ) (s : State) : Type 0 where
+  pub rest : List ℕ
+  pub is : IsRead (readFrom maxDepth i s rest)
+
+opened : Unit {0}
+unfolding computing startsOperator openStep closeStep dueStep afterStep stageStep ended ending onStep readFrom
+opened = tt
+
+close-after : (d i : ℕ) (ts : List Token) → IsRead (readFrom maxDepth i (state after d ts) (replicate d 41))
+unfolding opened
+close-after zero i ts = tt
+close-after (suc d) i ts = close-after d (suc i) (closer ∷ ts)
+
+close-number : (w : List ℕ) (d i : ℕ) (ts : List Token) → IsRead (readFrom maxDepth i (state (inNumber w) d ts) (replicate d 41))
+unfolding opened
+close-number w zero i ts = tt
+close-number w (suc d) i ts = close-after d (suc i) (closer ∷ word w ∷ ts)
+
+name-end : (w : List ℕ) (i : ℕ) (ts : List Token) → oneOf keywords w ≡ false → IsRead (ending i (inName w) 0 ts)
+unfolding ending ended
+name-end w i ts h = subst IsRead (sym (choose-false (oneOf keywords w) _ _ h)) tt
+
+name-closer : (w : List ℕ) (d : ℕ) (ts : List Token) → oneOf keywords w ≡ false → stageStep maxDepth (inName w) (suc d) ts 41 ≡ next (state after d (closer ∷ word w ∷ ts))
+name-closer w d ts h = first ∙ choose-false (oneOf keywords w) (refused 14) (afterStep (suc d) (word w ∷ ts) 41) h ∙ second
+  where
+    first : stageStep maxDepth (inName w) (suc d) ts 41 ≡ choose (oneOf keywords w) (refused 14) (afterStep (suc d) (word w ∷ ts) 41)
+    first = unfold stageStep isIdent in choose-false (isIdent 41) _ _ (unfold isIdent in refl)
+    second : afterStep (suc d) (word w ∷ ts) 41 ≡ next (state after d (closer ∷ word w ∷ ts))
+    second = unfold opened in refl
+
+close-name : (w : List ℕ) (d i : ℕ) (ts : List Token) → oneOf keywords w ≡ false → IsRead (readFrom maxDepth i (state (inName w) d ts) (replicate d 41))
+close-name w zero i ts h = unfold readFrom in name-end w i ts h
+close-name w (suc d) i ts h =
+    unfold readFrom in subst (λ (x : Step). IsRead (onStep i x (λ (t : State). readFrom maxDepth (suc i) t (replicate d 41)))) (sym (name-closer w d ts h))
+    (unfold onStep in close-after d (suc i) (closer ∷ word w ∷ ts))
+
+-- an operand `a` where one is due
+close-due : (d i : ℕ) (ts : List Token) → IsRead (readFrom maxDepth i (state due d ts) (97 ∷ replicate d 41))
+unfolding readFrom stageStep onStep
+close-due d i ts = subst (λ (x : Step). IsRead (onStep i x (λ (t : State). readFrom maxDepth (suc i) t (replicate d 41)))) (sym one) (unfold onStep in close-name (97 ∷ []) d (suc i) ts (unfold computing in refl))
+  where
+    one : dueStep maxDepth d ts 97 ≡ next (state (inName (97 ∷ [])) d ts)
+    one = unfold opened in refl
+
+
+-- ---- no word of the five goes on with an underscore, no operator with an `a`
+
+and-none : (a : Bool) → (a && false) ≡ false
+and-none true = refl
+and-none false = refl
+
+hasNone : List ℕ → Bool
+hasNone [] = true
+hasNone (c ∷ cs) = not (eqb c 95) && hasNone cs
+
+allNone : List (List ℕ) → Bool
+allNone [] = true
+allNone (k ∷ ks) = hasNone k && allNone ks
+
+and-first : (a b : Bool) → (a && b) ≡ true → a ≡ true
+and-first true b h = refl
+and-first false b h = h
+
+and-second : (a b : Bool) → (a && b) ≡ true → b ≡ true
+and-second true b h = h
+and-second false b h = absurd (let z : _≡_ {A = ℕ} 0 1 = cc in omega arith)
+
+not-of : (b : Bool) → not b ≡ true → b ≡ false
+not-of true h = sym h
+not-of false h = refl
+
+same-under : (k w : List ℕ) → hasNone k ≡ true → same k (w ++ 95 ∷ []) ≡ false
+unfolding same hasNone
+same-under [] [] h = refl
+same-under [] (x ∷ w) h = refl
+same-under (c ∷ k) [] h = ap (λ (b : Bool). b && same k []) (not-of (eqb c 95) (and-first (not (eqb c 95)) (hasNone k) h))
+same-under (c ∷ k) (x ∷ w) h = ap (λ (b : Bool). eqb c x && b) (same-under k w (and-second (not (eqb c 95)) (hasNone k) h)) ∙ and-none (eqb c x)
+
+one-under : (ks : List (List ℕ)) (w : List ℕ) → allNone ks ≡ true → oneOf ks (w ++ 95 ∷ []) ≡ false
+unfolding oneOf allNone
+one-under [] w h = refl
+one-under (k ∷ ks) w h =
+    ap (λ (b : Bool). b || oneOf ks (w ++ 95 ∷ [])) (same-under k w (and-first (hasNone k) (allNone ks) h)) ∙ one-under ks w (and-second (hasNone k) (allNone ks) h)
+
+keyword-under : (w : List ℕ) → oneOf keywords (w ++ 95 ∷ []) ≡ false
+keyword-under w = one-under keywords w (unfold allNone hasNone in refl)
+
+close-in-name : (w : List ℕ) (d i : ℕ) (ts : List Token) → IsRead (readFrom maxDepth i (state (inName w) d ts) (95 ∷ replicate d 41))
+unfolding readFrom stageStep onStep
+close-in-name w d i ts =
+    subst (λ (x : Step). IsRead (onStep i x (λ (t : State). readFrom maxDepth (suc i) t (replicate d 41)))) (sym (choose-true (isIdent 95) _ _ (unfold isIdent in refl)))
+    (close-name (w ++ 95 ∷ []) d (suc i) ts (keyword-under w))
+
+notSecond : List ℕ → Bool
+notSecond [] = true
+notSecond (x ∷ []) = true
+notSecond (x ∷ y ∷ r) = not (eqb y 97)
+
+allSecond : List (List ℕ) → Bool
+allSecond [] = true
+allSecond (k ∷ ks) = notSecond k && allSecond ks
+
+same-a : (k : List ℕ) (a : ℕ) → notSecond k ≡ true → same k (a ∷ 97 ∷ []) ≡ false
+unfolding same notSecond
+same-a [] a h = refl
+same-a (x ∷ []) a h = and-none (eqb x a)
+same-a (x ∷ y ∷ r) a h = ap (λ (b : Bool). eqb x a && (b && same r [])) (not-of (eqb y 97) h) ∙ and-none (eqb x a)
+
+one-a : (ks : List (List ℕ)) (a : ℕ) → allSecond ks ≡ true → oneOf ks (a ∷ 97 ∷ []) ≡ false
+unfolding oneOf allSecond
+one-a [] a h = refl
+one-a (k ∷ ks) a h =
+    ap (λ (b : Bool). b || oneOf ks (a ∷ 97 ∷ [])) (same-a k a (and-first (notSecond k) (allSecond ks) h)) ∙ one-a ks a (and-second (notSecond k) (allSecond ks) h)
+
+no-a : (a : ℕ) → oneOf operators (a ∷ 97 ∷ []) ≡ false
+no-a a = one-a operators a (unfold allSecond notSecond in refl)
+
+-- the second character of an operator whose first is none alone
+second : ℕ → ℕ
+second a = choose (eqb a 46) 46 61
+
+goesOn : List ℕ → Bool
+goesOn [] = true
+goesOn (a ∷ r) = oneOf operators (a ∷ r) || oneOf operators (a ∷ second a ∷ [])
+
+allGo : List (List ℕ) → Bool
+allGo [] = true
+allGo (k ∷ ks) = goesOn k && allGo ks
+
+or-cases : {P : Type 0} (a b : Bool) → (a ≡ true → P) → (b ≡ true → P) → (a || b) ≡ true → P
+or-cases true b f g h = f refl
+or-cases false b f g h = g h
+
+find : (ks : List (List ℕ)) (w : List ℕ) → allGo ks ≡ true → oneOf ks w ≡ true → goesOn w ≡ true
+unfolding oneOf allGo
+find [] w h k = absurd (let z : _≡_ {A = ℕ} 0 1 = cc in omega arith)
+find (o ∷ ks) w h k =
+    let r = find ks w (and-second (goesOn o) (allGo ks) h) in
+    or-cases (same o w) (oneOf ks w) (λ e. ap goesOn (sym (same-eq o w e)) ∙ and-first (goesOn o) (allGo ks) h) r k
+
+goes-on : (a : ℕ) → startsOperator a ≡ true → goesOn (a ∷ []) ≡ true
+unfolding startsOperator
+goes-on a h = find (map (take 1) operators) (a ∷ []) (unfold allGo goesOn second computing in refl) h
+
+close-one : (a d i : ℕ) (ts : List Token) → oneOf operators (a ∷ []) ≡ true → IsRead (readFrom maxDepth i (state (inOperator a) d ts) (97 ∷ replicate d 41))
+unfolding readFrom stageStep onStep
+close-one a d i ts h =
+    subst (λ (x : Step). IsRead (onStep i x (λ (t : State). readFrom maxDepth (suc i) t (replicate d 41))))
+    (sym (choose-false (oneOf operators (a ∷ 97 ∷ [])) _ _ (no-a a) ∙ choose-true (oneOf operators (a ∷ [])) _ _ h)) (close-due d i (operator (a ∷ []) ∷ ts))
+
+close-two : (a c d i : ℕ) (ts : List Token) → oneOf operators (a ∷ c ∷ []) ≡ true → IsRead (readFrom maxDepth i (state (inOperator a) d ts) (c ∷ 97 ∷ replicate d 41))
+unfolding readFrom stageStep onStep
+close-two a c d i ts h =
+    subst (λ (x : Step). IsRead (onStep i x (λ (t : State). readFrom maxDepth (suc i) t (97 ∷ replicate d 41))))
+    (sym (choose-true (oneOf operators (a ∷ c ∷ [])) _ _ h)) (close-due d (suc i) (operator (a ∷ c ∷ []) ∷ ts))
+
+-- ---- every state that is reached can be completed
+
+abbrev Live : Stage → Type 0
+Live due = Unit {0}
+Live (inName w) = Unit {0}
+Live (inNumber w) = Unit {0}
+Live after = Unit {0}
+Live (inOperator a) = startsOperator a ≡ true
+
+complete : (m : Stage) (d i : ℕ) (ts : List Token) → Live m → Completed i (state m d ts)
+complete due d i ts h = record { rest = 97 ∷ replicate d 41; is = close-due d i ts }
+complete (inName w) d i ts h = record { rest = 95 ∷ replicate d 41; is = close-in-name w d i ts }
+complete (inNumber w) d i ts h = record { rest = replicate d 41; is = close-number w d i ts }
+complete after d i ts h = record { rest = replicate d 41; is = close-after d i ts }
+complete (inOperator a) d i ts h =
+    or-cases (oneOf operators (a ∷ [])) (oneOf operators (a ∷ second a ∷ []))
+    (λ e. record { rest = 97 ∷ replicate d 41; is = close-one a d i ts e })
+    (λ e. record { rest = second a ∷ 97 ∷ replicate d 41; is = close-two a (second a) d i ts e }) (unfold goesOn in goes-on a h)
+
+abbrev LiveStep : Step → Type 0
+LiveStep (next s) = Live (s .stage)
+LiveStep (refused n) = Unit {0}
+
+live-open : (d : ℕ) (ts : List Token) → LiveStep (openStep maxDepth d ts)
+unfolding openStep
+live-open d ts = choose-case LiveStep (λ h. tt) (λ h. tt)
+
+live-close : (d : ℕ) (ts : List Token) → LiveStep (closeStep d ts)
+unfolding closeStep
+live-close zero ts = tt
+live-close (suc d) ts = tt
+
+live-due : (d : ℕ) (ts : List Token) (c : ℕ) → LiveStep (dueStep maxDepth d ts c)
+unfolding dueStep
+live-due d ts c =
+    choose-case LiveStep (λ h. tt) (λ _. choose-case LiveStep (λ h. tt) (λ _. choose-case LiveStep (λ h. live-open d ts)
+    (λ _. choose-case LiveStep (λ h. tt) (λ _. choose-case LiveStep (λ h. tt) (λ _. tt)))))
+
+live-after : (d : ℕ) (ts : List Token) (c : ℕ) → LiveStep (afterStep d ts c)
+unfolding afterStep
+live-after d ts c = choose-case LiveStep (λ h. tt) (λ _. choose-case LiveStep (λ h. live-close d ts) (λ _. choose-case LiveStep (λ h. h) (λ _. tt)))
+
+live-stage : (m : Stage) (d : ℕ) (ts : List Token) (c : ℕ) → LiveStep (stageStep maxDepth m d ts c)
+unfolding stageStep
+live-stage due d ts c = live-due d ts c
+live-stage (inName w) d ts c = choose-case LiveStep (λ h. tt) (λ _. choose-case LiveStep (λ h. tt) (λ _. live-after d (word w ∷ ts) c))
+live-stage (inNumber w) d ts c = choose-case LiveStep (λ h. tt) (λ _. live-after d (word w ∷ ts) c)
+live-stage after d ts c = live-after d ts c
+live-stage (inOperator a) d ts c = choose-case LiveStep (λ h. tt) (λ _. choose-case LiveStep (λ h. live-due d (operator (a ∷ []) ∷ ts) c) (λ _. tt))
+
+-- ---- the place of a refusal: what stands before it begins an expression; no source that goes on from it is one
+
+pub record Begins (past : List ℕ) : Type 0 where
+  pub rest : List ℕ
+  pub is : IsRead (reading (past ++ rest))
+
+abbrev pub PlaceOf : List ℕ → Reading → Type 0
+PlaceOf source (read ts) = Unit {0}
+PlaceOf source (refusedAt n p) = Begins (take p source)
+
+begins-here : (past : List ℕ) (s : State) → ((rest : List ℕ) → reading (past ++ rest) ≡ readFrom maxDepth (length past) s rest) → Live (s .stage) → (cs : List ℕ)
+    → Begins (take (length past) (past ++ cs))
+begins-here past s e h cs =
+    let c = complete (s .stage) (s .depth) (length past) (s .tokens) h in
+    subst Begins (sym (take-at past cs (length past) refl)) (record { rest = c .rest; is = subst IsRead (sym (e (c .rest))) (c .is) })
+
+place-ended : (source : List ℕ) (i d : ℕ) (ts : List Token) → Begins (take i source) → PlaceOf source (ended i d ts)
+unfolding ended
+place-ended source i zero ts b = tt
+place-ended source i (suc d) ts b = b
+
+place-ending : (source : List ℕ) (i : ℕ) (m : Stage) (d : ℕ) (ts : List Token) → Begins (take i source) → PlaceOf source (ending i m d ts)
+unfolding ending
+place-ending source i due d ts b = b
+place-ending source i (inName w) d ts b = choose-case (PlaceOf source) (λ h. b) (λ h. place-ended source i d (word w ∷ ts) b)
+place-ending source i (inNumber w) d ts b = place-ended source i d (word w ∷ ts) b
+place-ending source i after d ts b = place-ended source i d ts b
+place-ending source i (inOperator a) d ts b = b
+
+place-step : (source : List ℕ) (i : ℕ) (st : Step) (go : State → Reading) → LiveStep st → Begins (take i source)
+    → ((t : State) → st ≡ next t → Live (t .stage) → PlaceOf source (go t)) → PlaceOf source (onStep i st go)
+unfolding onStep
+place-step source i (next t) go l b k = k t refl l
+place-step source i (refused n) go l b k = b
+
+longer : (past : List ℕ) (c : ℕ) → length (past ++ c ∷ []) ≡ suc (length past)
+longer past c = length-append past (c ∷ []) ∙ omega arith
+
+stepped : (past : List ℕ) (s : State) (c : ℕ) (t : State) → step maxDepth s c ≡ next t → (rest : List ℕ) → readFrom maxDepth (length past) s (c ∷ rest) ≡ readFrom maxDepth (suc (length past)) t rest
+unfolding readFrom onStep
+stepped past s c t q rest = ap (λ (x : Step). onStep (length past) x (λ (u : State). readFrom maxDepth (suc (length past)) u rest)) q
+
+place-from : (cs past : List ℕ) (s : State) → ((rest : List ℕ) → reading (past ++ rest) ≡ readFrom maxDepth (length past) s rest) → Live (s .stage)
+    → PlaceOf (past ++ cs) (readFrom maxDepth (length past) s cs)
+unfolding readFrom
+place-from [] past s e h = place-ending (past ++ []) (length past) (s .stage) (s .depth) (s .tokens) (begins-here past s e h [])
+place-from (c ∷ cs) past s e h =
+    place-step (past ++ c ∷ cs) (length past) (step maxDepth s c) (λ (t : State). readFrom maxDepth (suc (length past)) t cs) (live-stage (s .stage) (s .depth) (s .tokens) c)
+    (begins-here past s e h (c ∷ cs))
+    (λ t q l.
+      subst (λ (x : List ℕ). PlaceOf x (readFrom maxDepth (suc (length past)) t cs)) (append-assoc past (c ∷ []) cs)
+      (subst (λ (n : ℕ). PlaceOf ((past ++ c ∷ []) ++ cs) (readFrom maxDepth n t cs)) (longer past c)
+        (place-from cs (past ++ c ∷ []) t
+          (λ rest. ap reading (append-assoc past (c ∷ []) rest) ∙ e (c ∷ rest) ∙ stepped past s c t q rest ∙ ap (λ (n : ℕ). readFrom maxDepth n t rest) (sym (longer past c))) l)))
+
+pub place : (source : List ℕ) → PlaceOf source (reading source)
+unfolding readingTo
+place source = place-from source [] (state due 0 []) (λ rest. refl) tt
+
+-- ---- and with the character at the place nothing begins one: whatever follows, it is refused there
+
+pub record Ends (source : List ℕ) (n p : ℕ) : Type 0 where
+  pub is : p < length source → (rest : List ℕ) → reading (take (suc p) source ++ rest) ≡ refusedAt n p
+
+abbrev pub EndsOf : List ℕ → Reading → Type 0
+EndsOf source (read ts) = Unit {0}
+EndsOf source (refusedAt n p) = Ends source n p
+
+-- at the source's end there is no character
+at-end : (source : List ℕ) (n : ℕ) → Ends source n (length source)
+at-end source n = record { is = λ h. absurd (omega arith) }
+
+ends-ended : (source : List ℕ) (d : ℕ) (ts : List Token) → EndsOf source (ended (length source) d ts)
+unfolding ended
+ends-ended source zero ts = tt
+ends-ended source (suc d) ts = at-end source 14
+
+ends-ending : (source : List ℕ) (m : Stage) (d : ℕ) (ts : List Token) → EndsOf source (ending (length source) m d ts)
+unfolding ending
+ends-ending source due d ts = at-end source 14
+ends-ending source (inName w) d ts = choose-case (EndsOf source) (λ h. at-end source 14) (λ h. ends-ended source d (word w ∷ ts))
+ends-ending source (inNumber w) d ts = ends-ended source d (word w ∷ ts)
+ends-ending source after d ts = ends-ended source d ts
+ends-ending source (inOperator a) d ts = at-end source 14
+
+ends-step : (source : List ℕ) (i : ℕ) (st : Step) (go : State → Reading) → ((n : ℕ) → st ≡ refused n → Ends source n i)
+    → ((t : State) → st ≡ next t → EndsOf source (go t)) → EndsOf source (onStep i st go)
+unfolding onStep
+ends-step source i (next t) go b k = k t refl
+ends-step source i (refused n) go b k = b n refl
+
+stops : (past : List ℕ) (s : State) (c n : ℕ) → ((rest : List ℕ) → reading (past ++ rest) ≡ readFrom maxDepth (length past) s rest) → step maxDepth s c ≡ refused n → (cs : List ℕ)
+    → Ends (past ++ c ∷ cs) n (length past)
+unfolding readFrom onStep
+stops past s c n e q cs =
+    record {
+      is = λ h rest. ap (λ x. reading (x ++ rest)) (ap (take (suc (length past))) (sym (append-assoc past (c ∷ []) cs)) ∙ take-at (past ++ c ∷ []) cs (suc (length past)) (longer past c))
+        ∙ ap reading (append-assoc past (c ∷ []) rest) ∙ e (c ∷ rest) ∙ ap (λ (x : Step). onStep (length past) x (λ (u : State). readFrom maxDepth (suc (length past)) u rest)) q;
+    }
+
+ends-from : (cs past : List ℕ) (s : State) → ((rest : List ℕ) → reading (past ++ rest) ≡ readFrom maxDepth (length past) s rest) → EndsOf (past ++ cs) (readFrom maxDepth (length past) s cs)
+unfolding readFrom
+ends-from [] past s e = subst (λ (x : List ℕ). EndsOf x (ending (length past) (s .stage) (s .depth) (s .tokens))) (sym (append-nil past)) (ends-ending past (s .stage) (s .depth) (s .tokens))
+ends-from (c ∷ cs) past s e =
+    ends-step (past ++ c ∷ cs) (length past) (step maxDepth s c) (λ (t : State). readFrom maxDepth (suc (length past)) t cs) (λ n q. stops past s c n e q cs)
+    (λ t q.
+      subst (λ (x : List ℕ). EndsOf x (readFrom maxDepth (suc (length past)) t cs)) (append-assoc past (c ∷ []) cs)
+      (subst (λ (n : ℕ). EndsOf ((past ++ c ∷ []) ++ cs) (readFrom maxDepth n t cs)) (longer past c)
+        (ends-from cs (past ++ c ∷ []) t
+          (λ rest. ap reading (append-assoc past (c ∷ []) rest) ∙ e (c ∷ rest) ∙ stepped past s c t q rest ∙ ap (λ (n : ℕ). readFrom maxDepth n t rest) (sym (longer past c))))))
+
+pub ends : (source : List ℕ) → EndsOf source (reading source)
+unfolding readingTo
+ends source = ends-from source [] (state due 0 []) (λ rest. refl)

@@ -1,0 +1,110 @@
+-- The reader as the code holds it: the state's tokens are codes in scratch, its word and its operator's first character stand in the source.
+use Prim.Native.Nat.{ℕ, zero, suc, _+_, _*_, _≤_, _<_, _^_}
+use mathlib.Core.Bool.{Bool, true, false, not, _||_}
+use mathlib.Core.List.{List, [], _∷_, _++_, reverse}
+use mathlib.Core.Path.{_≡_}
+use lib.ListN.{length, take, drop, getD}
+use Rattle.buffer.specs.Buffer.{part}
+use Rattle.rules.specs.Basics.{is}
+use Rattle.group_rules.specs.Expression.{maxDepth, Token, word, sign, operator, opener, closer, Stage, due, inName, inNumber, after, inOperator, State, state, Step, next, refused, dueStep, afterStep, stageStep, Reading, read, refusedAt, readFrom, readingTo, reading}
+use Rattle.group_rules.specs.Passes.{coded}
+use Rattle.group_read.specs.declared.Phase.{Phase}
+use Rattle.group_read.specs.declared.Phase.the-variants.{Due, Name, Number, After, Operator}
+use Rattle.group_read.specs.declared.Reader.{Reader}
+use Rattle.group_read.specs.declared.Next.{Next}
+
+-- the mode that a phase means before the character at i; start is where the word or the operator starts
+abbrev pub stageOf : List ℕ → ℕ → Phase → ℕ → Stage
+stageOf source i Due start = due
+stageOf source i Name start = inName (part source start i)
+stageOf source i Number start = inNumber (part source start i)
+stageOf source i After start = after
+stageOf source i Operator start = inOperator (getD source start 0)
+
+abbrev pub stateOf : List ℕ → ℕ → Reader → List Token → State
+stateOf source i r ts = state (stageOf source i (r .phase) (r .start)) (r .depth) ts
+
+-- the word that is not a token yet
+abbrev pub wordOf : Stage → List ℕ
+wordOf due = []
+wordOf (inName w) = w
+wordOf (inNumber w) = w
+wordOf after = []
+wordOf (inOperator a) = []
+
+-- what a phase may have written: 3 codes for each character, but none yet for an operator's first
+abbrev pub roomOf : Phase → ℕ → ℕ → Type 0
+roomOf Due at i = at ≤ 3 * i
+roomOf Name at i = at ≤ 3 * i
+roomOf Number at i = at ≤ 3 * i
+roomOf After at i = at ≤ 3 * i
+roomOf Operator at i = at + 3 ≤ 3 * i
+
+pub record Holds (source l : List ℕ) (i : ℕ) (r : Reader) (ts : List Token) : Type 0 where
+  pub codes : take (r .at) l ≡ coded (reverse ts) ++ wordOf (stageOf source i (r .phase) (r .start))
+  pub room : roomOf (r .phase) (r .at) i
+  pub started : r .start ≤ i
+  pub shallow : r .depth ≤ 64
+  pub fits : 3 * length source ≤ length l
+
+-- after a character: the reader goes on, or the character is refused
+pub record Went (source l : List ℕ) (i : ℕ) (st : Step) (r : Reader) : Type 0 where
+  pub tokens : List Token
+  pub is : st ≡ next (stateOf source i r tokens)
+  pub holds : Holds source l i r tokens
+
+pub record StepIs (source l : List ℕ) (i : ℕ) (st : Step) (q : Next) : Type 0 where
+  pub goes : q .refusal ≡ 0 → Went source l i st (q .reader)
+  pub stops : (q .refusal ≡ 0 → ⊥) → st ≡ refused (q .refusal)
+
+-- whatever the tokens are
+pub record Steps (source l l′ : List ℕ) (i : ℕ) (r : Reader) (q : Next) : Type 0 where
+  pub is : (ts : List Token) → Holds source l i r ts
+      → StepIs source l′ (suc i) (stageStep maxDepth (stageOf source i (r .phase) (r .start)) (r .depth) ts (getD source i 0)) q
+  pub size : length l′ ≡ length l
+
+-- ---- where an operand is due
+
+pub record DueRoom (l : List ℕ) (i depth at : ℕ) : Type 0 where
+  pub fits : at < length l
+  pub shallow : depth ≤ 64
+  pub small : i < 2 ^ 60
+
+pub record DueSteps (l l′ : List ℕ) (i c depth at : ℕ) (q : Next) : Type 0 where
+  pub is : (source : List ℕ) (ts : List Token) → c ≡ getD source i 0 → i < length source → 3 * length source ≤ length l → at ≤ 3 * i + 2
+      → take at l ≡ coded (reverse ts) → StepIs source l′ (suc i) (dueStep maxDepth depth ts c) q
+  pub size : length l′ ≡ length l
+
+-- ---- where an operand has ended: start is the operator's place
+
+pub record AfterSteps (l l′ : List ℕ) (i c depth at : ℕ) (q : Next) : Type 0 where
+  pub is : (source : List ℕ) (ts : List Token) → c ≡ getD source i 0 → i < length source → 3 * length source ≤ length l → at ≤ 3 * i
+      → take at l ≡ coded (reverse ts) → StepIs source l′ (suc i) (afterStep depth ts c) q
+  pub size : length l′ ≡ length l
+
+-- the first characters of operators, in two halves
+abbrev pub isOne : ℕ → Bool
+isOne c = is "+" c || is "-" c || is "*" c || is "/" c || is "%" c || is "|" c
+
+abbrev pub isOther : ℕ → Bool
+isOther c = is "^" c || is "&" c || is "<" c || is ">" c || is "=" c || is "!" c || is "." c
+
+-- ---- in a word: the character at i of a source that is long enough
+
+pub record ByteRoom (source l : List ℕ) (start i depth at : ℕ) : Type 0 where
+  pub inside : i < length source
+  pub started : start ≤ i
+  pub fits : 3 * length source ≤ length l
+  pub written : at ≤ 3 * i
+  pub shallow : depth ≤ 64
+  pub small : length source < 2 ^ 60
+
+pub record WordSteps (source l l′ : List ℕ) (start i at : ℕ) (step : List Token → Step) (q : Next) : Type 0 where
+  pub is : (ts : List Token) → take at l ≡ coded (reverse ts) ++ part source start i → StepIs source l′ (suc i) (step ts) q
+  pub size : length l′ ≡ length l
+
+abbrev pub nameStep : List ℕ → ℕ → ℕ → ℕ → List Token → Step
+nameStep source start i depth ts = stageStep maxDepth (inName (part source start i)) depth ts (getD source i 0)
+
+abbrev pub numberStep : List ℕ → ℕ → ℕ → ℕ → List Token → Step
+numberStep source start i depth ts = stageStep maxDepth (inNumber (part source start i)) depth ts (getD source i 0)

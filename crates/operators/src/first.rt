@@ -5,7 +5,7 @@ ghost use lib.ListN.{length};
 ghost use Rattle.unicode.specs.Places.{NoneAmong};
 ghost use Rattle.operators.specs.First.{startsOperator, startsAt, anyStarts, NoneBefore};
 
-fn starts_operator(c: u8) -> bool
+pub fn starts_operator(c: u8) -> bool
     ensures { λ r. ⌜ r ≡ startsOperator c ⌝ }
 {
     (c == b'!')

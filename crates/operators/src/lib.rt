@@ -47,7 +47,7 @@ pub struct PlainStep {
     pub after: OpState,
 }
 
-fn is_sign(c: u8) -> bool
+pub fn is_sign(c: u8) -> bool
     ensures { λ r. ⌜ r ≡ isSign c ⌝ }
 {
     if c == b'+' {
@@ -158,7 +158,7 @@ fn equals_index(a: u8) -> usize
 }
 
 // Of the one that is two bytes.
-fn two_index(a: u8, b: u8) -> usize
+pub fn two_index(a: u8, b: u8) -> usize
     ensures { λ r. ⌜ r ≡ indexIn operators (a ∷ b ∷ []) ⌝ }
 {
     if a == b {
@@ -181,7 +181,7 @@ fn two_at(s: &[u8]) -> usize
 }
 
 // Of the one that is the byte a alone.
-fn one_index(a: u8) -> usize
+pub fn one_index(a: u8) -> usize
     ensures { λ r. ⌜ r ≡ indexIn operators (a ∷ []) ⌝ }
 {
     if a == b'+' {

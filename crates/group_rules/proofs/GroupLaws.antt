@@ -3,18 +3,21 @@ use Prim.Native.Nat.{ℕ, zero, suc}
 use mathlib.Core.Bool.{Bool, true, false}
 use mathlib.Core.List.{List, [], _∷_, _++_, reverse, reverse-cons, reverse-reverse, append-assoc, append-nil}
 use mathlib.Core.Path.{_≡_, refl, ap, sym, _∙_, subst}
-use Rattle.unicode.specs.Unicode.{isWhite}
+use Rattle.unicode.specs.Unicode.{isWhite, encode, decode}
+use Rattle.unicode.proofs.Decode.{decode-ascii}
 use Rattle.rules.specs.Basics.{codes, keep}
 use Rattle.rules.proofs.Struck.{keep-append}
 use Rattle.group_rules.specs.Expression.{maxDepth, Token, word, sign, operator, opener, closer, Reading, read, refusedAt, readingTo, reading}
 use Rattle.group_rules.specs.Grouping.{Tree, operand, signed, bracketed, operation, treeOf, written, Grouping, text, noText, groupingOf, grouping}
-use Rattle.group_rules.specs.Promises.{isBare, strikeBrackets}
+use Rattle.group_rules.specs.Promises.{isBare, strikeBrackets, Groups}
 use Rattle.group_rules.proofs.TokenLaws.{Good, tokensOf, tokens-tree}
 use Rattle.group_rules.proofs.ReadingLaws.{chars, bare, Whole, WholeOf, whole}
 use Rattle.group_rules.specs.Passes.{coded, openedText, closedText}
-use Rattle.group_rules.proofs.PlainLaws.{AllPlain, all-append}
+use Rattle.group_rules.proofs.PlainLaws.{AllPlain}
+use Rattle.group_rules.proofs.SpelledLaws.{AllSpelled, spelled-reverse, all-plain}
 use Rattle.group_rules.proofs.GroupedLaws.{grouped}
 use Rattle.group_rules.proofs.PassLaws.{plain-tree, passes}
+use Rattle.group_rules.proofs.ByteLaws.{written-ascii, text-encode}
 
 -- the characters of tokens in their order
 unfoldable pub charsIn : List Token → List ℕ
@@ -98,18 +101,36 @@ struck source = struck-of source (reading source) (whole source)
 whole-tokens : (source : List ℕ) (ts : List Token) → Whole source ts → tokensOf (treeOf ts) ≡ ts
 whole-tokens source ts w = rw reverse-reverse at (tokens-tree (reverse ts) (w .good))
 
-reverse-all : (ts : List Token) → AllPlain ts → AllPlain (reverse ts)
-unfolding AllPlain
-reverse-all [] h = tt
-reverse-all (t ∷ ts) h = rw reverse-cons (all-append (reverse ts) (t ∷ []) (reverse-all ts (h .1)) (h .0, tt))
-
-all-reverse : (ts : List Token) → AllPlain (reverse ts) → AllPlain ts
-all-reverse ts h = rw reverse-reverse at (reverse-all (reverse ts) h)
+whole-spelled : (source : List ℕ) (ts : List Token) → Whole source ts → AllSpelled ts
+whole-spelled source ts w = rw reverse-reverse at (spelled-reverse (reverse ts) (w .spelled))
 
 passes-of : (source : List ℕ) (ts : List Token) → Whole source ts → closedText (openedText (coded ts)) ≡ written (treeOf ts)
 passes-of source ts w =
     ap (λ us. closedText (openedText (coded us))) (sym (whole-tokens source ts w))
-    ∙ passes (treeOf ts) (grouped ts) (plain-tree (treeOf ts) (subst AllPlain (sym (whole-tokens source ts w)) (all-reverse ts (w .plain))))
+    ∙ passes (treeOf ts) (grouped ts) (plain-tree (treeOf ts) (subst AllPlain (sym (whole-tokens source ts w)) (all-plain ts (whole-spelled source ts w))))
 
 pub text-of : (source : List ℕ) (ts : List Token) → reading source ≡ read ts → closedText (openedText (coded ts)) ≡ written (treeOf ts)
 text-of source ts e = passes-of source ts (subst (WholeOf source) e (whole source))
+
+spelled-tree : (source : List ℕ) (ts : List Token) → Whole source ts → AllSpelled (tokensOf (treeOf ts))
+spelled-tree source ts w = subst AllSpelled (sym (whole-tokens source ts w)) (whole-spelled source ts w)
+
+-- the text is its own UTF-8
+pub text-bytes : (source : List ℕ) (ts : List Token) → reading source ≡ read ts → encode (written (treeOf ts)) ≡ written (treeOf ts)
+text-bytes source ts e = text-encode (treeOf ts) (spelled-tree source ts (subst (WholeOf source) e (whole source)))
+
+pub text-decode : (source : List ℕ) (ts : List Token) → reading source ≡ read ts → decode (written (treeOf ts)) ≡ written (treeOf ts)
+text-decode source ts e = decode-ascii (written (treeOf ts)) (written-ascii (treeOf ts) (spelled-tree source ts (subst (WholeOf source) e (whole source))))
+
+-- ---- what an accepted source promises
+
+pub groups : (source : List ℕ) (ts : List Token) → reading source ≡ read ts → Groups source (written (treeOf ts))
+unfolding groupingOf
+groups source ts e =
+    record {
+      tokens = ts;
+      is = e;
+      shown = refl;
+      struck = subst (λ r. Struck source (groupingOf r)) e (struck-of source (reading source) (whole source));
+      grouped = grouped ts;
+    }

@@ -11,15 +11,11 @@ use borrow.Author.Tests.{eqb-true}
 use Rattle.rules.specs.Basics.{choose, codes, same, oneOf, isIdent}
 use Rattle.rules.specs.Words.{operators}
 use Rattle.rules.specs.SplitOperation.{keywords}
+use Rattle.group_rules.specs.Promises.{IsRead, Begins, Longest}
 use Rattle.rules.proofs.Computing.{computing}
 use Rattle.rules.proofs.Choose.{choose-case, choose-true, choose-false}
 use Rattle.rules.proofs.Prefix.{same-eq}
 use Rattle.group_rules.specs.Expression.{maxDepth, Token, word, sign, operator, opener, closer, Stage, due, inName, inNumber, after, inOperator, State, state, Step, next, refused, startsOperator, openStep, closeStep, dueStep, afterStep, stageStep, step, Reading, read, refusedAt, ended, ending, onStep, readFrom, readingTo, reading}
-
--- an expression is read
-abbrev IsRead : Reading → Type 0
-IsRead (read ts) = Unit {0}
-IsRead (refusedAt n p) = ⊥
 
 -- what goes on so that an expression is read
 pub record Completed (i : ℕ) (s : State) : Type 0 where
@@ -230,10 +226,6 @@ live-stage (inOperator a) d ts c = choose-case LiveStep (λ h. tt) (λ _. choose
 
 -- ---- the place of a refusal: what stands before it begins an expression; no source that goes on from it is one
 
-pub record Begins (past : List ℕ) : Type 0 where
-  pub rest : List ℕ
-  pub is : IsRead (reading (past ++ rest))
-
 abbrev pub PlaceOf : List ℕ → Reading → Type 0
 PlaceOf source (read ts) = Unit {0}
 PlaceOf source (refusedAt n p) = Begins (take p source)
@@ -342,3 +334,43 @@ ends-from (c ∷ cs) past s e =
 pub ends : (source : List ℕ) → EndsOf source (reading source)
 unfolding readingTo
 ends source = ends-from source [] (state due 0 []) (λ rest. refl)
+
+-- ---- together
+
+abbrev WithinOf : List ℕ → Reading → Type 0
+WithinOf source (read ts) = Unit {0}
+WithinOf source (refusedAt n p) = p ≤ length source
+
+within-ended : (source : List ℕ) (i d : ℕ) (ts : List Token) → i ≤ length source → WithinOf source (ended i d ts)
+unfolding ended
+within-ended source i zero ts h = tt
+within-ended source i (suc d) ts h = h
+
+within-ending : (source : List ℕ) (i : ℕ) (m : Stage) (d : ℕ) (ts : List Token) → i ≤ length source → WithinOf source (ending i m d ts)
+unfolding ending
+within-ending source i due d ts h = h
+within-ending source i (inName w) d ts h = choose-case (WithinOf source) (λ _. h) (λ _. within-ended source i d (word w ∷ ts) h)
+within-ending source i (inNumber w) d ts h = within-ended source i d (word w ∷ ts) h
+within-ending source i after d ts h = within-ended source i d ts h
+within-ending source i (inOperator a) d ts h = h
+
+within-step : (source : List ℕ) (i : ℕ) (st : Step) (go : State → Reading) → i ≤ length source → ((t : State) → WithinOf source (go t)) → WithinOf source (onStep i st go)
+unfolding onStep
+within-step source i (next t) go h k = k t
+within-step source i (refused n) go h k = h
+
+within-from : (source cs : List ℕ) (i : ℕ) (s : State) → i + length cs ≤ length source → WithinOf source (readFrom maxDepth i s cs)
+unfolding readFrom
+within-from source [] i s h = within-ending source i (s .stage) (s .depth) (s .tokens) (omega arith)
+within-from source (c ∷ cs) i s h =
+    within-step source i (step maxDepth s c) (λ (t : State). readFrom maxDepth (suc i) t cs) (omega arith) (λ t. within-from source cs (suc i) t (omega arith))
+
+longest-of : (source : List ℕ) (r : Reading) (n p : ℕ) → r ≡ refusedAt n p → PlaceOf source r → EndsOf source r → WithinOf source r → Longest source p
+longest-of source r n p e b f w = go (subst (PlaceOf source) e b) (subst (EndsOf source) e f) (subst (WithinOf source) e w)
+  where
+    go : Begins (take p source) → Ends source n p → p ≤ length source → Longest source p
+    go x y z = record { begins = x; ends = λ h k. subst IsRead (y .is h (k .rest)) (k .is); within = z }
+
+pub longest : (source : List ℕ) (n p : ℕ) → reading source ≡ refusedAt n p → Longest source p
+unfolding readingTo
+longest source n p e = longest-of source (reading source) n p e (place source) (ends source) (within-from source source 0 (state due 0 []) (omega arith))

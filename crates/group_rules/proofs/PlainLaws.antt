@@ -60,11 +60,11 @@ all-second (c ∷ a) b h = all-second a b (unfold AllPlain in h .1)
 
 -- ---- the tests of a character
 
-or-cases : {P : Type 0} (a b : Bool) → (a ≡ true → P) → (b ≡ true → P) → (a || b) ≡ true → P
+pub or-cases : {P : Type 0} (a b : Bool) → (a ≡ true → P) → (b ≡ true → P) → (a || b) ≡ true → P
 or-cases true b f g h = f refl
 or-cases false b f g h = g h
 
-and-first : (a b : Bool) → (a && b) ≡ true → a ≡ true
+pub and-first : (a b : Bool) → (a && b) ≡ true → a ≡ true
 and-first true b h = refl
 and-first false b h = h
 
@@ -106,7 +106,7 @@ operators-right : allRight operators ≡ true
 unfolding allRight right plainBytes computing
 operators-right = refl
 
-and-second : (a b : Bool) → (a && b) ≡ true → b ≡ true
+pub and-second : (a b : Bool) → (a && b) ≡ true → b ≡ true
 and-second true b h = h
 and-second false b h = let z : _≡_ {A = ℕ} 0 1 = cc in absurd (omega arith)
 

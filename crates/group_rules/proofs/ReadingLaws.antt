@@ -15,7 +15,7 @@ use Rattle.group_rules.specs.Expression.{Token, word, sign, operator, op
 use Rattle.group_rules.specs.Promises.{isBare, strikeBrackets}
 use Rattle.group_rules.proofs.TokenLaws as T
 use Rattle.group_rules.proofs.TokenLaws.{Good}
-use Rattle.group_rules.proofs.PlainLaws.{Plain, PlainOperator, PlainToken, AllPlain, plain-append, plain-one, all-append, digit-plain, ident-plain, sign-plain, operator-plain}
+use Rattle.group_rules.proofs.SpelledLaws.{SpelledToken, AllSpelled, SpelledStage, AllAre, NameSoFar, name, NumberSoFar, number, name-more, number-more, isName, isNumber, one, two}
 
 -- the characters of a token that the text keeps; of tokens, newest first
 abbrev pub chars : Token → List ℕ
@@ -43,23 +43,12 @@ hasEnded (inNumber w) = false
 hasEnded after = true
 hasEnded (inOperator a) = true
 
-abbrev word-so-far : Stage → List ℕ
-word-so-far due = []
-word-so-far (inName w) = w
-word-so-far (inNumber w) = w
-word-so-far after = []
-word-so-far (inOperator a) = []
-
-no-word : Plain []
-unfolding Plain
-no-word = tt
-
 -- what a state knows of the characters before it
 record Sound (past : List ℕ) (s : State) : Type 0 where
   good : Good (hasEnded (s .stage)) (s .depth) (s .tokens)
   struck : strikeBrackets past ≡ strikeBrackets (bare (s .tokens) ++ pending (s .stage))
-  plain : AllPlain (s .tokens)
-  open-word : Plain (word-so-far (s .stage))
+  spelled : AllSpelled (s .tokens)
+  stage : SpelledStage (s .stage)
 
 abbrev SoundStep : List ℕ → Step → Type 0
 SoundStep past (next s) = Sound past s
@@ -106,37 +95,37 @@ module _ (past : List ℕ) (d : ℕ) (ts : List Token) (c : ℕ) (e : strikeBrac
   one-more : strikeBrackets (past ++ c ∷ []) ≡ strikeBrackets (bare ts ++ c ∷ [])
   one-more = strike-snoc past (bare ts) c e
 
-  sound-open : AllPlain ts → Good false d ts → is "(" c ≡ true → SoundStep (past ++ c ∷ []) (openStep maxDepth d ts)
-  unfolding openStep bare AllPlain PlainToken
+  sound-open : AllSpelled ts → Good false d ts → is "(" c ≡ true → SoundStep (past ++ c ∷ []) (openStep maxDepth d ts)
+  unfolding openStep bare AllSpelled SpelledToken
   sound-open a g h =
       choose-case (SoundStep (past ++ c ∷ [])) (λ k. tt)
-      (λ k. record { good = T.Good.opens g; struck = same-tokens (paren-gone c h) ∙ nil-right (bare ts ++ []); plain = (tt, a); open-word = no-word })
+      (λ k. record { good = T.Good.opens g; struck = same-tokens (paren-gone c h) ∙ nil-right (bare ts ++ []); spelled = (tt, a); stage = tt })
 
-  sound-due : AllPlain ts → Good false d ts → SoundStep (past ++ c ∷ []) (dueStep maxDepth d ts c)
-  unfolding dueStep bare AllPlain PlainToken
+  sound-due : AllSpelled ts → Good false d ts → SoundStep (past ++ c ∷ []) (dueStep maxDepth d ts c)
+  unfolding dueStep bare AllSpelled SpelledToken AllAre
   sound-due a g =
-      choose-case (SoundStep (past ++ c ∷ [])) (λ h. record { good = g; struck = same-tokens (blank-gone c h); plain = a; open-word = no-word })
+      choose-case (SoundStep (past ++ c ∷ [])) (λ h. record { good = g; struck = same-tokens (blank-gone c h); spelled = a; stage = tt })
       (λ _. choose-case (SoundStep (past ++ c ∷ []))
-        (λ h. record { good = T.Good.signs c g; struck = one-more ∙ nil-right (bare ts ++ c ∷ []); plain = (sign-plain c h, a); open-word = no-word })
+        (λ h. record { good = T.Good.signs c g; struck = one-more ∙ nil-right (bare ts ++ c ∷ []); spelled = (h, a); stage = tt })
       (λ _. choose-case (SoundStep (past ++ c ∷ [])) (λ h. sound-open a g h)
-      (λ _. choose-case (SoundStep (past ++ c ∷ [])) (λ h. record { good = g; struck = one-more; plain = a; open-word = plain-one c (digit-plain c h) })
-      (λ _. choose-case (SoundStep (past ++ c ∷ [])) (λ h. record { good = g; struck = one-more; plain = a; open-word = plain-one c (ident-plain c h) })
+      (λ _. choose-case (SoundStep (past ++ c ∷ [])) (λ h. record { good = g; struck = one-more; spelled = a; stage = number c [] h tt })
+      (λ n. choose-case (SoundStep (past ++ c ∷ [])) (λ h. record { good = g; struck = one-more; spelled = a; stage = name c [] n h tt })
       (λ _. tt)))))
 
-sound-close : (past : List ℕ) (d : ℕ) (ts : List Token) (c : ℕ) → strikeBrackets past ≡ strikeBrackets (bare ts) → AllPlain ts → Good true d ts
+sound-close : (past : List ℕ) (d : ℕ) (ts : List Token) (c : ℕ) → strikeBrackets past ≡ strikeBrackets (bare ts) → AllSpelled ts → Good true d ts
     → is ")" c ≡ true → SoundStep (past ++ c ∷ []) (closeStep d ts)
-unfolding closeStep bare AllPlain PlainToken
+unfolding closeStep bare AllSpelled SpelledToken
 sound-close past zero ts c e a g h = tt
 sound-close past (suc d) ts c e a g h =
-    record { good = T.Good.closes g; struck = same-tokens past (suc d) ts c e (close-gone c h) ∙ nil-right (bare ts ++ []); plain = (tt, a); open-word = no-word }
+    record { good = T.Good.closes g; struck = same-tokens past (suc d) ts c e (close-gone c h) ∙ nil-right (bare ts ++ []); spelled = (tt, a); stage = tt }
 
-sound-after : (past : List ℕ) (d : ℕ) (ts : List Token) (c : ℕ) → strikeBrackets past ≡ strikeBrackets (bare ts) → AllPlain ts → Good true d ts
+sound-after : (past : List ℕ) (d : ℕ) (ts : List Token) (c : ℕ) → strikeBrackets past ≡ strikeBrackets (bare ts) → AllSpelled ts → Good true d ts
     → SoundStep (past ++ c ∷ []) (afterStep d ts c)
 unfolding afterStep
 sound-after past d ts c e a g =
-    choose-case (SoundStep (past ++ c ∷ [])) (λ h. record { good = g; struck = same-tokens past d ts c e (blank-gone c h); plain = a; open-word = no-word })
+    choose-case (SoundStep (past ++ c ∷ [])) (λ h. record { good = g; struck = same-tokens past d ts c e (blank-gone c h); spelled = a; stage = tt })
     (λ _. choose-case (SoundStep (past ++ c ∷ [])) (λ h. sound-close past d ts c e a g h)
-    (λ _. choose-case (SoundStep (past ++ c ∷ [])) (λ h. record { good = g; struck = one-more past d ts c e; plain = a; open-word = no-word })
+    (λ _. choose-case (SoundStep (past ++ c ∷ [])) (λ h. record { good = g; struck = one-more past d ts c e; spelled = a; stage = h })
     (λ _. tt)))
 
 -- what is pending goes on
@@ -144,23 +133,23 @@ goes-on : (past : List ℕ) (a w : List ℕ) (c : ℕ) → strikeBrackets past �
 goes-on past a w c e = strike-snoc past (a ++ w) c e ∙ ap strikeBrackets (append-assoc a w (c ∷ []))
 
 sound-stage : (past : List ℕ) (m : Stage) (d : ℕ) (ts : List Token) (c : ℕ) → Sound past (state m d ts) → SoundStep (past ++ c ∷ []) (stageStep maxDepth m d ts c)
-unfolding stageStep bare AllPlain PlainToken
-sound-stage past due d ts c s = sound-due past d ts c (s .struck ∙ sym (nil-right (bare ts))) (s .plain) (s .good)
+unfolding stageStep bare AllSpelled SpelledToken
+sound-stage past due d ts c s = sound-due past d ts c (s .struck ∙ sym (nil-right (bare ts))) (s .spelled) (s .good)
 sound-stage past (inName w) d ts c s =
     choose-case (SoundStep (past ++ c ∷ []))
-    (λ h. record { good = s .good; struck = goes-on past (bare ts) w c (s .struck); plain = s .plain; open-word = plain-append w (c ∷ []) (s .open-word) (plain-one c (ident-plain c h)) })
+    (λ h. record { good = s .good; struck = goes-on past (bare ts) w c (s .struck); spelled = s .spelled; stage = name-more c (s .stage) h })
     (λ _. choose-case (SoundStep (past ++ c ∷ [])) (λ h. tt)
-    (λ _. sound-after past d (word w ∷ ts) c (s .struck) (s .open-word, s .plain) (T.Good.words w (s .good))))
+    (λ k. sound-after past d (word w ∷ ts) c (s .struck) (isName (s .stage) k, s .spelled) (T.Good.words w (s .good))))
 sound-stage past (inNumber w) d ts c s =
     choose-case (SoundStep (past ++ c ∷ []))
-    (λ h. record { good = s .good; struck = goes-on past (bare ts) w c (s .struck); plain = s .plain; open-word = plain-append w (c ∷ []) (s .open-word) (plain-one c (digit-plain c h)) })
-    (λ _. sound-after past d (word w ∷ ts) c (s .struck) (s .open-word, s .plain) (T.Good.words w (s .good)))
-sound-stage past after d ts c s = sound-after past d ts c (s .struck ∙ sym (nil-right (bare ts))) (s .plain) (s .good)
+    (λ h. record { good = s .good; struck = goes-on past (bare ts) w c (s .struck); spelled = s .spelled; stage = number-more c (s .stage) h })
+    (λ _. sound-after past d (word w ∷ ts) c (s .struck) (isNumber (s .stage), s .spelled) (T.Good.words w (s .good)))
+sound-stage past after d ts c s = sound-after past d ts c (s .struck ∙ sym (nil-right (bare ts))) (s .spelled) (s .good)
 sound-stage past (inOperator a) d ts c s =
     choose-case (SoundStep (past ++ c ∷ []))
-    (λ h. record { good = T.Good.operators (a ∷ c ∷ []) (s .good); struck = goes-on past (bare ts) (a ∷ []) c (s .struck) ∙ nil-right (bare ts ++ a ∷ c ∷ []); plain = (operator-plain (a ∷ c ∷ []) h, s .plain); open-word = no-word })
+    (λ h. record { good = T.Good.operators (a ∷ c ∷ []) (s .good); struck = goes-on past (bare ts) (a ∷ []) c (s .struck) ∙ nil-right (bare ts ++ a ∷ c ∷ []); spelled = (two a c h, s .spelled); stage = tt })
     (λ _. choose-case (SoundStep (past ++ c ∷ []))
-      (λ h. sound-due past d (operator (a ∷ []) ∷ ts) c (s .struck) (operator-plain (a ∷ []) h, s .plain) (T.Good.operators (a ∷ []) (s .good)))
+      (λ h. sound-due past d (operator (a ∷ []) ∷ ts) c (s .struck) (one a h, s .spelled) (T.Good.operators (a ∷ []) (s .good)))
     (λ _. tt))
 
 -- ---- a whole source
@@ -168,27 +157,27 @@ sound-stage past (inOperator a) d ts c s =
 pub record Whole (source : List ℕ) (ts : List Token) : Type 0 where
   pub good : Good true 0 (reverse ts)
   pub struck : strikeBrackets source ≡ strikeBrackets (bare (reverse ts))
-  pub plain : AllPlain (reverse ts)
+  pub spelled : AllSpelled (reverse ts)
 
 abbrev pub WholeOf : List ℕ → Reading → Type 0
 WholeOf source (read ts) = Whole source ts
 WholeOf source (refusedAt n p) = Unit {0}
 
-back : (source : List ℕ) (ts : List Token) → AllPlain ts → Good true 0 ts → strikeBrackets source ≡ strikeBrackets (bare ts) → Whole source (reverse ts)
-back source ts a g e = record { good = rw reverse-reverse g; struck = rw reverse-reverse e; plain = rw reverse-reverse a }
+back : (source : List ℕ) (ts : List Token) → AllSpelled ts → Good true 0 ts → strikeBrackets source ≡ strikeBrackets (bare ts) → Whole source (reverse ts)
+back source ts a g e = record { good = rw reverse-reverse g; struck = rw reverse-reverse e; spelled = rw reverse-reverse a }
 
-whole-ended : (source : List ℕ) (i d : ℕ) (ts : List Token) → AllPlain ts → Good true d ts → strikeBrackets source ≡ strikeBrackets (bare ts) → WholeOf source (ended i d ts)
+whole-ended : (source : List ℕ) (i d : ℕ) (ts : List Token) → AllSpelled ts → Good true d ts → strikeBrackets source ≡ strikeBrackets (bare ts) → WholeOf source (ended i d ts)
 unfolding ended
 whole-ended source i zero ts a g e = back source ts a g e
 whole-ended source i (suc d) ts a g e = tt
 
 whole-ending : (source : List ℕ) (i : ℕ) (m : Stage) (d : ℕ) (ts : List Token) → Sound source (state m d ts) → WholeOf source (ending i m d ts)
-unfolding ending bare AllPlain PlainToken
+unfolding ending bare AllSpelled SpelledToken
 whole-ending source i due d ts s = tt
 whole-ending source i (inName w) d ts s =
-    choose-case (WholeOf source) (λ h. tt) (λ h. whole-ended source i d (word w ∷ ts) (s .open-word, s .plain) (T.Good.words w (s .good)) (s .struck))
-whole-ending source i (inNumber w) d ts s = whole-ended source i d (word w ∷ ts) (s .open-word, s .plain) (T.Good.words w (s .good)) (s .struck)
-whole-ending source i after d ts s = whole-ended source i d ts (s .plain) (s .good) (s .struck ∙ sym (nil-right (bare ts)))
+    choose-case (WholeOf source) (λ h. tt) (λ h. whole-ended source i d (word w ∷ ts) (isName (s .stage) h, s .spelled) (T.Good.words w (s .good)) (s .struck))
+whole-ending source i (inNumber w) d ts s = whole-ended source i d (word w ∷ ts) (isNumber (s .stage), s .spelled) (T.Good.words w (s .good)) (s .struck)
+whole-ending source i after d ts s = whole-ended source i d ts (s .spelled) (s .good) (s .struck ∙ sym (nil-right (bare ts)))
 whole-ending source i (inOperator a) d ts s = tt
 
 whole-step : (source past : List ℕ) (i : ℕ) (st : Step) (go : State → Reading) → SoundStep past st → ((t : State) → Sound past t → WholeOf source (go t)) → WholeOf source (onStep i st go)
@@ -204,5 +193,5 @@ whole-from (c ∷ cs) past i s k =
     (λ t h. rw (append-assoc past (c ∷ []) cs) at (whole-from cs (past ++ c ∷ []) (suc i) t h))
 
 pub whole : (source : List ℕ) → WholeOf source (reading source)
-unfolding readingTo bare AllPlain
-whole source = whole-from source [] 0 (state due 0 []) (record { good = T.Good.begin; struck = refl; plain = tt; open-word = no-word })
+unfolding readingTo bare AllSpelled
+whole source = whole-from source [] 0 (state due 0 []) (record { good = T.Good.begin; struck = refl; spelled = tt; stage = tt })

@@ -2,9 +2,13 @@
 use Prim.Native.Nat.{ℕ, _+_, _*_, _≤_}
 use mathlib.Core.List.{List}
 use mathlib.Core.Path.{_≡_}
-use lib.ListN.{length, replicate}
+use lib.Dec.{ltb}
+use lib.ListN.{length, take, replicate}
 use Rattle.unicode.specs.Unicode.{decode, WellFormed}
+use Rattle.rules.specs.Basics.{choose}
+use Rattle.rules.specs.declared.Refusal.{Refusal}
 use Rattle.group_rules.specs.Grouping.{Grouping, grouping}
+use Rattle.group_rules.specs.Passes.{openedText, closedText}
 use Rattle.group_rules.specs.Outcome.{groupScratch, groupingIn, groupOutcome, groupAnswer, groupedText, groupOutputFor, groupOutput}
 use Rattle.group_rules.specs.declared.GroupOutcome.{GroupOutcome}
 
@@ -13,6 +17,24 @@ pub record Passed (source scratch : List ℕ) : Type 0 where
   pub well : WellFormed source
   pub room : groupScratch source ≤ length scratch
   pub short : length source ≤ 1048576
+
+-- n codes, and room for both passes over them
+pub record CodesFit (l : List ℕ) (n : ℕ) : Type 0 where
+  pub room : 4 * n ≤ length l
+  pub small : n ≤ 3145728
+
+-- what a text comes to in an output of so many bytes
+abbrev pub textIn : ℕ → List ℕ → GroupOutcome
+textIn room t = choose (ltb room (length t)) (GroupOutcome.Refused (Refusal.OutputShort (length t))) (GroupOutcome.Grouped (length t))
+
+-- the text of the first n codes of l
+abbrev pub textOf : List ℕ → ℕ → List ℕ
+textOf l n = closedText (openedText (take n l))
+
+pub record TextShown (l : List ℕ) (n room : ℕ) (r : GroupOutcome) (out work : List ℕ) : Type 0 where
+  pub outcome : r ≡ textIn room (textOf l n)
+  pub output : out ≡ groupOutputFor r room (textOf l n)
+  pub cleared : work ≡ replicate (length l) 0
 
 -- the outcome r of a grouping in an output of n bytes; the scratch of m bytes is cleared
 pub record Shown (g : Grouping) (n m : ℕ) (r : GroupOutcome) (out work : List ℕ) : Type 0 where

@@ -8,7 +8,7 @@ ghost use Rattle.unicode.specs.Unicode.{decode};
 ghost use Rattle.group_rules.specs.Grouping.{grouping};
 ghost use Rattle.group_rules.specs.Outcome.{groupAnswer};
 ghost use Rattle.group_rules.specs.Answered.{GroupAnswered};
-ghost use Rattle.group.specs.Ran.{Passed, Shown, RefusedGroup, GroupRan};
+ghost use Rattle.group.specs.Ran.{Passed, CodesFit, TextShown, Shown, RefusedGroup, GroupRan};
 use answer::MAX_SOURCE;
 use answer::number_of;
 use answer::place_of;

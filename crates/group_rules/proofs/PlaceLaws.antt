@@ -374,3 +374,72 @@ longest-of source r n p e b f w = go (subst (PlaceOf source) e b) (subst (EndsOf
 pub longest : (source : List ℕ) (n p : ℕ) → reading source ≡ refusedAt n p → Longest source p
 unfolding readingTo
 longest source n p e = longest-of source (reading source) n p e (place source) (ends source) (within-from source source 0 (state due 0 []) (omega arith))
+
+-- ---- a refusal's number is 14 or 15
+
+abbrev StepNumber : Step → Type 0
+StepNumber (next s) = Unit {0}
+StepNumber (refused n) = 14 ≤ n
+
+number-open : (d : ℕ) (ts : List Token) → StepNumber (openStep maxDepth d ts)
+unfolding openStep
+number-open d ts = choose-case StepNumber (λ h. omega arith) (λ h. tt)
+
+number-close : (d : ℕ) (ts : List Token) → StepNumber (closeStep d ts)
+unfolding closeStep
+number-close zero ts = omega arith
+number-close (suc d) ts = tt
+
+number-due : (d : ℕ) (ts : List Token) (c : ℕ) → StepNumber (dueStep maxDepth d ts c)
+unfolding dueStep
+number-due d ts c =
+    choose-case StepNumber (λ h. tt) (λ _. choose-case StepNumber (λ h. tt) (λ _. choose-case StepNumber (λ h. number-open d ts)
+    (λ _. choose-case StepNumber (λ h. tt) (λ _. choose-case StepNumber (λ h. tt) (λ _. omega arith)))))
+
+number-after : (d : ℕ) (ts : List Token) (c : ℕ) → StepNumber (afterStep d ts c)
+unfolding afterStep
+number-after d ts c =
+    choose-case StepNumber (λ h. tt) (λ _. choose-case StepNumber (λ h. number-close d ts) (λ _. choose-case StepNumber (λ h. tt) (λ _. omega arith)))
+
+number-stage : (m : Stage) (d : ℕ) (ts : List Token) (c : ℕ) → StepNumber (stageStep maxDepth m d ts c)
+unfolding stageStep
+number-stage due d ts c = number-due d ts c
+number-stage (inName w) d ts c =
+    choose-case StepNumber (λ h. tt) (λ _. choose-case StepNumber (λ h. omega arith) (λ _. number-after d (word w ∷ ts) c))
+number-stage (inNumber w) d ts c = choose-case StepNumber (λ h. tt) (λ _. number-after d (word w ∷ ts) c)
+number-stage after d ts c = number-after d ts c
+number-stage (inOperator a) d ts c =
+    choose-case StepNumber (λ h. tt) (λ _. choose-case StepNumber (λ h. number-due d (operator (a ∷ []) ∷ ts) c) (λ _. omega arith))
+
+abbrev NumberOf : Reading → Type 0
+NumberOf (read ts) = Unit {0}
+NumberOf (refusedAt n p) = 14 ≤ n
+
+number-ended : (i d : ℕ) (ts : List Token) → NumberOf (ended i d ts)
+unfolding ended
+number-ended i zero ts = tt
+number-ended i (suc d) ts = omega arith
+
+number-ending : (i : ℕ) (m : Stage) (d : ℕ) (ts : List Token) → NumberOf (ending i m d ts)
+unfolding ending
+number-ending i due d ts = omega arith
+number-ending i (inName w) d ts = choose-case NumberOf (λ _. omega arith) (λ _. number-ended i d (word w ∷ ts))
+number-ending i (inNumber w) d ts = number-ended i d (word w ∷ ts)
+number-ending i after d ts = number-ended i d ts
+number-ending i (inOperator a) d ts = omega arith
+
+number-step : (i : ℕ) (st : Step) (go : State → Reading) → StepNumber st → ((t : State) → NumberOf (go t)) → NumberOf (onStep i st go)
+unfolding onStep
+number-step i (next t) go h k = k t
+number-step i (refused n) go h k = h
+
+number-from : (cs : List ℕ) (i : ℕ) (s : State) → NumberOf (readFrom maxDepth i s cs)
+unfolding readFrom
+number-from [] i s = number-ending i (s .stage) (s .depth) (s .tokens)
+number-from (c ∷ cs) i s =
+    number-step i (step maxDepth s c) (λ (t : State). readFrom maxDepth (suc i) t cs) (number-stage (s .stage) (s .depth) (s .tokens) c)
+    (λ t. number-from cs (suc i) t)
+
+pub number : (source : List ℕ) (n p : ℕ) → reading source ≡ refusedAt n p → 14 ≤ n
+unfolding readingTo
+number source n p e = subst NumberOf e (number-from source 0 (state due 0 []))

@@ -1,5 +1,6 @@
 // What a host links.
 mod config;
+pub mod grouping;
 mod number;
 pub mod settings;
 

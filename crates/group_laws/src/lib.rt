@@ -1,0 +1,3 @@
+pub fn nothing() -> usize {
+    0
+}

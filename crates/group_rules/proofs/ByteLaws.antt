@@ -18,8 +18,8 @@ use Rattle.rules.proofs.Choose.{choose-false, choose-case}
 use Rattle.rules.proofs.StartsBytes.{on-decode}
 use Rattle.group_rules.specs.Expression.{maxDepth, Token, word, sign, operator, opener, closer, Stage, due, inName, inNumber, after, inOperator, State, state, Step, next, refused, isDigit, startsOperator, dueStep, afterStep, stageStep, step, Reading, read, refusedAt, onStep, readFrom, readingTo, reading}
 use Rattle.group_rules.specs.Grouping.{Tree, operand, signed, bracketed, operation, treeOf, written, Grouping, text, noText, groupingOf, grouping}
-use Rattle.group_rules.proofs.PlainLaws.{or-cases}
-use Rattle.group_rules.proofs.SpelledLaws.{AllSpelled, SpelledToken, IsOperator, one, two, allLow, lowBytes, one-low, digit-low, ident-low, sign-low, word-ascii, operator-ascii, spelled-first, spelled-second}
+use Rattle.group_rules.proofs.TableLaws.{or-cases, allOf}
+use Rattle.group_rules.proofs.SpelledLaws.{AllSpelled, SpelledToken, IsOperator, one, two, lowBytes, one-low, digit-low, ident-low, sign-low, word-ascii, operator-ascii, spelled-first, spelled-second}
 use Rattle.group_rules.proofs.TokenLaws.{tokensOf}
 
 -- ---- a character from 80 hex on is refused everywhere
@@ -51,7 +51,7 @@ module _ (c : ℕ) (h : 128 ≤ c) where
   unfolding startsOperator
   no-start =
       not-true (oneOf (map (take 1) operators) (c ∷ []))
-      (λ e. let m = one-low (map (take 1) operators) (c ∷ []) (unfold allLow lowBytes in refl) e .0 in omega arith)
+      (λ e. let m = one-low (map (take 1) operators) (c ∷ []) (unfold allOf lowBytes in refl) e .0 in omega arith)
 
   no-second : (a : ℕ) → oneOf operators (a ∷ c ∷ []) ≡ false
   no-second a = not-true (oneOf operators (a ∷ c ∷ [])) (λ e. let m = operator-ascii (a ∷ c ∷ []) e .1 .0 in omega arith)

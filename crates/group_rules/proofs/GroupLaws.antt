@@ -17,6 +17,8 @@ use Rattle.group_rules.proofs.PlainLaws.{AllPlain}
 use Rattle.group_rules.proofs.SpelledLaws.{AllSpelled, spelled-reverse, all-plain}
 use Rattle.group_rules.proofs.GroupedLaws.{grouped}
 use Rattle.group_rules.proofs.PassLaws.{plain-tree, passes}
+use Rattle.group_rules.proofs.SameLaws.{same-tree}
+use Rattle.group_rules.proofs.SplitLaws.{splits-alike}
 use Rattle.group_rules.proofs.ByteLaws.{written-ascii, text-encode}
 
 -- the characters of tokens in their order
@@ -133,4 +135,6 @@ groups source ts e =
       shown = refl;
       struck = subst (λ r. Struck source (groupingOf r)) e (struck-of source (reading source) (whole source));
       grouped = grouped ts;
+      same = same-tree (treeOf ts) (spelled-tree source ts (subst (WholeOf source) e (whole source)));
+      splits = splits-alike maxDepth source ts e;
     }

@@ -14,7 +14,7 @@ use Rattle.rules.specs.SplitOperation.{keywords}
 use Rattle.group_rules.specs.Promises.{IsRead, Begins, Longest}
 use Rattle.rules.proofs.Computing.{computing}
 use Rattle.rules.proofs.Choose.{choose-case, choose-true, choose-false}
-use Rattle.rules.proofs.Prefix.{same-eq}
+use Rattle.group_rules.proofs.TableLaws.{or-cases, and-first, and-second, and-none, not-of, allOf, found}
 use Rattle.group_rules.specs.Expression.{maxDepth, Token, word, sign, operator, opener, closer, Stage, due, inName, inNumber, after, inOperator, State, state, Step, next, refused, startsOperator, openStep, closeStep, dueStep, afterStep, stageStep, step, Reading, read, refusedAt, ended, ending, onStep, readFrom, readingTo, reading}
 
 -- what goes on so that an expression is read
@@ -65,10 +65,6 @@ close-due d i ts = subst (λ (x : Step). IsRead (onStep i x (λ (t : State). rea
 
 -- ---- no word of the five goes on with an underscore, no operator with an `a`
 
-and-none : (a : Bool) → (a && false) ≡ false
-and-none true = refl
-and-none false = refl
-
 hasNone : List ℕ → Bool
 hasNone [] = true
 hasNone (c ∷ cs) = not (eqb c 95) && hasNone cs
@@ -76,18 +72,6 @@ hasNone (c ∷ cs) = not (eqb c 95) && hasNone cs
 allNone : List (List ℕ) → Bool
 allNone [] = true
 allNone (k ∷ ks) = hasNone k && allNone ks
-
-and-first : (a b : Bool) → (a && b) ≡ true → a ≡ true
-and-first true b h = refl
-and-first false b h = h
-
-and-second : (a b : Bool) → (a && b) ≡ true → b ≡ true
-and-second true b h = h
-and-second false b h = absurd (let z : _≡_ {A = ℕ} 0 1 = cc in omega arith)
-
-not-of : (b : Bool) → not b ≡ true → b ≡ false
-not-of true h = sym h
-not-of false h = refl
 
 same-under : (k w : List ℕ) → hasNone k ≡ true → same k (w ++ 95 ∷ []) ≡ false
 unfolding same hasNone
@@ -143,24 +127,9 @@ goesOn : List ℕ → Bool
 goesOn [] = true
 goesOn (a ∷ r) = oneOf operators (a ∷ r) || oneOf operators (a ∷ second a ∷ [])
 
-allGo : List (List ℕ) → Bool
-allGo [] = true
-allGo (k ∷ ks) = goesOn k && allGo ks
-
-or-cases : {P : Type 0} (a b : Bool) → (a ≡ true → P) → (b ≡ true → P) → (a || b) ≡ true → P
-or-cases true b f g h = f refl
-or-cases false b f g h = g h
-
-find : (ks : List (List ℕ)) (w : List ℕ) → allGo ks ≡ true → oneOf ks w ≡ true → goesOn w ≡ true
-unfolding oneOf allGo
-find [] w h k = absurd (let z : _≡_ {A = ℕ} 0 1 = cc in omega arith)
-find (o ∷ ks) w h k =
-    let r = find ks w (and-second (goesOn o) (allGo ks) h) in
-    or-cases (same o w) (oneOf ks w) (λ e. ap goesOn (sym (same-eq o w e)) ∙ and-first (goesOn o) (allGo ks) h) r k
-
 goes-on : (a : ℕ) → startsOperator a ≡ true → goesOn (a ∷ []) ≡ true
 unfolding startsOperator
-goes-on a h = find (map (take 1) operators) (a ∷ []) (unfold allGo goesOn second computing in refl) h
+goes-on a h = found goesOn (map (take 1) operators) (a ∷ []) (unfold allOf goesOn second computing in refl) h
 
 close-one : (a d i : ℕ) (ts : List Token) → oneOf operators (a ∷ []) ≡ true → IsRead (readFrom maxDepth i (state (inOperator a) d ts) (97 ∷ replicate d 41))
 unfolding readFrom stageStep onStep

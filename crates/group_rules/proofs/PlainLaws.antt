@@ -11,9 +11,9 @@ use Rattle.rules.specs.Basics.{is, same, oneOf, isIdent}
 use Rattle.rules.specs.Words.{operators}
 use Rattle.rules.specs.SplitOperation.{isSign}
 use Rattle.rules.proofs.Computing.{computing}
-use Rattle.rules.proofs.Prefix.{same-eq}
 use Rattle.group_rules.specs.Expression.{maxDepth, Token, word, sign, operator, opener, closer, isDigit}
 use Rattle.group_rules.specs.Grouping.{strengthOf}
+use Rattle.group_rules.proofs.TableLaws.{or-cases, and-first, and-second, allOf, found}
 
 unfoldable pub Plain : List ℕ → Type 0
 Plain [] = Unit {0}
@@ -60,14 +60,6 @@ all-second (c ∷ a) b h = all-second a b (unfold AllPlain in h .1)
 
 -- ---- the tests of a character
 
-pub or-cases : {P : Type 0} (a b : Bool) → (a ≡ true → P) → (b ≡ true → P) → (a || b) ≡ true → P
-or-cases true b f g h = f refl
-or-cases false b f g h = g h
-
-pub and-first : (a b : Bool) → (a && b) ≡ true → a ≡ true
-and-first true b h = refl
-and-first false b h = h
-
 pub within-plain : (lo hi c : ℕ) → 32 ≤ lo → within lo hi c ≡ true → 32 ≤ c
 within-plain lo hi c k h = let m = leb-true lo c (and-first (leb lo c) (leb c hi) h) in omega arith
 
@@ -98,17 +90,9 @@ plainBytes (b ∷ bs) = leb 32 b && plainBytes bs
 right : List ℕ → Bool
 right op = ltb 0 (strengthOf op) && leb (strengthOf op) 12 && plainBytes op
 
-allRight : List (List ℕ) → Bool
-allRight [] = true
-allRight (op ∷ ops) = right op && allRight ops
-
-operators-right : allRight operators ≡ true
-unfolding allRight right plainBytes computing
+operators-right : allOf right operators ≡ true
+unfolding allOf right plainBytes computing
 operators-right = refl
-
-pub and-second : (a b : Bool) → (a && b) ≡ true → b ≡ true
-and-second true b h = h
-and-second false b h = let z : _≡_ {A = ℕ} 0 1 = cc in absurd (omega arith)
 
 plain-bytes : (w : List ℕ) → plainBytes w ≡ true → Plain w
 unfolding plainBytes Plain
@@ -125,12 +109,5 @@ right-plain op h =
       small = leb-true (strengthOf op) 12 (and-second (ltb 0 (strengthOf op)) (leb (strengthOf op) 12) f);
     }
 
-find : (ops : List (List ℕ)) (op : List ℕ) → allRight ops ≡ true → oneOf ops op ≡ true → right op ≡ true
-unfolding oneOf allRight
-find [] op h k = let z : _≡_ {A = ℕ} 0 1 = cc in absurd (omega arith)
-find (o ∷ ops) op h k =
-    let r = find ops op (and-second (right o) (allRight ops) h) in
-    or-cases (same o op) (oneOf ops op) (λ e. ap right (sym (same-eq o op e)) ∙ and-first (right o) (allRight ops) h) r k
-
 pub operator-plain : (op : List ℕ) → oneOf operators op ≡ true → PlainOperator op
-operator-plain op h = right-plain op (find operators op operators-right h)
+operator-plain op h = right-plain op (found right operators op operators-right h)

@@ -12,9 +12,9 @@ use Rattle.rules.specs.Basics.{is, same, oneOf, isIdent}
 use Rattle.rules.specs.Words.{operators}
 use Rattle.rules.specs.SplitOperation.{isSign, keywords}
 use Rattle.rules.proofs.Computing.{computing}
-use Rattle.rules.proofs.Prefix.{same-eq}
 use Rattle.group_rules.specs.Expression.{Token, word, sign, operator, opener, closer, Stage, due, inName, inNumber, after, inOperator, isDigit, startsOperator}
-use Rattle.group_rules.proofs.PlainLaws.{Plain, PlainToken, AllPlain, plain-append, plain-one, digit-plain, ident-plain, sign-plain, operator-plain, or-cases, and-first, and-second}
+use Rattle.group_rules.proofs.PlainLaws.{Plain, PlainToken, AllPlain, plain-append, plain-one, digit-plain, ident-plain, sign-plain, operator-plain}
+use Rattle.group_rules.proofs.TableLaws.{or-cases, and-first, and-second, allOf, found}
 
 -- every character passes the test
 unfoldable pub AllAre : (ℕ → Bool) → List ℕ → Type 0
@@ -83,6 +83,10 @@ unfolding AllSpelled
 spelled-reverse [] h = tt
 spelled-reverse (t ∷ ts) h = rw reverse-cons (spelled-append (reverse ts) (t ∷ []) (spelled-reverse ts (h .1)) (h .0, tt))
 
+pub digit-ident : (c : ℕ) → isDigit c ≡ true → isIdent c ≡ true
+unfolding isIdent
+digit-ident c h = rw h
+
 -- ---- they are written as they are
 
 are-plain : (p : ℕ → Bool) → ((c : ℕ) → p c ≡ true → 32 ≤ c) → (w : List ℕ) → AllAre p w → Plain w
@@ -146,27 +150,16 @@ unfoldable pub lowBytes : List ℕ → Bool
 lowBytes [] = true
 lowBytes (b ∷ bs) = ltb b 128 && lowBytes bs
 
-unfoldable pub allLow : List (List ℕ) → Bool
-allLow [] = true
-allLow (op ∷ ops) = lowBytes op && allLow ops
-
 low-bytes : (w : List ℕ) → lowBytes w ≡ true → Ascii w
 unfolding lowBytes
 low-bytes [] h = tt
 low-bytes (b ∷ w) h = (ltb-true b 128 (and-first (ltb b 128) (lowBytes w) h), low-bytes w (and-second (ltb b 128) (lowBytes w) h))
 
-find-low : (ops : List (List ℕ)) (op : List ℕ) → allLow ops ≡ true → oneOf ops op ≡ true → lowBytes op ≡ true
-unfolding oneOf allLow
-find-low [] op h k = let z : _≡_ {A = ℕ} 0 1 = cc in absurd (omega arith)
-find-low (o ∷ ops) op h k =
-    let r = find-low ops op (and-second (lowBytes o) (allLow ops) h) in
-    or-cases (same o op) (oneOf ops op) (λ e. ap lowBytes (sym (same-eq o op e)) ∙ and-first (lowBytes o) (allLow ops) h) r k
+pub one-low : (ops : List (List ℕ)) (op : List ℕ) → allOf lowBytes ops ≡ true → oneOf ops op ≡ true → Ascii op
+one-low ops op h k = low-bytes op (found lowBytes ops op h k)
 
-pub one-low : (ops : List (List ℕ)) (op : List ℕ) → allLow ops ≡ true → oneOf ops op ≡ true → Ascii op
-one-low ops op h k = low-bytes op (find-low ops op h k)
-
-pub operators-low : allLow operators ≡ true
-unfolding allLow lowBytes
+pub operators-low : allOf lowBytes operators ≡ true
+unfolding allOf lowBytes
 operators-low = refl
 
 pub operator-ascii : (op : List ℕ) → oneOf operators op ≡ true → Ascii op

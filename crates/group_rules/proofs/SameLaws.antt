@@ -14,12 +14,12 @@ use Rattle.rules.specs.Words.{operators}
 use Rattle.rules.specs.SplitOperation.{isSign, keywords}
 use Rattle.rules.proofs.Computing.{computing}
 use Rattle.rules.proofs.Choose.{choose-true, choose-false}
 use Rattle.group_rules.specs.Expression.{Token, word, sign, operator, opener, closer, Stage, due, inName, inNumber, after, inOperator, State, state, Step, next, refused, isDigit, startsOperator, openStep, closeStep, dueStep, afterStep, stageStep, step, Reading, read, refusedAt, ended, ending, onStep, readFrom, readingTo}
 use Rattle.group_rules.specs.Grouping.{Tree, operand, signed, bracketed, operation, extend, Left, leftOf, Frame, start, withSigns, joinLeft, join, dueIn, done, Parse, parse, feed, feedAt, feedDue, feedDone, feedClosed, treeAt, treeOf, written}
 use Rattle.group_rules.proofs.TokenLaws.{tokensOf}
-use Rattle.group_rules.proofs.PlainLaws.{or-cases, and-first, and-second}
-use Rattle.group_rules.proofs.SpelledLaws.{AllSpelled, SpelledToken, AllAre, NameSoFar, name, NumberSoFar, number, IsWord, isName, isNumber, IsOperator, one, two, spelled-first, spelled-second}
-use Rattle.group_laws.specs.Same.{unbracketed, SameTree}
+use Rattle.group_rules.proofs.TableLaws.{or-cases, or-false, and-first, and-second, and-none, not-of, unlike, allOf, found}
+use Rattle.group_rules.proofs.SpelledLaws.{digit-ident, AllSpelled, SpelledToken, AllAre, NameSoFar, name, NumberSoFar, number, IsWord, isName, isNumber, IsOperator, one, two, spelled-first, spelled-second}
+use Rattle.group_rules.specs.Promises.{unbracketed, SameTree}
 
 -- every operation bracketed, and nothing else
 unfoldable pub bracketAll : Tree → Tree
@@ -104,10 +104,6 @@ ident-high c h =
     low : (a b : ℕ) → 48 ≤ a → within a b c ≡ true → 48 ≤ c
     low a b k e = let m = leb-true a c (and-first (leb a c) (leb c b) e) in omega arith
 
-digit-ident : (c : ℕ) → isDigit c ≡ true → isIdent c ≡ true
-unfolding isIdent
-digit-ident c h = rw h
-
 module _ (c : ℕ) (h : 48 ≤ c) where
   not-low : (k : ℕ) → k < 48 → eqb c k ≡ false
   not-low k l = ne-eqb c k (λ e. omega arith)
@@ -118,18 +114,6 @@ module _ (c : ℕ) (h : 48 ≤ c) where
   not-sign : isSign c ≡ false
   unfolding isSign
   not-sign = rw (not-low 43 (omega arith), not-low 45 (omega arith))
-
--- a test that is computed for each of the operators
-allOf : (List ℕ → Bool) → List (List ℕ) → Bool
-allOf p [] = true
-allOf p (o ∷ os) = p o && allOf p os
-
-found : (p : List ℕ → Bool) (ops : List (List ℕ)) (w : List ℕ) → allOf p ops ≡ true → oneOf ops w ≡ true → p w ≡ true
-unfolding oneOf allOf
-found p [] w h k = let z : _≡_ {A = ℕ} 0 1 = cc in absurd (omega arith)
-found p (o ∷ os) w h k =
-    let r = found p os w (and-second (p o) (allOf p os) h) in
-    or-cases (same o w) (oneOf os w) (λ e. ap p (sym (same-eq o w e)) ∙ and-first (p o) (allOf p os) h) r k
 
 firstTest : List ℕ → Bool
 firstTest [] = false
@@ -147,10 +131,6 @@ firsts = refl
 seconds : allOf secondTest operators ≡ true
 unfolding allOf secondTest
 seconds = refl
-
-not-of : (b : Bool) → not b ≡ true → b ≡ false
-not-of true h = sym h
-not-of false h = refl
 
 no-space : (a : ℕ) → oneOf operators (a ∷ 32 ∷ []) ≡ false
 no-space a = go (oneOf operators (a ∷ 32 ∷ [])) refl

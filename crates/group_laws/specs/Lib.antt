@@ -1,2 +1,0 @@
--- What the laws say.
-pub mod Same

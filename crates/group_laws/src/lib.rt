@@ -1,3 +1,0 @@
-pub fn nothing() -> usize {
-    0
-}

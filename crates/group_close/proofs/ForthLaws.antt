@@ -1,15 +1,15 @@
 -- Laws of the pass in scratch and output.
 use Prim.Native.Nat.{ℕ, zero, suc, _+_, _*_, _-_, _≤_, _<_, _^_}
-use mathlib.Core.Bool.{Bool, true, false}
+use mathlib.Core.Bool.{Bool, true, false, _&&_}
 use mathlib.Core.List.{List, [], _∷_, _++_, append-assoc, append-nil}
 use mathlib.Core.Path.{_≡_, refl, ap, sym, _∙_, subst}
 use native.Mathlib.Omega.{arith}
 use native.Mathlib.Nat.{sub-self}
 use native.Mathlib.Numerals.{add-one}
-use lib.Dec.{eqb, leb}
+use lib.Dec.{eqb, leb, ltb}
 use lib.ListN.{length, take, drop, getD, set, length-set, length-append, length-take, length-drop, drop-of-length-le}
 use lib.Seq.{take-all, drop-cons, set-split, getD-set-same, getD-set-other, drop-set-lt}
-use borrow.Author.Tests.{eq-eqb, ne-eqb, le-leb, lt-leb}
+use borrow.Author.Tests.{eq-eqb, ne-eqb, le-leb, lt-leb, ltb-true}
 use Rattle.buffer.specs.Buffer.{part, over, Appended}
 use Rattle.buffer.proofs.OverLaws.{over-nil, length-over}
 use Rattle.buffer.proofs.WriteLaws.{appended-nil, appended-append}
@@ -17,6 +17,7 @@ use Rattle.rules.specs.Basics.{choose}
 use Rattle.rules.proofs.Choose.{choose-true, choose-false}
 use Rattle.group_rules.specs.Grouping.{takes}
 use Rattle.group_rules.specs.Passes.{Pass, pass, closesBefore, closeEnd, closeBracket, closeOperator, forthStep, closeForth, closedText}
+use Rattle.unicode.proofs.Tests.{and-left}
 use Rattle.group_close.specs.Forth.{stackOf, Room, Closed, Stepped, Ready, ForthTo}
 use Rattle.group_close.specs.declared.Spot.{Spot}
 use Rattle.group_close.specs.declared.Forth.{Forth}
@@ -232,13 +233,14 @@ ready-room h r = record { height = omega (arith, r .height, r .fits); counted = 
 pub ready-end : {l : List ℕ} {end at len top : ℕ} → Ready l end at len top → Room l len top 0
 ready-end r = record { height = omega (arith, r .height, r .fits, r .within); counted = omega (arith, r .counted, r .small, r .within) }
 
-pub forth-step : {l l′ out out′ : List ℕ} {end at b len top : ℕ} {r : Spot} → at < end → Ready l end at len top → b ≡ getD l at 0 → Stepped l l′ out out′ b len top r
-    → ForthTo l l′ out out′ end true at len top (record { at = at + 1; length = r .length; top = r .top })
-forth-step {l} {l′} {out} {out′} {end} {at} {b} {len} {top} {r} h k e s =
+pub forth-step : {l l′ out out′ : List ℕ} {end b : ℕ} (s : Forth) {r : Spot} → s .at < end → Ready l end (s .at) (s .length) (s .top) → b ≡ getD l (s .at) 0
+    → Stepped l l′ out out′ b (s .length) (s .top) r → ForthTo l l′ out out′ end 1 s (record { at = s .at + 1; length = r .length; top = r .top })
+forth-step {l} {l′} {out} {out′} {end} {b} f {r} h k e s =
     record {
       added = s .added;
-      is = λ t. ap (closeForth (pass t (stackOf l top))) (part-cons l at end h (k .fits) ∙ ap (λ x. x ∷ part l (at + 1) end) (sym e)) ∙ one t (part l (at + 1) end)
-        ∙ ap (λ p. closeForth p (part l (at + 1) end)) (s .is t) ∙ ap (closeForth (pass (t ++ s .added) (stackOf l′ (r .top)))) (sym (s .rest (at + 1) end (omega (arith, k .height))));
+      is = λ t. ap (closeForth (pass t (stackOf l (f .top)))) (part-cons l (f .at) end h (k .fits) ∙ ap (λ x. x ∷ part l (f .at + 1) end) (sym e))
+        ∙ one t (part l (f .at + 1) end) ∙ ap (λ p. closeForth p (part l (f .at + 1) end)) (s .is t)
+        ∙ ap (closeForth (pass (t ++ s .added) (stackOf l′ (r .top)))) (sym (s .rest (f .at + 1) end (omega (arith, k .height))));
       wrote = s .wrote;
       further = omega arith;
       ready =
@@ -249,36 +251,35 @@ forth-step {l} {l′} {out} {out′} {end} {at} {b} {len} {top} {r} h k e s =
           counted = omega (arith, s .cost, k .counted);
           small = k .small;
         };
-      whole = λ f. absurd (let z : _≡_ {A = ℕ} 0 1 = cc in omega arith);
+      whole = λ x. absurd (omega arith);
       size = s .size;
     }
   where
-    one : (t bs : List ℕ) → closeForth (pass t (stackOf l top)) (b ∷ bs) ≡ closeForth (forthStep (pass t (stackOf l top)) b) bs
+    one : (t bs : List ℕ) → closeForth (pass t (stackOf l (f .top))) (b ∷ bs) ≡ closeForth (forthStep (pass t (stackOf l (f .top))) b) bs
     one t bs = unfold closeForth in refl
 
-pub record Forthing (l₀ l out₀ out : List ℕ) (end at₀ len₀ top₀ at len top : ℕ) : Type 0 where
+pub record Forthing (l₀ l out₀ out : List ℕ) (end : ℕ) (s₀ s : Forth) : Type 0 where
   pub added : List ℕ
-  pub is : (t : List ℕ) → closeForth (pass t (stackOf l₀ top₀)) (part l₀ at₀ end) ≡ closeForth (pass (t ++ added) (stackOf l top)) (part l at end)
-  pub wrote : Appended out₀ out len₀ added len
-  pub further : at₀ ≤ at
-  pub ready : Ready l end at len top
+  pub is : (t : List ℕ) → closeForth (pass t (stackOf l₀ (s₀ .top))) (part l₀ (s₀ .at) end) ≡ closeForth (pass (t ++ added) (stackOf l (s .top))) (part l (s .at) end)
+  pub wrote : Appended out₀ out (s₀ .length) added (s .length)
+  pub further : s₀ .at ≤ s .at
+  pub ready : Ready l end (s .at) (s .length) (s .top)
   pub size : length l ≡ length l₀
 
-pub forthing-start : (l out : List ℕ) (end at len top : ℕ) → Ready l end at len top → Forthing l l out out end at len top at len top
-forthing-start l out end at len top r =
+pub forthing-start : (l out : List ℕ) (end : ℕ) (s : Forth) → Ready l end (s .at) (s .length) (s .top) → Forthing l l out out end s s
+forthing-start l out end s r =
     record {
       added = [];
-      is = λ t. ap (λ x. closeForth (pass x (stackOf l top)) (part l at end)) (sym (append-nil t));
-      wrote = appended-nil out len;
+      is = λ t. ap (λ x. closeForth (pass x (stackOf l (s .top))) (part l (s .at) end)) (sym (append-nil t));
+      wrote = appended-nil out (s .length);
       further = omega arith;
       ready = r;
       size = refl;
     }
 
-module _ {l₀ l out₀ out : List ℕ} {end at₀ len₀ top₀ at len top : ℕ} (o : Forthing l₀ l out₀ out end at₀ len₀ top₀ at len top) where
-  pub forthing-more : {l′ out′ : List ℕ} {nested : Bool} {r : Forth} → ForthTo l l′ out out′ end nested at len top r
-      → Forthing l₀ l′ out₀ out′ end at₀ len₀ top₀ (r .at) (r .length) (r .top)
-  forthing-more {l′} {out′} {nested} {r} f =
+module _ {l₀ l out₀ out : List ℕ} {end : ℕ} {s₀ s : Forth} (o : Forthing l₀ l out₀ out end s₀ s) where
+  pub forthing-more : {l′ out′ : List ℕ} {depth : ℕ} {r : Forth} → ForthTo l l′ out out′ end depth s r → Forthing l₀ l′ out₀ out′ end s₀ r
+  forthing-more {l′} {out′} {depth} {r} f =
       record {
         added = o .added ++ f .added;
         is = λ t. o .is t ∙ f .is (t ++ o .added) ∙ ap (λ x. closeForth (pass x (stackOf l′ (r .top))) (part l′ (r .at) end)) (append-assoc t (o .added) (f .added));
@@ -288,13 +289,28 @@ module _ {l₀ l out₀ out : List ℕ} {end at₀ len₀ top₀ at len top : �
         size = f .size ∙ o .size;
       }
 
-  pub forthing-stop : {nested : Bool} → nested ≡ true → ForthTo l₀ l out₀ out end nested at₀ len₀ top₀ (record { at = at; length = len; top = top })
-  forthing-stop e =
-      record { added = o .added; is = o .is; wrote = o .wrote; further = o .further; ready = o .ready; whole = λ f. absurd (let z : _≡_ {A = ℕ} 0 1 = cc in omega arith); size = o .size }
+  pub forthing-stop : (depth : ℕ) (x t : Bool) → t ≡ (ltb 0 depth && x) → t ≡ true → ForthTo l₀ l out₀ out end depth s₀ s
+  forthing-stop depth x t e f =
+      record {
+        added = o .added;
+        is = o .is;
+        wrote = o .wrote;
+        further = o .further;
+        ready = o .ready;
+        whole = λ z. absurd (let y = ltb-true 0 depth (and-left (ltb 0 depth) x (sym e ∙ f)) in omega arith);
+        size = o .size;
+      }
 
-  pub forthing-end : (nested : Bool) → end ≤ at → ForthTo l₀ l out₀ out end nested at₀ len₀ top₀ (record { at = at; length = len; top = top })
-  forthing-end nested h =
+  pub forthing-end : (depth : ℕ) → end ≤ s .at → ForthTo l₀ l out₀ out end depth s₀ s
+  forthing-end depth h =
       record { added = o .added; is = o .is; wrote = o .wrote; further = o .further; ready = o .ready; whole = λ f. omega (arith, o .ready .within); size = o .size }
+
+pub forth-none : {l out : List ℕ} {end : ℕ} (s : Forth) → Ready l end (s .at) (s .length) (s .top) → ForthTo l l out out end 1 s s
+forth-none {l} {out} {end} s r = forthing-end-at (forthing-start l out end s r)
+  where
+    forthing-end-at : Forthing l l out out end s s → ForthTo l l out out end 1 s s
+    forthing-end-at o =
+        record { added = o .added; is = o .is; wrote = o .wrote; further = o .further; ready = o .ready; whole = λ f. absurd (omega arith); size = o .size }
 
 pub appended-size : {x x′ l : List ℕ} {at r : ℕ} → Appended x x′ at l r → length x′ ≡ length x
 appended-size {x} {x′} {l} {at} {r} w =
@@ -312,7 +328,7 @@ closed-text : (bs : List ℕ) → closedText bs ≡ closeEnd (closeForth (pass [
 unfolding closedText
 closed-text bs = refl
 
-pub closed-all : {l l′ out o₁ o₂ : List ℕ} {end from : ℕ} {f : Forth} {c : Spot} → ForthTo l l′ out o₁ end false from 0 0 f
+pub closed-all : {l l′ out o₁ o₂ : List ℕ} {end from : ℕ} {f : Forth} {c : Spot} → ForthTo l l′ out o₁ end 0 (record { at = from; length = 0; top = 0 }) f
     → Closed l′ o₁ o₂ (f .length) (f .top) closeEnd c → Appended out o₂ 0 (closedText (part l from end)) (c .length)
 closed-all {l} {l′} {out} {o₁} {o₂} {end} {from} {f} {c} k w =
     subst (λ x. Appended out o₂ 0 x (c .length)) (sym text) (appended-append (k .wrote) (w .wrote))

@@ -1,7 +1,6 @@
 -- The pass from the first byte of the opened text to the last: the bytes from a place up to `end` are left to read, the spine stands in front of them
 -- in the same buffer, and the text goes to an output that may be too short.
 use Prim.Native.Nat.{ℕ, zero, suc, _+_, _*_, _≤_, _<_, _^_}
-use mathlib.Core.Bool.{Bool, true, false}
 use mathlib.Core.List.{List, [], _∷_, _++_}
 use mathlib.Core.Path.{_≡_}
 use lib.ListN.{length, take, drop, getD, set}
@@ -45,11 +44,13 @@ pub record Ready (l : List ℕ) (end at len top : ℕ) : Type 0 where
   pub counted : len + top ≤ 2 * at
   pub small : end < 2 ^ 60
 
-pub record ForthTo (l l′ out out′ : List ℕ) (end : ℕ) (nested : Bool) (at len top : ℕ) (r : Forth) : Type 0 where
+-- written from s up to r, in so many brackets; in none up to the end
+pub record ForthTo (l l′ out out′ : List ℕ) (end depth : ℕ) (s r : Forth) : Type 0 where
   pub added : List ℕ
-  pub is : (t : List ℕ) → closeForth (pass t (stackOf l top)) (part l at end) ≡ closeForth (pass (t ++ added) (stackOf l′ (r .top))) (part l′ (r .at) end)
-  pub wrote : Appended out out′ len added (r .length)
-  pub further : at ≤ r .at
+  pub is : (t : List ℕ) → closeForth (pass t (stackOf l (s .top))) (part l (s .at) end)
+      ≡ closeForth (pass (t ++ added) (stackOf l′ (r .top))) (part l′ (r .at) end)
+  pub wrote : Appended out out′ (s .length) added (r .length)
+  pub further : s .at ≤ r .at
   pub ready : Ready l′ end (r .at) (r .length) (r .top)
-  pub whole : nested ≡ false → r .at ≡ end
+  pub whole : depth ≡ 0 → r .at ≡ end
   pub size : length l′ ≡ length l

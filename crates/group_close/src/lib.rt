@@ -8,9 +8,11 @@ ghost use lib.ListN.{length, take, getD};
 ghost use Rattle.buffer.specs.Buffer.{part, Appended};
 ghost use Rattle.group_rules.specs.Passes.{pass, closesBefore, closeEnd, closedText};
 ghost use Rattle.group_close.specs.Forth.{stackOf, Room, Closed, Stepped, Ready, ForthTo};
-use group_open::CLOSER;
-use group_open::OPENER;
+use group_open::enters;
 use group_open::second_takes;
+use group_open::stops;
+use group_rules::CLOSER;
+use group_rules::OPENER;
 
 // The text's length so far, and the stack's height.
 pub struct Spot {
@@ -144,68 +146,56 @@ fn close_code(scratch: &mut [u8], out: &mut [u8], b: u8, len: usize, top: usize)
 }
 
 // The byte that is next.
-fn step_forth(scratch: &mut [u8], out: &mut [u8], end: usize, at: usize, len: usize, top: usize) -> Forth
-    requires { ⌜ (at < end) × Ready (now scratch) end at len top ⌝ }
-    ensures { λ r. ⌜ ForthTo (now (scratch .entry)) (now (scratch .exit)) (now (out .entry)) (now (out .exit)) end true at len top r × (r .at ≡ at + 1) ⌝ }
+fn step_forth(scratch: &mut [u8], out: &mut [u8], end: usize, s: Forth) -> Forth
+    requires { ⌜ (s .at < end) × Ready (now scratch) end (s .at) (s .length) (s .top) ⌝ }
+    ensures { λ r. ⌜ ForthTo (now (scratch .entry)) (now (scratch .exit)) (now (out .entry)) (now (out .exit)) end 1 s r × (r .at ≡ s .at + 1) ⌝ }
 {
+    let at = s.at;
     let b = scratch[at];
-    let s = close_code(scratch, out, b, len, top);
+    let next = close_code(scratch, out, b, s.length, s.top);
     Forth {
         at: at + 1,
-        length: s.length,
-        top: s.top,
+        length: next.length,
+        top: next.top,
     }
 }
 
-// Writes up to the end, or in a bracket up to the byte that closes it.
+// The same, if one is left.
+fn past_one(scratch: &mut [u8], out: &mut [u8], end: usize, s: Forth) -> Forth
+    requires { ⌜ Ready (now scratch) end (s .at) (s .length) (s .top) ⌝ }
+    ensures { λ r. ⌜ ForthTo (now (scratch .entry)) (now (scratch .exit)) (now (out .entry)) (now (out .exit)) end 1 s r ⌝ }
+{
+    if s.at < end {
+        return step_forth(scratch, out, end, s);
+    }
+    s
+}
+
+// Writes up to the end, or in a bracket up to the byte that closes it. No more than 64 calls stand in each other.
 fn close_forth(
     scratch: &mut [u8],
     out: &mut [u8],
     end: usize,
-    nested: bool,
-    at: usize,
-    len: usize,
-    top: usize,
+    depth: usize,
+    from: Forth,
 ) -> Forth
-    requires { ⌜ Ready (now scratch) end at len top ⌝ }
-    ensures { λ r. ⌜ ForthTo (now (scratch .entry)) (now (scratch .exit)) (now (out .entry)) (now (out .exit)) end nested at len top r ⌝ }
+    requires { ⌜ (depth ≤ 64) × Ready (now scratch) end (from .at) (from .length) (from .top) ⌝ }
+    ensures { λ r. ⌜ ForthTo (now (scratch .entry)) (now (scratch .exit)) (now (out .entry)) (now (out .exit)) end depth from r ⌝ }
 {
-    let mut i = at;
-    let mut n = len;
-    let mut k = top;
-    while i < end {
-        let b = scratch[i];
-        if nested {
-            if b == CLOSER {
-                return Forth {
-                    at: i,
-                    length: n,
-                    top: k,
-                };
-            }
+    let mut s = from;
+    while s.at < end {
+        let at = s.at;
+        let b = scratch[at];
+        if stops(depth, b, CLOSER) {
+            return s;
         }
-        let step = step_forth(scratch, out, end, i, n, k);
-        i = step.at;
-        n = step.length;
-        k = step.top;
-        if b == OPENER {
-            let inner = close_forth(scratch, out, end, true, i, n, k);
-            i = inner.at;
-            n = inner.length;
-            k = inner.top;
-            if i < end {
-                let closer = step_forth(scratch, out, end, i, n, k);
-                i = closer.at;
-                n = closer.length;
-                k = closer.top;
-            }
+        s = step_forth(scratch, out, end, s);
+        if enters(depth, b, OPENER) {
+            s = close_forth(scratch, out, end, depth + 1, s);
+            s = past_one(scratch, out, end, s);
         }
     }
-    Forth {
-        at: i,
-        length: n,
-        top: k,
-    }
+    s
 }
 
 // Writes the text of the opened text that stands from a place up to `end`, and gives its whole length.
@@ -213,7 +203,12 @@ pub fn close_all(scratch: &mut [u8], out: &mut [u8], from: usize, end: usize) ->
     requires { ⌜ Ready (now scratch) end from 0 0 ⌝ }
     ensures { λ r. ⌜ Appended (now (out .entry)) (now (out .exit)) 0 (closedText (part (now (scratch .entry)) from end)) r ⌝ }
 {
-    let forth = close_forth(scratch, out, end, false, from, 0, 0);
+    let start = Forth {
+        at: from,
+        length: 0,
+        top: 0,
+    };
+    let forth = close_forth(scratch, out, end, 0, start);
     let s = close_end(scratch, out, forth.length, forth.top);
     s.length
 }

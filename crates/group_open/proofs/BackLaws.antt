@@ -16,6 +16,7 @@ use Rattle.rules.proofs.Choose.{choose-true, choose-false}
 use Rattle.group_rules.specs.Grouping.{takes}
 use Rattle.group_rules.proofs.TakesLaws.{star-is, takes-lt, takes-not}
 use Rattle.group_rules.specs.Passes.{Pass, pass, opensAfter, openBracket, openOperator, openBack, backStep, isRightCode, openedText}
+use Rattle.unicode.proofs.Tests.{and-left}
 use Rattle.group_open.specs.Back.{stackOf, passIn, Room, Pushed, Opened, Moved, Backed, BackTo, OpenedAll}
 use Rattle.group_open.specs.declared.Spot.{Spot}
 use Rattle.group_open.specs.declared.Back.{Back}
@@ -273,7 +274,7 @@ drop-back l i h k = drop-cons l (i - 1) 0 (omega arith) ∙ ap (λ m. getD l (i 
     same = omega arith
 
 pub backed-step : {l l′ : List ℕ} {n left at top b : ℕ} {r : Spot} → 0 < left → Backed (take n l) l n left at top → b ≡ getD l (left - 1) 0
-    → Moved l l′ n at top (backStep b (passIn l n at top)) r → BackTo l l′ n true (left - 1) (record { left = left - 1; at = r .at; top = r .top })
+    → Moved l l′ n at top (backStep b (passIn l n at top)) r → BackTo l l′ n 1 (left - 1) (record { left = left - 1; at = r .at; top = r .top })
 backed-step {l} {l′} {n} {left} {at} {top} {b} {r} h k e m =
     let f : openBack (drop (left - 1) (take n l)) ≡ backStep (getD (take n l) (left - 1) 0) (openBack (drop left (take n l)))
           = ap openBack (drop-back (take n l) left h (omega (arith, length-take n l, k .height, k .fits))) ∙ unfold openBack in refl in
@@ -289,7 +290,7 @@ backed-step {l} {l′} {n} {left} {at} {top} {b} {r} h k e m =
           fits = omega (arith, k .fits, m .size);
         };
       lower = omega arith;
-      whole = λ x. absurd (let z : _≡_ {A = ℕ} 0 1 = cc in omega arith);
+      whole = λ x. absurd (omega arith);
       size = m .size;
     }
 
@@ -328,19 +329,54 @@ module _ {l₀ l : List ℕ} {n left i p k : ℕ} (o : Backing l₀ l n left i p
   pub backing-ready : Backed (take n l) l n i p k
   backing-ready = rebase (o .backed)
 
-  pub backing-more : {l′ : List ℕ} {j : ℕ} {nested : Bool} {r : Back} → j ≤ i → BackTo l l′ n nested j r → Backing l₀ l′ n left (r .left) (r .at) (r .top)
-  backing-more {l′} {j} {nested} {r} h b =
+  pub backing-more : {l′ : List ℕ} {j depth : ℕ} {r : Back} → j ≤ i → BackTo l l′ n depth j r → Backing l₀ l′ n left (r .left) (r .at) (r .top)
+  backing-more {l′} {j} {depth} {r} h b =
       record {
         backed = subst (λ x. Backed x l′ n (r .left) (r .at) (r .top)) (o .backed .codes) (b .backed);
         lower = omega (arith, b .lower, o .lower);
         size = b .size ∙ o .size;
       }
 
-  pub backing-stop : {nested : Bool} → nested ≡ true → BackTo l₀ l n nested left (record { left = i; at = p; top = k })
-  backing-stop e = record { backed = o .backed; lower = o .lower; whole = λ f. absurd (let z : _≡_ {A = ℕ} 0 1 = cc in omega arith); size = o .size }
+  pub backing-stop : (depth : ℕ) (x t : Bool) → t ≡ (ltb 0 depth && x) → t ≡ true → BackTo l₀ l n depth left (record { left = i; at = p; top = k })
+  backing-stop depth x t e f = record { backed = o .backed; lower = o .lower; whole = λ z. absurd (let y = ltb-true 0 depth (and-left (ltb 0 depth) x (sym e ∙ f)) in omega arith); size = o .size }
 
-  pub backing-end : (nested : Bool) → i ≤ 0 → BackTo l₀ l n nested left (record { left = i; at = p; top = k })
-  backing-end nested h = record { backed = o .backed; lower = o .lower; whole = λ f. omega arith; size = o .size }
+  pub backing-end : (depth : ℕ) → i ≤ 0 → BackTo l₀ l n depth left (record { left = i; at = p; top = k })
+  backing-end depth h = record { backed = o .backed; lower = o .lower; whole = λ f. omega arith; size = o .size }
+
+-- a turn of the loop: a code, and with a bracket its inside and the code that opens it
+pub backing-step : {l₀ l l₁ : List ℕ} {n left : ℕ} (s s₁ : Back) → Backing l₀ l n left (s .left) (s .at) (s .top) → BackTo l l₁ n 1 (s .left - 1) s₁
+    → Backing l₀ l₁ n left (s₁ .left) (s₁ .at) (s₁ .top)
+backing-step s s₁ o b = backing-more o (omega arith) b
+
+pub backing-bracket : {l₀ l l₁ l₂ l₃ : List ℕ} {n left depth : ℕ} (s s₁ s₂ s₃ : Back) → Backing l₀ l n left (s .left) (s .at) (s .top) → BackTo l l₁ n 1 (s .left - 1) s₁
+    → BackTo l₁ l₂ n depth (s₁ .left) s₂ → BackTo l₂ l₃ n 1 (s₂ .left) s₃ → Backing l₀ l₃ n left (s₃ .left) (s₃ .at) (s₃ .top)
+backing-bracket s s₁ s₂ s₃ o a b c = backing-more (backing-more (backing-step s s₁ o a) (omega arith) b) (omega arith) c
+
+pub back-ready : {l l₁ : List ℕ} {n left depth : ℕ} (s : Back) → BackTo l l₁ n depth left s → Backed (take n l₁) l₁ n (s .left) (s .at) (s .top)
+back-ready s b = rebase (b .backed)
+
+-- ---- the tests of a code in so many brackets
+
+pub in-bracket : (depth b code : ℕ) → 0 < depth → eqb b code ≡ (ltb 0 depth && eqb b code)
+in-bracket depth b code h = rw (lt-ltb 0 depth h)
+
+pub in-none : (depth b code : ℕ) → depth ≤ 0 → false ≡ (ltb 0 depth && eqb b code)
+in-none depth b code h = rw (le-ltb 0 depth h)
+
+pub may-enter : (depth b code : ℕ) → depth < 64 → eqb b code ≡ (ltb depth 64 && eqb b code)
+may-enter depth b code h = rw (lt-ltb depth 64 h)
+
+pub too-deep : (depth b code : ℕ) → 64 ≤ depth → false ≡ (ltb depth 64 && eqb b code)
+too-deep depth b code h = rw (le-ltb depth 64 h)
+
+pub entered : (depth : ℕ) (x t : Bool) → t ≡ (ltb depth 64 && x) → t ≡ true → depth < 64
+entered depth x t e f = ltb-true depth 64 (and-left (ltb depth 64) x (sym e ∙ f))
+
+pub back-none : {l : List ℕ} {n : ℕ} (s : Back) → Backed (take n l) l n (s .left) (s .at) (s .top) → BackTo l l n 1 (s .left) s
+back-none s b = record { backed = b; lower = omega arith; whole = λ x. absurd (omega arith); size = refl }
+
+pub back-one : {l l′ : List ℕ} {n : ℕ} (s r : Back) → BackTo l l′ n 1 (s .left - 1) r → BackTo l l′ n 1 (s .left) r
+back-one s r b = record { backed = b .backed; lower = omega (arith, b .lower); whole = b .whole; size = b .size }
 
 pub pushed-size : {l l′ : List ℕ} {at b r : ℕ} → Pushed l l′ at b r → length l′ ≡ length l
 pushed-size {l} {l′} {at} {b} {r} w = ap length (w .is) ∙ length-set l r b
@@ -374,7 +410,7 @@ backed-start l n h =
 pub backed-end : {cs l : List ℕ} {n left at top : ℕ} → Backed cs l n left at top → Room l n at top 0
 backed-end b = record { room = omega (arith, b .room); within = b .within; height = omega (arith, b .height); fits = b .fits }
 
-pub opened-all : {l l₁ l₂ : List ℕ} {n m : ℕ} {b : Back} {o : Spot} → BackTo l l₁ n false m b → Opened l₁ l₂ n 0 (b .at) (b .top) o → OpenedAll l l₂ n (o .at)
+pub opened-all : {l l₁ l₂ : List ℕ} {n m : ℕ} {b : Back} {o : Spot} → BackTo l l₁ n 0 m b → Opened l₁ l₂ n 0 (b .at) (b .top) o → OpenedAll l l₂ n (o .at)
 unfolding openedText
 opened-all {l} {l₁} {l₂} {n} {m} {b} {o} k w =
     record {

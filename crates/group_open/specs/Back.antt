@@ -1,6 +1,5 @@
 -- The pass from the last code to the first, as it stands in scratch: n codes from 0 on, the opened text up to 3 × n, the spine from there on.
 use Prim.Native.Nat.{ℕ, zero, suc, _+_, _*_, _≤_, _<_}
-use mathlib.Core.Bool.{Bool, true, false}
 use mathlib.Core.List.{List, [], _∷_}
 use mathlib.Core.Path.{_≡_}
 use lib.ListN.{length, take, drop, getD, set}
@@ -56,10 +55,11 @@ pub record Backed (cs l : List ℕ) (n left at top : ℕ) : Type 0 where
   pub height : top + left ≤ n
   pub fits : 4 * n ≤ length l
 
-pub record BackTo (l l′ : List ℕ) (n : ℕ) (nested : Bool) (left : ℕ) (r : Back) : Type 0 where
+-- read back from left, in so many brackets; in none to the first code
+pub record BackTo (l l′ : List ℕ) (n depth left : ℕ) (r : Back) : Type 0 where
   pub backed : Backed (take n l) l′ n (r .left) (r .at) (r .top)
   pub lower : r .left ≤ left
-  pub whole : nested ≡ false → r .left ≡ 0
+  pub whole : depth ≡ 0 → r .left ≡ 0
   pub size : length l′ ≡ length l
 
 -- the opened text of the n codes stands from r on up to 3 × n

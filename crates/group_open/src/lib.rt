@@ -2,18 +2,19 @@
 // opened text, the nearest on top, 0 for a bracket. Of n codes, the opened text ends at 3 × n.
 ghost use mathlib.Core.Path.{_≡_};
 ghost use mathlib.Core.List.{_∷_};
-ghost use mathlib.Core.Bool.{true};
+ghost use mathlib.Core.Bool.{_&&_};
+ghost use lib.Dec.{eqb, ltb};
 ghost use Prim.Native.Nat.{_+_, _*_, _-_, _≤_, _<_};
 ghost use lib.ListN.{length, take, getD};
 ghost use Rattle.buffer.specs.Buffer.{part};
 ghost use Rattle.group_rules.specs.Grouping.{takes};
 ghost use Rattle.group_rules.specs.Passes.{pass, opensAfter, openBracket, openOperator, backStep, isRightCode};
 ghost use Rattle.group_open.specs.Back.{stackOf, passIn, Room, Pushed, Opened, Moved, Backed, BackTo, OpenedAll};
+use group_rules::CLOSER;
+use group_rules::OPENER;
 
-pub const OPENER: u8 = 14;
-pub const CLOSER: u8 = 15;
-pub const PAREN: u8 = 40;
-pub const SPACE: u8 = 32;
+// How deep brackets stand: 02's limit, and that of the recursion.
+pub const MAX_DEPTH: usize = 64;
 
 // The place that the opened text has reached, and the stack's height.
 pub struct Spot {
@@ -61,7 +62,7 @@ fn open_after(scratch: &mut [u8], n: usize, s: u8, at: usize, top: usize) -> Spo
     while 0 < k {
         let t = scratch[base + (k - 1)];
         if second_takes(s, t) {
-            p = push_back(scratch, p, PAREN);
+            p = push_back(scratch, p, b'(');
             k -= 1;
         } else {
             return Spot { at: p, top: k };
@@ -109,7 +110,7 @@ fn open_operator(scratch: &mut [u8], n: usize, s: u8, at: usize, top: usize) -> 
     ensures { λ r. ⌜ Moved (now (scratch .entry)) (now (scratch .exit)) n at top (openOperator s (opensAfter s (part (now (scratch .entry)) at (3 * n)) (stackOf (now (scratch .entry)) (3 * n) top))) r ⌝ }
 {
     let o = open_after(scratch, n, s, at, top);
-    let p = push_back(scratch, o.at, SPACE);
+    let p = push_back(scratch, o.at, b' ');
     let k = o.top;
     scratch[3 * n + k] = s;
     Spot { at: p, top: k + 1 }
@@ -151,67 +152,70 @@ fn open_code(scratch: &mut [u8], n: usize, b: u8, at: usize, top: usize) -> Spot
 }
 
 // The last code that is left.
-fn step_back(scratch: &mut [u8], n: usize, left: usize, at: usize, top: usize) -> Back
-    requires { ⌜ (0 < left) × Backed (take n (now scratch)) (now scratch) n left at top ⌝ }
-    ensures { λ r. ⌜ BackTo (now (scratch .entry)) (now (scratch .exit)) n true (left - 1) r ⌝ }
+fn step_back(scratch: &mut [u8], n: usize, s: Back) -> Back
+    requires { ⌜ (0 < s .left) × Backed (take n (now scratch)) (now scratch) n (s .left) (s .at) (s .top) ⌝ }
+    ensures { λ r. ⌜ BackTo (now (scratch .entry)) (now (scratch .exit)) n 1 (s .left - 1) r ⌝ }
 {
+    let left = s.left;
     let b = scratch[left - 1];
-    let s = open_code(scratch, n, b, at, top);
+    let next = open_code(scratch, n, b, s.at, s.top);
     Back {
         left: left - 1,
-        at: s.at,
-        top: s.top,
+        at: next.at,
+        top: next.top,
     }
 }
 
-// Reads back to the first code, or in a bracket to the code that opens it.
-fn open_back(
-    scratch: &mut [u8],
-    n: usize,
-    nested: bool,
-    left: usize,
-    at: usize,
-    top: usize,
-) -> Back
-    requires { ⌜ Backed (take n (now scratch)) (now scratch) n left at top ⌝ }
-    ensures { λ r. ⌜ BackTo (now (scratch .entry)) (now (scratch .exit)) n nested left r ⌝ }
+// The same, if one is left.
+fn past_one(scratch: &mut [u8], n: usize, s: Back) -> Back
+    requires { ⌜ Backed (take n (now scratch)) (now scratch) n (s .left) (s .at) (s .top) ⌝ }
+    ensures { λ r. ⌜ BackTo (now (scratch .entry)) (now (scratch .exit)) n 1 (s .left) r ⌝ }
 {
-    let mut i = left;
-    let mut p = at;
-    let mut k = top;
-    while 0 < i {
-        let b = scratch[i - 1];
-        if nested {
-            if b == OPENER {
-                return Back {
-                    left: i,
-                    at: p,
-                    top: k,
-                };
-            }
+    if 0 < s.left {
+        return step_back(scratch, n, s);
+    }
+    s
+}
+
+// Whether b is the code at which a bracket's end is told, if brackets are open.
+pub fn stops(depth: usize, b: u8, code: u8) -> bool
+    ensures { λ r. ⌜ r ≡ (ltb 0 depth && eqb b code) ⌝ }
+{
+    if 0 < depth {
+        return b == code;
+    }
+    false
+}
+
+// Whether b is the code that leads into a bracket, and there may be one more.
+pub fn enters(depth: usize, b: u8, code: u8) -> bool
+    ensures { λ r. ⌜ r ≡ (ltb depth 64 && eqb b code) ⌝ }
+{
+    if depth < MAX_DEPTH {
+        return b == code;
+    }
+    false
+}
+
+// Reads back to the first code, or in a bracket to the code that opens it. No more than 64 calls stand in each other.
+fn open_back(scratch: &mut [u8], n: usize, depth: usize, from: Back) -> Back
+    requires { ⌜ (depth ≤ 64) × Backed (take n (now scratch)) (now scratch) n (from .left) (from .at) (from .top) ⌝ }
+    ensures { λ r. ⌜ BackTo (now (scratch .entry)) (now (scratch .exit)) n depth (from .left) r ⌝ }
+{
+    let mut s = from;
+    while 0 < s.left {
+        let left = s.left;
+        let b = scratch[left - 1];
+        if stops(depth, b, OPENER) {
+            return s;
         }
-        let step = step_back(scratch, n, i, p, k);
-        i = step.left;
-        p = step.at;
-        k = step.top;
-        if b == CLOSER {
-            let inner = open_back(scratch, n, true, i, p, k);
-            i = inner.left;
-            p = inner.at;
-            k = inner.top;
-            if 0 < i {
-                let opener = step_back(scratch, n, i, p, k);
-                i = opener.left;
-                p = opener.at;
-                k = opener.top;
-            }
+        s = step_back(scratch, n, s);
+        if enters(depth, b, CLOSER) {
+            s = open_back(scratch, n, depth + 1, s);
+            s = past_one(scratch, n, s);
         }
     }
-    Back {
-        left: i,
-        at: p,
-        top: k,
-    }
+    s
 }
 
 // The opened text of n codes ends at 3 × n; where it starts.
@@ -222,7 +226,12 @@ pub fn open_all(scratch: &mut [u8], n: usize) -> usize
     if n == 0 {
         return 0;
     }
-    let back = open_back(scratch, n, false, n, 3 * n, 0);
+    let start = Back {
+        left: n,
+        at: 3 * n,
+        top: 0,
+    };
+    let back = open_back(scratch, n, 0, start);
     let s = open_after(scratch, n, 0, back.at, back.top);
     s.at
 }

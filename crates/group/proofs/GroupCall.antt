@@ -61,7 +61,7 @@ module _ (l l₁ l₂ out out₁ : List ℕ) (n from len : ℕ) (o : OpenedAll l
   text-short r out₂ work h k =
       record {
         outcome = k .outcome ∙ sym (choose-true (ltb (length out) (length (textOf l n))) _ _ (lt-ltb (length out) (length (textOf l n)) (omega (arith, the-length)))
-          ∙ ap (λ m. GroupOutcome.Refused (Refusal.OutputShort m)) the-length);
+            ∙ ap (λ m. GroupOutcome.Refused (Refusal.OutputShort m)) the-length);
         output = k .zeros ∙ ap (λ m. replicate m 0) eo ∙ sym (ap (λ x. groupOutputFor x (length out) (textOf l n)) (k .outcome));
         cleared = k .cleared ∙ ap (λ m. replicate m 0) (el ∙ o .size);
       }
@@ -73,7 +73,7 @@ module _ (l l₁ l₂ out out₁ : List ℕ) (n from len : ℕ) (o : OpenedAll l
       record {
         outcome = sym (choose-false (ltb (length out) (length (textOf l n))) _ _ (le-ltb (length out) (length (textOf l n)) (omega (arith, the-length))) ∙ ap GroupOutcome.Grouped the-length);
         output = finishes-text f h (textOf l n) the-length (subst (Agree out₁) the-text (appended-agree w [] refl (agree-nil out)))
-          ∙ ap (λ m. textOf l n ++ replicate m 0) (same-room eo the-length);
+            ∙ ap (λ m. textOf l n ++ replicate m 0) (same-room eo the-length);
         cleared = z ∙ ap (λ m. replicate m 0) (el ∙ o .size);
       }
     where
@@ -114,7 +114,7 @@ module _ {source l l₁ : List ℕ} {q : Coded} (p : Passed source l) (c : Coded
           (record {
             outcome = k .outcome ∙ ap (textIn (length out)) (sym b);
             output = k .output ∙ ap (λ x. groupOutputFor x (length out) (textOf l₁ (q .length))) (k .outcome ∙ ap (textIn (length out)) (sym b))
-              ∙ ap (groupOutputFor (textIn (length out) (encode (written (treeOf (s .tokens))))) (length out)) (sym b);
+                ∙ ap (groupOutputFor (textIn (length out) (encode (written (treeOf (s .tokens))))) (length out)) (sym b);
             cleared = k .cleared ∙ ap (λ m. replicate m 0) (c .size);
           })
 
@@ -147,7 +147,7 @@ module _ (source out l : List ℕ) (r : GroupOutcome) (out₁ work : List ℕ) w
     scratch-short h k =
         refused-as (GroupOutcome.Refused (Refusal.ScratchShort (12 * length source + 256)))
         (choose-false (ltb maxSource (length source)) _ _ (le-ltb maxSource (length source) short)
-          ∙ choose-true (ltb (length l) (groupScratch source)) _ _ (lt-ltb (length l) (groupScratch source) h)) (λ t. refl) k
+        ∙ choose-true (ltb (length l) (groupScratch source)) _ _ (lt-ltb (length l) (groupScratch source) h)) (λ t. refl) k
 
     module _ (room : 12 * length source + 256 ≤ length l) (prefix : ℕ) (e : prefix ≡ prefixLen source) where
       first-tests : (x y z : GroupOutcome) → choose (ltb maxSource (length source)) x (choose (ltb (length l) (groupScratch source)) y z) ≡ z
@@ -167,7 +167,7 @@ module _ (source out l : List ℕ) (r : GroupOutcome) (out₁ work : List ℕ) w
       unfolding groupOutcome groupOutput
       done f s =
           let g : groupOutcome source (length out) (length l) ≡ groupingIn (length out) (grouping (decode source))
-                = first-tests _ _ _ ∙ choose-false (not (wellFormed source)) _ _ (ap not (test-whole source (sym e ∙ f))) in
+          = first-tests _ _ _ ∙ choose-false (not (wellFormed source)) _ _ (ap not (test-whole source (sym e ∙ f))) in
           record {
             outcome = s .outcome ∙ sym g;
             output = s .output ∙ ap (λ x. groupOutputFor x (length out) (groupedText (grouping (decode source)))) (sym g);
@@ -223,7 +223,7 @@ answered {source} {n} {m} {o} {r} {out} {work} k e =
       output = k .output;
       scratch = k .cleared;
       groups = λ z. subst (λ x. Groups (decode source) (decode (take (x .length) out))) (sym f)
-        (subst (λ x. Groups (decode source) (decode (take (groupAnswer (groupOutcome source n m) .length) x))) (sym (k .output))
+          (subst (λ x. Groups (decode source) (decode (take (groupAnswer (groupOutcome source n m) .length) x))) (sym (k .output))
           (promised source n m .0 (ap (λ x. x .refusal) (sym f) ∙ z)));
       place = λ z. subst (λ x. Longest (decode source) (x .place)) (sym f) (promised source n m .1 (ap (λ x. x .refusal) (sym f) ∙ z));
     }

@@ -33,7 +33,11 @@ fn write_text(output: &mut [u8], scratch: &mut [u8], n: usize) -> GroupOutcome
     let from = group_open::open_all(scratch, n);
     let length = group_close::close_all(scratch, output, from, 3 * n);
     if output.len() < length {
-        return refuse(output, scratch, GroupOutcome::Refused(Refusal::OutputShort(length)));
+        return refuse(
+            output,
+            scratch,
+            GroupOutcome::Refused(Refusal::OutputShort(length)),
+        );
     }
     buffer::finish(output, length);
     buffer::zero(scratch);
@@ -47,7 +51,11 @@ fn show(source: &[u8], output: &mut [u8], scratch: &mut [u8]) -> GroupOutcome
 {
     let coded = group_read::read(source, scratch);
     if coded.refusal != 0 {
-        return refuse(output, scratch, GroupOutcome::NoText(coded.refusal, coded.place));
+        return refuse(
+            output,
+            scratch,
+            GroupOutcome::NoText(coded.refusal, coded.place),
+        );
     }
     write_text(output, scratch, coded.length)
 }
@@ -58,15 +66,27 @@ fn run_group(source: &[u8], output: &mut [u8], scratch: &mut [u8]) -> GroupOutco
 {
     let n = source.len();
     if MAX_SOURCE < n {
-        return refuse(output, scratch, GroupOutcome::Refused(Refusal::SourceTooLong));
+        return refuse(
+            output,
+            scratch,
+            GroupOutcome::Refused(Refusal::SourceTooLong),
+        );
     }
     let needed = 12 * n + 256;
     if scratch.len() < needed {
-        return refuse(output, scratch, GroupOutcome::Refused(Refusal::ScratchShort(needed)));
+        return refuse(
+            output,
+            scratch,
+            GroupOutcome::Refused(Refusal::ScratchShort(needed)),
+        );
     }
     let prefix = unicode::well_formed_prefix(source);
     if prefix != n {
-        return refuse(output, scratch, GroupOutcome::Refused(Refusal::NotUtf8(prefix)));
+        return refuse(
+            output,
+            scratch,
+            GroupOutcome::Refused(Refusal::NotUtf8(prefix)),
+        );
     }
     show(source, output, scratch)
 }

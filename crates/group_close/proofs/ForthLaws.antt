@@ -30,7 +30,7 @@ put-fits x at b h =
     record {
       next = refl;
       is = set-split x at b h
-        ∙ ap (λ y. take at x ++ y) (sym (ap (λ y. over y (b ∷ [])) (drop-cons x at 0 h) ∙ ap (λ y. b ∷ y) (over-nil (drop (suc at) x))));
+          ∙ ap (λ y. take at x ++ y) (sym (ap (λ y. over y (b ∷ [])) (drop-cons x at 0 h) ∙ ap (λ y. b ∷ y) (over-nil (drop (suc at) x))));
     }
 
 pub put-past : (x : List ℕ) (at b : ℕ) → length x ≤ at → Appended x x at (b ∷ []) (at + 1)
@@ -85,13 +85,13 @@ module _ (s : ℕ) {l out₀ out : List ℕ} {len₀ top₀ len top : ℕ} (o : 
       → Closing l out₀ out′ len₀ top₀ n (top - 1) (closesBefore s)
   before-more {out′} {n} b h e f w =
       let k : (t : List ℕ) → closesBefore s t (getD l (top - 1) 0 ∷ stackOf l (top - 1)) ≡ closesBefore s (t ++ 41 ∷ []) (stackOf l (top - 1))
-            = λ t. unfold closesBefore in choose-false (takes (getD l (top - 1) 0) s) _ _ (sym e ∙ f) in
+      = λ t. unfold closesBefore in choose-false (takes (getD l (top - 1) 0) s) _ _ (sym e ∙ f) in
       closing-on o h (λ t. ap (closesBefore s t) (stack-top l top h) ∙ k t) w
 
   pub before-stop : (b : Bool) → 0 < top → b ≡ takes (getD l (top - 1) 0) s → b ≡ true → Closed l out₀ out len₀ top₀ (closesBefore s) (record { length = len; top = top })
   before-stop b h e f =
       let k : (t : List ℕ) → closesBefore s t (getD l (top - 1) 0 ∷ stackOf l (top - 1)) ≡ pass t (getD l (top - 1) 0 ∷ stackOf l (top - 1))
-            = λ t. unfold closesBefore in choose-true (takes (getD l (top - 1) 0) s) _ _ (sym e ∙ f) in
+      = λ t. unfold closesBefore in choose-true (takes (getD l (top - 1) 0) s) _ _ (sym e ∙ f) in
       closing-here o (λ t. ap (closesBefore s t) (stack-top l top h) ∙ k t ∙ ap (pass t) (sym (stack-top l top h)))
 
   pub before-end : top ≤ 0 → Closed l out₀ out len₀ top₀ (closesBefore s) (record { length = len; top = top })
@@ -105,13 +105,13 @@ module _ {l out₀ out : List ℕ} {len₀ top₀ len top : ℕ} (o : Closing l 
       → Closing l out₀ out′ len₀ top₀ n (top - 1) closeEnd
   end-more {out′} {n} h f w =
       let k : (t : List ℕ) → closeEnd t (getD l (top - 1) 0 ∷ stackOf l (top - 1)) ≡ closeEnd (t ++ 41 ∷ []) (stackOf l (top - 1))
-            = λ t. unfold closeEnd in choose-false (eqb (getD l (top - 1) 0) 0) _ _ (ne-eqb (getD l (top - 1) 0) 0 f) in
+      = λ t. unfold closeEnd in choose-false (eqb (getD l (top - 1) 0) 0) _ _ (ne-eqb (getD l (top - 1) 0) 0 f) in
       closing-on o h (λ t. ap (closeEnd t) (stack-top l top h) ∙ k t) w
 
   pub end-stop : 0 < top → getD l (top - 1) 0 ≡ 0 → Closed l out₀ out len₀ top₀ closeEnd (record { length = len; top = top })
   end-stop h f =
       let k : (t : List ℕ) → closeEnd t (getD l (top - 1) 0 ∷ stackOf l (top - 1)) ≡ pass t (getD l (top - 1) 0 ∷ stackOf l (top - 1))
-            = λ t. unfold closeEnd in choose-true (eqb (getD l (top - 1) 0) 0) _ _ (eq-eqb (getD l (top - 1) 0) 0 f) in
+      = λ t. unfold closeEnd in choose-true (eqb (getD l (top - 1) 0) 0) _ _ (eq-eqb (getD l (top - 1) 0) 0 f) in
       closing-here o (λ t. ap (closeEnd t) (stack-top l top h) ∙ k t ∙ ap (pass t) (sym (stack-top l top h)))
 
   pub end-end : top ≤ 0 → Closed l out₀ out len₀ top₀ closeEnd (record { length = len; top = top })
@@ -239,18 +239,18 @@ forth-step {l} {l′} {out} {out′} {end} {b} f {r} h k e s =
     record {
       added = s .added;
       is = λ t. ap (closeForth (pass t (stackOf l (f .top)))) (part-cons l (f .at) end h (k .fits) ∙ ap (λ x. x ∷ part l (f .at + 1) end) (sym e))
-        ∙ one t (part l (f .at + 1) end) ∙ ap (λ p. closeForth p (part l (f .at + 1) end)) (s .is t)
-        ∙ ap (closeForth (pass (t ++ s .added) (stackOf l′ (r .top)))) (sym (s .rest (f .at + 1) end (omega (arith, k .height))));
+          ∙ one t (part l (f .at + 1) end) ∙ ap (λ p. closeForth p (part l (f .at + 1) end)) (s .is t)
+          ∙ ap (closeForth (pass (t ++ s .added) (stackOf l′ (r .top)))) (sym (s .rest (f .at + 1) end (omega (arith, k .height))));
       wrote = s .wrote;
       further = omega arith;
       ready =
-        record {
-          within = omega arith;
-          fits = omega (arith, k .fits, s .size);
-          height = omega (arith, s .high, k .height);
-          counted = omega (arith, s .cost, k .counted);
-          small = k .small;
-        };
+          record {
+            within = omega arith;
+            fits = omega (arith, k .fits, s .size);
+            height = omega (arith, s .high, k .height);
+            counted = omega (arith, s .cost, k .counted);
+            small = k .small;
+          };
       whole = λ x. absurd (omega arith);
       size = s .size;
     }
@@ -335,7 +335,9 @@ closed-all {l} {l′} {out} {o₁} {o₂} {end} {from} {f} {c} k w =
   where
     none : part l′ (f .at) end ≡ []
     none = ap (λ x. part l′ x end) (k .whole refl) ∙ ap (λ x. take x (drop end l′)) (sub-self end)
+
     forth : closeForth (pass [] []) (part l from end) ≡ pass (k .added) (stackOf l′ (f .top))
     forth = ap (λ x. closeForth (pass [] x) (part l from end)) (sym (no-stack l)) ∙ k .is [] ∙ ap (closeForth (pass (k .added) (stackOf l′ (f .top)))) none ∙ no-more (pass (k .added) (stackOf l′ (f .top)))
+
     text : closedText (part l from end) ≡ k .added ++ w .added
     text = closed-text (part l from end) ∙ ap (λ q. closeEnd (q .text) (q .spine) .text) forth ∙ ap (λ q. q .text) (w .is (k .added))

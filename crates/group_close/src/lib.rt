@@ -9,6 +9,7 @@ ghost use Rattle.buffer.specs.Buffer.{part, Appended};
 ghost use Rattle.group_rules.specs.Passes.{pass, closesBefore, closeEnd, closedText};
 ghost use Rattle.group_close.specs.Forth.{stackOf, Room, Closed, Stepped, Ready, ForthTo};
 use group_open::enters;
+use group_open::lower;
 use group_open::second_takes;
 use group_open::stops;
 use group_rules::CLOSER;
@@ -72,16 +73,6 @@ fn close_end(scratch: &[u8], out: &mut [u8], len: usize, top: usize) -> Spot
         k -= 1;
     }
     Spot { length: n, top: k }
-}
-
-// One less, or 0.
-fn lower(top: usize) -> usize
-    ensures { λ r. ⌜ r ≡ top - 1 ⌝ }
-{
-    if top == 0 {
-        return 0;
-    }
-    top - 1
 }
 
 fn close_bracket(scratch: &[u8], out: &mut [u8], len: usize, top: usize) -> Spot
@@ -172,13 +163,7 @@ fn past_one(scratch: &mut [u8], out: &mut [u8], end: usize, s: Forth) -> Forth
 }
 
 // Writes up to the end, or in a bracket up to the byte that closes it. No more than 64 calls stand in each other.
-fn close_forth(
-    scratch: &mut [u8],
-    out: &mut [u8],
-    end: usize,
-    depth: usize,
-    from: Forth,
-) -> Forth
+fn close_forth(scratch: &mut [u8], out: &mut [u8], end: usize, depth: usize, from: Forth) -> Forth
     requires { ⌜ (depth ≤ 64) × Ready (now scratch) end (from .at) (from .length) (from .top) ⌝ }
     ensures { λ r. ⌜ ForthTo (now (scratch .entry)) (now (scratch .exit)) (now (out .entry)) (now (out .exit)) end depth from r ⌝ }
 {

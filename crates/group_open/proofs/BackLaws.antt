@@ -110,7 +110,7 @@ module _ {l₀ l : List ℕ} {n s at₀ top₀ at top : ℕ} (o : Opening l₀ l
   opening-more {l′} {p} b h e t w =
       let g = wrote n (top - 1) w (omega arith) (omega arith) (omega arith) in
       let f : opensAfter s (part l at (3 * n)) (stackOf l (3 * n) top) ≡ opensAfter s (40 ∷ part l at (3 * n)) (stackOf l (3 * n) (top - 1))
-            = ap (λ x. opensAfter s (part l at (3 * n)) x) (stack-top l (3 * n) top h) ∙ (unfold opensAfter in choose-true (takes s (getD l (3 * n + (top - 1)) 0)) _ _ (sym e ∙ t)) in
+      = ap (λ x. opensAfter s (part l at (3 * n)) x) (stack-top l (3 * n) top h) ∙ (unfold opensAfter in choose-true (takes s (getD l (3 * n + (top - 1)) 0)) _ _ (sym e ∙ t)) in
       record {
         same = g .same ∙ o .same;
         is = o .is ∙ f ∙ ap (λ x. opensAfter s x (stackOf l (3 * n) (top - 1))) (sym (g .text)) ∙ ap (λ x. opensAfter s (part l′ p (3 * n)) x) (sym (g .spine));
@@ -133,7 +133,7 @@ module _ {l₀ l : List ℕ} {n s at₀ top₀ at top : ℕ} (o : Opening l₀ l
   pub opening-stop : (b : Bool) → 0 < top → b ≡ takes s (getD l (3 * n + (top - 1)) 0) → b ≡ false → Opened l₀ l n s at₀ top₀ (record { at = at; top = top })
   opening-stop b h e t =
       let f : opensAfter s (part l at (3 * n)) (getD l (3 * n + (top - 1)) 0 ∷ stackOf l (3 * n) (top - 1)) ≡ pass (part l at (3 * n)) (getD l (3 * n + (top - 1)) 0 ∷ stackOf l (3 * n) (top - 1))
-            = unfold opensAfter in choose-false (takes s (getD l (3 * n + (top - 1)) 0)) _ _ (sym e ∙ t) in
+      = unfold opensAfter in choose-false (takes s (getD l (3 * n + (top - 1)) 0)) _ _ (sym e ∙ t) in
       opened-here
       (ap (λ x. opensAfter s (part l at (3 * n)) x) (stack-top l (3 * n) top h) ∙ f ∙ ap (λ x. pass (part l at (3 * n)) x) (sym (stack-top l (3 * n) top h)))
       (record { at = at; top = top }) refl refl
@@ -186,7 +186,7 @@ moved-closer {l} {l′} {n} {at} {top} {p} r w =
     record {
       same = k .same ∙ g .same;
       is = ap (λ x. pass x (0 ∷ stackOf l (3 * n) top)) (sym (k .text ∙ g .text))
-        ∙ ap (λ x. pass (part (set l′ (3 * n + top) 0) p (3 * n)) x) (sym (k .spine ∙ ap (λ x. 0 ∷ x) (g .spine)));
+          ∙ ap (λ x. pass (part (set l′ (3 * n + top) 0) p (3 * n)) x) (sym (k .spine ∙ ap (λ x. 0 ∷ x) (g .spine)));
       within = omega (arith, r .within, g .next);
       cost = omega (arith, g .next);
       high = omega arith;
@@ -207,8 +207,8 @@ module _ {l l₁ l₂ : List ℕ} {n s at top b p : ℕ} {o : Spot} (r : Room l 
       record {
         same = k .same ∙ g .same ∙ w .same;
         is = ap (openOperator s) (w .is)
-          ∙ ap (λ x. pass x (s ∷ stackOf l₁ (3 * n) (o .top))) (sym (k .text ∙ g .text ∙ ap (λ x. x ∷ part l₁ (o .at) (3 * n)) e))
-          ∙ ap (λ x. pass (part (set l₂ (3 * n + o .top) c) p (3 * n)) x) (sym (k .spine ∙ ap (λ x. c ∷ x) (g .spine) ∙ ap (λ x. x ∷ stackOf l₁ (3 * n) (o .top)) q));
+            ∙ ap (λ x. pass x (s ∷ stackOf l₁ (3 * n) (o .top))) (sym (k .text ∙ g .text ∙ ap (λ x. x ∷ part l₁ (o .at) (3 * n)) e))
+            ∙ ap (λ x. pass (part (set l₂ (3 * n + o .top) c) p (3 * n)) x) (sym (k .spine ∙ ap (λ x. c ∷ x) (g .spine) ∙ ap (λ x. x ∷ stackOf l₁ (3 * n) (o .top)) q));
         within = omega (arith, r .within, g .next, w .moved, w .lower);
         cost = omega (arith, g .next, w .moved);
         high = omega (arith, w .lower);
@@ -223,8 +223,8 @@ module _ {l l₁ l₂ : List ℕ} {n s at top b p : ℕ} {o : Spot} (r : Room l 
       record {
         same = g .same ∙ w .same;
         is = ap (λ x. openBracket (opensAfter x (part l at (3 * n)) (stackOf l (3 * n) top))) (sym z) ∙ ap openBracket (w .is)
-          ∙ ap (λ x. pass x (drop 1 (stackOf l₁ (3 * n) (o .top)))) (sym (g .text ∙ ap (λ x. x ∷ part l₁ (o .at) (3 * n)) e))
-          ∙ ap (λ x. pass (part l₂ p (3 * n)) x) (ap (drop 1) (sym (g .spine)) ∙ stack-pop l₂ (3 * n) (o .top) ∙ ap (stackOf l₂ (3 * n)) (sym q));
+            ∙ ap (λ x. pass x (drop 1 (stackOf l₁ (3 * n) (o .top)))) (sym (g .text ∙ ap (λ x. x ∷ part l₁ (o .at) (3 * n)) e))
+            ∙ ap (λ x. pass (part l₂ p (3 * n)) x) (ap (drop 1) (sym (g .spine)) ∙ stack-pop l₂ (3 * n) (o .top) ∙ ap (stackOf l₂ (3 * n)) (sym q));
         within = omega (arith, r .within, g .next, w .moved, w .lower);
         cost = omega (arith, g .next, w .moved);
         high = omega (arith, w .lower);
@@ -253,7 +253,7 @@ module _ {l l′ : List ℕ} {n at top : ℕ} {r : Spot} where
     code-operator h k e t q m =
         moved-as
         (ap (λ x. openOperator x (opensAfter x (part l at (3 * n)) (stackOf l (3 * n) top))) q
-          ∙ sym (choose-false (eqb b 14) _ _ (ne-eqb b 14 h) ∙ choose-false (eqb b 15) _ _ (ne-eqb b 15 k) ∙ choose-true (isRightCode b) _ _ (sym e ∙ t))) m
+        ∙ sym (choose-false (eqb b 14) _ _ (ne-eqb b 14 h) ∙ choose-false (eqb b 15) _ _ (ne-eqb b 15 k) ∙ choose-true (isRightCode b) _ _ (sym e ∙ t))) m
 
     pub code-plain : {t : Bool} → (b ≡ 14 → ⊥) → (b ≡ 15 → ⊥) → t ≡ isRightCode b → t ≡ false
         → Moved l l′ n at top (pass (b ∷ part l at (3 * n)) (stackOf l (3 * n) top)) r → Moved l l′ n at top (backStep b (passIn l n at top)) r
@@ -277,18 +277,18 @@ pub backed-step : {l l′ : List ℕ} {n left at top b : ℕ} {r : Spot} → 0 <
     → Moved l l′ n at top (backStep b (passIn l n at top)) r → BackTo l l′ n 1 (left - 1) (record { left = left - 1; at = r .at; top = r .top })
 backed-step {l} {l′} {n} {left} {at} {top} {b} {r} h k e m =
     let f : openBack (drop (left - 1) (take n l)) ≡ backStep (getD (take n l) (left - 1) 0) (openBack (drop left (take n l)))
-          = ap openBack (drop-back (take n l) left h (omega (arith, length-take n l, k .height, k .fits))) ∙ unfold openBack in refl in
+    = ap openBack (drop-back (take n l) left h (omega (arith, length-take n l, k .height, k .fits))) ∙ unfold openBack in refl in
     let g : getD (take n l) (left - 1) 0 ≡ b = getD-take n l (left - 1) 0 (omega (arith, k .height)) ∙ sym e in
     record {
       backed =
-        record {
-          codes = m .same;
-          is = f ∙ ap (λ x. backStep x (openBack (drop left (take n l)))) g ∙ ap (backStep b) (k .is) ∙ m .is;
-          room = omega (arith, k .room, m .cost);
-          within = m .within;
-          height = omega (arith, k .height, m .high);
-          fits = omega (arith, k .fits, m .size);
-        };
+          record {
+            codes = m .same;
+            is = f ∙ ap (λ x. backStep x (openBack (drop left (take n l)))) g ∙ ap (backStep b) (k .is) ∙ m .is;
+            room = omega (arith, k .room, m .cost);
+            within = m .within;
+            height = omega (arith, k .height, m .high);
+            fits = omega (arith, k .fits, m .size);
+          };
       lower = omega arith;
       whole = λ x. absurd (omega arith);
       size = m .size;

@@ -72,7 +72,7 @@ fn open_after(scratch: &mut [u8], n: usize, s: u8, at: usize, top: usize) -> Spo
 }
 
 // One less, or 0.
-fn lower(top: usize) -> usize
+pub fn lower(top: usize) -> usize
     ensures { λ r. ⌜ r ≡ top - 1 ⌝ }
 {
     if top == 0 {

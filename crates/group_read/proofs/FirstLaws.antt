@@ -36,16 +36,34 @@ module _ (c : ℕ) (n33 : c ≡ 33 → ⊥) (n37 : c ≡ 37 → ⊥) (n38 : c �
   none-starts : F.startsOperator c ≡ false
   unfolding F.startsOperator
   none-starts =
-      rw (ne-eqb c 33 n33, outside-two c 37 n37 n38, outside-two c 42 n42 n43, outside-three c 45 n45 n46 n47,
-        outside-three c 60 n60 n61 n62, ne-eqb c 94 n94, ne-eqb c 124 n124)
+      rw (
+        ne-eqb c 33 n33,
+        outside-two c 37 n37 n38,
+        outside-two c 42 n42 n43,
+        outside-three c 45 n45 n46 n47,
+        outside-three c 60 n60 n61 n62,
+        ne-eqb c 94 n94,
+        ne-eqb c 124 n124,
+      )
 
   none-first : startsOperator c ≡ false
   unfolding computing startsOperator
   none-first =
-      rw (ne-eqb 33 c (λ e. n33 (sym e)), ne-eqb 37 c (λ e. n37 (sym e)), ne-eqb 38 c (λ e. n38 (sym e)), ne-eqb 42 c (λ e. n42 (sym e)),
-        ne-eqb 43 c (λ e. n43 (sym e)), ne-eqb 45 c (λ e. n45 (sym e)), ne-eqb 46 c (λ e. n46 (sym e)), ne-eqb 47 c (λ e. n47 (sym e)),
-        ne-eqb 60 c (λ e. n60 (sym e)), ne-eqb 61 c (λ e. n61 (sym e)), ne-eqb 62 c (λ e. n62 (sym e)), ne-eqb 94 c (λ e. n94 (sym e)),
-        ne-eqb 124 c (λ e. n124 (sym e)))
+      rw (
+        ne-eqb 33 c (λ e. n33 (sym e)),
+        ne-eqb 37 c (λ e. n37 (sym e)),
+        ne-eqb 38 c (λ e. n38 (sym e)),
+        ne-eqb 42 c (λ e. n42 (sym e)),
+        ne-eqb 43 c (λ e. n43 (sym e)),
+        ne-eqb 45 c (λ e. n45 (sym e)),
+        ne-eqb 46 c (λ e. n46 (sym e)),
+        ne-eqb 47 c (λ e. n47 (sym e)),
+        ne-eqb 60 c (λ e. n60 (sym e)),
+        ne-eqb 61 c (λ e. n61 (sym e)),
+        ne-eqb 62 c (λ e. n62 (sym e)),
+        ne-eqb 94 c (λ e. n94 (sym e)),
+        ne-eqb 124 c (λ e. n124 (sym e)),
+      )
 
 pub starts-same : (c : ℕ) → F.startsOperator c ≡ startsOperator c
 unfolding computing startsOperator F.startsOperator

@@ -56,7 +56,7 @@ module _ {source l : List ℕ} {i : ℕ} {r : Reader} (h : ReaderRoom source l i
     steps-at p e f z =
         record {
           is = λ ts k. subst (λ x. StepIs source l′ (suc i) (stageStep maxDepth (stageOf source i x (r .start)) (r .depth) ts (getD source i 0)) q) (sym e)
-            (f ts (k .codes ∙ ap (λ x. coded (reverse ts) ++ wordOf (stageOf source i x (r .start))) e));
+              (f ts (k .codes ∙ ap (λ x. coded (reverse ts) ++ wordOf (stageOf source i x (r .start))) e));
           size = z;
         }
 
@@ -65,7 +65,7 @@ module _ {source l : List ℕ} {i : ℕ} {r : Reader} (h : ReaderRoom source l i
     steps-due c u e d =
         steps-at Due e
         (λ ts g. subst (λ x. StepIs source l′ (suc i) (dueStep maxDepth (r .depth) ts x) q) u
-          (d .is source ts u (h .inside) (h .fits) (omega (arith, room-at Due e)) (g ∙ append-nil (coded (reverse ts)))))
+        (d .is source ts u (h .inside) (h .fits) (omega (arith, room-at Due e)) (g ∙ append-nil (coded (reverse ts)))))
         (d .size)
 
     pub steps-after : (c : ℕ) → c ≡ getD source i 0 → r .phase ≡ After → AfterSteps l l′ i c (r .depth) (r .at) q → Steps source l l′ i r q
@@ -73,7 +73,7 @@ module _ {source l : List ℕ} {i : ℕ} {r : Reader} (h : ReaderRoom source l i
     steps-after c u e d =
         steps-at After e
         (λ ts g. subst (λ x. StepIs source l′ (suc i) (afterStep (r .depth) ts x) q) u
-          (d .is source ts u (h .inside) (h .fits) (room-at After e) (g ∙ append-nil (coded (reverse ts)))))
+        (d .is source ts u (h .inside) (h .fits) (room-at After e) (g ∙ append-nil (coded (reverse ts)))))
         (d .size)
 
     pub steps-name : r .phase ≡ Name → WordSteps source l l′ (r .start) i (r .at) (nameStep source (r .start) i (r .depth)) q → Steps source l l′ i r q
@@ -87,8 +87,8 @@ module _ {source l : List ℕ} {i : ℕ} {r : Reader} (h : ReaderRoom source l i
     steps-operator a c v u e d =
         steps-at Operator e
         (λ ts g. subst (λ x. StepIs source l′ (suc i) (stageStep maxDepth (inOperator x) (r .depth) ts (getD source i 0)) q) v
-          (subst (λ x. StepIs source l′ (suc i) (stageStep maxDepth (inOperator a) (r .depth) ts x) q) u
-            (d .is source ts u (h .inside) (h .fits) (room-at Operator e) (g ∙ append-nil (coded (reverse ts))))))
+        (subst (λ x. StepIs source l′ (suc i) (stageStep maxDepth (inOperator a) (r .depth) ts x) q) u
+        (d .is source ts u (h .inside) (h .fits) (room-at Operator e) (g ∙ append-nil (coded (reverse ts))))))
         (d .size)
 
 -- ---- the loop: what is read so far, and what is left
@@ -156,9 +156,11 @@ module _ {source l₀ l : List ℕ} {i : ℕ} {r : Reader} (h : Reads source l�
     where
       all : i ≡ length source
       all = omega (arith, h .within)
+
       nothing-left : (s : List ℕ) → drop (length s) s ≡ []
       nothing-left [] = refl
       nothing-left (x ∷ s) = nothing-left s
+
       whole : reading source ≡ ending (length source) (stageOf source (length source) (r .phase) (r .start)) (r .depth) (h .tokens)
       whole =
           h .is ∙ ap (λ n. readFrom maxDepth n (stateOf source n r (h .tokens)) (drop n source)) all

@@ -92,9 +92,9 @@ write-three l at x y z h =
     record {
       place = refl;
       is = next-more (set (set l at x) (at + 1) y) (take at l ++ x ∷ y ∷ []) at 2 z (omega (arith, length-set (set l at x) (at + 1) y, length-set l at x))
-        (next-more (set l at x) (take at l ++ x ∷ []) at 1 y (omega (arith, length-set l at x)) (more l (take at l) at x (omega arith) refl)
+          (next-more (set l at x) (take at l ++ x ∷ []) at 1 y (omega (arith, length-set l at x)) (more l (take at l) at x (omega arith) refl)
           ∙ append-assoc (take at l) (x ∷ []) (y ∷ []))
-        ∙ append-assoc (take at l) (x ∷ y ∷ []) (z ∷ []);
+          ∙ append-assoc (take at l) (x ∷ y ∷ []) (z ∷ []);
       size = length-set (set (set l at x) (at + 1) y) (at + 2) z ∙ length-set (set l at x) (at + 1) y ∙ length-set l at x;
     }
 
@@ -105,7 +105,7 @@ write-four l at x y z v h =
     record {
       place = refl;
       is = next-more (set (set (set l at x) (at + 1) y) (at + 2) z) (take at l ++ x ∷ y ∷ z ∷ []) at 3 v (omega (arith, w .size)) (w .is)
-        ∙ append-assoc (take at l) (x ∷ y ∷ z ∷ []) (v ∷ []);
+          ∙ append-assoc (take at l) (x ∷ y ∷ z ∷ []) (v ∷ []);
       size = length-set (set (set (set l at x) (at + 1) y) (at + 2) z) (at + 3) v ∙ w .size;
     }
 
@@ -124,14 +124,14 @@ module _ {l : List ℕ} {i d at : ℕ} (a c : ℕ) (room : OperatorRoom l i d at
   operator-two {l′} s p e h w z u =
       record {
         is = λ source ts q j f k g. went z u source l′ (suc i) (stageStep maxDepth (inOperator a) d ts c) (operator (a ∷ c ∷ []) ∷ ts)
-          (choose-true (oneOf operators (a ∷ c ∷ [])) _ _ (is-operator (a ∷ c ∷ []) (subst (λ n. 0 < n) e h)))
-          (record {
-            codes = coded-operator (a ∷ c ∷ []) s p l′ e w ts g ∙ sym (append-nil (coded (reverse (operator (a ∷ c ∷ []) ∷ ts))));
-            room = omega (arith, w .place);
-            started = omega arith;
-            shallow = room .shallow;
-            fits = omega (arith, w .size);
-          });
+            (choose-true (oneOf operators (a ∷ c ∷ [])) _ _ (is-operator (a ∷ c ∷ []) (subst (λ n. 0 < n) e h)))
+            (record {
+              codes = coded-operator (a ∷ c ∷ []) s p l′ e w ts g ∙ sym (append-nil (coded (reverse (operator (a ∷ c ∷ []) ∷ ts))));
+              room = omega (arith, w .place);
+              started = omega arith;
+              shallow = room .shallow;
+              fits = omega (arith, w .size);
+            });
         size = w .size;
       }
 
@@ -141,7 +141,7 @@ module _ {l : List ℕ} {i d at : ℕ} (a c : ℕ) (room : OperatorRoom l i d at
     operator-none t f k z u =
         record {
           is = λ source ts q j m n g. stopped z u source l (suc i) (stageStep maxDepth (inOperator a) d ts c) (omega arith)
-            (choose-false (oneOf operators (a ∷ c ∷ [])) _ _ (no-operator (a ∷ c ∷ []) (omega (arith, e)))
+              (choose-false (oneOf operators (a ∷ c ∷ [])) _ _ (no-operator (a ∷ c ∷ []) (omega (arith, e)))
               ∙ choose-false (oneOf operators (a ∷ [])) _ _ (no-operator (a ∷ []) (omega (arith, f))));
           size = refl;
         }
@@ -152,9 +152,9 @@ module _ {l : List ℕ} {i d at : ℕ} (a c : ℕ) (room : OperatorRoom l i d at
     operator-one {m} {l′} t p f k w z v =
         record {
           is = λ source ts q j n o g. subst (λ st. StepIs source l′ (suc i) st z)
-            (sym (choose-false (oneOf operators (a ∷ c ∷ [])) _ _ (no-operator (a ∷ c ∷ []) (omega (arith, e)))
+              (sym (choose-false (oneOf operators (a ∷ c ∷ [])) _ _ (no-operator (a ∷ c ∷ []) (omega (arith, e)))
               ∙ choose-true (oneOf operators (a ∷ [])) _ _ (is-operator (a ∷ []) (omega (arith, f)))))
-            (v .is source (operator (a ∷ []) ∷ ts) q j (omega (arith, w .size)) (omega (arith, w .place)) (coded-operator (a ∷ []) t p m f w ts g));
+              (v .is source (operator (a ∷ []) ∷ ts) q j (omega (arith, w .size)) (omega (arith, w .place)) (coded-operator (a ∷ []) t p m f w ts g));
           size = v .size ∙ w .size;
         }
 

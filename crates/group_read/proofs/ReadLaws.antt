@@ -62,7 +62,7 @@ module _ (l : List ℕ) (i c d at : ℕ) (room : DueRoom l i d at) where
   due-blank b e t z w =
       record {
         is = λ source ts q h f k g. went z w source l (suc i) (dueStep maxDepth d ts c) ts (choose-true (isBlank c) _ _ (sym e ∙ t))
-          (record { codes = g ∙ sym (append-nil (coded (reverse ts))); room = omega arith; started = omega arith; shallow = room .shallow; fits = f });
+            (record { codes = g ∙ sym (append-nil (coded (reverse ts))); room = omega arith; started = omega arith; shallow = room .shallow; fits = f });
         size = refl;
       }
 
@@ -76,8 +76,8 @@ module _ (l : List ℕ) (i c d at : ℕ) (room : DueRoom l i d at) where
     due-sign s e t z w =
         record {
           is = λ source ts q h f k g. went z w source (set l at c) (suc i) (dueStep maxDepth d ts c) (sign c ∷ ts)
-            (choose-false (isBlank c) _ _ (sym e₁ ∙ n₁) ∙ choose-true (isSign c) _ _ (sym e ∙ t))
-            (record { codes = one-token c (sign c) refl ts g; room = omega arith; started = omega arith; shallow = room .shallow; fits = omega (arith, length-set l at c) });
+              (choose-false (isBlank c) _ _ (sym e₁ ∙ n₁) ∙ choose-true (isSign c) _ _ (sym e ∙ t))
+              (record { codes = one-token c (sign c) refl ts g; room = omega arith; started = omega arith; shallow = room .shallow; fits = omega (arith, length-set l at c) });
           size = length-set l at c;
         }
 
@@ -87,7 +87,7 @@ module _ (l : List ℕ) (i c d at : ℕ) (room : DueRoom l i d at) where
       due-deep p h z w =
           record {
             is = λ source ts q j f k g. stopped z w source l (suc i) (dueStep maxDepth d ts c) (omega arith)
-              (choose-false (isBlank c) _ _ (sym e₁ ∙ n₁) ∙ choose-false (isSign c) _ _ (sym e₂ ∙ n₂) ∙ choose-true (eqb c 40) _ _ (eq-eqb c 40 p)
+                (choose-false (isBlank c) _ _ (sym e₁ ∙ n₁) ∙ choose-false (isSign c) _ _ (sym e₂ ∙ n₂) ∙ choose-true (eqb c 40) _ _ (eq-eqb c 40 p)
                 ∙ choose-true (leb 64 d) _ _ (le-leb 64 d h));
             size = refl;
           }
@@ -97,9 +97,9 @@ module _ (l : List ℕ) (i c d at : ℕ) (room : DueRoom l i d at) where
       due-open p h z w =
           record {
             is = λ source ts q j f k g. went z w source (set l at 14) (suc i) (dueStep maxDepth d ts c) (opener ∷ ts)
-              (choose-false (isBlank c) _ _ (sym e₁ ∙ n₁) ∙ choose-false (isSign c) _ _ (sym e₂ ∙ n₂) ∙ choose-true (eqb c 40) _ _ (eq-eqb c 40 p)
+                (choose-false (isBlank c) _ _ (sym e₁ ∙ n₁) ∙ choose-false (isSign c) _ _ (sym e₂ ∙ n₂) ∙ choose-true (eqb c 40) _ _ (eq-eqb c 40 p)
                 ∙ choose-false (leb 64 d) _ _ (lt-leb 64 d h) ∙ ap (λ x. next (state due x (opener ∷ ts))) (sym (add-one d)))
-              (record { codes = one-token 14 opener refl ts g; room = omega arith; started = omega arith; shallow = omega arith; fits = omega (arith, length-set l at 14) });
+                (record { codes = one-token 14 opener refl ts g; room = omega arith; started = omega arith; shallow = omega arith; fits = omega (arith, length-set l at 14) });
             size = length-set l at 14;
           }
 
@@ -109,9 +109,9 @@ module _ (l : List ℕ) (i c d at : ℕ) (room : DueRoom l i d at) where
         due-number t e y z w =
             record {
               is = λ source ts q j f k g. went z w source (set l at c) (suc i) (dueStep maxDepth d ts c) ts
-                (choose-false (isBlank c) _ _ (sym e₁ ∙ n₁) ∙ choose-false (isSign c) _ _ (sym e₂ ∙ n₂) ∙ choose-false (eqb c 40) _ _ (ne-eqb c 40 n₃)
+                  (choose-false (isBlank c) _ _ (sym e₁ ∙ n₁) ∙ choose-false (isSign c) _ _ (sym e₂ ∙ n₂) ∙ choose-false (eqb c 40) _ _ (ne-eqb c 40 n₃)
                   ∙ choose-true (isDigit c) _ _ (sym e ∙ y) ∙ ap (λ x. next (state (inNumber x) d ts)) (ap (λ x. x ∷ []) q ∙ sym (part-one source i j)))
-                (record { codes = more-codes c ts g ∙ ap (λ x. coded (reverse ts) ++ x) (ap (λ x. x ∷ []) q ∙ sym (part-one source i j)); room = omega arith; started = omega arith; shallow = room .shallow; fits = omega (arith, length-set l at c) });
+                  (record { codes = more-codes c ts g ∙ ap (λ x. coded (reverse ts) ++ x) (ap (λ x. x ∷ []) q ∙ sym (part-one source i j)); room = omega arith; started = omega arith; shallow = room .shallow; fits = omega (arith, length-set l at c) });
               size = length-set l at c;
             }
 
@@ -121,10 +121,10 @@ module _ (l : List ℕ) (i c d at : ℕ) (room : DueRoom l i d at) where
           due-name u e y z w =
               record {
                 is = λ source ts q j f k g. went z w source (set l at c) (suc i) (dueStep maxDepth d ts c) ts
-                  (choose-false (isBlank c) _ _ (sym e₁ ∙ n₁) ∙ choose-false (isSign c) _ _ (sym e₂ ∙ n₂) ∙ choose-false (eqb c 40) _ _ (ne-eqb c 40 n₃)
+                    (choose-false (isBlank c) _ _ (sym e₁ ∙ n₁) ∙ choose-false (isSign c) _ _ (sym e₂ ∙ n₂) ∙ choose-false (eqb c 40) _ _ (ne-eqb c 40 n₃)
                     ∙ choose-false (isDigit c) _ _ (sym e₄ ∙ n₄) ∙ choose-true (isIdent c) _ _ (sym e ∙ y)
                     ∙ ap (λ x. next (state (inName x) d ts)) (ap (λ x. x ∷ []) q ∙ sym (part-one source i j)))
-                  (record { codes = more-codes c ts g ∙ ap (λ x. coded (reverse ts) ++ x) (ap (λ x. x ∷ []) q ∙ sym (part-one source i j)); room = omega arith; started = omega arith; shallow = room .shallow; fits = omega (arith, length-set l at c) });
+                    (record { codes = more-codes c ts g ∙ ap (λ x. coded (reverse ts) ++ x) (ap (λ x. x ∷ []) q ∙ sym (part-one source i j)); room = omega arith; started = omega arith; shallow = room .shallow; fits = omega (arith, length-set l at c) });
                 size = length-set l at c;
               }
 
@@ -133,7 +133,7 @@ module _ (l : List ℕ) (i c d at : ℕ) (room : DueRoom l i d at) where
           due-refused u e y z w =
               record {
                 is = λ source ts q j f k g. stopped z w source l (suc i) (dueStep maxDepth d ts c) (omega arith)
-                  (choose-false (isBlank c) _ _ (sym e₁ ∙ n₁) ∙ choose-false (isSign c) _ _ (sym e₂ ∙ n₂) ∙ choose-false (eqb c 40) _ _ (ne-eqb c 40 n₃)
+                    (choose-false (isBlank c) _ _ (sym e₁ ∙ n₁) ∙ choose-false (isSign c) _ _ (sym e₂ ∙ n₂) ∙ choose-false (eqb c 40) _ _ (ne-eqb c 40 n₃)
                     ∙ choose-false (isDigit c) _ _ (sym e₄ ∙ n₄) ∙ choose-false (isIdent c) _ _ (sym e ∙ y));
                 size = refl;
               }
@@ -154,7 +154,7 @@ module _ (l : List ℕ) (i c d at : ℕ) (room : DueRoom l i d at) where
   after-blank b e t z w =
       record {
         is = λ source ts q h f k g. went z w source l (suc i) (afterStep d ts c) ts (choose-true (isBlank c) _ _ (sym e ∙ t))
-          (record { codes = g ∙ sym (append-nil (coded (reverse ts))); room = omega arith; started = omega arith; shallow = room .shallow; fits = f });
+            (record { codes = g ∙ sym (append-nil (coded (reverse ts))); room = omega arith; started = omega arith; shallow = room .shallow; fits = f });
         size = refl;
       }
 
@@ -164,7 +164,7 @@ module _ (l : List ℕ) (i c d at : ℕ) (room : DueRoom l i d at) where
     after-none p o z w =
         record {
           is = λ source ts q j f k g. stopped z w source l (suc i) (afterStep d ts c) (omega arith)
-            (choose-false (isBlank c) _ _ (sym e₁ ∙ n₁) ∙ choose-true (eqb c 41) _ _ (eq-eqb c 41 p) ∙ ap (λ x. closeStep x ts) o ∙ none ts);
+              (choose-false (isBlank c) _ _ (sym e₁ ∙ n₁) ∙ choose-true (eqb c 41) _ _ (eq-eqb c 41 p) ∙ ap (λ x. closeStep x ts) o ∙ none ts);
           size = refl;
         }
       where
@@ -176,13 +176,14 @@ module _ (l : List ℕ) (i c d at : ℕ) (room : DueRoom l i d at) where
     after-close p o z w =
         record {
           is = λ source ts q j f k g. went z w source (set l at 15) (suc i) (afterStep d ts c) (closer ∷ ts)
-            (choose-false (isBlank c) _ _ (sym e₁ ∙ n₁) ∙ choose-true (eqb c 41) _ _ (eq-eqb c 41 p) ∙ ap (λ x. closeStep x ts) deeper ∙ one ts)
-            (record { codes = one-token l i c d at room 15 closer refl ts g; room = omega arith; started = omega arith; shallow = omega (arith, room .shallow); fits = omega (arith, length-set l at 15) });
+              (choose-false (isBlank c) _ _ (sym e₁ ∙ n₁) ∙ choose-true (eqb c 41) _ _ (eq-eqb c 41 p) ∙ ap (λ x. closeStep x ts) deeper ∙ one ts)
+              (record { codes = one-token l i c d at room 15 closer refl ts g; room = omega arith; started = omega arith; shallow = omega (arith, room .shallow); fits = omega (arith, length-set l at 15) });
           size = length-set l at 15;
         }
       where
         deeper : d ≡ suc (d - 1)
         deeper = omega arith
+
         one : (ts : List Token) → closeStep (suc (d - 1)) ts ≡ next (state after (d - 1) (closer ∷ ts))
         one ts = unfold closeStep in refl
 
@@ -192,9 +193,9 @@ module _ (l : List ℕ) (i c d at : ℕ) (room : DueRoom l i d at) where
       after-operator s e t z w =
           record {
             is = λ source ts q j f k g. went z w source l (suc i) (afterStep d ts c) ts
-              (choose-false (isBlank c) _ _ (sym e₁ ∙ n₁) ∙ choose-false (eqb c 41) _ _ (ne-eqb c 41 n₂) ∙ choose-true (startsOperator c) _ _ (sym (starts-same c) ∙ sym e ∙ t)
+                (choose-false (isBlank c) _ _ (sym e₁ ∙ n₁) ∙ choose-false (eqb c 41) _ _ (ne-eqb c 41 n₂) ∙ choose-true (startsOperator c) _ _ (sym (starts-same c) ∙ sym e ∙ t)
                 ∙ ap (λ x. next (state (inOperator x) d ts)) q)
-              (record { codes = g ∙ sym (append-nil (coded (reverse ts))); room = omega arith; started = omega arith; shallow = room .shallow; fits = f });
+                (record { codes = g ∙ sym (append-nil (coded (reverse ts))); room = omega arith; started = omega arith; shallow = room .shallow; fits = f });
             size = refl;
           }
 
@@ -203,7 +204,7 @@ module _ (l : List ℕ) (i c d at : ℕ) (room : DueRoom l i d at) where
       after-refused s e t z w =
           record {
             is = λ source ts q j f k g. stopped z w source l (suc i) (afterStep d ts c) (omega arith)
-              (choose-false (isBlank c) _ _ (sym e₁ ∙ n₁) ∙ choose-false (eqb c 41) _ _ (ne-eqb c 41 n₂) ∙ choose-false (startsOperator c) _ _ (sym (starts-same c) ∙ sym e ∙ t));
+                (choose-false (isBlank c) _ _ (sym e₁ ∙ n₁) ∙ choose-false (eqb c 41) _ _ (ne-eqb c 41 n₂) ∙ choose-false (startsOperator c) _ _ (sym (starts-same c) ∙ sym e ∙ t));
             size = refl;
           }
 
@@ -228,9 +229,9 @@ module _ {source l : List ℕ} {start i d at : ℕ} (r : ByteRoom source l start
   number-goes c e b p t z w =
       record {
         is = λ ts g. went z w source (set l at c) (suc i) (numberStep source start i d ts) ts
-          (choose-true (isDigit (getD source i 0)) _ _ (ap isDigit (sym e) ∙ sym p ∙ t)
+            (choose-true (isDigit (getD source i 0)) _ _ (ap isDigit (sym e) ∙ sym p ∙ t)
             ∙ ap (λ x. next (state (inNumber x) d ts)) (ap (λ x. part source start i ++ x ∷ []) (sym e) ∙ longer c e))
-          (record { codes = longer-codes c e ts g; room = omega (arith, r .written); started = omega (arith, r .started); shallow = r .shallow; fits = omega (arith, r .fits, length-set l at c) });
+            (record { codes = longer-codes c e ts g; room = omega (arith, r .written); started = omega (arith, r .started); shallow = r .shallow; fits = omega (arith, r .fits, length-set l at c) });
         size = length-set l at c;
       }
 
@@ -240,9 +241,9 @@ module _ {source l : List ℕ} {start i d at : ℕ} (r : ByteRoom source l start
   name-goes c e b p t z w =
       record {
         is = λ ts g. went z w source (set l at c) (suc i) (nameStep source start i d ts) ts
-          (choose-true (isIdent (getD source i 0)) _ _ (ap isIdent (sym e) ∙ sym p ∙ t)
+            (choose-true (isIdent (getD source i 0)) _ _ (ap isIdent (sym e) ∙ sym p ∙ t)
             ∙ ap (λ x. next (state (inName x) d ts)) (ap (λ x. part source start i ++ x ∷ []) (sym e) ∙ longer c e))
-          (record { codes = longer-codes c e ts g; room = omega (arith, r .written); started = omega (arith, r .started); shallow = r .shallow; fits = omega (arith, r .fits, length-set l at c) });
+            (record { codes = longer-codes c e ts g; room = omega (arith, r .written); started = omega (arith, r .started); shallow = r .shallow; fits = omega (arith, r .fits, length-set l at c) });
         size = length-set l at c;
       }
 
@@ -257,8 +258,8 @@ module _ {source l : List ℕ} {start i d at : ℕ} (r : ByteRoom source l start
   number-ends {l′} {q} c e b p t a =
       record {
         is = λ ts g. subst (λ x. StepIs source l′ (suc i) x q)
-          (sym (choose-false (isDigit (getD source i 0)) _ _ (ap isDigit (sym e) ∙ sym p ∙ t) ∙ ap (afterStep d (word (part source start i) ∷ ts)) (sym e)))
-          (ended-word c e a ts g);
+            (sym (choose-false (isDigit (getD source i 0)) _ _ (ap isDigit (sym e) ∙ sym p ∙ t) ∙ ap (afterStep d (word (part source start i) ∷ ts)) (sym e)))
+            (ended-word c e a ts g);
         size = a .size;
       }
 
@@ -268,7 +269,7 @@ module _ {source l : List ℕ} {start i d at : ℕ} (r : ByteRoom source l start
     name-word k u v z w =
         record {
           is = λ ts g. stopped z w source l (suc i) (nameStep source start i d ts) (omega arith)
-            (choose-false (isIdent (getD source i 0)) _ _ (ap isIdent (sym e) ∙ sym p ∙ t) ∙ choose-true (oneOf keywords (part source start i)) _ _ (sym u ∙ v));
+              (choose-false (isIdent (getD source i 0)) _ _ (ap isIdent (sym e) ∙ sym p ∙ t) ∙ choose-true (oneOf keywords (part source start i)) _ _ (sym u ∙ v));
           size = refl;
         }
 
@@ -278,8 +279,8 @@ module _ {source l : List ℕ} {start i d at : ℕ} (r : ByteRoom source l start
     name-ends {l′} {q} k u v a =
         record {
           is = λ ts g. subst (λ x. StepIs source l′ (suc i) x q)
-            (sym (choose-false (isIdent (getD source i 0)) _ _ (ap isIdent (sym e) ∙ sym p ∙ t) ∙ choose-false (oneOf keywords (part source start i)) _ _ (sym u ∙ v)
+              (sym (choose-false (isIdent (getD source i 0)) _ _ (ap isIdent (sym e) ∙ sym p ∙ t) ∙ choose-false (oneOf keywords (part source start i)) _ _ (sym u ∙ v)
               ∙ ap (afterStep d (word (part source start i) ∷ ts)) (sym e)))
-            (ended-word c e a ts g);
+              (ended-word c e a ts g);
           size = a .size;
         }

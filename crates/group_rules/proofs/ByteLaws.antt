@@ -114,9 +114,11 @@ written-ascii (operand w) h = word-ascii (h .0)
 written-ascii (signed c e) h = (sign-low c (h .0), written-ascii e (h .1))
 written-ascii (bracketed e) h = written-ascii e (spelled-first (tokensOf e) (closer ∷ []) (h .1))
 written-ascii (operation op l r) h =
-    let k = spelled-second (tokensOf l) (operator op ∷ tokensOf r) h in
-    (omega arith, ascii-append (written l) _ (written-ascii l (spelled-first (tokensOf l) (operator op ∷ tokensOf r) h))
-      (omega arith, ascii-append op _ (op-ascii (k .0)) (omega arith, ascii-append (written r) _ (written-ascii r (k .1)) (omega arith, tt))))
+    let k = spelled-second (tokensOf l) (operator op ∷ tokensOf r) h in (
+      omega arith,
+      ascii-append (written l) _ (written-ascii l (spelled-first (tokensOf l) (operator op ∷ tokensOf r) h))
+          (omega arith, ascii-append op _ (op-ascii (k .0)) (omega arith, ascii-append (written r) _ (written-ascii r (k .1)) (omega arith, tt))),
+    )
   where
     op-ascii : {w : List ℕ} → IsOperator w → Ascii w
     op-ascii (one a e) = operator-ascii (a ∷ []) e

@@ -28,7 +28,7 @@ cases =
     ∷ gives "-2**2" "(-2 ** 2)" ∷ gives "2**-1" "(2 ** -1)" ∷ gives "a+b*c" "(a + (b * c))" ∷ gives "a*b+c" "((a * b) + c)"
     ∷ gives "a-b-c" "((a - b) - c)" ∷ gives "a**b**c" "(a ** (b ** c))" ∷ gives "(a+b)*c" "((a + b) * c)" ∷ gives "a+(b+c)" "(a + (b + c))"
     ∷ gives "a||b^^c&&d|e^f&g==h!=i<j>k<=l>=m<<n>>o..p+q-r*s/t%u**v"
-        "((a || b) ^^ (c && (d | (e ^ (f & ((g == h) != ((((i < j) > k) <= l) >= ((m << n) >> (o .. ((p + q) - (((r * s) / t) % (u ** v))))))))))))"
+    "((a || b) ^^ (c && (d | (e ^ (f & ((g == h) != ((((i < j) > k) <= l) >= ((m << n) >> (o .. ((p + q) - (((r * s) / t) % (u ** v))))))))))))"
     ∷ gives "\ta <= -b1" "(a <= -b1)" ∷ gives "ifx + _9" "(ifx + _9)" ∷ gives "1..5" "(1 .. 5)" ∷ gives "a**b*c**d" "((a ** b) * (c ** d))"
     ∷ at14 "if" 2 ∷ at14 "if + a" 2 ∷ at14 "a = b" 3 ∷ at14 "a b" 2 ∷ at14 "1.5" 2 ∷ at14 "a->b" 2 ∷ at14 "()" 1 ∷ at14 "" 0 ∷ at14 "(a" 2
     ∷ at14 "a\n" 1 ∷ at14 "1a" 1 ∷ at14 "a)" 1 ∷ at14 "a***b" 3 ∷ at14 "a+" 2 ∷ at14 "a!" 2 ∷ at14 "(await)" 6 ∷ at14 "a(b)" 1 ∷ at14 "é" 0

@@ -67,7 +67,7 @@ strike-written (operation op l r) =
     ∙ ap (λ x. x ++ strikeBrackets (codes " " ++ (op ++ (codes " " ++ (written r ++ codes ")"))))) (strike-written l)
     ∙ ap (λ x. strikeBrackets (charsIn (tokensOf l)) ++ x) (inner (strike-written r))
     ∙ sym (ap strikeBrackets (charsIn-append (tokensOf l) (operator op ∷ tokensOf r)) ∙ strike-append (charsIn (tokensOf l)) (op ++ charsIn (tokensOf r))
-      ∙ ap (λ x. strikeBrackets (charsIn (tokensOf l)) ++ x) (strike-append op (charsIn (tokensOf r))))
+    ∙ ap (λ x. strikeBrackets (charsIn (tokensOf l)) ++ x) (strike-append op (charsIn (tokensOf r))))
   where
     inner : strikeBrackets (written r) ≡ strikeBrackets (charsIn (tokensOf r)) → strikeBrackets (codes " " ++ (op ++ (codes " " ++ (written r ++ codes ")")))) ≡ strikeBrackets op ++ strikeBrackets (charsIn (tokensOf r))
     inner h =
@@ -75,8 +75,8 @@ strike-written (operation op l r) =
         ∙ ap (λ x. x ++ strikeBrackets (op ++ (codes " " ++ (written r ++ codes ")")))) no-space
         ∙ strike-append op (codes " " ++ (written r ++ codes ")"))
         ∙ ap (λ x. strikeBrackets op ++ x)
-          (strike-append (codes " ") (written r ++ codes ")") ∙ ap (λ x. x ++ strikeBrackets (written r ++ codes ")")) no-space
-            ∙ strike-append (written r) (codes ")") ∙ ap (λ x. strikeBrackets (written r) ++ x) no-close ∙ append-nil (strikeBrackets (written r)) ∙ h)
+        (strike-append (codes " ") (written r ++ codes ")") ∙ ap (λ x. x ++ strikeBrackets (written r ++ codes ")")) no-space
+        ∙ strike-append (written r) (codes ")") ∙ ap (λ x. strikeBrackets (written r) ++ x) no-close ∙ append-nil (strikeBrackets (written r)) ∙ h)
 
 -- ---- a source that has a text
 

@@ -83,6 +83,7 @@ number-free (number c w h a) = go (oneOf keywords (c ∷ w)) refl
   where
     clash : not (isDigit c) ≡ true → ⊥
     clash k = let z : _≡_ {A = ℕ} 0 1 = cc in omega arith
+
     go : (b : Bool) → oneOf keywords (c ∷ w) ≡ b → b ≡ false
     go true e = absurd (clash (unfold noDigit in found noDigit keywords (c ∷ w) (unfold allOf noDigit in refl) e))
     go false e = refl
@@ -162,8 +163,8 @@ module _ (limit i c : ℕ) (cs : List ℕ) (all : List Token)
       choose-case (Go (Laid all after d ts (a ∷ c ∷ cs)))
       (λ h e. operatorTwo h (calm limit (suc i) d (operator (a ∷ c ∷ []) ∷ ts) cs all e) (ih due d (operator (a ∷ c ∷ []) ∷ ts) tt e))
       (λ n. choose-case (Go (Laid all after d ts (a ∷ c ∷ cs)))
-        (λ h e. operatorOne n h (due-calm limit i c cs all d (operator (a ∷ []) ∷ ts) e) (due-laid d (operator (a ∷ []) ∷ ts) e))
-        (λ _. refused-gives limit i c cs all (Laid all after d ts (a ∷ c ∷ cs)) 14))
+      (λ h e. operatorOne n h (due-calm limit i c cs all d (operator (a ∷ []) ∷ ts) e) (due-laid d (operator (a ∷ []) ∷ ts) e))
+      (λ _. refused-gives limit i c cs all (Laid all after d ts (a ∷ c ∷ cs)) 14))
 
 ended-laid : (i d : ℕ) (ts all : List Token) → ended i d ts ≡ read all → Laid all after d ts []
 unfolding ended

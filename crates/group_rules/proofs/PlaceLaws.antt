@@ -45,6 +45,7 @@ name-closer w d ts h = first ∙ choose-false (oneOf keywords w) (refused 14) (a
   where
     first : stageStep maxDepth (inName w) (suc d) ts 41 ≡ choose (oneOf keywords w) (refused 14) (afterStep (suc d) (word w ∷ ts) 41)
     first = unfold stageStep isIdent in choose-false (isIdent 41) _ _ (unfold isIdent in refl)
+
     second : afterStep (suc d) (word w ∷ ts) 41 ≡ next (state after d (closer ∷ word w ∷ ts))
     second = unfold opened in refl
 
@@ -61,7 +62,6 @@ close-due d i ts = subst (λ (x : Step). IsRead (onStep i x (λ (t : State). rea
   where
     one : dueStep maxDepth d ts 97 ≡ next (state (inName (97 ∷ [])) d ts)
     one = unfold opened in refl
-
 
 -- ---- no word of the five goes on with an underscore, no operator with an `a`
 
@@ -239,10 +239,10 @@ place-from (c ∷ cs) past s e h =
     place-step (past ++ c ∷ cs) (length past) (step maxDepth s c) (λ (t : State). readFrom maxDepth (suc (length past)) t cs) (live-stage (s .stage) (s .depth) (s .tokens) c)
     (begins-here past s e h (c ∷ cs))
     (λ t q l.
-      subst (λ (x : List ℕ). PlaceOf x (readFrom maxDepth (suc (length past)) t cs)) (append-assoc past (c ∷ []) cs)
-      (subst (λ (n : ℕ). PlaceOf ((past ++ c ∷ []) ++ cs) (readFrom maxDepth n t cs)) (longer past c)
-        (place-from cs (past ++ c ∷ []) t
-          (λ rest. ap reading (append-assoc past (c ∷ []) rest) ∙ e (c ∷ rest) ∙ stepped past s c t q rest ∙ ap (λ (n : ℕ). readFrom maxDepth n t rest) (sym (longer past c))) l)))
+    subst (λ (x : List ℕ). PlaceOf x (readFrom maxDepth (suc (length past)) t cs)) (append-assoc past (c ∷ []) cs)
+    (subst (λ (n : ℕ). PlaceOf ((past ++ c ∷ []) ++ cs) (readFrom maxDepth n t cs)) (longer past c)
+    (place-from cs (past ++ c ∷ []) t
+    (λ rest. ap reading (append-assoc past (c ∷ []) rest) ∙ e (c ∷ rest) ∙ stepped past s c t q rest ∙ ap (λ (n : ℕ). readFrom maxDepth n t rest) (sym (longer past c))) l)))
 
 pub place : (source : List ℕ) → PlaceOf source (reading source)
 unfolding readingTo
@@ -286,7 +286,7 @@ unfolding readFrom onStep
 stops past s c n e q cs =
     record {
       is = λ h rest. ap (λ x. reading (x ++ rest)) (ap (take (suc (length past))) (sym (append-assoc past (c ∷ []) cs)) ∙ take-at (past ++ c ∷ []) cs (suc (length past)) (longer past c))
-        ∙ ap reading (append-assoc past (c ∷ []) rest) ∙ e (c ∷ rest) ∙ ap (λ (x : Step). onStep (length past) x (λ (u : State). readFrom maxDepth (suc (length past)) u rest)) q;
+          ∙ ap reading (append-assoc past (c ∷ []) rest) ∙ e (c ∷ rest) ∙ ap (λ (x : Step). onStep (length past) x (λ (u : State). readFrom maxDepth (suc (length past)) u rest)) q;
     }
 
 ends-from : (cs past : List ℕ) (s : State) → ((rest : List ℕ) → reading (past ++ rest) ≡ readFrom maxDepth (length past) s rest) → EndsOf (past ++ cs) (readFrom maxDepth (length past) s cs)
@@ -295,10 +295,10 @@ ends-from [] past s e = subst (λ (x : List ℕ). EndsOf x (ending (length past)
 ends-from (c ∷ cs) past s e =
     ends-step (past ++ c ∷ cs) (length past) (step maxDepth s c) (λ (t : State). readFrom maxDepth (suc (length past)) t cs) (λ n q. stops past s c n e q cs)
     (λ t q.
-      subst (λ (x : List ℕ). EndsOf x (readFrom maxDepth (suc (length past)) t cs)) (append-assoc past (c ∷ []) cs)
-      (subst (λ (n : ℕ). EndsOf ((past ++ c ∷ []) ++ cs) (readFrom maxDepth n t cs)) (longer past c)
-        (ends-from cs (past ++ c ∷ []) t
-          (λ rest. ap reading (append-assoc past (c ∷ []) rest) ∙ e (c ∷ rest) ∙ stepped past s c t q rest ∙ ap (λ (n : ℕ). readFrom maxDepth n t rest) (sym (longer past c))))))
+    subst (λ (x : List ℕ). EndsOf x (readFrom maxDepth (suc (length past)) t cs)) (append-assoc past (c ∷ []) cs)
+    (subst (λ (n : ℕ). EndsOf ((past ++ c ∷ []) ++ cs) (readFrom maxDepth n t cs)) (longer past c)
+    (ends-from cs (past ++ c ∷ []) t
+    (λ rest. ap reading (append-assoc past (c ∷ []) rest) ∙ e (c ∷ rest) ∙ stepped past s c t q rest ∙ ap (λ (n : ℕ). readFrom maxDepth n t rest) (sym (longer past c))))))
 
 pub ends : (source : List ℕ) → EndsOf source (reading source)
 unfolding readingTo

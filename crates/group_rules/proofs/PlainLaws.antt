@@ -74,7 +74,7 @@ unfolding isIdent
 ident-plain c h =
     or-cases (within 48 57 c || within 65 90 c || within 97 122 c) (is "_" c)
     (λ h. or-cases (within 48 57 c || within 65 90 c) (within 97 122 c)
-      (λ h. or-cases (within 48 57 c) (within 65 90 c) (within-plain 48 57 c (lit≤ tt)) (within-plain 65 90 c (lit≤ tt)) h) (within-plain 97 122 c (lit≤ tt)) h)
+    (λ h. or-cases (within 48 57 c) (within 65 90 c) (within-plain 48 57 c (lit≤ tt)) (within-plain 65 90 c (lit≤ tt)) h) (within-plain 97 122 c (lit≤ tt)) h)
     (is-plain 95 c (lit≤ tt)) h
 
 pub sign-plain : (c : ℕ) → isSign c ≡ true → 32 ≤ c

@@ -71,8 +71,10 @@ blank-gone c h = go (eqb c 32) refl h
   where
     space : eqb c 32 ≡ true → isBare c ≡ false
     space e = rw (eqb-true c 32 e) (unfold isWhite in refl)
+
     tab : eqb c 9 ≡ true → isBare c ≡ false
     tab e = rw (eqb-true c 9 e) (unfold isWhite in refl)
+
     go : (b : Bool) → eqb c 32 ≡ b → (b || eqb c 9) ≡ true → isBare c ≡ false
     go true e k = space e
     go false e k = tab k
@@ -106,7 +108,7 @@ module _ (past : List ℕ) (d : ℕ) (ts : List Token) (c : ℕ) (e : strikeBrac
   sound-due a g =
       choose-case (SoundStep (past ++ c ∷ [])) (λ h. record { good = g; struck = same-tokens (blank-gone c h); spelled = a; stage = tt })
       (λ _. choose-case (SoundStep (past ++ c ∷ []))
-        (λ h. record { good = T.Good.signs c g; struck = one-more ∙ nil-right (bare ts ++ c ∷ []); spelled = (h, a); stage = tt })
+      (λ h. record { good = T.Good.signs c g; struck = one-more ∙ nil-right (bare ts ++ c ∷ []); spelled = (h, a); stage = tt })
       (λ _. choose-case (SoundStep (past ++ c ∷ [])) (λ h. sound-open a g h)
       (λ _. choose-case (SoundStep (past ++ c ∷ [])) (λ h. record { good = g; struck = one-more; spelled = a; stage = number c [] h tt })
       (λ n. choose-case (SoundStep (past ++ c ∷ [])) (λ h. record { good = g; struck = one-more; spelled = a; stage = name c [] n h tt })
@@ -149,7 +151,7 @@ sound-stage past (inOperator a) d ts c s =
     choose-case (SoundStep (past ++ c ∷ []))
     (λ h. record { good = T.Good.operators (a ∷ c ∷ []) (s .good); struck = goes-on past (bare ts) (a ∷ []) c (s .struck) ∙ nil-right (bare ts ++ a ∷ c ∷ []); spelled = (two a c h, s .spelled); stage = tt })
     (λ _. choose-case (SoundStep (past ++ c ∷ []))
-      (λ h. sound-due past d (operator (a ∷ []) ∷ ts) c (s .struck) (one a h, s .spelled) (T.Good.operators (a ∷ []) (s .good)))
+    (λ h. sound-due past d (operator (a ∷ []) ∷ ts) c (s .struck) (one a h, s .spelled) (T.Good.operators (a ∷ []) (s .good)))
     (λ _. tt))
 
 -- ---- a whole source

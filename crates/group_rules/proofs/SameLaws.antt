@@ -52,10 +52,10 @@ fed (bracketed e) f fs = fed e f fs
 fed (operation op l r) f fs =
     foldl-append feed (parse (dueIn start) (f ∷ fs)) (tokensOf (bracketAll l) ++ operator op ∷ tokensOf (bracketAll r)) (closer ∷ [])
     ∙ ap (λ p. feed p closer)
-      (foldl-append feed (parse (dueIn start) (f ∷ fs)) (tokensOf (bracketAll l)) (operator op ∷ tokensOf (bracketAll r))
-      ∙ ap (λ p. foldl feed p (operator op ∷ tokensOf (bracketAll r))) (fed l start (f ∷ fs))
-      ∙ fed r (record { left = leftOf (bracketAll l) op; signs = [] }) (f ∷ fs)
-      ∙ ap (λ x. parse (done x) (f ∷ fs)) (extend-bare l op (bracketAll r)))
+    (foldl-append feed (parse (dueIn start) (f ∷ fs)) (tokensOf (bracketAll l)) (operator op ∷ tokensOf (bracketAll r))
+    ∙ ap (λ p. foldl feed p (operator op ∷ tokensOf (bracketAll r))) (fed l start (f ∷ fs))
+    ∙ fed r (record { left = leftOf (bracketAll l) op; signs = [] }) (f ∷ fs)
+    ∙ ap (λ x. parse (done x) (f ∷ fs)) (extend-bare l op (bracketAll r)))
 
 tree-bracketed : (e : Tree) → treeOf (tokensOf (bracketAll e)) ≡ bracketAll e
 unfolding treeOf joinLeft withSigns
@@ -98,7 +98,7 @@ unfolding isIdent
 ident-high c h =
     or-cases (within 48 57 c || within 65 90 c || within 97 122 c) (is "_" c)
     (λ h. or-cases (within 48 57 c || within 65 90 c) (within 97 122 c)
-      (λ h. or-cases (within 48 57 c) (within 65 90 c) (low 48 57 (omega arith)) (low 65 90 (omega arith)) h) (low 97 122 (omega arith)) h)
+    (λ h. or-cases (within 48 57 c) (within 65 90 c) (low 48 57 (omega arith)) (low 65 90 (omega arith)) h) (low 97 122 (omega arith)) h)
     (λ h. let m = eqb-true c 95 h in omega arith) h
   where
     low : (a b : ℕ) → 48 ≤ a → within a b c ≡ true → 48 ≤ c
@@ -137,6 +137,7 @@ no-space a = go (oneOf operators (a ∷ 32 ∷ [])) refl
   where
     never : secondTest (a ∷ 32 ∷ []) ≡ true → ⊥
     never h = unfold secondTest in let z : _≡_ {A = ℕ} 0 1 = cc in omega arith
+
     go : (b : Bool) → oneOf operators (a ∷ 32 ∷ []) ≡ b → b ≡ false
     go true e = absurd (never (found secondTest operators (a ∷ 32 ∷ []) seconds e))
     go false e = refl
@@ -258,7 +259,7 @@ module _ (limit : ℕ) where
       then (on i (state after d ts) (state after d ts) 32 (a ∷ 32 ∷ cs) (unfold stageStep in space-after d ts))
       (λ j. then (on j (state after d ts) (state (inOperator a) d ts) a (32 ∷ cs) (unfold stageStep in first-step a [] d ts h))
       (λ k. on k (state (inOperator a) d ts) (state due d (operator (a ∷ []) ∷ ts)) 32 cs
-        (unfold stageStep in choose-false (oneOf operators (a ∷ 32 ∷ [])) _ _ (no-space a) ∙ choose-true (oneOf operators (a ∷ [])) _ _ h ∙ space-due d (operator (a ∷ []) ∷ ts))))
+      (unfold stageStep in choose-false (oneOf operators (a ∷ 32 ∷ [])) _ _ (no-space a) ∙ choose-true (oneOf operators (a ∷ [])) _ _ h ∙ space-due d (operator (a ∷ []) ∷ ts))))
   reads-operator (two a c h) i d ts cs =
       then (on i (state after d ts) (state after d ts) 32 (a ∷ c ∷ 32 ∷ cs) (unfold stageStep in space-after d ts))
       (λ j. then (on j (state after d ts) (state (inOperator a) d ts) a (c ∷ 32 ∷ cs) (unfold stageStep in first-step a (c ∷ []) d ts h))
@@ -294,11 +295,13 @@ module _ (limit : ℕ) where
     where
       long : length (40 ∷ (written a ++ (32 ∷ (op ++ (32 ∷ (written b ++ 41 ∷ [])))))) ≡ 4 + length (written a) + length op + length (written b)
       long = sizes (written a) op (written b)
+
       regroup : (x y z cs : List ℕ) → 40 ∷ (x ++ (32 ∷ (y ++ 32 ∷ (z ++ 41 ∷ cs)))) ≡ (40 ∷ (x ++ (32 ∷ (y ++ (32 ∷ (z ++ 41 ∷ [])))))) ++ cs
       regroup x y z cs = simp append-assoc
+
       tokens : closer ∷ onto (tokensOf (bracketAll b)) (operator op ∷ onto (tokensOf (bracketAll a)) (opener ∷ ts)) ≡ onto (tokensOf (bracketed (operation op (bracketAll a) (bracketAll b)))) ts
       tokens = sym (onto-append (tokensOf (bracketAll a) ++ operator op ∷ tokensOf (bracketAll b)) (closer ∷ []) (opener ∷ ts)
-        ∙ ap (onto (closer ∷ [])) (onto-append (tokensOf (bracketAll a)) (operator op ∷ tokensOf (bracketAll b)) (opener ∷ ts)))
+          ∙ ap (onto (closer ∷ [])) (onto-append (tokensOf (bracketAll a)) (operator op ∷ tokensOf (bracketAll b)) (opener ∷ ts)))
 
 pub same-tree : (e : Tree) → AllSpelled (tokensOf e) → SameTree (written e) e
 unfolding readingTo readFrom ending ended

@@ -129,7 +129,7 @@ unfolding isIdent
 ident-low c h =
     or-cases (within 48 57 c || within 65 90 c || within 97 122 c) (is "_" c)
     (λ h. or-cases (within 48 57 c || within 65 90 c) (within 97 122 c)
-      (λ h. or-cases (within 48 57 c) (within 65 90 c) (within-low 48 57 c (lit< tt)) (within-low 65 90 c (lit< tt)) h) (within-low 97 122 c (lit< tt)) h)
+    (λ h. or-cases (within 48 57 c) (within 65 90 c) (within-low 48 57 c (lit< tt)) (within-low 65 90 c (lit< tt)) h) (within-low 97 122 c (lit< tt)) h)
     (is-low 95 c (lit< tt)) h
 
 pub sign-low : (c : ℕ) → isSign c ≡ true → c < 128

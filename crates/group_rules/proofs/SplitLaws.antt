@@ -212,6 +212,7 @@ leave-open o k c cs h = leave o k false c cs (SO.bracket (suc o) k false) (unlik
   where
     no-blank : isBlank c ≡ false
     no-blank = rw (eqb-true c 40 h)
+
     stepped : codeStep strengths (st o k false) c cs ≡ SO.bracket (suc o) k false
     stepped = rw (eqb-true c 40 h) (unfold codeStep choose in refl)
 
@@ -221,15 +222,16 @@ leave-close o k c cs h = leave o k true c cs (SO.bracket o (suc k) true) (unlike
   where
     no-blank : isBlank c ≡ false
     no-blank = rw (eqb-true c 41 h)
+
     stepped : codeStep strengths (st o k true) c cs ≡ SO.bracket o (suc k) true
     stepped = rw (eqb-true c 41 h) (unfold codeStep choose endsOperand isIdent in refl)
 
 -- the tests of `codeStep` that come before those of operators
 before-tests : (b : Bool) (c : ℕ) (cs : List ℕ) (s : Ops) → s .operand ≡ b → eqb c 58 ≡ false → isBlank c ≡ false → isOpener c ≡ false → isCloser c ≡ false
     → codeStep strengths s c cs ≡ choose (at (c ∷ cs) "...") (SO.token s false 2)
-      (choose (at (c ∷ cs) "->" || at (c ∷ cs) "=>") (SO.token s false 1)
-      (choose (eqb (length (take 2 (c ∷ cs))) 2 && oneOf operators (take 2 (c ∷ cs))) (twoCharStep strengths s (take 2 (c ∷ cs)) (drop 1 cs))
-      (oneCharStep strengths s c cs)))
+    (choose (at (c ∷ cs) "->" || at (c ∷ cs) "=>") (SO.token s false 1)
+    (choose (eqb (length (take 2 (c ∷ cs))) 2 && oneOf operators (take 2 (c ∷ cs))) (twoCharStep strengths s (take 2 (c ∷ cs)) (drop 1 cs))
+    (oneCharStep strengths s c cs)))
 unfolding codeStep
 before-tests b c cs s e h i j k =
     choose-false (is ":" c && not (s .operand) && not (eqb (atomLen cs) 0)) _ _ (ap (λ (x : Bool). x && not (s .operand) && not (eqb (atomLen cs) 0)) h)
@@ -247,22 +249,26 @@ leave-ident o k b c cs h = leave o k b c cs (SO.token (st o k b) true 0) (no 92 
   where
     no : (x : ℕ) → isIdent x ≡ false → eqb c x ≡ false
     no x n = unlike isIdent c x h n
+
     openers : isOpener c ≡ false
     openers = or-false (eqb c 123 || eqb c 40) (eqb c 91) (or-false (eqb c 123) (eqb c 40) (no 123 (unfold isIdent in refl)) (no 40 (unfold isIdent in refl))) (no 91 (unfold isIdent in refl))
+
     closers : isCloser c ≡ false
     closers = or-false (eqb c 125 || eqb c 41) (eqb c 93) (or-false (eqb c 125) (eqb c 41) (no 125 (unfold isIdent in refl)) (no 41 (unfold isIdent in refl))) (no 93 (unfold isIdent in refl))
+
     ends-operand : endsOperand c ≡ true
     ends-operand = unfold endsOperand in ap (λ (x : Bool). x || is ")" c || is "]" c || is "\"" c || is "'" c) h
+
     stepped : codeStep strengths (st o k b) c cs ≡ SO.token (st o k b) true 0
     stepped =
         before-tests b c cs (st o k b) refl (no 58 (unfold isIdent in refl)) (or-false (eqb c 32) (eqb c 9) (no 32 (unfold isIdent in refl)) (no 9 (unfold isIdent in refl))) openers closers
         ∙ (unfold startsWith oneCharStep in
-          (choose-false (eqb c 46 && startsWith cs (46 ∷ 46 ∷ [])) _ _ (ap (λ (x : Bool). x && startsWith cs (46 ∷ 46 ∷ [])) (no 46 (unfold isIdent in refl)))
-          ∙ choose-false ((eqb c 45 && startsWith cs (62 ∷ [])) || (eqb c 61 && startsWith cs (62 ∷ []))) _ _
-            (or-false (eqb c 45 && startsWith cs (62 ∷ [])) (eqb c 61 && startsWith cs (62 ∷ [])) (ap (λ (x : Bool). x && startsWith cs (62 ∷ [])) (no 45 (unfold isIdent in refl))) (ap (λ (x : Bool). x && startsWith cs (62 ∷ [])) (no 61 (unfold isIdent in refl))))
-          ∙ choose-false (eqb (length (take 2 (c ∷ cs))) 2 && oneOf operators (take 2 (c ∷ cs))) _ _ (pair-none c cs (λ x. ident-none c (x ∷ []) h))
-          ∙ choose-true (not (oneOf operators (c ∷ []))) _ _ (ap not (ident-none c [] h))
-          ∙ ap (λ x. SO.token (st o k b) x 0) ends-operand))
+        (choose-false (eqb c 46 && startsWith cs (46 ∷ 46 ∷ [])) _ _ (ap (λ (x : Bool). x && startsWith cs (46 ∷ 46 ∷ [])) (no 46 (unfold isIdent in refl)))
+        ∙ choose-false ((eqb c 45 && startsWith cs (62 ∷ [])) || (eqb c 61 && startsWith cs (62 ∷ []))) _ _
+        (or-false (eqb c 45 && startsWith cs (62 ∷ [])) (eqb c 61 && startsWith cs (62 ∷ [])) (ap (λ (x : Bool). x && startsWith cs (62 ∷ [])) (no 45 (unfold isIdent in refl))) (ap (λ (x : Bool). x && startsWith cs (62 ∷ [])) (no 61 (unfold isIdent in refl))))
+        ∙ choose-false (eqb (length (take 2 (c ∷ cs))) 2 && oneOf operators (take 2 (c ∷ cs))) _ _ (pair-none c cs (λ x. ident-none c (x ∷ []) h))
+        ∙ choose-true (not (oneOf operators (c ∷ []))) _ _ (ap not (ident-none c [] h))
+        ∙ ap (λ x. SO.token (st o k b) x 0) ends-operand))
 
 -- ---- signs and operators: what follows makes no other token of them
 
@@ -299,23 +305,27 @@ leave-sign o k c cs h q = leave o k false c cs (SO.token (st o k false) false 0)
   where
     no : (x : ℕ) → isSign x ≡ false → eqb c x ≡ false
     no x n = unlike isSign c x h n
+
     blank : isBlank c ≡ false
     blank = or-false (eqb c 32) (eqb c 9) (no 32 refl) (no 9 refl)
+
     openers : isOpener c ≡ false
     openers = or-false (eqb c 123 || eqb c 40) (eqb c 91) (or-false (eqb c 123) (eqb c 40) (no 123 refl) (no 40 refl)) (no 91 refl)
+
     closers : isCloser c ≡ false
     closers = or-false (eqb c 125 || eqb c 41) (eqb c 93) (or-false (eqb c 125) (eqb c 41) (no 125 refl) (no 41 refl)) (no 93 refl)
+
     stepped : codeStep strengths (st o k false) c cs ≡ SO.token (st o k false) false 0
     stepped =
         before-tests false c cs (st o k false) refl (no 58 refl) blank openers closers
         ∙ (unfold startsWith oneCharStep in
-          (choose-false (eqb c 46 && startsWith cs (46 ∷ 46 ∷ [])) _ _ (ap (λ (x : Bool). x && startsWith cs (46 ∷ 46 ∷ [])) (no 46 refl))
-          ∙ choose-false ((eqb c 45 && startsWith cs (62 ∷ [])) || (eqb c 61 && startsWith cs (62 ∷ []))) _ _
-            (or-false (eqb c 45 && startsWith cs (62 ∷ [])) (eqb c 61 && startsWith cs (62 ∷ [])) (and-second-none (eqb c 45) (startsWith cs (62 ∷ [])) (no-greater cs q)) (and-second-none (eqb c 61) (startsWith cs (62 ∷ [])) (no-greater cs q)))
-          ∙ choose-false (eqb (length (take 2 (c ∷ cs))) 2 && oneOf operators (take 2 (c ∷ cs))) _ _ (pair-none c cs (λ x. sign-alone c x h))
-          ∙ choose-false (not (oneOf operators (c ∷ []))) _ _ (ap not (sign-operator c h))
-          ∙ choose-false (firstIs (is "=") cs) _ _ (no-equals cs q)
-          ∙ choose-true (isSign c && not false) _ _ (ap (λ (x : Bool). x && true) h)))
+        (choose-false (eqb c 46 && startsWith cs (46 ∷ 46 ∷ [])) _ _ (ap (λ (x : Bool). x && startsWith cs (46 ∷ 46 ∷ [])) (no 46 refl))
+        ∙ choose-false ((eqb c 45 && startsWith cs (62 ∷ [])) || (eqb c 61 && startsWith cs (62 ∷ []))) _ _
+        (or-false (eqb c 45 && startsWith cs (62 ∷ [])) (eqb c 61 && startsWith cs (62 ∷ [])) (and-second-none (eqb c 45) (startsWith cs (62 ∷ [])) (no-greater cs q)) (and-second-none (eqb c 61) (startsWith cs (62 ∷ [])) (no-greater cs q)))
+        ∙ choose-false (eqb (length (take 2 (c ∷ cs))) 2 && oneOf operators (take 2 (c ∷ cs))) _ _ (pair-none c cs (λ x. sign-alone c x h))
+        ∙ choose-false (not (oneOf operators (c ∷ []))) _ _ (ap not (sign-operator c h))
+        ∙ choose-false (firstIs (is "=") cs) _ _ (no-equals cs q)
+        ∙ choose-true (isSign c && not false) _ _ (ap (λ (x : Bool). x && true) h)))
 
 -- what an operator's first character is not
 module _ (a : ℕ) (r : List ℕ) (h : oneOf operators (a ∷ r) ≡ true) where
@@ -349,13 +359,13 @@ leave-one k d a c cs n h q =
     stepped =
         before-tests true a (c ∷ cs) (st (k + d) k true) refl (op-is a [] h 58 (unfold allOf firstNot in refl)) (op-blank a [] h) (op-opener a [] h) (op-closer a [] h)
         ∙ (unfold startsWith oneCharStep firstIs in
-          (choose-false (eqb a 46 && (eqb c 46 && startsWith cs (46 ∷ []))) _ _ (and-second-none (eqb a 46) (eqb c 46 && startsWith cs (46 ∷ [])) (ap (λ (x : Bool). x && startsWith cs (46 ∷ [])) (q .dot)))
-          ∙ choose-false ((eqb a 45 && (eqb c 62 && true)) || (eqb a 61 && (eqb c 62 && true))) _ _
-            (or-false (eqb a 45 && (eqb c 62 && true)) (eqb a 61 && (eqb c 62 && true)) (and-second-none (eqb a 45) (eqb c 62 && true) (ap (λ (x : Bool). x && true) (q .greater))) (and-second-none (eqb a 61) (eqb c 62 && true) (ap (λ (x : Bool). x && true) (q .greater))))
-          ∙ choose-false (oneOf operators (a ∷ c ∷ [])) _ _ n
-          ∙ choose-false (not (oneOf operators (a ∷ []))) _ _ (ap not h)
-          ∙ choose-false (eqb c 61) _ _ (q .equals)
-          ∙ choose-false (isSign a && not true) _ _ (and-none (isSign a))))
+        (choose-false (eqb a 46 && (eqb c 46 && startsWith cs (46 ∷ []))) _ _ (and-second-none (eqb a 46) (eqb c 46 && startsWith cs (46 ∷ [])) (ap (λ (x : Bool). x && startsWith cs (46 ∷ [])) (q .dot)))
+        ∙ choose-false ((eqb a 45 && (eqb c 62 && true)) || (eqb a 61 && (eqb c 62 && true))) _ _
+        (or-false (eqb a 45 && (eqb c 62 && true)) (eqb a 61 && (eqb c 62 && true)) (and-second-none (eqb a 45) (eqb c 62 && true) (ap (λ (x : Bool). x && true) (q .greater))) (and-second-none (eqb a 61) (eqb c 62 && true) (ap (λ (x : Bool). x && true) (q .greater))))
+        ∙ choose-false (oneOf operators (a ∷ c ∷ [])) _ _ n
+        ∙ choose-false (not (oneOf operators (a ∷ []))) _ _ (ap not h)
+        ∙ choose-false (eqb c 61) _ _ (q .equals)
+        ∙ choose-false (isSign a && not true) _ _ (and-none (isSign a))))
 
 -- the second character of an operator is passed over
 skip-step : (o k c : ℕ) (cs : List ℕ) → isBlank c ≡ false
@@ -368,19 +378,19 @@ leave-two : (k d a c : ℕ) (cs : List ℕ) → oneOf operators (a ∷ c ∷ [])
 leave-two k d a c cs h q =
     leave (k + d) k true a (c ∷ cs) (SO.operator (st (k + d) k true) (strengthOf (a ∷ c ∷ [])) 1) (op-is a (c ∷ []) h 92 (unfold allOf firstNot in refl)) (op-blank a (c ∷ []) h) stepped
     ∙ (unfold SO.operator in
-      (ap (λ (x : Bool). opMark a (choose x (strengthOf (a ∷ c ∷ [])) 0) ∷ inked (marksFrom strengths (record { opened = k + d; closed = k; operand = false; esc = false; skip = 1 }) (code (c ∷ cs)))) (same-depth k d)
-      ∙ ap (λ l. opMark a (atDepth d (a ∷ c ∷ [])) ∷ l) (skip-step (k + d) k c cs (not-pair (λ x y. isBlank y) (unfold allOf pairNot in refl) a c h))))
+    (ap (λ (x : Bool). opMark a (choose x (strengthOf (a ∷ c ∷ [])) 0) ∷ inked (marksFrom strengths (record { opened = k + d; closed = k; operand = false; esc = false; skip = 1 }) (code (c ∷ cs)))) (same-depth k d)
+    ∙ ap (λ l. opMark a (atDepth d (a ∷ c ∷ [])) ∷ l) (skip-step (k + d) k c cs (not-pair (λ x y. isBlank y) (unfold allOf pairNot in refl) a c h))))
   where
     stepped : codeStep strengths (st (k + d) k true) a (c ∷ cs) ≡ SO.operator (st (k + d) k true) (strengthOf (a ∷ c ∷ [])) 1
     stepped =
         before-tests true a (c ∷ cs) (st (k + d) k true) refl (op-is a (c ∷ []) h 58 (unfold allOf firstNot in refl)) (op-blank a (c ∷ []) h) (op-opener a (c ∷ []) h) (op-closer a (c ∷ []) h)
         ∙ (unfold startsWith twoCharStep in
-          (choose-false (eqb a 46 && (eqb c 46 && startsWith cs (46 ∷ []))) _ _ (and-second-none (eqb a 46) (eqb c 46 && startsWith cs (46 ∷ [])) (and-second-none (eqb c 46) (startsWith cs (46 ∷ [])) (no-dot cs q)))
-          ∙ choose-false ((eqb a 45 && (eqb c 62 && true)) || (eqb a 61 && (eqb c 62 && true))) _ _
-            (not-pair (λ x y. (eqb x 45 && (eqb y 62 && true)) || (eqb x 61 && (eqb y 62 && true))) (unfold allOf pairNot in refl) a c h)
-          ∙ choose-true (oneOf operators (a ∷ c ∷ [])) _ _ h
-          ∙ choose-false ((same (a ∷ c ∷ []) (codes "<<") || same (a ∷ c ∷ []) (codes ">>")) && firstIs (is "=") cs) _ _
-            (and-second-none (same (a ∷ c ∷ []) (codes "<<") || same (a ∷ c ∷ []) (codes ">>")) (firstIs (is "=") cs) (no-equals cs q))))
+        (choose-false (eqb a 46 && (eqb c 46 && startsWith cs (46 ∷ []))) _ _ (and-second-none (eqb a 46) (eqb c 46 && startsWith cs (46 ∷ [])) (and-second-none (eqb c 46) (startsWith cs (46 ∷ [])) (no-dot cs q)))
+        ∙ choose-false ((eqb a 45 && (eqb c 62 && true)) || (eqb a 61 && (eqb c 62 && true))) _ _
+        (not-pair (λ x y. (eqb x 45 && (eqb y 62 && true)) || (eqb x 61 && (eqb y 62 && true))) (unfold allOf pairNot in refl) a c h)
+        ∙ choose-true (oneOf operators (a ∷ c ∷ [])) _ _ h
+        ∙ choose-false ((same (a ∷ c ∷ []) (codes "<<") || same (a ∷ c ∷ []) (codes ">>")) && firstIs (is "=") cs) _ _
+        (and-second-none (same (a ∷ c ∷ []) (codes "<<") || same (a ∷ c ∷ []) (codes ">>")) (firstIs (is "=") cs) (no-equals cs q))))
 
 -- ---- the marks of the whole source
 
@@ -435,7 +445,7 @@ marked {all} (signDue {d = d} {c = c} {ts = ts} {cs = cs} h q l) k n =
 marked {all} (openDue {d = d} {c = c} {ts = ts} {cs = cs} h l) k n =
     emit all (marksBack ts) (opMark 40 0 ∷ []) _ _ (marked l k (ap suc n))
     (leave-open (k + d) k c cs h ∙ ap (λ x. opMark x 0 ∷ inked (marksFrom strengths (st (suc (k + d)) k false) (code cs))) (eqb-true c 40 h)
-      ∙ ap (λ o. opMark 40 0 ∷ inked (marksFrom strengths (st o k false) (code cs))) (one-more k d))
+    ∙ ap (λ o. opMark 40 0 ∷ inked (marksFrom strengths (st o k false) (code cs))) (one-more k d))
 marked {all} (numberDue {d = d} {c = c} {ts = ts} {cs = cs} h l) k n = emit-word all (marksBack ts) [] c _ _ (marked l k n) (leave-ident (k + d) k false c cs h)
 marked {all} (nameDue {d = d} {c = c} {ts = ts} {cs = cs} h l) k n = emit-word all (marksBack ts) [] c _ _ (marked l k n) (leave-ident (k + d) k false c cs h)
 marked {all} (moreNumber {d = d} {c = c} {w = w} {ts = ts} {cs = cs} h l) k n = emit-word all (marksBack ts) w c _ _ (marked l k n) (leave-ident (k + d) k true c cs h)
@@ -446,7 +456,7 @@ marked {all} (blankAfter {d = d} {c = c} {ts = ts} {cs = cs} h l) k n = marked l
 marked {all} (closeAfter {d = d} {c = c} {ts = ts} {cs = cs} h l) k n =
     emit all (marksBack ts) (opMark 41 0 ∷ []) _ _ (marked l (suc k) (omega arith))
     (leave-close (k + suc d) k c cs h ∙ ap (λ x. opMark x 0 ∷ inked (marksFrom strengths (st (k + suc d) (suc k) true) (code cs))) (eqb-true c 41 h)
-      ∙ ap (λ o. opMark 41 0 ∷ inked (marksFrom strengths (st o (suc k) true) (code cs))) (sym (one-more k d) ∙ one-less k d))
+    ∙ ap (λ o. opMark 41 0 ∷ inked (marksFrom strengths (st o (suc k) true) (code cs))) (sym (one-more k d) ∙ one-less k d))
 marked {all} (operatorOne {d = d} {a = a} {c = c} {ts = ts} {cs = cs} q h s l) k n =
     emit all (marksBack ts) (opMark a (atDepth (depthOf ts) (a ∷ [])) ∷ []) _ _ (marked l k n)
     (leave-one k d a c cs q h s ∙ ap (λ x. opMark a (atDepth x (a ∷ [])) ∷ inked (marksFrom strengths (st (k + d) k false) (code (c ∷ cs)))) (sym n))
@@ -608,7 +618,7 @@ splits-alike limit source ts e = go (laid limit source ts e)
         record {
           operators = ap (λ (x : List Cell). inked (topLevelOps strengths x)) c ∙ sym m;
           breaks = ap (splitOnce strengths) c ∙ choose-false (hasWord keywords (code source)) _ _ (free l [] refl)
-            ∙ choose-false (not (isBalanced (code source))) _ _ (ap (λ (x : Option ℕ). not (isZero x)) (balanced l))
-            ∙ ap (λ n. breakAt n (topLevelOps strengths (code source))) p
-            ∙ ap (λ (x : List Cell). breakAt (loosest (marksOf ts)) (topLevelOps strengths x)) (sym c);
+              ∙ choose-false (not (isBalanced (code source))) _ _ (ap (λ (x : Option ℕ). not (isZero x)) (balanced l))
+              ∙ ap (λ n. breakAt n (topLevelOps strengths (code source))) p
+              ∙ ap (λ (x : List Cell). breakAt (loosest (marksOf ts)) (topLevelOps strengths x)) (sym c);
         }

@@ -103,7 +103,7 @@ close-outer {d} {ts} e (f ∷ fs) p n k =
       is = fed-cons closer ts ∙ ap (λ q. feed q closer) p ∙ unfold feedAt feedDone feedClosed in refl;
       size = omega arith;
       tokens = ap (λ l. outerTokens fs ++ l) (tokens-join (f .left) (f .signs) (bracketed e)) ∙ regroup (outerTokens fs) (frameTokens f) (tokensOf e)
-        ∙ snoc (outerTokens (f ∷ fs)) (tokensOf e) closer ts k;
+          ∙ snoc (outerTokens (f ∷ fs)) (tokensOf e) closer ts k;
     }
 
 parsed : {b : Bool} {d : ℕ} {ts : List Token} → Good b d ts → Parsed b d ts
@@ -117,7 +117,7 @@ parsed (signs {ts = ts} c g) =
       is = fed-cons (sign c) ts ∙ ap (λ q. feed q (sign c)) (p .is);
       size = p .size;
       tokens = ap (λ l. outerTokens (p .outer) ++ l) (sym (append-assoc (leftTokens (p .frame .left)) (signTokens (p .frame .signs)) (sign c ∷ [])))
-        ∙ snoc (outerTokens (p .outer)) (frameTokens (p .frame)) (sign c) ts (p .tokens);
+          ∙ snoc (outerTokens (p .outer)) (frameTokens (p .frame)) (sign c) ts (p .tokens);
     }
 parsed (opens {ts = ts} g) =
     let p = parsed g in
@@ -136,7 +136,7 @@ parsed (words {ts = ts} w g) =
       is = fed-cons (word w) ts ∙ ap (λ q. feed q (word w)) (p .is);
       size = p .size;
       tokens = ap (λ l. outerTokens (p .outer) ++ l) (tokens-join (p .frame .left) (p .frame .signs) (operand w))
-        ∙ snoc (outerTokens (p .outer)) (frameTokens (p .frame)) (word w) ts (p .tokens);
+          ∙ snoc (outerTokens (p .outer)) (frameTokens (p .frame)) (word w) ts (p .tokens);
     }
 parsed (closes g) = let p = parsed g in close-outer (p .tree) (p .outer) (p .is) (p .size) (p .tokens)
 parsed (operators {ts = ts} op g) =
@@ -147,7 +147,7 @@ parsed (operators {ts = ts} op g) =
       is = fed-cons (operator op) ts ∙ ap (λ q. feed q (operator op)) (p .is);
       size = p .size;
       tokens = ap (λ l. outerTokens (p .outer) ++ l) (append-nil (tokensOf (p .tree) ++ operator op ∷ []))
-        ∙ snoc (outerTokens (p .outer)) (tokensOf (p .tree)) (operator op) ts (p .tokens);
+          ∙ snoc (outerTokens (p .outer)) (tokensOf (p .tree)) (operator op) ts (p .tokens);
     }
 
 no-outer : (fs : List Frame) → length fs ≡ 0 → outerTokens fs ≡ []

@@ -3,59 +3,40 @@ use native.Mathlib.Omega.{arith}
 use Rattle.group.proofs.GroupCall.{codes-ready, text-short, text-fits}
 use Rattle.group.proofs.write_text.Statement.{statement}
 use Rattle.group.proofs.write_text.Tie as tie
-use Rattle.group.proofs.write_text.Reads as reads
-use Rattle.group.proofs.write_text.Lts as lts
-use Rattle.buffer.proofs.finish.Reads as finish-reads
-use Rattle.buffer.proofs.zero.Reads as zero-reads
-use Rattle.group.proofs.refuse.Reads as refuse-reads
-use Rattle.group_close.proofs.close_all.Reads as close-all-reads
-use Rattle.group_open.proofs.open_all.Reads as open-all-reads
 
--- src/lib.rt:33:9
 open-all-requires : tie.Need-open-all-requires
 open-all-requires c κs = search needs
 
--- src/lib.rt:34:64
 mul-close-all : tie.Need-mul-close-all
 mul-close-all c = search needs
 
--- src/lib.rt:34:9
 close-all-requires : tie.Need-close-all-requires
 close-all-requires c κs = search (needs, codes-ready)
 
--- src/lib.rt:36:9
 refuse-requires : tie.Need-refuse-requires
 refuse-requires c κs = search needs
 
--- src/lib.rt:36:9
 same-length : tie.Need-same-length
 same-length c = search needs
 
--- src/lib.rt:36:9
 same-length-2 : tie.Need-same-length-2
 same-length-2 c = search needs
 
--- src/lib.rt:36:9
 returns : tie.Need-returns
 returns c = search (needs, text-short)
 
--- src/lib.rt:38:5
 finish-requires : tie.Need-finish-requires
 finish-requires c κs = search needs
 
--- src/lib.rt:39:5
 zero-requires : tie.Need-zero-requires
 zero-requires c κs = search needs
 
--- src/lib.rt:29:1
 same-length-3 : tie.Need-same-length-3
 same-length-3 c = search needs
 
--- src/lib.rt:29:1
 same-length-4 : tie.Need-same-length-4
 same-length-4 c = search needs
 
--- src/lib.rt:29:1
 returns-2 : tie.Need-returns-2
 returns-2 c = search (needs, text-fits)
 

@@ -3,10 +3,6 @@ use Rattle.group_close.proofs.ForthLaws.{Closing, closing-start, before
 use borrow.Author.Needs.{needs}
 use Rattle.group_close.proofs.close_before.Statement.{statement}
 use Rattle.group_close.proofs.close_before.Tie as tie
-use Rattle.group_close.proofs.close_before.Reads as reads
-use Rattle.group_close.proofs.close_before.Lts as lts
-use Rattle.group_close.proofs.put.Reads as put-reads
-use Rattle.group_open.proofs.second_takes.Reads as second-takes-reads
 
 abbrev Inv-loop : tie.InvT-loop
 Inv-loop scratch out₀ s len top n₀ k₀ out n k = Closing scratch out₀ out len top n k (closesBefore s)
@@ -14,51 +10,39 @@ Inv-loop scratch out₀ s len top n₀ k₀ out n k = Closing scratch out₀ out
 abbrev μ-loop : tie.MeasureT-loop
 μ-loop scratch out₀ s len top n₀ k₀ out n k = k
 
--- src/lib.rt:47:5
 loop-holds : tie.Need-loop-holds Inv-loop μ-loop
 loop-holds c = search (needs, closing-start)
 
--- src/lib.rt:48:25
 sub-t : tie.Need-sub-t Inv-loop μ-loop
 sub-t c = search needs
 
--- src/lib.rt:48:17
 shared-slice-read-t : tie.Need-shared-slice-read-t Inv-loop μ-loop
 shared-slice-read-t c = search needs
 
--- src/lib.rt:49:12
 second-takes-requires : tie.Need-second-takes-requires Inv-loop μ-loop
 second-takes-requires c κs = search needs
 
--- src/lib.rt:50:13
 same-length : tie.Need-same-length Inv-loop μ-loop
 same-length c = search (needs, appended-size)
 
--- src/lib.rt:50:13
 returns : tie.Need-returns Inv-loop μ-loop
 returns c = search (needs, before-stop)
 
--- src/lib.rt:52:9
 put-requires : tie.Need-put-requires Inv-loop μ-loop
 put-requires c κs = search needs
 
--- src/lib.rt:53:9
 sub-k : tie.Need-sub-k Inv-loop μ-loop
 sub-k c = search needs
 
--- src/lib.rt:47:5
 loop-less : tie.Need-loop-less Inv-loop μ-loop
 loop-less c = search needs
 
--- src/lib.rt:47:5
 loop-again : tie.Need-loop-again Inv-loop μ-loop
 loop-again c = search (needs, before-more)
 
--- src/lib.rt:41:1
 same-length-2 : tie.Need-same-length-2 Inv-loop μ-loop
 same-length-2 c = search (needs, appended-size)
 
--- src/lib.rt:41:1
 returns-2 : tie.Need-returns-2 Inv-loop μ-loop
 returns-2 c = search (needs, before-end)
 

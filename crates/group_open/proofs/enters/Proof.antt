@@ -3,14 +3,10 @@ use native.Mathlib.Omega.{arith}
 use Rattle.group_open.proofs.BackLaws.{may-enter, too-deep}
 use Rattle.group_open.proofs.enters.Statement.{statement}
 use Rattle.group_open.proofs.enters.Tie as tie
-use Rattle.group_open.proofs.enters.Reads as reads
-use Rattle.group_open.proofs.enters.Lts as lts
 
--- src/lib.rt:195:9
 returns : tie.Need-returns
 returns c = search (needs, may-enter)
 
--- src/lib.rt:191:1
 returns-2 : tie.Need-returns-2
 returns-2 c = search (needs, too-deep)
 

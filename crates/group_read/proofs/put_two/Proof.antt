@@ -4,50 +4,37 @@ use lib.ListN.{length, set, length-set}
 use Rattle.group_read.proofs.OperatorLaws.{write-four}
 use Rattle.group_read.proofs.put_two.Statement.{statement}
 use Rattle.group_read.proofs.put_two.Tie as tie
-use Rattle.group_read.proofs.put_two.Reads as reads
-use Rattle.group_read.proofs.put_two.Lts as lts
 
--- src/lib.rt:184:5
 slice-write-scratch : tie.Need-slice-write-scratch
 slice-write-scratch c = search needs
 
--- src/lib.rt:185:13
 add-scratch : tie.Need-add-scratch
 add-scratch c = search needs
 
--- src/lib.rt:185:5
 slice-write-scratch-2 : tie.Need-slice-write-scratch-2
 slice-write-scratch-2 c = simp length-set (omega (arith, c .pre .1))
 
--- src/lib.rt:186:13
 add-scratch-2 : tie.Need-add-scratch-2
 add-scratch-2 c = search needs
 
--- src/lib.rt:186:5
 slice-write-scratch-3 : tie.Need-slice-write-scratch-3
 slice-write-scratch-3 c = simp length-set (omega (arith, c .pre .1))
 
--- src/lib.rt:187:23
 add-scratch-3 : tie.Need-add-scratch-3
 add-scratch-3 c = search needs
 
--- src/lib.rt:187:13
 add-scratch-4 : tie.Need-add-scratch-4
 add-scratch-4 c = search needs
 
--- src/lib.rt:187:5
 slice-write-scratch-4 : tie.Need-slice-write-scratch-4
 slice-write-scratch-4 c = simp length-set (omega (arith, c .pre .1))
 
--- src/lib.rt:188:5
 add-result : tie.Need-add-result
 add-result c = search needs
 
--- src/lib.rt:180:1
 same-length : tie.Need-same-length
 same-length c = search needs
 
--- src/lib.rt:180:1
 returns : tie.Need-returns
 returns c = write-four _ _ _ _ _ _ (c .pre .1)
 

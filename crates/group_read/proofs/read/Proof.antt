@@ -6,10 +6,6 @@ use Rattle.group_read.proofs.LoopLaws.{Reads, reads-start, reads-room, 
 use Rattle.group_read.proofs.read.Statement.{statement}
 use Rattle.group_read.proofs.read.Tie as tie
 use Rattle.group_read.proofs.read.Reads as reads
-use Rattle.group_read.proofs.read.Lts as lts
-use Rattle.group_read.proofs.end_read.Reads as end-read-reads
-use Rattle.group_read.proofs.no_codes.Reads as no-codes-reads
-use Rattle.group_read.proofs.read_byte.Reads as read-byte-reads
 
 abbrev Inv-loop : tie.InvT-loop
 Inv-loop source scratch₀ r₀ i₀ scratch r i = Reads source scratch₀ scratch i r
@@ -17,47 +13,36 @@ Inv-loop source scratch₀ r₀ i₀ scratch r i = Reads source scratch₀ scrat
 abbrev μ-loop : tie.MeasureT-loop
 μ-loop source scratch₀ r₀ i₀ scratch r i = length source - i
 
--- src/lib.rt:277:5
 loop-holds : tie.Need-loop-holds Inv-loop μ-loop
 loop-holds c = search (needs, reads-start)
 
--- src/lib.rt:278:13
 read-byte-requires : tie.Need-read-byte-requires Inv-loop μ-loop
 read-byte-requires c κs = search (needs, reads-room)
 
--- src/lib.rt:280:13
 no-codes-requires : tie.Need-no-codes-requires Inv-loop μ-loop
 no-codes-requires c κs = search needs
 
--- src/lib.rt:280:13
 same-length : tie.Need-same-length Inv-loop μ-loop
 same-length c = search needs
 
--- src/lib.rt:280:13
 returns : tie.Need-returns Inv-loop μ-loop
 returns c = search (needs, reads-refused)
 
--- src/lib.rt:283:9
 add-i : tie.Need-add-i Inv-loop μ-loop
 add-i c = search needs
 
--- src/lib.rt:277:5
 loop-less : tie.Need-loop-less Inv-loop μ-loop
 loop-less c = search needs
 
--- src/lib.rt:277:5
 loop-again : tie.Need-loop-again Inv-loop μ-loop
 loop-again c = search (needs, reads-next)
 
--- src/lib.rt:285:5
 end-read-requires : tie.Need-end-read-requires Inv-loop μ-loop
 end-read-requires c κs = search needs
 
--- src/lib.rt:266:1
 same-length-2 : tie.Need-same-length-2 Inv-loop μ-loop
 same-length-2 c = search needs
 
--- src/lib.rt:266:1
 returns-2 : tie.Need-returns-2 Inv-loop μ-loop
 returns-2 c = search (needs, reads-end)
 

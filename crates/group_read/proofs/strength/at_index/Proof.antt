@@ -1,19 +1,15 @@
 use borrow.Author.Needs.{needs}
 use native.Mathlib.Omega.{arith}
 use Rattle.group_read.proofs.OperatorLaws.{past-table}
-use Rattle.group_read.proofs.strength.at_index.Reads as reads
 use Rattle.group_read.proofs.strength.at_index.Statement.{statement}
 use Rattle.group_read.proofs.strength.at_index.Tie as tie
 
--- src/strength.rt:16:16
 array-read-result : tie.Need-array-read-result
 array-read-result c = search needs
 
--- src/strength.rt:16:9
 returns : tie.Need-returns
 returns c = search needs
 
--- src/strength.rt:12:1
 returns-2 : tie.Need-returns-2
 returns-2 c = search (needs, past-table)
 

@@ -34,7 +34,7 @@ use Rattle.group_open.specs.Back.{OpenedAll}
 use Rattle.group_close.specs.Forth.{Ready}
 use Rattle.group_read.specs.Read.{Codes, CodedAs, SourceFits}
 use Rattle.group_read.specs.declared.Coded.{Coded}
-use Rattle.group.specs.Ran.{Passed, CodesFit, textIn, textOf, TextShown, Shown, RefusedGroup, GroupRan}
+use Rattle.group.specs.Ran.{Admitted, CodesFit, textOutcome, codesText, TextShown, Shown, RefusedGroup, GroupRan}
 
 -- ---- the text of the codes
 
@@ -50,19 +50,19 @@ codes-ready f o =
 
 module _ (l l₁ l₂ out out₁ : List ℕ) (n from len : ℕ) (o : OpenedAll l l₁ n from) (w : Appended out out₁ 0 (closedText (part l₁ from (3 * n))) len)
     (eo : length out₁ ≡ length out) (el : length l₂ ≡ length l₁) where
-  the-text : closedText (part l₁ from (3 * n)) ≡ textOf l n
+  the-text : closedText (part l₁ from (3 * n)) ≡ codesText l n
   the-text = ap closedText (sym (o .is))
 
-  the-length : length (textOf l n) ≡ len
+  the-length : length (codesText l n) ≡ len
   the-length = let a = w .next in let b = ap length the-text in omega arith
 
   pub text-short : (r : GroupOutcome) (out₂ work : List ℕ) → length out₁ < len
       → RefusedGroup (GroupOutcome.Refused (Refusal.OutputShort len)) (length out₁) (length l₂) r out₂ work → TextShown l n (length out) r out₂ work
   text-short r out₂ work h k =
       record {
-        outcome = k .outcome ∙ sym (choose-true (ltb (length out) (length (textOf l n))) _ _ (lt-ltb (length out) (length (textOf l n)) (omega (arith, the-length)))
+        outcome = k .outcome ∙ sym (choose-true (ltb (length out) (length (codesText l n))) _ _ (lt-ltb (length out) (length (codesText l n)) (omega (arith, the-length)))
             ∙ ap (λ m. GroupOutcome.Refused (Refusal.OutputShort m)) the-length);
-        output = k .zeros ∙ ap (λ m. replicate m 0) eo ∙ sym (ap (λ x. groupOutputFor x (length out) (textOf l n)) (k .outcome));
+        output = k .zeros ∙ ap (λ m. replicate m 0) eo ∙ sym (ap (λ x. groupOutputFor x (length out) (codesText l n)) (k .outcome));
         cleared = k .cleared ∙ ap (λ m. replicate m 0) (el ∙ o .size);
       }
 
@@ -71,9 +71,9 @@ module _ (l l₁ l₂ out out₁ : List ℕ) (n from len : ℕ) (o : OpenedAll l
   unfolding filled
   text-fits out₂ work h f z =
       record {
-        outcome = sym (choose-false (ltb (length out) (length (textOf l n))) _ _ (le-ltb (length out) (length (textOf l n)) (omega (arith, the-length))) ∙ ap GroupOutcome.Grouped the-length);
-        output = finishes-text f h (textOf l n) the-length (subst (Agree out₁) the-text (appended-agree w [] refl (agree-nil out)))
-            ∙ ap (λ m. textOf l n ++ replicate m 0) (same-room eo the-length);
+        outcome = sym (choose-false (ltb (length out) (length (codesText l n))) _ _ (le-ltb (length out) (length (codesText l n)) (omega (arith, the-length))) ∙ ap GroupOutcome.Grouped the-length);
+        output = finishes-text f h (codesText l n) the-length (subst (Agree out₁) the-text (appended-agree w [] refl (agree-nil out)))
+            ∙ ap (λ m. codesText l n ++ replicate m 0) (same-room eo the-length);
         cleared = z ∙ ap (λ m. replicate m 0) (el ∙ o .size);
       }
     where
@@ -82,10 +82,10 @@ module _ (l l₁ l₂ out out₁ : List ℕ) (n from len : ℕ) (o : OpenedAll l
 
 -- ---- a source to which refusals 1, 3 and 4 do not apply
 
-pub source-fits : {source l : List ℕ} → Passed source l → SourceFits source l
+pub source-fits : {source l : List ℕ} → Admitted source l → SourceFits source l
 source-fits p = record { fits = omega (arith, p .room); small = omega (arith, p .short) }
 
-module _ {source l l₁ : List ℕ} {q : Coded} (p : Passed source l) (c : CodedAs source l l₁ q) where
+module _ {source l l₁ : List ℕ} {q : Coded} (p : Admitted source l) (c : CodedAs source l l₁ q) where
   pub codes-fit : q .refusal ≡ 0 → CodesFit l₁ (q .length)
   codes-fit e = let k = c .is .yes e in record { room = omega (arith, k .short, p .room, c .size); small = omega (arith, k .short, p .short) }
 
@@ -108,19 +108,19 @@ module _ {source l l₁ : List ℕ} {q : Coded} (p : Passed source l) (c : Coded
     where
       go : Codes l₁ (reading source) (length source) (q .length) → Shown (grouping (decode source)) (length out) (length l) r out₁ work
       go s =
-          let t : textOf l₁ (q .length) ≡ written (treeOf (s .tokens)) = ap (λ x. closedText (openedText x)) (s .codes) ∙ text-of source (s .tokens) (s .is) in
-          let b : encode (written (treeOf (s .tokens))) ≡ textOf l₁ (q .length) = text-bytes source (s .tokens) (s .is) ∙ sym t in
+          let t : codesText l₁ (q .length) ≡ written (treeOf (s .tokens)) = ap (λ x. closedText (openedText x)) (s .codes) ∙ text-of source (s .tokens) (s .is) in
+          let b : encode (written (treeOf (s .tokens))) ≡ codesText l₁ (q .length) = text-bytes source (s .tokens) (s .is) ∙ sym t in
           subst (λ g. Shown g (length out) (length l) r out₁ work) (sym (on-characters (s .is)))
           (record {
-            outcome = k .outcome ∙ ap (textIn (length out)) (sym b);
-            output = k .output ∙ ap (λ x. groupOutputFor x (length out) (textOf l₁ (q .length))) (k .outcome ∙ ap (textIn (length out)) (sym b))
-                ∙ ap (groupOutputFor (textIn (length out) (encode (written (treeOf (s .tokens))))) (length out)) (sym b);
+            outcome = k .outcome ∙ ap (textOutcome (length out)) (sym b);
+            output = k .output ∙ ap (λ x. groupOutputFor x (length out) (codesText l₁ (q .length))) (k .outcome ∙ ap (textOutcome (length out)) (sym b))
+                ∙ ap (groupOutputFor (textOutcome (length out) (encode (written (treeOf (s .tokens))))) (length out)) (sym b);
             cleared = k .cleared ∙ ap (λ m. replicate m 0) (c .size);
           })
 
 -- ---- the outcome of a call
 
-pub passed : (source l : List ℕ) → length source ≤ 1048576 → 12 * length source + 256 ≤ length l → (prefix : ℕ) → prefix ≡ prefixLen source → prefix ≡ length source → Passed source l
+pub passed : (source l : List ℕ) → length source ≤ 1048576 → 12 * length source + 256 ≤ length l → (prefix : ℕ) → prefix ≡ prefixLen source → prefix ≡ length source → Admitted source l
 passed source l short room prefix e f = record { well = wf-whole source (sym e ∙ f); room = room; short = short }
 
 module _ (source out l : List ℕ) (r : GroupOutcome) (out₁ work : List ℕ) where
@@ -203,7 +203,7 @@ module _ (source : List ℕ) (n : ℕ) where
   promised-reading (read ts) e = promised-text ts e
   promised-reading (refusedAt k p) e =
       unfold groupingIn in
-      ((λ z. absurd (let m = number (decode source) k p e in omega arith)), (λ z. longest (decode source) k p e))
+      ((λ z. absurd (let m = number (decode source) k p e in omega arith)), (λ z. longest (decode source) p (e ∙ ap (λ (x : ℕ). refusedAt x p) z)))
 
   promised : (m : ℕ) → Promised source n (groupOutcome source n m)
   unfolding groupOutcome

@@ -13,7 +13,7 @@ use Rattle.group_rules.specs.Outcome.{groupScratch, groupingIn, groupOutcome, g
 use Rattle.group_rules.specs.declared.GroupOutcome.{GroupOutcome}
 
 -- refusals 1, 3 and 4 do not apply
-pub record Passed (source scratch : List ℕ) : Type 0 where
+pub record Admitted (source scratch : List ℕ) : Type 0 where
   pub well : WellFormed source
   pub room : groupScratch source ≤ length scratch
   pub short : length source ≤ 1048576
@@ -24,16 +24,16 @@ pub record CodesFit (l : List ℕ) (n : ℕ) : Type 0 where
   pub small : n ≤ 3145728
 
 -- what a text comes to in an output of so many bytes
-abbrev pub textIn : ℕ → List ℕ → GroupOutcome
-textIn room t = choose (ltb room (length t)) (GroupOutcome.Refused (Refusal.OutputShort (length t))) (GroupOutcome.Grouped (length t))
+abbrev pub textOutcome : ℕ → List ℕ → GroupOutcome
+textOutcome room t = choose (ltb room (length t)) (GroupOutcome.Refused (Refusal.OutputShort (length t))) (GroupOutcome.Grouped (length t))
 
 -- the text of the first n codes of l
-abbrev pub textOf : List ℕ → ℕ → List ℕ
-textOf l n = closedText (openedText (take n l))
+abbrev pub codesText : List ℕ → ℕ → List ℕ
+codesText l n = closedText (openedText (take n l))
 
 pub record TextShown (l : List ℕ) (n room : ℕ) (r : GroupOutcome) (out work : List ℕ) : Type 0 where
-  pub outcome : r ≡ textIn room (textOf l n)
-  pub output : out ≡ groupOutputFor r room (textOf l n)
+  pub outcome : r ≡ textOutcome room (codesText l n)
+  pub output : out ≡ groupOutputFor r room (codesText l n)
   pub cleared : work ≡ replicate (length l) 0
 
 -- the outcome r of a grouping in an output of n bytes; the scratch of m bytes is cleared

@@ -8,7 +8,7 @@ ghost use Rattle.unicode.specs.Unicode.{decode};
 ghost use Rattle.group_rules.specs.Grouping.{grouping};
 ghost use Rattle.group_rules.specs.Outcome.{groupAnswer};
 ghost use Rattle.group_rules.specs.Answered.{GroupAnswered};
-ghost use Rattle.group.specs.Ran.{Passed, CodesFit, TextShown, Shown, RefusedGroup, GroupRan};
+ghost use Rattle.group.specs.Ran.{Admitted, CodesFit, TextShown, Shown, RefusedGroup, GroupRan};
 use answer::MAX_SOURCE;
 use answer::number_of;
 use answer::place_of;
@@ -18,7 +18,8 @@ use rules::Refusal;
 
 // Both buffers are cleared.
 fn refuse(output: &mut [u8], scratch: &mut [u8], why: GroupOutcome) -> GroupOutcome
-    ensures { λ r. ⌜ RefusedGroup why (length (now (output .entry))) (length (now (scratch .entry))) r (now (output .exit)) (now (scratch .exit)) ⌝ }
+    ensures { λ r. ⌜ RefusedGroup why (length (now (output .entry))) (length (now (scratch .entry))) r (now
+        (output .exit)) (now (scratch .exit)) ⌝ }
 {
     buffer::zero(output);
     buffer::zero(scratch);
@@ -28,7 +29,8 @@ fn refuse(output: &mut [u8], scratch: &mut [u8], why: GroupOutcome) -> GroupOutc
 // The text of a source's codes, of which the scratch has n, goes to the output; the scratch is cleared.
 fn write_text(output: &mut [u8], scratch: &mut [u8], n: usize) -> GroupOutcome
     requires { ⌜ CodesFit (now scratch) n ⌝ }
-    ensures { λ r. ⌜ TextShown (now (scratch .entry)) n (length (now (output .entry))) r (now (output .exit)) (now (scratch .exit)) ⌝ }
+    ensures { λ r. ⌜ TextShown (now (scratch .entry)) n (length (now (output .entry))) r (now (output .exit))
+        (now (scratch .exit)) ⌝ }
 {
     let from = group_open::open_all(scratch, n);
     let length = group_close::close_all(scratch, output, from, 3 * n);
@@ -46,8 +48,9 @@ fn write_text(output: &mut [u8], scratch: &mut [u8], n: usize) -> GroupOutcome
 
 // The source's text goes to the output, if it has one and it fits.
 fn show(source: &[u8], output: &mut [u8], scratch: &mut [u8]) -> GroupOutcome
-    requires { ⌜ Passed (now source) (now scratch) ⌝ }
-    ensures { λ r. ⌜ Shown (grouping (decode (now (source .entry)))) (length (now (output .entry))) (length (now (scratch .entry))) r (now (output .exit)) (now (scratch .exit)) ⌝ }
+    requires { ⌜ Admitted (now source) (now scratch) ⌝ }
+    ensures { λ r. ⌜ Shown (grouping (decode (now (source .entry)))) (length (now (output .entry))) (length
+        (now (scratch .entry))) r (now (output .exit)) (now (scratch .exit)) ⌝ }
 {
     let coded = group_read::read(source, scratch);
     if coded.refusal != 0 {
@@ -62,7 +65,8 @@ fn show(source: &[u8], output: &mut [u8], scratch: &mut [u8]) -> GroupOutcome
 
 // Refusals 1, 3 and 4, then the text.
 fn run_group(source: &[u8], output: &mut [u8], scratch: &mut [u8]) -> GroupOutcome
-    ensures { λ r. ⌜ GroupRan (now (source .entry)) (length (now (output .entry))) (length (now (scratch .entry))) r (now (output .exit)) (now (scratch .exit)) ⌝ }
+    ensures { λ r. ⌜ GroupRan (now (source .entry)) (length (now (output .entry))) (length
+        (now (scratch .entry))) r (now (output .exit)) (now (scratch .exit)) ⌝ }
 {
     let n = source.len();
     if MAX_SOURCE < n {
@@ -116,7 +120,8 @@ fn answer_of(o: GroupOutcome) -> GroupAnswer
 
 // The whole call, with its answer in numbers.
 pub fn group_call(source: &[u8], output: &mut [u8], scratch: &mut [u8]) -> GroupAnswer
-    ensures { λ r. ⌜ GroupAnswered (now (source .entry)) (length (now (output .entry))) (length (now (scratch .entry))) r (now (output .exit)) (now (scratch .exit)) ⌝ }
+    ensures { λ r. ⌜ GroupAnswered (now (source .entry)) (length (now (output .entry))) (length
+        (now (scratch .entry))) r (now (output .exit)) (now (scratch .exit)) ⌝ }
 {
     answer_of(run_group(source, output, scratch))
 }

@@ -77,7 +77,8 @@ fn close_end(scratch: &[u8], out: &mut [u8], len: usize, top: usize) -> Spot
 
 fn close_bracket(scratch: &[u8], out: &mut [u8], len: usize, top: usize) -> Spot
     requires { ⌜ Room (now scratch) len top 1 ⌝ }
-    ensures { λ r. ⌜ Stepped (now (scratch .entry)) (now (scratch .entry)) (now (out .entry)) (now (out .exit)) 15 len top r ⌝ }
+    ensures { λ r. ⌜ Stepped (now (scratch .entry)) (now (scratch .entry)) (now (out .entry)) (now (out .exit))
+        15 len top r ⌝ }
 {
     let c = close_end(scratch, out, len, top);
     Spot {
@@ -88,7 +89,8 @@ fn close_bracket(scratch: &[u8], out: &mut [u8], len: usize, top: usize) -> Spot
 
 fn close_opener(scratch: &mut [u8], out: &mut [u8], len: usize, top: usize) -> Spot
     requires { ⌜ Room (now scratch) len top 1 ⌝ }
-    ensures { λ r. ⌜ Stepped (now (scratch .entry)) (now (scratch .exit)) (now (out .entry)) (now (out .exit)) 14 len top r ⌝ }
+    ensures { λ r. ⌜ Stepped (now (scratch .entry)) (now (scratch .exit)) (now (out .entry)) (now (out .exit))
+        14 len top r ⌝ }
 {
     scratch[top] = 0;
     Spot {
@@ -99,7 +101,8 @@ fn close_opener(scratch: &mut [u8], out: &mut [u8], len: usize, top: usize) -> S
 
 fn close_operator(scratch: &mut [u8], out: &mut [u8], s: u8, len: usize, top: usize) -> Spot
     requires { ⌜ (s ≤ 12) × Room (now scratch) len top 1 ⌝ }
-    ensures { λ r. ⌜ Stepped (now (scratch .entry)) (now (scratch .exit)) (now (out .entry)) (now (out .exit)) s len top r ⌝ }
+    ensures { λ r. ⌜ Stepped (now (scratch .entry)) (now (scratch .exit)) (now (out .entry)) (now (out .exit)) s
+        len top r ⌝ }
 {
     let c = close_before(scratch, out, s, len, top);
     let n = put(out, c.length, b' ');
@@ -113,7 +116,8 @@ fn close_operator(scratch: &mut [u8], out: &mut [u8], s: u8, len: usize, top: us
 
 fn close_plain(scratch: &[u8], out: &mut [u8], b: u8, len: usize, top: usize) -> Spot
     requires { ⌜ ((b ≡ 15 → ⊥) × (b ≡ 14 → ⊥) × (12 < b)) × Room (now scratch) len top 1 ⌝ }
-    ensures { λ r. ⌜ Stepped (now (scratch .entry)) (now (scratch .entry)) (now (out .entry)) (now (out .exit)) b len top r ⌝ }
+    ensures { λ r. ⌜ Stepped (now (scratch .entry)) (now (scratch .entry)) (now (out .entry)) (now (out .exit))
+        b len top r ⌝ }
 {
     let n = put(out, len, b);
     Spot { length: n, top }
@@ -122,7 +126,8 @@ fn close_plain(scratch: &[u8], out: &mut [u8], b: u8, len: usize, top: usize) ->
 // One byte.
 fn close_code(scratch: &mut [u8], out: &mut [u8], b: u8, len: usize, top: usize) -> Spot
     requires { ⌜ Room (now scratch) len top 1 ⌝ }
-    ensures { λ r. ⌜ Stepped (now (scratch .entry)) (now (scratch .exit)) (now (out .entry)) (now (out .exit)) b len top r ⌝ }
+    ensures { λ r. ⌜ Stepped (now (scratch .entry)) (now (scratch .exit)) (now (out .entry)) (now (out .exit)) b
+        len top r ⌝ }
 {
     if b == CLOSER {
         return close_bracket(scratch, out, len, top);
@@ -139,7 +144,8 @@ fn close_code(scratch: &mut [u8], out: &mut [u8], b: u8, len: usize, top: usize)
 // The byte that is next.
 fn step_forth(scratch: &mut [u8], out: &mut [u8], end: usize, s: Forth) -> Forth
     requires { ⌜ (s .at < end) × Ready (now scratch) end (s .at) (s .length) (s .top) ⌝ }
-    ensures { λ r. ⌜ ForthTo (now (scratch .entry)) (now (scratch .exit)) (now (out .entry)) (now (out .exit)) end 1 s r × (r .at ≡ s .at + 1) ⌝ }
+    ensures { λ r. ⌜ ForthTo (now (scratch .entry)) (now (scratch .exit)) (now (out .entry)) (now (out .exit))
+        end 1 s r × (r .at ≡ s .at + 1) ⌝ }
 {
     let at = s.at;
     let b = scratch[at];
@@ -154,7 +160,8 @@ fn step_forth(scratch: &mut [u8], out: &mut [u8], end: usize, s: Forth) -> Forth
 // The same, if one is left.
 fn past_one(scratch: &mut [u8], out: &mut [u8], end: usize, s: Forth) -> Forth
     requires { ⌜ Ready (now scratch) end (s .at) (s .length) (s .top) ⌝ }
-    ensures { λ r. ⌜ ForthTo (now (scratch .entry)) (now (scratch .exit)) (now (out .entry)) (now (out .exit)) end 1 s r ⌝ }
+    ensures { λ r. ⌜ ForthTo (now (scratch .entry)) (now (scratch .exit)) (now (out .entry)) (now (out .exit))
+        end 1 s r ⌝ }
 {
     if s.at < end {
         return step_forth(scratch, out, end, s);
@@ -165,7 +172,8 @@ fn past_one(scratch: &mut [u8], out: &mut [u8], end: usize, s: Forth) -> Forth
 // Writes up to the end, or in a bracket up to the byte that closes it. No more than 64 calls stand in each other.
 fn close_forth(scratch: &mut [u8], out: &mut [u8], end: usize, depth: usize, from: Forth) -> Forth
     requires { ⌜ (depth ≤ 64) × Ready (now scratch) end (from .at) (from .length) (from .top) ⌝ }
-    ensures { λ r. ⌜ ForthTo (now (scratch .entry)) (now (scratch .exit)) (now (out .entry)) (now (out .exit)) end depth from r ⌝ }
+    ensures { λ r. ⌜ ForthTo (now (scratch .entry)) (now (scratch .exit)) (now (out .entry)) (now (out .exit))
+        end depth from r ⌝ }
 {
     let mut s = from;
     while s.at < end {
@@ -186,7 +194,8 @@ fn close_forth(scratch: &mut [u8], out: &mut [u8], end: usize, depth: usize, fro
 // Writes the text of the opened text that stands from a place up to `end`, and gives its whole length.
 pub fn close_all(scratch: &mut [u8], out: &mut [u8], from: usize, end: usize) -> usize
     requires { ⌜ Ready (now scratch) end from 0 0 ⌝ }
-    ensures { λ r. ⌜ Appended (now (out .entry)) (now (out .exit)) 0 (closedText (part (now (scratch .entry)) from end)) r ⌝ }
+    ensures { λ r. ⌜ Appended (now (out .entry)) (now (out .exit)) 0 (closedText
+        (part (now (scratch .entry)) from end)) r ⌝ }
 {
     let start = Forth {
         at: from,

@@ -83,7 +83,9 @@ pub fn lower(top: usize) -> usize
 
 fn open_bracket(scratch: &mut [u8], n: usize, at: usize, top: usize) -> Spot
     requires { ⌜ Room (now scratch) n at top 1 ⌝ }
-    ensures { λ r. ⌜ Moved (now (scratch .entry)) (now (scratch .exit)) n at top (openBracket (opensAfter 0 (part (now (scratch .entry)) at (3 * n)) (stackOf (now (scratch .entry)) (3 * n) top))) r ⌝ }
+    ensures { λ r. ⌜ Moved (now (scratch .entry)) (now (scratch .exit)) n at top (openBracket
+        (opensAfter 0 (part (now (scratch .entry)) at (3 * n)) (stackOf (now (scratch .entry)) (3 * n) top))) r
+        ⌝ }
 {
     let o = open_after(scratch, n, 0, at, top);
     let p = push_back(scratch, o.at, OPENER);
@@ -95,7 +97,8 @@ fn open_bracket(scratch: &mut [u8], n: usize, at: usize, top: usize) -> Spot
 
 fn open_closer(scratch: &mut [u8], n: usize, at: usize, top: usize) -> Spot
     requires { ⌜ Room (now scratch) n at top 1 ⌝ }
-    ensures { λ r. ⌜ Moved (now (scratch .entry)) (now (scratch .exit)) n at top (pass (15 ∷ part (now (scratch .entry)) at (3 * n)) (0 ∷ stackOf (now (scratch .entry)) (3 * n) top)) r ⌝ }
+    ensures { λ r. ⌜ Moved (now (scratch .entry)) (now (scratch .exit)) n at top (pass
+        (15 ∷ part (now (scratch .entry)) at (3 * n)) (0 ∷ stackOf (now (scratch .entry)) (3 * n) top)) r ⌝ }
 {
     let p = push_back(scratch, at, CLOSER);
     scratch[3 * n + top] = 0;
@@ -107,7 +110,9 @@ fn open_closer(scratch: &mut [u8], n: usize, at: usize, top: usize) -> Spot
 
 fn open_operator(scratch: &mut [u8], n: usize, s: u8, at: usize, top: usize) -> Spot
     requires { ⌜ Room (now scratch) n at top 1 ⌝ }
-    ensures { λ r. ⌜ Moved (now (scratch .entry)) (now (scratch .exit)) n at top (openOperator s (opensAfter s (part (now (scratch .entry)) at (3 * n)) (stackOf (now (scratch .entry)) (3 * n) top))) r ⌝ }
+    ensures { λ r. ⌜ Moved (now (scratch .entry)) (now (scratch .exit)) n at top (openOperator s
+        (opensAfter s (part (now (scratch .entry)) at (3 * n)) (stackOf (now (scratch .entry)) (3 * n) top))) r
+        ⌝ }
 {
     let o = open_after(scratch, n, s, at, top);
     let p = push_back(scratch, o.at, b' ');
@@ -118,7 +123,8 @@ fn open_operator(scratch: &mut [u8], n: usize, s: u8, at: usize, top: usize) -> 
 
 fn open_plain(scratch: &mut [u8], n: usize, b: u8, at: usize, top: usize) -> Spot
     requires { ⌜ Room (now scratch) n at top 1 ⌝ }
-    ensures { λ r. ⌜ Moved (now (scratch .entry)) (now (scratch .exit)) n at top (pass (b ∷ part (now (scratch .entry)) at (3 * n)) (stackOf (now (scratch .entry)) (3 * n) top)) r ⌝ }
+    ensures { λ r. ⌜ Moved (now (scratch .entry)) (now (scratch .exit)) n at top (pass
+        (b ∷ part (now (scratch .entry)) at (3 * n)) (stackOf (now (scratch .entry)) (3 * n) top)) r ⌝ }
 {
     let p = push_back(scratch, at, b);
     Spot { at: p, top }
@@ -137,7 +143,8 @@ fn is_right_code(b: u8) -> bool
 // One code.
 fn open_code(scratch: &mut [u8], n: usize, b: u8, at: usize, top: usize) -> Spot
     requires { ⌜ Room (now scratch) n at top 1 ⌝ }
-    ensures { λ r. ⌜ Moved (now (scratch .entry)) (now (scratch .exit)) n at top (backStep b (passIn (now (scratch .entry)) n at top)) r ⌝ }
+    ensures { λ r. ⌜ Moved (now (scratch .entry)) (now (scratch .exit)) n at top (backStep b
+        (passIn (now (scratch .entry)) n at top)) r ⌝ }
 {
     if b == OPENER {
         return open_bracket(scratch, n, at, top);

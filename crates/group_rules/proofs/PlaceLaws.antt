@@ -2,15 +2,16 @@
 use Prim.Native.Nat.{ℕ, zero, suc, _+_, _<_, _≤_}
 use mathlib.Core.Bool.{Bool, true, false, not, _&&_, _||_}
 use mathlib.Core.List.{List, [], _∷_, _++_, map, reverse, append-assoc, append-nil}
+use mathlib.Core.Logic.{_⊎_, inl, inr, ⊎-elim}
 use mathlib.Core.Path.{_≡_, refl, ap, sym, _∙_, subst}
 use native.Mathlib.Omega.{arith}
 use lib.Dec.{eqb, leb}
 use lib.ListN.{length, take, replicate, length-append}
 use lib.Seq.{take-at}
 use borrow.Author.Tests.{eqb-true}
-use Rattle.rules.specs.Basics.{choose, codes, same, oneOf, isIdent}
+use Rattle.rules.specs.Basics.{choose, is, codes, same, oneOf, isBlank, isIdent}
 use Rattle.rules.specs.Words.{operators}
-use Rattle.rules.specs.SplitOperation.{keywords}
+use Rattle.rules.specs.SplitOperation.{isSign, keywords}
 use Rattle.group_rules.specs.Promises.{IsRead, Begins, Longest}
 use Rattle.rules.proofs.Computing.{computing}
 use Rattle.rules.proofs.Choose.{choose-case, choose-true, choose-false}
@@ -203,7 +204,7 @@ begins-here : (past : List ℕ) (s : State) → ((rest : List ℕ) → reading (
     → Begins (take (length past) (past ++ cs))
 begins-here past s e h cs =
     let c = complete (s .stage) (s .depth) (length past) (s .tokens) h in
-    subst Begins (sym (take-at past cs (length past) refl)) (record { rest = c .rest; is = subst IsRead (sym (e (c .rest))) (c .is) })
+    subst Begins (sym (take-at past cs (length past) refl)) (record { limit = maxDepth; rest = c .rest; is = subst IsRead (sym (e (c .rest))) (c .is) })
 
 place-ended : (source : List ℕ) (i d : ℕ) (ts : List Token) → Begins (take i source) → PlaceOf source (ended i d ts)
 unfolding ended
@@ -248,10 +249,82 @@ pub place : (source : List ℕ) → PlaceOf source (reading source)
 unfolding readingTo
 place source = place-from source [] (state due 0 []) (λ rest. refl) tt
 
--- ---- and with the character at the place nothing begins one: whatever follows, it is refused there
+-- ---- the limit of brackets makes no other difference than refusal 15
+
+record Alike (x y : Step) : Type 0 where
+  goes : (t : State) → x ≡ next t → (y ≡ next t) ⊎ (y ≡ refused 15)
+  stops : x ≡ refused 14 → y ≡ refused 14
+
+alike-same : (x : Step) → Alike x x
+alike-same x = record { goes = λ t e. inl e; stops = λ e. e }
+
+alike-both : {x x′ y y′ : Step} (b : Bool) → Alike x x′ → Alike y y′ → Alike (choose b x y) (choose b x′ y′)
+unfolding choose
+alike-both true f g = f
+alike-both false f g = g
+
+no-next : (n : ℕ) (t : State) → refused n ≡ next t → ⊥
+no-next n t e = let z : _≡_ {A = ℕ} 0 1 = cc in omega arith
+
+no-refused : (n : ℕ) (t : State) → next t ≡ refused n → ⊥
+no-refused n t e = let z : _≡_ {A = ℕ} 0 1 = cc in omega arith
+
+other-number : refused 15 ≡ refused 14 → ⊥
+other-number e = let z : _≡_ {A = ℕ} 15 14 = cc in omega arith
+
+alike-opens : (t : State) (a b : Bool) → Alike (choose a (refused 15) (next t)) (choose b (refused 15) (next t))
+unfolding choose
+alike-opens t true b = record { goes = λ u e. absurd (no-next 15 u e); stops = λ e. absurd (other-number e) }
+alike-opens t false true = record { goes = λ u e. inr refl; stops = λ e. absurd (no-refused 14 t e) }
+alike-opens t false false = alike-same (next t)
+
+alike-due : (limit limit′ d : ℕ) (ts : List Token) (c : ℕ) → Alike (dueStep limit d ts c) (dueStep limit′ d ts c)
+unfolding dueStep openStep
+alike-due limit limit′ d ts c =
+    alike-both (isBlank c) (alike-same _) (alike-both (isSign c) (alike-same _)
+    (alike-both (is "(" c) (alike-opens (state due (suc d) (opener ∷ ts)) (leb limit d) (leb limit′ d)) (alike-same _)))
+
+alike-stage : (limit limit′ : ℕ) (m : Stage) (d : ℕ) (ts : List Token) (c : ℕ) → Alike (stageStep limit m d ts c) (stageStep limit′ m d ts c)
+unfolding stageStep
+alike-stage limit limit′ due d ts c = alike-due limit limit′ d ts c
+alike-stage limit limit′ (inName w) d ts c = alike-same _
+alike-stage limit limit′ (inNumber w) d ts c = alike-same _
+alike-stage limit limit′ after d ts c = alike-same _
+alike-stage limit limit′ (inOperator a) d ts c =
+    alike-both (oneOf operators (a ∷ c ∷ [])) (alike-same _)
+    (alike-both (oneOf operators (a ∷ [])) (alike-due limit limit′ d (operator (a ∷ []) ∷ ts) c) (alike-same _))
+
+-- whatever the limit, a text that is read and begins with past goes through the state s after it
+abbrev Through : List ℕ → State → Type 0
+Through past s = (limit : ℕ) (rest : List ℕ) → IsRead (readingTo limit (past ++ rest)) → readingTo limit (past ++ rest) ≡ readFrom limit (length past) s rest
+
+module _ (past : List ℕ) (s : State) (c : ℕ) (th : Through past s) where
+  -- one character more
+  further : (limit : ℕ) (rest : List ℕ) → IsRead (readingTo limit ((past ++ c ∷ []) ++ rest))
+      → readingTo limit ((past ++ c ∷ []) ++ rest) ≡ onStep (length past) (step limit s c) (λ (u : State). readFrom limit (suc (length past)) u rest)
+  unfolding readFrom
+  further limit rest h =
+      let e : readingTo limit ((past ++ c ∷ []) ++ rest) ≡ readingTo limit (past ++ c ∷ rest) = ap (readingTo limit) (append-assoc past (c ∷ []) rest) in
+      e ∙ th limit (c ∷ rest) (subst IsRead e h)
+
+  refused-there : (limit n : ℕ) (rest : List ℕ) → IsRead (readingTo limit ((past ++ c ∷ []) ++ rest)) → step limit s c ≡ refused n → ⊥
+  unfolding onStep
+  refused-there limit n rest h q =
+      subst IsRead (further limit rest h ∙ ap (λ (x : Step). onStep (length past) x (λ (u : State). readFrom limit (suc (length past)) u rest)) q) h
+
+  through : (t : State) → step maxDepth s c ≡ next t → Through (past ++ c ∷ []) t
+  unfolding onStep
+  through t q limit rest h =
+      ⊎-elim
+      (λ e. further limit rest h ∙ ap (λ (x : Step). onStep (length past) x (λ (u : State). readFrom limit (suc (length past)) u rest)) e
+      ∙ ap (λ (n : ℕ). readFrom limit n t rest) (sym (longer past c)))
+      (λ e. absurd (refused-there limit 15 rest h e))
+      (alike-stage maxDepth limit (s .stage) (s .depth) (s .tokens) c .goes t q)
+
+-- ---- and with the character at the place of refusal 14 no expression begins
 
 pub record Ends (source : List ℕ) (n p : ℕ) : Type 0 where
-  pub is : p < length source → (rest : List ℕ) → reading (take (suc p) source ++ rest) ≡ refusedAt n p
+  pub is : n ≡ 14 → p < length source → Begins (take (suc p) source) → ⊥
 
 abbrev pub EndsOf : List ℕ → Reading → Type 0
 EndsOf source (read ts) = Unit {0}
@@ -259,7 +332,7 @@ EndsOf source (refusedAt n p) = Ends source n p
 
 -- at the source's end there is no character
 at-end : (source : List ℕ) (n : ℕ) → Ends source n (length source)
-at-end source n = record { is = λ h. absurd (omega arith) }
+at-end source n = record { is = λ e h. absurd (omega arith) }
 
 ends-ended : (source : List ℕ) (d : ℕ) (ts : List Token) → EndsOf source (ended (length source) d ts)
 unfolding ended
@@ -280,29 +353,32 @@ unfolding onStep
 ends-step source i (next t) go b k = k t refl
 ends-step source i (refused n) go b k = b n refl
 
-stops : (past : List ℕ) (s : State) (c n : ℕ) → ((rest : List ℕ) → reading (past ++ rest) ≡ readFrom maxDepth (length past) s rest) → step maxDepth s c ≡ refused n → (cs : List ℕ)
-    → Ends (past ++ c ∷ cs) n (length past)
-unfolding readFrom onStep
-stops past s c n e q cs =
+ends-here : (past : List ℕ) (s : State) (c n : ℕ) → Through past s → step maxDepth s c ≡ refused n → (cs : List ℕ) → Ends (past ++ c ∷ cs) n (length past)
+ends-here past s c n th q cs =
     record {
-      is = λ h rest. ap (λ x. reading (x ++ rest)) (ap (take (suc (length past))) (sym (append-assoc past (c ∷ []) cs)) ∙ take-at (past ++ c ∷ []) cs (suc (length past)) (longer past c))
-          ∙ ap reading (append-assoc past (c ∷ []) rest) ∙ e (c ∷ rest) ∙ ap (λ (x : Step). onStep (length past) x (λ (u : State). readFrom maxDepth (suc (length past)) u rest)) q;
+      is = λ e h k.
+          refused-there past s c th (k .limit) 14 (k .rest)
+          (subst (λ x. IsRead (readingTo (k .limit) (x ++ k .rest)))
+          (ap (take (suc (length past))) (sym (append-assoc past (c ∷ []) cs)) ∙ take-at (past ++ c ∷ []) cs (suc (length past)) (longer past c)) (k .is))
+          (alike-stage maxDepth (k .limit) (s .stage) (s .depth) (s .tokens) c .stops (q ∙ ap refused e));
     }
 
-ends-from : (cs past : List ℕ) (s : State) → ((rest : List ℕ) → reading (past ++ rest) ≡ readFrom maxDepth (length past) s rest) → EndsOf (past ++ cs) (readFrom maxDepth (length past) s cs)
+ends-from : (cs past : List ℕ) (s : State) → Through past s → EndsOf (past ++ cs) (readFrom maxDepth (length past) s cs)
 unfolding readFrom
-ends-from [] past s e = subst (λ (x : List ℕ). EndsOf x (ending (length past) (s .stage) (s .depth) (s .tokens))) (sym (append-nil past)) (ends-ending past (s .stage) (s .depth) (s .tokens))
-ends-from (c ∷ cs) past s e =
-    ends-step (past ++ c ∷ cs) (length past) (step maxDepth s c) (λ (t : State). readFrom maxDepth (suc (length past)) t cs) (λ n q. stops past s c n e q cs)
+ends-from [] past s th =
+    subst (λ (x : List ℕ). EndsOf x (ending (length past) (s .stage) (s .depth) (s .tokens))) (sym (append-nil past))
+    (ends-ending past (s .stage) (s .depth) (s .tokens))
+ends-from (c ∷ cs) past s th =
+    ends-step (past ++ c ∷ cs) (length past) (step maxDepth s c) (λ (t : State). readFrom maxDepth (suc (length past)) t cs)
+    (λ n q. ends-here past s c n th q cs)
     (λ t q.
     subst (λ (x : List ℕ). EndsOf x (readFrom maxDepth (suc (length past)) t cs)) (append-assoc past (c ∷ []) cs)
     (subst (λ (n : ℕ). EndsOf ((past ++ c ∷ []) ++ cs) (readFrom maxDepth n t cs)) (longer past c)
-    (ends-from cs (past ++ c ∷ []) t
-    (λ rest. ap reading (append-assoc past (c ∷ []) rest) ∙ e (c ∷ rest) ∙ stepped past s c t q rest ∙ ap (λ (n : ℕ). readFrom maxDepth n t rest) (sym (longer past c))))))
+    (ends-from cs (past ++ c ∷ []) t (through past s c th t q))))
 
 pub ends : (source : List ℕ) → EndsOf source (reading source)
 unfolding readingTo
-ends source = ends-from source [] (state due 0 []) (λ rest. refl)
+ends source = ends-from source [] (state due 0 []) (λ limit rest h. refl)
 
 -- ---- together
 
@@ -334,15 +410,15 @@ within-from source [] i s h = within-ending source i (s .stage) (s .depth) (s .t
 within-from source (c ∷ cs) i s h =
     within-step source i (step maxDepth s c) (λ (t : State). readFrom maxDepth (suc i) t cs) (omega arith) (λ t. within-from source cs (suc i) t (omega arith))
 
-longest-of : (source : List ℕ) (r : Reading) (n p : ℕ) → r ≡ refusedAt n p → PlaceOf source r → EndsOf source r → WithinOf source r → Longest source p
-longest-of source r n p e b f w = go (subst (PlaceOf source) e b) (subst (EndsOf source) e f) (subst (WithinOf source) e w)
+longest-of : (source : List ℕ) (r : Reading) (p : ℕ) → r ≡ refusedAt 14 p → PlaceOf source r → EndsOf source r → WithinOf source r → Longest source p
+longest-of source r p e b f w = go (subst (PlaceOf source) e b) (subst (EndsOf source) e f) (subst (WithinOf source) e w)
   where
-    go : Begins (take p source) → Ends source n p → p ≤ length source → Longest source p
-    go x y z = record { begins = x; ends = λ h k. subst IsRead (y .is h (k .rest)) (k .is); within = z }
+    go : Begins (take p source) → Ends source 14 p → p ≤ length source → Longest source p
+    go x y z = record { begins = x; ends = λ h k. y .is refl h k; within = z }
 
-pub longest : (source : List ℕ) (n p : ℕ) → reading source ≡ refusedAt n p → Longest source p
+pub longest : (source : List ℕ) (p : ℕ) → reading source ≡ refusedAt 14 p → Longest source p
 unfolding readingTo
-longest source n p e = longest-of source (reading source) n p e (place source) (ends source) (within-from source source 0 (state due 0 []) (omega arith))
+longest source p e = longest-of source (reading source) p e (place source) (ends source) (within-from source source 0 (state due 0 []) (omega arith))
 
 -- ---- a refusal's number is 14 or 15
 

@@ -10,7 +10,8 @@ pub extern "C" fn wirescript_group(
     output: &mut [u8],
     scratch: &mut [u8],
 ) -> GroupAnswer
-    ensures { λ r. ⌜ GroupAnswered (now (source .entry)) (length (now (output .entry))) (length (now (scratch .entry))) r (now (output .exit)) (now (scratch .exit)) ⌝ }
+    ensures { λ r. ⌜ GroupAnswered (now (source .entry)) (length (now (output .entry))) (length
+        (now (scratch .entry))) r (now (output .exit)) (now (scratch .exit)) ⌝ }
 {
     group::group_call(source, output, scratch)
 }

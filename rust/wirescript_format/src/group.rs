@@ -99,7 +99,7 @@ impl Error for NoGrouping {}
 /// Writes an expression with every operation bracketed, so that it shows which operator binds
 /// first. The source's own brackets go; a sign gets none.
 ///
-/// ```no_run
+/// ```
 /// use wirescript_format::group::{NoGrouping, group};
 ///
 /// assert_eq!(group("a + b*c - -d").as_deref(), Ok("((a + (b * c)) - -d)"));

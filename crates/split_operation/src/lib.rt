@@ -1,5 +1,5 @@
 // split_operation: an over-wide expression broken before its loosest operators.
-mod pass;
+pub mod pass;
 
 ghost use mathlib.Core.Path.{_≡_};
 ghost use Rattle.unicode.specs.Unicode.{decode};

@@ -128,7 +128,7 @@ fn same(s: &[u8], w: &[u8]) -> bool
     false
 }
 
-fn is_keyword(s: &[u8]) -> bool
+pub fn is_keyword(s: &[u8]) -> bool
     ensures { λ r. ⌜ r ≡ oneOf keywords (now (s .entry)) ⌝ }
 {
     if same(s, b"if") {

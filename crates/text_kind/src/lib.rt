@@ -6,6 +6,7 @@ ghost use Rattle.unicode.specs.Unicode.{decode};
 ghost use Rattle.rules.specs.Scan.{begin};
 ghost use Rattle.rules.specs.TextKind.{inInterpolation, kindOf, textKindAt, kindOutcomeOf, kindNumber, kindAnswer};
 ghost use Rattle.basics.specs.Depth.{carryDepth};
+ghost use Rattle.line_ends.specs.LineEnds.{LineEnd};
 ghost use Rattle.text_kind.specs.Kind.{byteKinds, lineAt, SourceFits};
 use answer::MAX_SOURCE;
 use answer::number_of;
@@ -22,7 +23,7 @@ use rules::TextKind;
 use unicode::CharColumn;
 
 // Whether a character before which the mode is m is inside `${..}`.
-fn in_interpolation(m: Mode) -> bool
+pub fn in_interpolation(m: Mode) -> bool
     ensures { λ r. ⌜ r ≡ inInterpolation m ⌝ }
 {
     match m {
@@ -36,7 +37,7 @@ fn in_interpolation(m: Mode) -> bool
     }
 }
 
-fn kind_of(class: Class, inside: bool) -> TextKind
+pub fn kind_of(class: Class, inside: bool) -> TextKind
     ensures { λ r. ⌜ r ≡ kindOf class inside ⌝ }
 {
     match class {
@@ -83,12 +84,11 @@ fn kind_in_line(line: &[u8], carry: Carry, column: CharColumn) -> TextKind
     TextKind::Code
 }
 
-// The line that starts at `at`: a CR goes only before an LF.
-fn line_at(source: &[u8], at: usize) -> &[u8]
-    requires { ⌜ at ≤ length (now source) ⌝ }
+// The line that starts at `at` and ends at `end`: a CR goes only before an LF.
+pub fn line_at(source: &[u8], at: usize, end: usize) -> &[u8]
+    requires { ⌜ LineEnd (now source) at end ⌝ }
     ensures { λ r. ⌜ now r ≡ lineAt (drop at (now (source .entry))) ⌝ }
 {
-    let end = line_end(source, at);
     if end < source.len() {
         return without_cr(&source[at..end]);
     }
@@ -112,7 +112,8 @@ pub fn text_kind_at(source: &[u8], line: usize, column: CharColumn, scratch: &mu
         at = end + 1;
         left -= 1;
     }
-    kind_in_line(line_at(source, at), carry, column)
+    let end = line_end(source, at);
+    kind_in_line(line_at(source, at, end), carry, column)
 }
 
 // The kind, or the first refusal that applies.

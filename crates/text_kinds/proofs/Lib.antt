@@ -1,0 +1,4 @@
+-- The laws that this crate's proofs share.
+pub mod PlaceLaws
+pub mod FillLaws
+pub mod LineLaws

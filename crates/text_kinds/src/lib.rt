@@ -1,0 +1,157 @@
+// text_kinds: the text kinds of a list of places, in one reading of the source.
+ghost use mathlib.Core.Path.{_≡_};
+ghost use mathlib.Core.Bool.{true};
+ghost use Prim.Native.Nat.{_+_, _≤_, _<_, _^_};
+ghost use lib.ListN.{length, drop};
+ghost use Rattle.unicode.specs.Unicode.{decode};
+ghost use Rattle.rules.specs.TextKind.{kindNumber};
+ghost use Rattle.text_kinds.specs.Places.{placeOf, placesIn, notAfter, ascending};
+ghost use Rattle.text_kinds.specs.Reading.{IsPlace, IsOn, Listed, Answered, PassedOver, Ahead, Shallow, LineAnswered};
+use line_ends::line_end;
+use marks::within::open_after;
+use rules::Carry;
+use rules::TextKind;
+use text_kind::in_interpolation;
+use text_kind::kind_of;
+use text_kind::line_at;
+
+// What a line leaves open, and the first entry of the list that is not on it or before it.
+pub struct LineRead {
+    pub carry: Carry,
+    pub next: usize,
+}
+
+// Whether the first place is not after the second.
+fn not_after(line: u64, column: u64, l: u64, c: u64) -> bool
+    ensures { λ r. ⌜ r ≡ notAfter (placeOf line column) (placeOf l c) ⌝ }
+{
+    if line < l {
+        return true;
+    }
+    if line == l {
+        return column <= c;
+    }
+    false
+}
+
+// Whether the list is in order: no place is before the one in front of it.
+fn is_ascending(places: &[u64]) -> bool
+    ensures { λ r. ⌜ r ≡ ascending (placesIn (now (places .entry))) ⌝ }
+{
+    let n = places.len() / 2;
+    let mut k = 1;
+    while k < n {
+        let i = 2 * k;
+        if not_after(places[i - 2], places[i - 1], places[i], places[i + 1]) {
+            k += 1;
+        } else {
+            return false;
+        }
+    }
+    true
+}
+
+// Whether entry k is this place.
+fn is_place(places: &[u64], k: usize, line: u64, column: u64) -> bool
+    ensures { λ r. ⌜ IsPlace (now (places .entry)) k line column r ⌝ }
+{
+    if k < places.len() / 2 {
+        let i = 2 * k;
+        if places[i] == line {
+            return places[i + 1] == column;
+        }
+        return false;
+    }
+    false
+}
+
+// Whether entry k is on this line.
+fn is_on(places: &[u64], k: usize, line: u64) -> bool
+    ensures { λ r. ⌜ IsOn (now (places .entry)) k line r ⌝ }
+{
+    if k < places.len() / 2 {
+        let i = 2 * k;
+        return places[i] == line;
+    }
+    false
+}
+
+fn kind_byte(k: TextKind) -> u8
+    ensures { λ r. ⌜ r ≡ kindNumber k ⌝ }
+{
+    match k {
+        TextKind::Code => 0,
+        TextKind::Str => 1,
+        TextKind::Comment => 2,
+    }
+}
+
+// Every entry from k on that is this place gets the kind. Gives the next entry.
+fn answer_place(
+    places: &[u64],
+    k: usize,
+    line: u64,
+    column: u64,
+    kind: u8,
+    kinds: &mut [u8],
+) -> usize
+    requires { ⌜ Listed (now places) (now kinds) ⌝ }
+    ensures { λ r. ⌜ Answered (now (places .entry)) line column kind k (now (kinds .entry)) r (now (kinds .exit)) ⌝ }
+{
+    let mut next = k;
+    while is_place(places, next, line, column) {
+        kinds[next] = kind;
+        next += 1;
+    }
+    next
+}
+
+// The entries from k on that are on this line are passed over. Gives the next entry.
+fn pass_line(places: &[u64], k: usize, line: u64) -> usize
+    requires { ⌜ ascending (placesIn (now places)) ≡ true ⌝ }
+    ensures { λ r. ⌜ PassedOver (now (places .entry)) line k r ⌝ }
+{
+    let mut next = k;
+    while is_on(places, next, line) {
+        next += 1;
+    }
+    next
+}
+
+// Every entry from k on that is on this line gets its kind, by one reading of the line.
+fn kinds_in_line(
+    line: &[u8],
+    carry: Carry,
+    number: u64,
+    places: &[u64],
+    k: usize,
+    kinds: &mut [u8],
+) -> LineRead
+    requires { ⌜ Shallow carry (length (now line)) ⌝ }
+    requires { ⌜ Listed (now places) (now kinds) ⌝ }
+    requires { ⌜ Ahead (now places) number 0 k ⌝ }
+    ensures { λ r. ⌜ LineAnswered (now (line .entry)) carry number (now (places .entry)) k (now (kinds .entry)) (r .carry) (r .next) (now (kinds .exit)) ⌝ }
+{
+    let mut t = marks::begin(carry);
+    let mut next = k;
+    let mut column = 0;
+    let mut i = 0;
+    while i < line.len() {
+        let before = t.mode;
+        t = marks::next_mark(&line[i..], t);
+        if unicode::is_tail(line[i]) {
+            i += 1;
+            continue;
+        }
+        let class = t.class;
+        let kind = kind_byte(kind_of(class, in_interpolation(before)));
+        next = answer_place(places, next, number, column, kind, kinds);
+        column += 1;
+        i += 1;
+    }
+    let m = t.mode;
+    LineRead {
+        carry: open_after(m),
+        next: pass_line(places, next, number),
+    }
+}

@@ -1,13 +1,14 @@
 -- Text kinds, as the contracts say them: what a call leaves, and the kinds read off a line's bytes.
-use Prim.Native.Nat.{ℕ, _+_, _≤_, _<_, _^_}
+use Prim.Native.Nat.{ℕ, zero, suc, _+_, _≤_, _<_, _^_}
 use mathlib.Core.List.{List, [], _∷_}
 use mathlib.Core.Path.{_≡_}
-use lib.ListN.{length, replicate}
+use lib.ListN.{length, getD, replicate}
 use Rattle.unicode.specs.Unicode.{tail, WellFormed}
 use Rattle.split.specs.Text.{firstOf}
 use Rattle.rules.specs.Basics.{choose, pieces, splitOn}
-use Rattle.rules.specs.Scan.{next}
+use Rattle.rules.specs.Scan.{next, begin, carryAfter}
 use Rattle.rules.specs.TextKind.{inInterpolation, kindOf, rustLines, kindOutcomeOf, kindAnswer}
+use Rattle.rules.specs.declared.Carry.{Carry}
 use Rattle.rules.specs.declared.Mark.{Mark}
 use Rattle.rules.specs.declared.TextKind.{TextKind}
 use Rattle.rules.specs.declared.Kind.{Kind}
@@ -23,6 +24,16 @@ byteKinds t [] = []
 byteKinds t (b ∷ s) =
     let r = byteKinds (next t (b ∷ s)) s in
     choose (tail b) r (kindOf (next t (b ∷ s) .class) (inInterpolation (t .mode)) ∷ r)
+
+-- `kindIn`, on the bytes of the lines
+unfoldable pub byteKindIn : Carry → List (List ℕ) → ℕ → ℕ → TextKind
+byteKindIn y [] n col = TextKind.Code
+byteKindIn y (l ∷ ls) zero col = getD (byteKinds (begin y) l) col TextKind.Code
+byteKindIn y (l ∷ ls) (suc n) col = byteKindIn (carryAfter y l) ls n col
+
+-- in the bytes s, before which y is open
+abbrev pub kindFrom : Carry → List ℕ → ℕ → ℕ → TextKind
+kindFrom y s n col = byteKindIn y (rustLines (pieces (splitOn "\n" s))) n col
 
 -- the first of a text's lines, as Rust's `lines` cuts them, or nothing
 unfoldable pub lineAt : List ℕ → List ℕ

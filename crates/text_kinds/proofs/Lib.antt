@@ -2,3 +2,4 @@
 pub mod PlaceLaws
 pub mod FillLaws
 pub mod LineLaws
+pub mod ReadLaws

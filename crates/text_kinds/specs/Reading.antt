@@ -8,10 +8,14 @@ use lib.ListN.{length, getD, take, drop, replicate}
 use Rattle.rules.specs.declared.Carry.{Carry}
 use Rattle.rules.specs.declared.TextKind.{TextKind}
 use Rattle.rules.specs.Scan.{begin, carryAfter}
-use Rattle.rules.specs.TextKind.{kindNumber}
+use Rattle.rules.specs.Basics.{pieces, splitOn}
+use Rattle.rules.specs.Call.{filled}
+use Rattle.rules.specs.TextKind.{rustLines, textKindAt, kindNumber}
 use Rattle.basics.specs.Depth.{carryDepth}
-use Rattle.text_kind.specs.Kind.{byteKinds}
-use Rattle.text_kinds.specs.Places.{Place, placeOf, placesIn, ascending, linesAsked}
+use Rattle.unicode.specs.Unicode.{decode}
+use Rattle.text_kind.specs.Kind.{byteKinds, kindFrom}
+use Rattle.text_kinds.specs.Places.{Place, placeOf, placesIn, ascending, kindOfPlace, linesAsked, linesClassified}
+use Rattle.text_kinds.specs.declared.Progress.{Progress}
 
 -- line and column of entry k, and how many whole entries a list has
 abbrev pub lineOf : List ℕ → ℕ → ℕ
@@ -84,3 +88,23 @@ pub record LineAnswered (line : List ℕ) (carry : Carry) (number : ℕ) (list :
       → ((c : ℕ) → f (placeOf number c) ≡ kindNumber (getD (byteKinds (begin carry) line) c TextKind.Code))
       → Filled f list (suc number) k kinds → Filled f list (suc number) next kinds′
   pub ahead : Ahead list (suc number) 0 next
+
+-- how many lines a text has, as Rust's `lines` cuts them
+abbrev pub lineCount : List ℕ → ℕ
+lineCount s = length (rustLines (pieces (splitOn "\n" s)))
+
+-- So far is the source read: every place before entry `next` has its kind, and none of the others is before the line.
+pub record Read (source list kinds : List ℕ) (p : Progress) : Type 0 where
+  pub within : p .at ≤ length source + 1
+  pub depth : carryDepth (p .carry) ≤ p .at
+  pub small : p .lines ≤ p .at
+  pub same : (n c : ℕ) → textKindAt (decode source) (p .lines + n) c ≡ kindFrom (p .carry) (drop (p .at) source) n c
+  pub count : lineCount source ≡ p .lines + lineCount (drop (p .at) source)
+  pub asked : p .lines ≤ linesAsked (placesIn list)
+  pub answers : Filled (kindOfPlace (decode source)) list (p .lines) (p .next) kinds
+  pub ahead : Ahead list (p .lines) 0 (p .next)
+
+-- the kinds of all places, then zeros, in n bytes; r is the number of lines classified
+pub record KindsFound (source list : List ℕ) (n r : ℕ) (kinds : List ℕ) : Type 0 where
+  pub lines : r ≡ linesClassified (decode source) (placesIn list)
+  pub answers : kinds ≡ filled n (map (kindOfPlace (decode source)) (placesIn list))

@@ -6,7 +6,8 @@ ghost use lib.ListN.{length, drop};
 ghost use Rattle.unicode.specs.Unicode.{decode};
 ghost use Rattle.rules.specs.TextKind.{kindNumber};
 ghost use Rattle.text_kinds.specs.Places.{placeOf, placesIn, notAfter, ascending};
-ghost use Rattle.text_kinds.specs.Reading.{IsPlace, IsOn, Listed, Answered, PassedOver, Ahead, Shallow, LineAnswered};
+ghost use Rattle.text_kinds.specs.Reading.{IsPlace, IsOn, Listed, Answered, PassedOver, Ahead, Shallow, LineAnswered, placeCount, Read, KindsFound};
+ghost use Rattle.text_kind.specs.Kind.{SourceFits};
 use line_ends::line_end;
 use marks::within::open_after;
 use rules::Carry;
@@ -17,6 +18,15 @@ use text_kind::line_at;
 
 // What a line leaves open, and the first entry of the list that is not on it or before it.
 pub struct LineRead {
+    pub carry: Carry,
+    pub next: usize,
+}
+
+// How far a source is read: where the next line starts, how many lines stand before it, what is open there, and the first entry of the list that has no
+// answer yet.
+pub struct Progress {
+    pub at: usize,
+    pub lines: u64,
     pub carry: Carry,
     pub next: usize,
 }
@@ -154,4 +164,66 @@ fn kinds_in_line(
         carry: open_after(m),
         next: pass_line(places, next, number),
     }
+}
+
+// One line more. A line that no place is on is only read for what it leaves open.
+fn read_line(
+    source: &[u8],
+    places: &[u64],
+    kinds: &mut [u8],
+    scratch: &mut [u8],
+    p: Progress,
+) -> Progress
+    requires { ⌜ SourceFits (now source) (now scratch) ⌝ }
+    requires { ⌜ Listed (now places) (now kinds) ⌝ }
+    requires { ⌜ Read (now source) (now places) (now kinds) p ⌝ }
+    requires { ⌜ (p .at < length (now source)) × (p .next < placeCount (now places)) ⌝ }
+    ensures { λ r. ⌜ Read (now (source .entry)) (now (places .entry)) (now (kinds .exit)) r × (p .at < r .at) ⌝ }
+{
+    let at = p.at;
+    let lines = p.lines;
+    let carry = p.carry;
+    let next = p.next;
+    let end = line_end(source, at);
+    let line = line_at(source, at, end);
+    if is_on(places, next, lines) {
+        let l = kinds_in_line(line, carry, lines, places, next, kinds);
+        let after = l.carry;
+        return Progress {
+            at: end + 1,
+            lines: lines + 1,
+            carry: after,
+            next: l.next,
+        };
+    }
+    let after = scan::classify(line, carry, scratch);
+    Progress {
+        at: end + 1,
+        lines: lines + 1,
+        carry: after,
+        next,
+    }
+}
+
+// The kinds of all places of a list in order, then zeros. Gives the number of lines classified.
+pub fn text_kinds(source: &[u8], places: &[u64], kinds: &mut [u8], scratch: &mut [u8]) -> u64
+    requires { ⌜ SourceFits (now source) (now scratch) ⌝ }
+    requires { ⌜ Listed (now places) (now kinds) ⌝ }
+    ensures { λ r. ⌜ KindsFound (now (source .entry)) (now (places .entry)) (length (now (kinds .entry))) r (now (kinds .exit)) ⌝ }
+{
+    buffer::zero(kinds);
+    let n = places.len() / 2;
+    let mut p = Progress {
+        at: 0,
+        lines: 0,
+        carry: Carry::Code,
+        next: 0,
+    };
+    while p.at < source.len() {
+        if n <= p.next {
+            return p.lines;
+        }
+        p = read_line(source, places, kinds, scratch, p);
+    }
+    p.lines
 }

@@ -4,7 +4,7 @@
 # A call whose output is found too short is made again with a larger one, and both are counted.
 set -euo pipefail
 cd "$(dirname "$0")"
-cargo build --release --quiet --bin bench
+cargo build --release --quiet --package runs --bin bench
 bench=${CARGO_TARGET_DIR:-target}/release/bench
 "$bench" --names | while read -r name; do
   log=$(valgrind --tool=callgrind --callgrind-out-file=/dev/null --toggle-collect=wirescript_format \

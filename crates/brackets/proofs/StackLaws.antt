@@ -1,26 +1,26 @@
 -- Laws of the stack in scratch, and the loops over a line's brackets.
 use Prim.Native.Nat.{ℕ, zero, suc, _+_, _-_, _≤_, _<_, zero-le}
 use mathlib.Core.Bool.{Bool, true, false, not, _||_, true≢false}
-use mathlib.Core.List.{List, _∷_, foldl}
-use mathlib.Core.Path.{_≡_, refl, sym, ap, _∙_}
+use mathlib.Core.List.{List, [], _∷_, foldl}
+use mathlib.Core.Path.{_≡_, refl, sym, ap, subst, _∙_}
 use native.Mathlib.Nat.{zero-add}
 use native.Mathlib.Numerals.{add-one}
 use native.Mathlib.Omega.{arith}
-use borrow.Author.Tests.{ne-eqb, eqb-true}
-use lib.Dec.{eqb}
+use borrow.Author.Tests.{ne-eqb, eqb-true, le-leb, lt-leb}
+use lib.Dec.{eqb, leb}
 use lib.ListN.{length, getD, drop, set, drop-of-length-le}
 use lib.Seq.{getD-set-same, getD-set-other, drop-cons}
 use Rattle.buffer.specs.Buffer.{part}
 use Rattle.unicode.proofs.Tests.{by-test}
-use Rattle.rules.specs.Basics.{choose, isCloser}
+use Rattle.rules.specs.Basics.{choose, isCloser, leading}
 use Rattle.rules.specs.Scan.{Cell, cell, isCode}
 use Rattle.rules.specs.ClassBytes.{classOf, cellsOf}
-use Rattle.rules.specs.Brackets.{Entry, Open, opened, push, pop, bracketStep, scanBrackets, leadingClosers, levels}
+use Rattle.rules.specs.Brackets.{Entry, Open, opened, escaped, push, popFrom, pop, bracketStep, scanBrackets, leadingClosers, levels}
 use Rattle.rules.proofs.Choose.{choose-case, choose-true, choose-false}
 use Rattle.rules.proofs.CellsLaws.{drop-cells, cells-at, cells-end}
 use Rattle.basics.specs.Region.{Only}
 use Rattle.basics.specs.Closers.{Closers}
-use Rattle.brackets.specs.Stack.{entryOf, stacked, mayTurn, openOf, opens, closes, Among, Levels, Room, Turned, Fits, Settled}
+use Rattle.brackets.specs.Stack.{entryOf, stacked, Tallies, mayTurn, Among, Levels, StackRoom, Turned, StackFits, BracketsDone}
 use Rattle.brackets.specs.declared.Tally.{Tally}
 use Rattle.basics.proofs.OnlyLaws.{only-same, only-set, only-wider, only-then, only-past, read-now}
 use Rattle.buffer.proofs.RegionLaws.{length-part}
@@ -36,7 +36,7 @@ closing-start line = record { within = zero-le; same = sym (zero-add (leadingClo
 
 closers-at : (line : List ℕ) (i : ℕ) → i < length line
     → leadingClosers (drop i line) ≡ choose (isCloser (getD line i 0)) (suc (leadingClosers (drop (i + 1) line))) 0
-unfolding leadingClosers
+unfolding leadingClosers leading
 closers-at line i h = rw (add-one, drop-cons line i 0)
 
 module _ (line : List ℕ) (i : ℕ) (w : Closing line i) where
@@ -51,7 +51,7 @@ module _ (line : List ℕ) (i : ℕ) (w : Closing line i) where
       record { is = omega (arith, w .same); fits = w .within }
 
   pub closing-end : length line ≤ i → Closers line i
-  unfolding leadingClosers
+  unfolding leadingClosers leading
   closing-end h =
       let k : leadingClosers (drop i line) ≡ 0 = rw (drop-of-length-le line {i = i}) in
       record { is = omega (arith, w .same); fits = w .within }
@@ -99,68 +99,93 @@ stacked-past w base (suc n) h = rw (only-past w (base + n) (omega arith), stacke
 
 -- ---- one bracket
 
-push-room : (room : ℕ) (s : List Entry) → (room ≡ 0 → ⊥) → opened (room - 1) false (true ∷ s) ≡ push room s
-unfolding push
-push-room zero s h = absurd (h refl)
-push-room (suc room) s h = let e : suc room - 1 ≡ room = omega arith in rw e
-
-module _ (buf : List ℕ) (base : ℕ) (t : Tally) (w : Room buf base t) where
-  pub push-flat : t .room ≡ 0 → Turned opens buf base t (set buf (base + t .depth) 0) (record { depth = t .depth + 1; room = t .room; esc = false })
-  unfolding push
+module _ (buf : List ℕ) (base : ℕ) (t : Tally) (w : StackRoom buf base t) where
+  pub push-flat : t .room ≡ 0 → Turned push buf base t (set buf (base + t .depth) 0) (record { depth = t .depth + 1; room = t .room; esc = false })
+  unfolding push choose
   push-flat e =
       record {
-        is = rw (stacked-push buf base (t .depth) 0 (w .place), e);
+        is = λ o h.
+            (let z : leb (o .added) (o .popped) ≡ false = lt-leb (o .added) (o .popped) (omega (arith, h .net)) in
+            record { stack = rw (stacked-push buf base (t .depth) 0 (w .place), h .stack, z); net = rw z (omega (arith, h .net)); esc = refl });
         depth = omega arith;
         room = omega arith;
         only = only-set buf (base + t .depth) 0 base (base + t .depth + 1) (omega arith) (omega arith);
       }
 
-  pub push-level : (t .room ≡ 0 → ⊥) → Turned opens buf base t (set buf (base + t .depth) 1) (record { depth = t .depth + 1; room = t .room - 1; esc = false })
+  pub push-level : (t .room ≡ 0 → ⊥) → Turned push buf base t (set buf (base + t .depth) 1) (record { depth = t .depth + 1; room = t .room - 1; esc = false })
+  unfolding push choose
   push-level e =
       record {
-        is = rw (stacked-push buf base (t .depth) 1 (w .place)) (push-room (t .room) (stacked buf base (t .depth)) e);
+        is = λ o h.
+            (let z : leb (o .added) (o .popped) ≡ true = le-leb (o .added) (o .popped) (omega (arith, h .net)) in
+            record { stack = rw (stacked-push buf base (t .depth) 1 (w .place), h .stack, z); net = rw z (omega (arith, h .net)); esc = refl });
         depth = omega arith;
         room = omega arith;
         only = only-set buf (base + t .depth) 1 base (base + t .depth + 1) (omega arith) (omega arith);
       }
 
 module _ (buf : List ℕ) (base : ℕ) (t : Tally) where
-  pub pop-none : t .depth ≡ 0 → Turned closes buf base t buf (record { depth = t .depth; room = t .room; esc = false })
-  unfolding pop stacked
-  pop-none e = record { is = rw e; depth = omega arith; room = omega arith; only = only-same buf _ _ }
-
-  pub pop-flat : (t .depth ≡ 0 → ⊥) → getD buf (base + (t .depth - 1)) 0 ≡ 0
-      → Turned closes buf base t buf (record { depth = t .depth - 1; room = t .room; esc = false })
-  unfolding pop choose
-  pop-flat h e =
+  pub pop-none : t .depth ≡ 0 → Turned pop buf base t buf (record { depth = t .depth; room = t .room; esc = false })
+  unfolding popFrom stacked
+  pop-none e =
       record {
-        is = sym (rw (stacked-top buf base (t .depth) h, e));
+        is = λ o h. (let s : o .stack ≡ [] = sym (h .stack) ∙ rw e in rw s (record { stack = rw e; net = h .net; esc = refl }));
         depth = omega arith;
         room = omega arith;
         only = only-same buf _ _;
       }
 
-  pub pop-level : (t .depth ≡ 0 → ⊥) → (getD buf (base + (t .depth - 1)) 0 ≡ 0 → ⊥)
-      → Turned closes buf base t buf (record { depth = t .depth - 1; room = t .room + 1; esc = false })
-  unfolding pop choose
-  pop-level h e =
-      record {
-        is = sym (rw (stacked-top buf base (t .depth) h, ne-eqb _ _ e, ← add-one (t .room)));
-        depth = omega arith;
-        room = omega arith;
-        only = only-same buf _ _;
-      }
+  module _ (h : t .depth ≡ 0 → ⊥) where
+    popped : (v r : ℕ) (o : Open) → Tallies buf base t o → getD buf (base + (t .depth - 1)) 0 ≡ v → r ≡ t .room + choose (entryOf v) 1 0
+        → Tallies buf base (record { depth = t .depth - 1; room = r; esc = false }) (pop o)
+    unfolding popFrom
+    popped v r o k e n =
+        let s : o .stack ≡ entryOf v ∷ stacked buf base (t .depth - 1) = sym (k .stack) ∙ rw (stacked-top buf base (t .depth) h, e) in
+        rw s (record { stack = refl; net = omega (arith, k .net, n); esc = refl })
+
+    pub pop-flat : getD buf (base + (t .depth - 1)) 0 ≡ 0 → Turned pop buf base t buf (record { depth = t .depth - 1; room = t .room; esc = false })
+    unfolding choose
+    pop-flat e =
+        record { is = λ o k. popped 0 (t .room) o k e (omega arith); depth = omega arith; room = omega arith; only = only-same buf _ _ }
+
+    pub pop-level : (getD buf (base + (t .depth - 1)) 0 ≡ 0 → ⊥)
+        → Turned pop buf base t buf (record { depth = t .depth - 1; room = t .room + 1; esc = false })
+    unfolding choose
+    pop-level e =
+        record {
+          is = λ o k. popped (getD buf (base + (t .depth - 1)) 0) (t .room + 1) o k refl (rw (ne-eqb _ _ e));
+          depth = omega arith;
+          room = omega arith;
+          only = only-same buf _ _;
+        }
 
 -- ---- one character
 
-module _ (f : Open → Open) (buf : List ℕ) (base : ℕ) (t : Tally) where
-  -- the stack is left as it is
-  pub turn-still : (u : Tally) → u .depth ≡ t .depth → u .room ≡ t .room → openOf buf base u ≡ f (openOf buf base t) → Turned f buf base t buf u
-  turn-still u d r e = record { is = e; depth = omega arith; room = omega arith; only = only-same buf _ _ }
+module _ (buf : List ℕ) (base : ℕ) (t : Tally) where
+  -- it changes nothing
+  pub turn-same : Turned (λ o. o) buf base t buf t
+  turn-same = record { is = λ o h. h; depth = omega arith; room = omega arith; only = only-same buf _ _ }
 
-  -- what a call did is what is asked
-  pub turn-by : (g : Open → Open) (after : List ℕ) (u : Tally) → Turned g buf base t after u → openOf after base u ≡ f (openOf buf base t) → Turned f buf base t after u
-  turn-by g after u w e = record { is = e; depth = w .depth; room = w .room; only = w .only }
+  -- it is escaped, or escapes the next
+  pub turn-escaped : (b : Bool) → Turned (escaped b) buf base t buf (record { depth = t .depth; room = t .room; esc = b })
+  turn-escaped b =
+      record {
+        is = λ o h. record { stack = h .stack; net = h .net; esc = refl };
+        depth = omega arith;
+        room = omega arith;
+        only = only-same buf _ _;
+      }
+
+  -- what was done is what is asked
+  pub turn-by : {g f : Open → Open} {after : List ℕ} {u : Tally} → Turned g buf base t after u → ((o : Open) → Tallies buf base t o → g o ≡ f o)
+      → Turned f buf base t after u
+  turn-by {after = after} {u = u} w e =
+      record {
+        is = λ o h. subst (Tallies after base u) (e o h) (w .is o h);
+        depth = w .depth;
+        room = w .room;
+        only = w .only;
+      }
 
 -- a byte that is no bracket and no backslash
 
@@ -190,7 +215,9 @@ turn-idle x o r e q =
 -- ---- the loop over a line's cells
 
 pub record Scanning (line ks : List ℕ) (n : ℕ) (buf₀ : List ℕ) (base depth skip : ℕ) (buf : List ℕ) (t : Tally) (i : ℕ) : Type 0 where
-  pub same : scanBrackets (drop skip (cellsOf line ks)) (stacked buf₀ base depth) ≡ foldl bracketStep (openOf buf base t) (cellsOf (drop i line) (drop i ks)) .stack
+  pub o : Open
+  pub now : Tallies buf base t o
+  pub same : scanBrackets (drop skip (cellsOf line ks)) (stacked buf₀ base depth) ≡ foldl bracketStep o (cellsOf (drop i line) (drop i ks)) .stack
   pub high : t .depth + skip ≤ depth + i
   pub room : t .room + skip ≤ 1 + i
   pub from : skip ≤ i
@@ -202,6 +229,8 @@ pub scanning-start : (line ks : List ℕ) (n : ℕ) (buf : List ℕ) (base depth
 unfolding scanBrackets
 scanning-start line ks n buf base depth skip =
     record {
+      o = opened 0 0 false (stacked buf base depth);
+      now = record { stack = refl; net = refl; esc = refl };
       same = rw (drop-cells skip line ks);
       high = omega arith;
       room = omega arith;
@@ -216,7 +245,9 @@ module _ {line ks : List ℕ} {n : ℕ} {buf₀ : List ℕ} {base depth skip : �
       → Turned (λ o. bracketStep o (cell c (classOf k))) buf base t buf′ u → Scanning line ks n buf₀ base depth skip buf′ u (i + 1)
   scanning-on {buf′} {u} c k h m l p q v =
       record {
-        same = w .same ∙ rw (cells-at line ks i (omega arith) (omega arith), p, q, ← v .is);
+        o = bracketStep (w .o) (cell c (classOf k));
+        now = v .is (w .o) (w .now);
+        same = w .same ∙ rw (cells-at line ks i (omega arith) (omega arith), p, q);
         high = omega (arith, w .high, v .depth);
         room = omega (arith, w .room, v .room);
         from = omega (arith, w .from);
@@ -224,11 +255,11 @@ module _ {line ks : List ℕ} {n : ℕ} {buf₀ : List ℕ} {base depth skip : �
         only = only-then (w .only) (only-wider base (base + depth + n) (v .only) (omega arith) (omega (arith, w .high, w .from)));
       }
 
-  scanning-end : length line ≤ i → Settled buf₀ buf base depth n (scanBrackets (drop skip (cellsOf line ks)) (stacked buf₀ base depth)) (t .depth)
-  scanning-end h = record { is = sym (w .same ∙ rw (cells-end line ks i h)); most = omega (arith, w .high, w .upto); only = w .only }
+  scanning-end : length line ≤ i → BracketsDone buf₀ buf base depth n (scanBrackets (drop skip (cellsOf line ks)) (stacked buf₀ base depth)) (t .depth)
+  scanning-end h = record { is = w .now .stack ∙ sym (w .same ∙ rw (cells-end line ks i h)); most = omega (arith, w .high, w .upto); only = w .only }
 
 -- a line apart from scratch
-module _ (line buf₀ : List ℕ) (class base depth skip : ℕ) (buf : List ℕ) (t : Tally) (i : ℕ) (f : Fits buf₀ class (length line) base depth)
+module _ (line buf₀ : List ℕ) (class base depth skip : ℕ) (buf : List ℕ) (t : Tally) (i : ℕ) (f : StackFits buf₀ class (length line) base depth)
     (w : Scanning line (part buf₀ class (class + length line)) (length line) buf₀ base depth skip buf t i) where
   pub scan-more : (buf′ : List ℕ) (u : Tally) → i < length line
       → Turned (λ o. bracketStep o (cell (getD line i 0) (classOf (getD buf (class + i) 0)))) buf base t buf′ u
@@ -239,14 +270,14 @@ module _ (line buf₀ : List ℕ) (class base depth skip : ℕ) (buf : List ℕ)
   pub scan-skip : (r : Bool) → i < length line → r ≡ not (t .esc || mayTurn (getD line i 0)) → r ≡ true
       → Scanning line (part buf₀ class (class + length line)) (length line) buf₀ base depth skip buf t (i + 1)
   scan-skip r h e q =
-      scan-more buf t h (turn-still _ buf base t t refl refl (turn-idle (cell (getD line i 0) (classOf (getD buf (class + i) 0))) (openOf buf base t) r e q))
+      scan-more buf t h (turn-by buf base t (turn-same buf base t) (λ o k. turn-idle (cell (getD line i 0) (classOf (getD buf (class + i) 0))) o r (rw (← k .esc) e) q))
 
   pub scan-end : length line ≤ i
-      → Settled buf₀ buf base depth (length line) (scanBrackets (drop skip (cellsOf line (part buf₀ class (class + length line)))) (stacked buf₀ base depth)) (t .depth)
+      → BracketsDone buf₀ buf base depth (length line) (scanBrackets (drop skip (cellsOf line (part buf₀ class (class + length line)))) (stacked buf₀ base depth)) (t .depth)
   scan-end h = scanning-end w h
 
 -- a line in scratch
-module _ (buf₀ : List ℕ) (at n class base depth skip : ℕ) (buf : List ℕ) (t : Tally) (i : ℕ) (f : (Fits buf₀ class n base depth) × (at + n ≤ base))
+module _ (buf₀ : List ℕ) (at n class base depth skip : ℕ) (buf : List ℕ) (t : Tally) (i : ℕ) (f : (StackFits buf₀ class n base depth) × (at + n ≤ base))
     (w : Scanning (part buf₀ at (at + n)) (part buf₀ class (class + n)) n buf₀ base depth skip buf t i) where
   pub scan-at-more : (buf′ : List ℕ) (u : Tally) → i < n
       → Turned (λ o. bracketStep o (cell (getD buf (at + i) 0) (classOf (getD buf (class + i) 0)))) buf base t buf′ u
@@ -258,10 +289,10 @@ module _ (buf₀ : List ℕ) (at n class base depth skip : ℕ) (buf : List ℕ)
   pub scan-at-skip : (r : Bool) → i < n → r ≡ not (t .esc || mayTurn (getD buf (at + i) 0)) → r ≡ true
       → Scanning (part buf₀ at (at + n)) (part buf₀ class (class + n)) n buf₀ base depth skip buf t (i + 1)
   scan-at-skip r h e q =
-      scan-at-more buf t h (turn-still _ buf base t t refl refl (turn-idle (cell (getD buf (at + i) 0) (classOf (getD buf (class + i) 0))) (openOf buf base t) r e q))
+      scan-at-more buf t h (turn-by buf base t (turn-same buf base t) (λ o k. turn-idle (cell (getD buf (at + i) 0) (classOf (getD buf (class + i) 0))) o r (rw (← k .esc) e) q))
 
   pub scan-at-end : n ≤ i
-      → Settled buf₀ buf base depth n (scanBrackets (drop skip (cellsOf (part buf₀ at (at + n)) (part buf₀ class (class + n)))) (stacked buf₀ base depth)) (t .depth)
+      → BracketsDone buf₀ buf base depth n (scanBrackets (drop skip (cellsOf (part buf₀ at (at + n)) (part buf₀ class (class + n)))) (stacked buf₀ base depth)) (t .depth)
   scan-at-end h = scanning-end w (omega (arith, length-part buf₀ at n (omega arith)))
 
 -- ---- the loops of `levels_of`, from the oldest entry on

@@ -7,9 +7,9 @@ ghost use Rattle.buffer.specs.Buffer.{part};
 ghost use Rattle.rules.specs.Basics.{choose};
 ghost use Rattle.rules.specs.Scan.{cell};
 ghost use Rattle.rules.specs.ClassBytes.{classOf, cellsOf};
-ghost use Rattle.rules.specs.Brackets.{bracketStep, scanBrackets};
+ghost use Rattle.rules.specs.Brackets.{push, pop, bracketStep, scanBrackets};
 ghost use Rattle.basics.specs.Closers.{Closers};
-ghost use Rattle.brackets.specs.Stack.{entryOf, stacked, opens, closes, Room, Turned, Fits, Settled, Among, Levels, mayTurn};
+ghost use Rattle.brackets.specs.Stack.{entryOf, stacked, StackRoom, Turned, StackFits, BracketsDone, Among, Levels, mayTurn};
 use basics::is_closer;
 use basics::is_opener;
 
@@ -80,8 +80,8 @@ pub fn levels_of(scratch: &[u8], base: usize, depth: usize) -> usize
 
 // An opener: it adds a level while there is room.
 fn push(scratch: &mut [u8], base: usize, t: Tally) -> Tally
-    requires { ⌜ Room (now scratch) base t ⌝ }
-    ensures { λ r. ⌜ Turned opens (now (scratch .entry)) base t (now (scratch .exit)) r ⌝ }
+    requires { ⌜ StackRoom (now scratch) base t ⌝ }
+    ensures { λ r. ⌜ Turned push (now (scratch .entry)) base t (now (scratch .exit)) r ⌝ }
 {
     let n = t.depth;
     let room = t.room;
@@ -104,8 +104,8 @@ fn push(scratch: &mut [u8], base: usize, t: Tally) -> Tally
 
 // A closer: it takes any opener, and on an empty stack does nothing.
 fn pop(scratch: &[u8], base: usize, t: Tally) -> Tally
-    requires { ⌜ Room (now scratch) base t ⌝ }
-    ensures { λ r. ⌜ Turned closes (now (scratch .entry)) base t (now (scratch .entry)) r ⌝ }
+    requires { ⌜ StackRoom (now scratch) base t ⌝ }
+    ensures { λ r. ⌜ Turned pop (now (scratch .entry)) base t (now (scratch .entry)) r ⌝ }
 {
     let n = t.depth;
     let room = t.room;
@@ -141,7 +141,7 @@ fn is_idle(c: u8, esc: bool) -> bool
 
 // A byte c of class k.
 fn bracket_step(c: u8, k: u8, scratch: &mut [u8], base: usize, t: Tally) -> Tally
-    requires { ⌜ Room (now scratch) base t ⌝ }
+    requires { ⌜ StackRoom (now scratch) base t ⌝ }
     ensures { λ r. ⌜ Turned (λ o. bracketStep o (cell c (classOf k))) (now (scratch .entry)) base t (now (scratch .exit)) r ⌝ }
 {
     let mut u = t;
@@ -175,8 +175,8 @@ pub fn scan_brackets(
     depth: usize,
     skip: usize,
 ) -> usize
-    requires { ⌜ Fits (now scratch) «class_at» (length (now line)) base depth ⌝ }
-    ensures { λ r. ⌜ Settled (now (scratch .entry)) (now (scratch .exit)) base depth (length (now (line .entry))) (scanBrackets (drop skip (cellsOf (now (line .entry)) (part (now (scratch .entry)) «class_at» («class_at» + length (now (line .entry)))))) (stacked (now (scratch .entry)) base depth)) r ⌝ }
+    requires { ⌜ StackFits (now scratch) «class_at» (length (now line)) base depth ⌝ }
+    ensures { λ r. ⌜ BracketsDone (now (scratch .entry)) (now (scratch .exit)) base depth (length (now (line .entry))) (scanBrackets (drop skip (cellsOf (now (line .entry)) (part (now (scratch .entry)) «class_at» («class_at» + length (now (line .entry)))))) (stacked (now (scratch .entry)) base depth)) r ⌝ }
 {
     let mut t = Tally {
         depth,
@@ -206,8 +206,8 @@ pub fn scan_brackets_at(
     depth: usize,
     skip: usize,
 ) -> usize
-    requires { ⌜ (Fits (now scratch) «class_at» n base depth) × («line_at» + n ≤ base) ⌝ }
-    ensures { λ r. ⌜ Settled (now (scratch .entry)) (now (scratch .exit)) base depth n (scanBrackets (drop skip (cellsOf (part (now (scratch .entry)) «line_at» («line_at» + n)) (part (now (scratch .entry)) «class_at» («class_at» + n)))) (stacked (now (scratch .entry)) base depth)) r ⌝ }
+    requires { ⌜ (StackFits (now scratch) «class_at» n base depth) × («line_at» + n ≤ base) ⌝ }
+    ensures { λ r. ⌜ BracketsDone (now (scratch .entry)) (now (scratch .exit)) base depth n (scanBrackets (drop skip (cellsOf (part (now (scratch .entry)) «line_at» («line_at» + n)) (part (now (scratch .entry)) «class_at» («class_at» + n)))) (stacked (now (scratch .entry)) base depth)) r ⌝ }
 {
     let mut t = Tally {
         depth,

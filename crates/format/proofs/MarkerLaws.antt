@@ -12,7 +12,7 @@ use Rattle.unicode.specs.Places.{TrimmedStart, TrimmedEnd}
 use Rattle.unicode.proofs.Tests.{by-test, and-left, and-right}
 use Rattle.unicode.proofs.Trim.{start-other, end-first}
 use Rattle.buffer.proofs.RegionLaws.{part-from}
-use Rattle.rules.specs.Basics.{choose, codes, at, same, isEmpty, startsWith}
+use Rattle.rules.specs.Basics.{choose, codes, at, same, isEmpty, leading, startsWith}
 use Rattle.rules.specs.Words.{dropSlashes, isMarkerText}
 use Rattle.rules.proofs.StartsBytes.{on-decode, starts-encode, starts-length, starts-column, same-encode}
 use Rattle.format.proofs.WordLaws.{on-bytes}
@@ -56,7 +56,7 @@ module _ (s : List ℕ) (a : ℕ) (t : TrimmedStart s a) where
 
 -- after two slashes and no third
 two-slashes : (l : List ℕ) → at l "//" ≡ true → at l "///" ≡ false → dropSlashes l ≡ drop 2 l
-unfolding startsWith dropSlashes choose
+unfolding startsWith dropSlashes leading choose
 two-slashes [] p q = refl
 two-slashes (a ∷ []) p q = absurd (false≢true (and-right (eqb a 47) false p))
 two-slashes (a ∷ b ∷ []) p q =

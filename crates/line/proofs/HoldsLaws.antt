@@ -1,5 +1,5 @@
 -- What every kind of line uses.
---     begin-holds, begin-small            before the first line
+--     initial-holds, initial-small            before the first line
 --     first-line, takes-join              what the kind of the newest line says of the lines
 --     declaration-bytes, brace-bytes, carry-bytes     facts of a line, found on its bytes
 --     stack-scanned, stack-counted        the stack after `scan_brackets` on a line's bytes is the definition's on its characters
@@ -38,7 +38,7 @@ use Rattle.basics.specs.Depth.{carryDepth}
 use Rattle.scan.specs.Classified.{Classified}
 use Rattle.basics.specs.Region.{Only}
 use Rattle.basics.specs.Closers.{Closers}
-use Rattle.brackets.specs.Stack.{stacked, Fits, Settled}
+use Rattle.brackets.specs.Stack.{stacked, StackFits, BracketsDone}
 use Rattle.format.specs.Words.{declarationOf}
 use Rattle.format.specs.Else.{Facts}
 use Rattle.format.specs.declared.else_line.LineFacts.{LineFacts}
@@ -47,13 +47,13 @@ use Rattle.text.specs.Text.{isFirst, isJoinable, Line}
 use Rattle.text.proofs.LinesLaws.{kind-first, kind-joinable}
 use Rattle.text.proofs.StepLaws.{text-nothing, nothing-ordered}
 use Rattle.line.specs.declared.state.State.{State}
-use Rattle.line.specs.Holds.{begin, Holds, Small, Ready, TrimmedLine, Classes}
+use Rattle.line.specs.Holds.{initial, Holds, Small, Ready, TrimmedLine, Classes}
 
 -- ---- before the first line
 
-pub begin-holds : (eol : List ℕ) (unit : ℕ) (out scratch : List ℕ) → Holds eol unit start begin out scratch
+pub initial-holds : (eol : List ℕ) (unit : ℕ) (out scratch : List ℕ) → Holds eol unit start initial out scratch
 unfolding stacked declarationOf startsWith choose lastIs
-begin-holds eol unit out scratch =
+initial-holds eol unit out scratch =
     record {
       text = text-nothing eol out;
       stack = refl;
@@ -66,8 +66,8 @@ begin-holds eol unit out scratch =
       blanks = refl;
     }
 
-pub begin-small : Small begin
-begin-small = record { ordered = nothing-ordered; at = omega arith }
+pub initial-small : Small initial
+initial-small = record { ordered = nothing-ordered; at = omega arith }
 
 -- ---- the lines, by the kind of the newest
 
@@ -106,13 +106,13 @@ module _
 
     -- a line none of whose closers pop first
     pub stack-scanned : {scratch′ : List ℕ} {base depth n deep : ℕ} {s : List Entry}
-        → Settled scratch scratch′ base depth n (scanBrackets (drop 0 (cellsOf line (part scratch at (at + length line)))) (stacked scratch base depth)) deep
+        → BracketsDone scratch scratch′ base depth n (scanBrackets (drop 0 (cellsOf line (part scratch at (at + length line)))) (stacked scratch base depth)) deep
         → stacked scratch base depth ≡ s → stacked scratch′ base deep ≡ scanBrackets (classify y (decode line)) s
     stack-scanned w e = w .is ∙ rw (cells-decoded, e) (brackets-encode (classify y (decode line)) _)
 
     -- a line whose leading closers pop first
     pub stack-counted : {scratch′ : List ℕ} {base left n deep closers : ℕ} {s : List Entry} (depth : ℕ) → Closers line closers → left ≡ depth - closers
-        → Settled scratch scratch′ base left n (scanBrackets (drop closers (cellsOf line (part scratch at (at + length line)))) (stacked scratch base left)) deep
+        → BracketsDone scratch scratch′ base left n (scanBrackets (drop closers (cellsOf line (part scratch at (at + length line)))) (stacked scratch base left)) deep
         → stacked scratch base depth ≡ s → stacked scratch′ base deep ≡ countBrackets (leadingClosers (decode line)) (classify y (decode line)) s
     unfolding countBrackets
     stack-counted {base = base} {closers = closers} {s = s} depth k l w e =
@@ -162,7 +162,7 @@ module _ {st : State} {scratch : List ℕ} {unit n : ℕ} (ready : Ready st scra
       → (length line ≤ length (take (length line) scratch)) × (carryDepth y + length line + 1 < 2 ^ 32)
   classify-room y line h k = (omega (arith, front-size line h), omega (arith, ready .carry, ready .limit))
 
-  pub stack-room : (buf : List ℕ) (class m left : ℕ) → length buf ≡ length scratch → class + m ≤ 5 * unit → m ≤ 2 * n → left ≤ st .depth → Fits buf class m (5 * unit) left
+  pub stack-room : (buf : List ℕ) (class m left : ℕ) → length buf ≡ length scratch → class + m ≤ 5 * unit → m ≤ 2 * n → left ≤ st .depth → StackFits buf class m (5 * unit) left
   stack-room buf class m left e h k l = record { classes = h; stack = omega (arith, ready .depth, ready .room) }
 
   pub push-room : (m : ℕ) → m ≤ n → st .text .at .0 + 2 + (length (times 0 []) + m) < 2 ^ 64

@@ -8,19 +8,20 @@ use lib.ListN.{length, take, drop}
 use lib.Seq.{take-length, length-take-le}
 use Rattle.unicode.specs.Unicode.{encode, chars, decode, WellFormed}
 use Rattle.unicode.specs.Places.{TrimmedStart, TrimmedEnd}
+use Rattle.unicode.proofs.Trim.{trim-twice}
 use Rattle.buffer.specs.Buffer.{part}
 use Rattle.buffer.specs.Repeat.{times}
 use Rattle.rules.specs.Basics.{choose, is, lastIs, isEmpty}
 use Rattle.rules.specs.Scan.{carryAfter}
 use Rattle.rules.specs.ClassBytes.{cellsOf}
-use Rattle.rules.specs.Brackets.{scanBrackets}
-use Rattle.rules.specs.Line.{Formatter, asWritten, insideLine, blankLine, protectedLine}
+use Rattle.rules.specs.Brackets.{scanBrackets, countBrackets}
+use Rattle.rules.specs.Line.{Formatter, keptLine, asWritten, blankLine}
 use Rattle.rules.specs.declared.Carry.{Carry}
 use Rattle.rules.specs.declared.Ignore.{Ignore}
 use Rattle.rules.proofs.Choose.{choose-true}
 use Rattle.scan.specs.Classified.{Classified}
 use Rattle.basics.specs.Closers.{Closers}
-use Rattle.brackets.specs.Stack.{stacked, Settled}
+use Rattle.brackets.specs.Stack.{stacked, BracketsDone}
 use Rattle.format.specs.Words.{declarationOf}
 use Rattle.brackets.proofs.StackLaws.{stacked-past}
 use Rattle.format.specs.declared.words.Declaration.{Declaration}
@@ -92,26 +93,26 @@ module _ (eol : List ℕ) (st : State) (out : List ℕ) (r : Bool) (s : Small st
 -- ---- a protected line
 
 pub protected-step : (raw line out out′ scratch scratch′ eol : List ℕ) (unit : ℕ) (st : State) (u : Written) (closers left deep : ℕ) (decl : Declaration) (brace : Bool) (after : Carry)
-    → WellFormed raw → TrimmedLine raw line → Classes Carry.Code line scratch 0 after
+    → st .carry ≡ Carry.Code → WellFormed raw → TrimmedLine raw line → Classes Carry.Code line scratch 0 after
     → Adds eol false (times 0 [] ++ decode raw) out (st .text) out′ u
     → Closers line closers → left ≡ st .depth - closers
-    → Settled scratch scratch′ (5 * unit) left (length line)
+    → BracketsDone scratch scratch′ (5 * unit) left (length line)
     (scanBrackets (drop closers (cellsOf line (part scratch 0 (0 + length line)))) (stacked scratch (5 * unit) left)) deep
     → decl ≡ declarationOf line → brace ≡ lastIs (is "}") line
     → Stepped (protectedOf (decode raw)) (length raw) unit eol st out scratch
     (record { text = u; depth = deep; blank = false; decl = decl; brace = brace; ignore = Ignore.Nothing; carry = after; imports = st .imports; blanks = st .blanks })
     out′ scratch′
-unfolding protectedLine times choose
-protected-step raw line out out′ scratch scratch′ eol unit st u closers left deep decl brace after well t classes w k l v ed eb =
+unfolding keptLine times choose
+protected-step raw line out out′ scratch scratch′ eol unit st u closers left deep decl brace after code well t classes w k l v ed eb =
     record {
       holds = λ f h. record {
         text = w .text (f .lines) (h .text);
-        stack = rw (t .text) at (stack-counted (t .well) classes (st .depth) k l v (h .stack));
+        stack = rw (t .text, in-code f h) at (stack-counted (t .well) classes (st .depth) k l v (h .stack));
         blank = refl;
-        decl = ed ∙ declaration-bytes line (t .well) ∙ ap declarationOf (t .text);
-        brace = eb ∙ brace-bytes line (t .well) ∙ ap (lastIs (is "}")) (t .text);
+        decl = ed ∙ declaration-bytes line (t .well) ∙ ap declarationOf (t .text ∙ sym (trim-twice (decode raw)));
+        brace = eb ∙ brace-bytes line (t .well) ∙ ap (lastIs (is "}")) (t .text ∙ sym (trim-twice (decode raw)));
         ignore = refl;
-        carry = classes .leaves ∙ carry-bytes Carry.Code line (t .well) ∙ ap (carryAfter Carry.Code) (t .text);
+        carry = rw (in-code f h) at (classes .leaves ∙ carry-bytes Carry.Code line (t .well) ∙ ap (carryAfter Carry.Code) (t .text));
         imports = h .imports;
         blanks = h .blanks;
       };
@@ -122,6 +123,9 @@ protected-step raw line out out′ scratch scratch′ eol unit st u closers left
       imports = omega arith;
       blanks = omega arith;
     }
+  where
+    in-code : (f : Formatter) → Holds eol unit f st out scratch → Carry.Code ≡ f .carry
+    in-code f h = sym code ∙ h .carry
 
 -- ---- a line that starts inside a comment or a prefab
 
@@ -149,13 +153,13 @@ pub inside-step : (raw out out′ scratch w scratch′ eol : List ℕ) (unit : �
     → Ready st scratch unit (length raw) → WellFormed raw → Classified (st .carry) raw (take (length raw) scratch) w after
     → TrimmedEnd raw tail → TrimmedStart (take tail raw) start → kept ≡ keptLen (st .carry) tail (length raw)
     → Adds eol false (times 0 [] ++ decode (take kept raw)) out (st .text) out′ u
-    → Settled (w ++ drop (length raw) scratch) scratch′ (5 * unit) (st .depth) (length raw)
+    → BracketsDone (w ++ drop (length raw) scratch) scratch′ (5 * unit) (st .depth) (length raw)
     (scanBrackets (drop 0 (cellsOf raw (part (w ++ drop (length raw) scratch) 0 (0 + length raw)))) (stacked (w ++ drop (length raw) scratch) (5 * unit) (st .depth))) deep
     → decl ≡ declarationOf (take (tail - start) (drop start raw)) → brace ≡ lastIs (is "}") (take (tail - start) (drop start raw))
     → Stepped (insideOf (decode raw)) (length raw) unit eol st out scratch
     (record { text = u; depth = deep; blank = false; decl = decl; brace = brace; ignore = st .ignore; carry = after; imports = st .imports; blanks = st .blanks })
     out′ scratch′
-unfolding insideLine times choose
+unfolding keptLine countBrackets times choose
 inside-step raw out out′ scratch w scratch′ eol unit st u tail start kept deep decl brace after ready well classified e s k a v ed eb =
     let room : length raw ≤ length scratch = omega (arith, ready .depth, ready .room) in
     let t : TrimmedLine raw (take (tail - start) (drop start raw)) = trimmed-line raw tail start e s in

@@ -1,5 +1,5 @@
 -- What the code holds of the formatter's record, and what a step of the code does.
-use Prim.Native.Nat.{ℕ, _+_, _*_, _≤_}
+use Prim.Native.Nat.{ℕ, _+_, _*_, _≤_, _^_}
 use mathlib.Core.Bool.{true, false}
 use mathlib.Core.List.{List}
 use mathlib.Core.Path.{_≡_}
@@ -9,7 +9,8 @@ use Rattle.buffer.specs.Buffer.{part}
 use Rattle.rules.specs.Basics.{is, lastIs}
 use Rattle.rules.specs.Scan.{classify, carryAfter}
 use Rattle.rules.specs.ClassBytes.{classBytes}
-use Rattle.rules.specs.Options.{Options, allBlank}
+use Rattle.rules.specs.Options.{Options, maxIndent, allBlank}
+use Rattle.rules.specs.Call.{maxSource}
 use Rattle.rules.specs.Line.{Formatter, insideLine, blankLine, protectedLine}
 use Rattle.rules.specs.declared.Carry.{Carry}
 use Rattle.rules.specs.declared.Ignore.{Ignore}
@@ -18,12 +19,12 @@ use Rattle.basics.specs.Depth.{carryDepth}
 use Rattle.brackets.specs.Stack.{stacked}
 use Rattle.format.specs.Words.{declarationOf}
 use Rattle.format.specs.declared.words.Declaration.{Declaration}
-use Rattle.text.specs.Text.{Text, Ordered, nothing}
+use Rattle.text.specs.Text.{Text, Ordered, nothing, farPlace}
 use Rattle.line.specs.declared.state.State.{State}
 
 -- before the first line
-abbrev pub begin : State
-begin =
+abbrev pub initial : State
+initial =
     record {
       text = nothing;
       depth = 0;
@@ -62,7 +63,7 @@ pub record Holds (eol : List ℕ) (unit : ℕ) (f : Formatter) (st : State) (out
 -- the lengths are in order and far below 2 ^ 64
 pub record Small (st : State) : Type 0 where
   pub ordered : Ordered (st .text)
-  pub at : st .text .at .0 ≤ 1152921504606846976
+  pub at : st .text .at .0 ≤ farPlace
 
 -- what a step asks: a line of n bytes is to come, which respaced has at most 2 × n
 pub record Ready (st : State) (scratch : List ℕ) (unit n : ℕ) : Type 0 where
@@ -71,14 +72,18 @@ pub record Ready (st : State) (scratch : List ℕ) (unit n : ℕ) : Type 0 where
   pub carry : carryDepth (st .carry) + 2 * n ≤ 2 * unit
   pub imports : st .imports ≤ unit
   pub blanks : st .blanks + 2 * n ≤ 2 * unit
-  pub limit : unit ≤ 1048576
+  pub limit : unit ≤ maxSource
   pub room : 7 * unit ≤ length scratch
+
+-- a line of n bytes adds at most (n + 1) × growth bytes to the text
+abbrev pub growth : ℕ
+growth = 2 ^ 29
 
 -- what a step from the record f to g f gives, for a line of n bytes
 pub record Stepped (g : Formatter → Formatter) (n unit : ℕ) (eol : List ℕ) (st : State) (out scratch : List ℕ) (st′ : State) (out′ scratch′ : List ℕ) : Type 0 where
   pub holds : (f : Formatter) → Holds eol unit f st out scratch → Holds eol unit (g f) st′ out′ scratch′
   pub ordered : Ordered (st′ .text)
-  pub at : st′ .text .at .0 ≤ st .text .at .0 + (n + 1) * 536870912
+  pub at : st′ .text .at .0 ≤ st .text .at .0 + (n + 1) * growth
   pub depth : st′ .depth ≤ st .depth + n
   pub carry : carryDepth (st′ .carry) ≤ carryDepth (st .carry) + 2 * n
   pub imports : st′ .imports ≤ st .imports + 1
@@ -93,10 +98,10 @@ pub record Uses (o : Options) (indent : List ℕ) (width : PrintWidth) : Type 0 
   pub indents : o .indent ≡ indent
   pub breaks : o .printWidth ≡ width
 
--- an indent of at most 64 spaces and tabs
+-- an indent of spaces and tabs
 pub record ValidIndent (indent : List ℕ) : Type 0 where
   pub blank : allBlank indent ≡ true
-  pub short : length indent ≤ 64
+  pub short : length indent ≤ maxIndent
 
 -- line is raw trimmed
 pub record TrimmedLine (raw line : List ℕ) : Type 0 where

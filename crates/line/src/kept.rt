@@ -115,6 +115,7 @@ pub fn protected_line(
     st: State,
 ) -> State
     requires { ⌜ Ready st (now scratch) unit (length (now raw)) ⌝ }
+    requires { ⌜ st .carry ≡ Carry.Code ⌝ }
     requires { ⌜ WellFormed (now raw) ⌝ }
     requires { ⌜ TrimmedLine (now raw) (now line) ⌝ }
     requires { ⌜ Classes Carry.Code (now line) (now scratch) 0 after ⌝ }

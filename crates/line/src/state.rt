@@ -1,6 +1,6 @@
 // The formatter's record, by value.
 ghost use mathlib.Core.Path.{_≡_};
-ghost use Rattle.line.specs.Holds.{begin};
+ghost use Rattle.line.specs.Holds.{initial};
 use format::words::Declaration;
 use rules::Carry;
 use rules::Ignore;
@@ -21,7 +21,7 @@ pub struct State {
 
 impl State {
     pub fn new() -> Self
-        ensures { λ r. ⌜ r ≡ begin ⌝ }
+        ensures { λ r. ⌜ r ≡ initial ⌝ }
     {
         let text = Written::new();
         Self {

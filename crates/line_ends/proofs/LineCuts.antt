@@ -16,7 +16,7 @@ use lib.Seq.{drop-cons}
 use Rattle.unicode.specs.Places.{NoneAmong}
 use Rattle.unicode.proofs.Tests.{by-test}
 use Rattle.rules.specs.Basics.{choose, Pieces, pieces, atSep, splitOn}
-use Rattle.rules.specs.Lines.{consCr, dropCr}
+use Rattle.rules.specs.Lines.{dropCr}
 use Rattle.line_ends.specs.LineEnds.{lfAt, Ending, LineEnd}
 
 -- ---- the first piece of a text
@@ -117,15 +117,15 @@ module _ (source : List ℕ) (at e : ℕ) (q : LineEnd source at e) where
 -- ---- a CR at a line's end
 
 cr-more : (c d : ℕ) (ds : List ℕ) → dropCr (c ∷ d ∷ ds) ≡ c ∷ dropCr (d ∷ ds)
-unfolding dropCr consCr
+unfolding dropCr
 cr-more c d ds = refl
 
 cr-here : (c : ℕ) → c ≡ 13 → dropCr (c ∷ []) ≡ []
-unfolding dropCr consCr choose
+unfolding dropCr choose
 cr-here c e = rw (eq-eqb c 13 e)
 
 cr-other : (c : ℕ) → (c ≡ 13 → ⊥) → dropCr (c ∷ []) ≡ c ∷ []
-unfolding dropCr consCr choose
+unfolding dropCr choose
 cr-other c n = rw (ne-eqb c 13 n)
 
 pub cr-none : (l : List ℕ) → length l ≡ 0 → l ≡ dropCr l

@@ -7,7 +7,7 @@ use lib.Dec.{T}
 use Rattle.unicode.specs.Unicode.{isScalar, Scalars, encode, decode, WellFormed}
 use Rattle.unicode.proofs.Decode.{decode-scalars}
 use Rattle.rules.specs.Basics.{choose, is, Pieces, pieces, atSep, splitOn}
-use Rattle.rules.specs.Lines.{consCr, dropCr, linesOf}
+use Rattle.rules.specs.Lines.{dropCr, linesOf}
 use Rattle.rules.proofs.LinesBytes.{lines-encode}
 use Rattle.rules.proofs.StartsBytes.{on-decode}
 use Rattle.split.specs.Text.{AllWell}
@@ -29,7 +29,7 @@ one-scalar true c s = tt
 one-scalar false c s = (s, tt)
 
 cr-scalars : (l : List ℕ) → Scalars l → Scalars (dropCr l)
-unfolding dropCr consCr
+unfolding dropCr
 cr-scalars [] s = tt
 cr-scalars (c ∷ []) s = one-scalar (is "\r" c) c (s .0)
 cr-scalars (c ∷ d ∷ ds) s = (s .0, cr-scalars (d ∷ ds) (s .1))

@@ -20,8 +20,8 @@ use Rattle.rules.specs.declared.PrintWidth.{PrintWidth}
 use Rattle.basics.specs.Depth.{carryDepth}
 use Rattle.split.specs.Text.{AllWell}
 use Rattle.text.specs.Text.{Ordered}
-use Rattle.line.specs.Holds.{Holds, Ready, Stepped, Uses, begin}
-use Rattle.line.proofs.HoldsLaws.{begin-holds}
+use Rattle.line.specs.Holds.{Holds, Ready, Stepped, Uses, initial, growth}
+use Rattle.line.proofs.HoldsLaws.{initial-holds}
 use Rattle.line.specs.declared.state.State.{State}
 use Rattle.line_ends.specs.LineEnds.{LineEnd}
 use Rattle.lines.specs.Lines.{Passed, LinesDone}
@@ -85,7 +85,7 @@ pub record Reached (source indent : List ℕ) (width : PrintWidth) (ending : Lin
   pub well : AllWell left
   pub run : (o : Options) → Uses o indent width → Running o source (asStr ending) left st out scratch
   pub ordered : Ordered (st .text)
-  pub place : st .text .at .0 ≤ at * 536870912
+  pub place : st .text .at .0 ≤ at * growth
   pub depth : st .depth ≤ at
   pub carry : carryDepth (st .carry) ≤ 2 * at
   pub imports : st .imports ≤ at
@@ -93,7 +93,7 @@ pub record Reached (source indent : List ℕ) (width : PrintWidth) (ending : Lin
   pub as-long : length out ≡ length out₀
   pub as-wide : length scratch ≡ length scratch₀
 
-pub reached-start : (source indent : List ℕ) (width : PrintWidth) (ending : LineEnding) (out scratch : List ℕ) (st : State) → Passed source indent scratch → st ≡ begin
+pub reached-start : (source indent : List ℕ) (width : PrintWidth) (ending : LineEnding) (out scratch : List ℕ) (st : State) → Passed source indent scratch → st ≡ initial
     → Reached source indent width ending out scratch out scratch st 0
 reached-start source indent width ending out scratch st p e =
     rw e
@@ -106,7 +106,7 @@ reached-start source indent width ending out scratch st p e =
       run = λ o u. record {
         f = start;
         same = ap (λ (ls : List (List ℕ)). formatLines o ls start) (sym (lines-decode source (p .well)));
-        holds = begin-holds (asStr ending) (length source) out scratch;
+        holds = initial-holds (asStr ending) (length source) out scratch;
       };
       ordered = record { cut = omega arith; full = omega arith; below = omega arith };
       place = zero-le;

@@ -5,6 +5,7 @@ use lib.ListN.{length}
 use Rattle.unicode.specs.Unicode.{decode, WellFormed}
 use Rattle.rules.specs.Lines.{linesOf}
 use Rattle.rules.specs.Options.{Options}
+use Rattle.rules.specs.Call.{maxSource}
 use Rattle.rules.specs.Line.{start}
 use Rattle.rules.specs.Assembly.{formatLines}
 use Rattle.rules.specs.declared.PrintWidth.{PrintWidth}
@@ -13,7 +14,7 @@ use Rattle.line.specs.declared.state.State.{State}
 
 -- what refusals 1 to 4 leave: a well-formed source, a valid indent, and room in scratch
 pub record Passed (source indent scratch : List ℕ) : Type 0 where
-  pub limit : length source ≤ 1048576
+  pub limit : length source ≤ maxSource
   pub well : WellFormed source
   pub indents : ValidIndent indent
   pub room : 7 * length source ≤ length scratch

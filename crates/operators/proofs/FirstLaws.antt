@@ -19,8 +19,8 @@ use Rattle.rules.specs.Scan.{Cell, charsOf}
 use Rattle.rules.specs.Words.{operators}
 use Rattle.rules.specs.SplitOperation.{Ops, OpStep, token, escape, bracket, oneCharStep, codeStep, freshStep, opStepAt, looser, loosest}
 use Rattle.rules.proofs.Choose.{choose-true, choose-case}
-use Rattle.rules.proofs.OperatorsBytes.{byteStep, byteMarks}
-use Rattle.operators.specs.First.{startsOperator, startsAt, anyStarts, NoneBefore}
+use Rattle.rules.specs.OperatorBytes.{byteStep, byteMarks}
+use Rattle.operators.specs.First.{startsOperator, operatorStartsAt, anyStarts, NoneBefore}
 
 -- ---- the bytes of a line
 
@@ -41,7 +41,7 @@ module _ (s : List ℕ) where
       let e : i + n + 1 ≡ i + suc n = omega arith in
       rw e at (before-one (before-more b n (omega arith) (λ j l. a j (omega arith))) (omega arith) (sym (a n (omega arith))) refl)
 
-  pub before-block : {i : ℕ} {any : Bool} → NoneBefore s i → i + 16 ≤ length s → NoneAmong (startsAt s) i 16 any → any ≡ false → NoneBefore s (i + 16)
+  pub before-block : {i : ℕ} {any : Bool} → NoneBefore s i → i + 16 ≤ length s → NoneAmong (operatorStartsAt s) i 16 any → any ≡ false → NoneBefore s (i + 16)
   before-block b h a e = before-more b 16 h (a .none e)
 
   pub before-found : {i : ℕ} {r : Bool} → NoneBefore s i → i < length s → r ≡ startsOperator (getD s i 0) → r ≡ true → true ≡ anyStarts s

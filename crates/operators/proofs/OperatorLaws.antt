@@ -13,15 +13,16 @@ use Rattle.rules.specs.Basics.{choose, is, codes, at, same, oneOf, startsWith, 
 use Rattle.rules.specs.ClassBytes.{classOf}
 use Rattle.rules.specs.Scan.{Cell, isStr}
 use Rattle.rules.specs.Words.{operators}
-use Rattle.rules.specs.SplitOperation.{Ops, OpStep, lookup, precedence, endsOperand, atomLen, token, operator, escape, bracket, isSign, oneCharStep, twoCharStep, codeStep, freshStep, opStepAt}
-use Rattle.rules.proofs.OperatorsBytes.{isPair, byteStep}
+use Rattle.rules.specs.SplitOperation.{Ops, OpStep, lookup, precedence, endsOperand, atomChar, atomLen, startsPair, token, operator, escape, bracket, isSign, oneCharStep, twoCharStep, codeStep, freshStep, opStepAt}
+use Rattle.rules.specs.OperatorBytes.{byteStep}
 use Rattle.rules.proofs.CellsLaws.{str-byte}
 use Rattle.rules.proofs.Choose.{choose-true, choose-false}
 use Rattle.rules.proofs.StartsBytes.{choose-both}
+use Rattle.rules.proofs.Leading.{Passing, passing-start, passing-more, passing-stop, passing-end}
 use Rattle.unicode.specs.Unicode.{tail}
 use Rattle.unicode.proofs.Tests.{by-test, and-left}
 use Rattle.buffer.proofs.RegionLaws.{part-from}
-use Rattle.operators.specs.Operators.{indexIn, atomChar, AtomLen, AtomAt, signStep, tokenStep, stepWith, opsOf, stepOr, passedIn, bracketIn, codeOr, freshOr, skipOr, byteOr}
+use Rattle.operators.specs.Operators.{indexIn, AtomLen, AtomAt, signStep, tokenStep, stepWith, opsOf, stepOr, passedIn, bracketIn, codeOr, freshOr, skipOr, byteOr}
 use Rattle.operators.specs.declared.OpState.{OpState}
 use Rattle.operators.specs.declared.PlainStep.{PlainStep}
 
@@ -99,7 +100,7 @@ one-none a h1 h2 h3 h4 h5 h6 h7 h8 h9 h10 =
 abbrev Two : List ℕ → ℕ → Type 0
 Two l k = k ≡ choose (eqb (length (take 2 l)) 2) (indexIn operators (take 2 l)) 21
 
-two-cases : (l : List ℕ) (k : ℕ) → Two l k → (isPair l ≡ ltb k 21) × (k < 21 → k ≡ indexIn operators (take 2 l))
+two-cases : (l : List ℕ) (k : ℕ) → Two l k → (startsPair l ≡ ltb k 21) × (k < 21 → k ≡ indexIn operators (take 2 l))
 unfolding choose
 two-cases l k e =
     by-test (eqb (length (take 2 l)) 2)
@@ -119,11 +120,11 @@ two-long (a ∷ []) k h e = absurd (omega arith)
 two-long (a ∷ b ∷ l) k h e = e
 
 module _ (x y z : OpStep) (l : List ℕ) (k : ℕ) (e : Two l k) where
-  pub pick-two : k < 21 → x ≡ y → x ≡ choose (isPair l) y z
-  pick-two h f = f ∙ sym (choose-true (isPair l) y z (two-cases l k e .0 ∙ lt-ltb k 21 h))
+  pub pick-two : k < 21 → x ≡ y → x ≡ choose (startsPair l) y z
+  pick-two h f = f ∙ sym (choose-true (startsPair l) y z (two-cases l k e .0 ∙ lt-ltb k 21 h))
 
-  pub pick-one : 21 ≤ k → x ≡ z → x ≡ choose (isPair l) y z
-  pick-one h f = f ∙ sym (choose-false (isPair l) y z (two-cases l k e .0 ∙ le-ltb k 21 h))
+  pub pick-one : 21 ≤ k → x ≡ z → x ≡ choose (startsPair l) y z
+  pick-one h f = f ∙ sym (choose-false (startsPair l) y z (two-cases l k e .0 ∙ le-ltb k 21 h))
 
 -- `<<=` and `>>=`
 factor : (p q r s e : Bool) → (p && (q && (e && true))) || (r && (s && (e && true))) ≡ ((p && (q && true)) || (r && (s && true))) && e
@@ -197,33 +198,21 @@ unary-at b v w r e f = rw e f
 
 -- ---- an atom's name: the scan is at i
 
-pub record AtomScan (s : List ℕ) (i : ℕ) : Type 0 where
-  pub within : i ≤ length s
-  pub sum : atomLen s ≡ i + atomLen (drop i s)
-
-atom-cons : (s : List ℕ) (i : ℕ) → i < length s → atomLen (drop i s) ≡ choose (atomChar (getD s i 0)) (suc (atomLen (drop (i + 1) s))) 0
-unfolding atomLen
-atom-cons s i h = rw (add-one, drop-cons s i 0)
+abbrev pub AtomScan : List ℕ → ℕ → Type 0
+AtomScan s i = Passing atomChar s i
 
 pub atom-begin : (s : List ℕ) → AtomScan s 0
-atom-begin s = record { within = zero-le; sum = omega arith }
+atom-begin s = passing-start atomChar s
 
 module _ (s : List ℕ) (i : ℕ) (q : AtomScan s i) where
   pub atom-more : (r : Bool) → i < length s → r ≡ atomChar (getD s i 0) → r ≡ true → AtomScan s (i + 1)
-  atom-more r h p e =
-      let k : atomLen (drop i s) ≡ suc (atomLen (drop (i + 1) s)) = atom-cons s i h ∙ choose-true _ _ _ (sym p ∙ e) in
-      record { within = omega arith; sum = omega (arith, q .sum) }
+  atom-more r h p e = passing-more q h (sym p ∙ e)
 
   pub atom-stop : (r : Bool) → i < length s → r ≡ atomChar (getD s i 0) → r ≡ false → AtomLen s i
-  atom-stop r h p e =
-      let k : atomLen (drop i s) ≡ 0 = atom-cons s i h ∙ choose-false _ _ _ (sym p ∙ e) in
-      record { is = omega (arith, q .sum); fits = q .within }
+  atom-stop r h p e = record { is = passing-stop q h (sym p ∙ e); fits = q .within }
 
   pub atom-end : length s ≤ i → AtomLen s i
-  unfolding atomLen
-  atom-end h =
-      let k : atomLen (drop i s) ≡ 0 = rw (drop-of-length-le s {i = i} h) in
-      record { is = omega (arith, q .sum); fits = q .within }
+  atom-end h = record { is = passing-end q h; fits = q .within }
 
 module _ (operand : Bool) (l : List ℕ) (some : 0 < length l) where
   pub atom-operand : operand ≡ true → AtomAt operand l 0

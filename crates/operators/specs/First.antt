@@ -11,8 +11,8 @@ use Rattle.unicode.specs.Unicode.{within}
 unfoldable pub startsOperator : ℕ → Bool
 startsOperator c = eqb c 33 || within 37 38 c || within 42 43 c || within 45 47 c || within 60 62 c || eqb c 94 || eqb c 124
 
-abbrev pub startsAt : List ℕ → ℕ → Bool
-startsAt s i = startsOperator (getD s i 0)
+abbrev pub operatorStartsAt : List ℕ → ℕ → Bool
+operatorStartsAt s i = startsOperator (getD s i 0)
 
 -- one of the bytes starts an operator
 unfoldable pub anyStarts : List ℕ → Bool

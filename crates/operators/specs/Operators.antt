@@ -6,10 +6,10 @@ use mathlib.Core.Path.{_≡_}
 use lib.Dec.{eqb}
 use lib.ListN.{length, take, drop, getD}
 use Rattle.unicode.specs.Unicode.{tail}
-use Rattle.rules.specs.Basics.{choose, is, at, same, oneOf, isIdent, isBlank, isOpener, isCloser}
+use Rattle.rules.specs.Basics.{choose, is, at, same, isBlank, isOpener, isCloser}
 use Rattle.rules.specs.Scan.{Cell, isStr}
 use Rattle.rules.specs.Words.{operators}
-use Rattle.rules.specs.SplitOperation.{Ops, OpStep, endsOperand, token, escape, bracket, atomLen, twoCharStep, oneCharStep}
+use Rattle.rules.specs.SplitOperation.{Ops, OpStep, endsOperand, token, escape, bracket, atomLen, startsPair, twoCharStep, oneCharStep}
 use Rattle.operators.specs.declared.OpState.{OpState}
 use Rattle.operators.specs.declared.OpFound.{OpFound}
 use Rattle.operators.specs.declared.Token.{Token}
@@ -28,10 +28,6 @@ indexIn (k ∷ ks) w = let r = suc (indexIn ks w) in choose (same k w) 0 r
 
 -- ---- a token of code
 
--- a character of an atom's name
-abbrev pub atomChar : ℕ → Bool
-atomChar c = isIdent c || is "-" c
-
 pub record AtomLen (s : List ℕ) (r : ℕ) : Type 0 where
   pub is : r ≡ atomLen s
   pub fits : r ≤ length s
@@ -46,7 +42,7 @@ unfoldable pub signStep : List ℕ → Ops → List ℕ → OpStep
 signStep table s l =
     choose (at l "...") (token s false 2)
     (choose (at l "->" || at l "=>") (token s false 1)
-    (choose (eqb (length (take 2 l)) 2 && oneOf operators (take 2 l)) (twoCharStep table s (take 2 l) (drop 2 l))
+    (choose (startsPair l) (twoCharStep table s (take 2 l) (drop 2 l))
     (oneCharStep table s (getD l 0 0) (drop 1 l))))
 
 -- the tests of `codeStep` but for blanks and brackets
@@ -99,6 +95,6 @@ skipOr (suc n) t s x = token s (s .operand) n
 unfoldable pub byteOr : OpStep → Ops → Cell → OpStep
 byteOr t s x = choose (tail (x .ch)) (record { strength = 0; after = s }) (skipOr (s .skip) t s x)
 
-pub record Countable (s : OpState) : Type 0 where
+pub record FewBrackets (s : OpState) : Type 0 where
   pub opened : s .opened < 2 ^ 32
   pub closed : s .closed < 2 ^ 32

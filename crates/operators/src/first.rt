@@ -3,7 +3,7 @@ ghost use mathlib.Core.Path.{_≡_};
 ghost use Prim.Native.Nat.{_+_, _≤_};
 ghost use lib.ListN.{length};
 ghost use Rattle.unicode.specs.Places.{NoneAmong};
-ghost use Rattle.operators.specs.First.{startsOperator, startsAt, anyStarts, NoneBefore};
+ghost use Rattle.operators.specs.First.{startsOperator, operatorStartsAt, anyStarts, NoneBefore};
 
 fn starts_operator(c: u8) -> bool
     ensures { λ r. ⌜ r ≡ startsOperator c ⌝ }
@@ -20,7 +20,7 @@ fn starts_operator(c: u8) -> bool
 // Whether an operator starts among the 16 bytes from `at` on. It makes no branch, so that the 16 are tested at once.
 fn any_starts(line: &[u8], at: usize) -> bool
     requires { ⌜ at + 16 ≤ length (now line) ⌝ }
-    ensures { λ r. ⌜ NoneAmong (startsAt (now (line .entry))) at 16 r ⌝ }
+    ensures { λ r. ⌜ NoneAmong (operatorStartsAt (now (line .entry))) at 16 r ⌝ }
 {
     let mut any = false;
     let mut k: usize = 0;

@@ -11,8 +11,8 @@ ghost use Rattle.rules.specs.Basics.{choose, is, at, firstIs, isBlank, isOpener
 ghost use Rattle.rules.specs.Scan.{cell};
 ghost use Rattle.rules.specs.ClassBytes.{classOf};
 ghost use Rattle.rules.specs.Words.{operators};
-ghost use Rattle.rules.specs.SplitOperation.{Ops, OpStep, endsOperand, token, isSign, oneCharStep};
-ghost use Rattle.operators.specs.Operators.{opsOf, stepOf, indexIn, atomChar, AtomLen, AtomAt, signStep, tokenStep, stepWith, stepOr, codeOr, freshOr, byteOr, passedIn, bracketIn, Countable};
+ghost use Rattle.rules.specs.SplitOperation.{Ops, OpStep, endsOperand, atomChar, token, isSign, oneCharStep};
+ghost use Rattle.operators.specs.Operators.{opsOf, stepOf, indexIn, AtomLen, AtomAt, signStep, tokenStep, stepWith, stepOr, codeOr, freshOr, byteOr, passedIn, bracketIn, FewBrackets};
 use basics::is_blank;
 use basics::is_closer;
 use basics::is_ident;
@@ -387,7 +387,7 @@ fn bracket(opened: usize, closed: usize, operand: bool) -> PlainStep
 }
 
 fn code_step(s: OpState, c: u8) -> PlainStep
-    requires { ⌜ Countable s ⌝ }
+    requires { ⌜ FewBrackets s ⌝ }
     ensures { λ r. ⌜ ((t : OpStep) → stepOr (r .token) t (r .after) ≡ codeOr t (opsOf s) c) ⌝ }
 {
     if is_blank(c) {
@@ -407,7 +407,7 @@ fn code_step(s: OpState, c: u8) -> PlainStep
 
 // A string is one operand; an escaped character is passed over.
 fn fresh_step(s: OpState, k: u8, c: u8) -> PlainStep
-    requires { ⌜ Countable s ⌝ }
+    requires { ⌜ FewBrackets s ⌝ }
     ensures { λ r. ⌜ ((t : OpStep) → stepOr (r .token) t (r .after) ≡ freshOr t (opsOf s) (cell c (classOf k))) ⌝ }
 {
     if k == 1 {
@@ -424,7 +424,7 @@ fn fresh_step(s: OpState, k: u8, c: u8) -> PlainStep
 
 // The step of the byte c with the class byte k. A byte that starts no character leaves the state as it is.
 pub fn plain_step(s: OpState, k: u8, c: u8) -> PlainStep
-    requires { ⌜ Countable s ⌝ }
+    requires { ⌜ FewBrackets s ⌝ }
     ensures { λ r. ⌜ ((t : OpStep) → stepOr (r .token) t (r .after) ≡ byteOr t (opsOf s) (cell c (classOf k))) ⌝ }
 {
     if unicode::is_tail(c) {

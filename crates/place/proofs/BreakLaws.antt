@@ -26,7 +26,8 @@ use Rattle.split_import.specs.Import.{Given, ImportFits}
 use Rattle.split_import.specs.declared.ImportSplit.{ImportSplit}
 use Rattle.split_operation.specs.Operation.{Broken, OperationFits}
 use Rattle.split_operation.specs.declared.OperationSplit.{OperationSplit}
-use Rattle.text.specs.Text.{Text, Continues, afterLines}
+use Rattle.rules.specs.Call.{maxSource}
+use Rattle.text.specs.Text.{Text, Continued, afterLines, farPlace}
 use Rattle.text.specs.declared.Written.{Written}
 use Rattle.text.proofs.PadLaws.{some-size}
 use Rattle.text.proofs.StepLaws.{ending, grown-ordered, lines-done, lines-grown}
@@ -41,11 +42,11 @@ size-line (c ∷ cs) h = some-size c cs
 
 module _
     (line class indent : List ℕ) (level : ℕ) (e : LineEnding) (eol : List ℕ) (drops : Bool) (out o1 : List ℕ) (t : Written) (start : ℕ) (v : ValidIndent indent)
-    (flat : level ≤ 1048576) (g : GoesOn line class) (eq : eol ≡ asStr e) (go-on : Continues (asStr e) drops out t o1 start)
+    (flat : level ≤ maxSource) (g : GoesOn line class) (eq : eol ≡ asStr e) (go-on : Continued (asStr e) drops out t o1 start)
   where
     -- ---- what the two splits ask
 
-    break-fits : t .at .0 ≤ 1152921504606846976 → Fits line indent level eol start
+    break-fits : t .at .0 ≤ farPlace → Fits line indent level eol start
     break-fits h =
         record {
           well = g .well;
@@ -58,10 +59,10 @@ module _
           room = omega (arith, g .short, go-on .small);
         }
 
-    pub import-asks : t .at .0 ≤ 1152921504606846976 → ImportFits line class indent level eol start
+    pub import-asks : t .at .0 ≤ farPlace → ImportFits line class indent level eol start
     import-asks h = record { fits = break-fits h; classes = g .classes }
 
-    pub operation-asks : t .at .0 ≤ 1152921504606846976 → allCodeOrStr (classify Carry.Code line) ≡ true → OperationFits line class indent level eol start
+    pub operation-asks : t .at .0 ≤ farPlace → allCodeOrStr (classify Carry.Code line) ≡ true → OperationFits line class indent level eol start
     operation-asks h p = record { fits = break-fits h; classed = record { classes = g .classes; plain = p } }
 
     -- ---- lines that were written

@@ -11,8 +11,9 @@ use Rattle.rules.specs.Basics.{choose}
 use Rattle.rules.specs.Scan.{classify, allCodeOrStr}
 use Rattle.rules.specs.ClassBytes.{cellsOf}
 use Rattle.rules.specs.Options.{Options, indentOf, measure, overWide}
+use Rattle.rules.specs.Call.{maxSource}
 use Rattle.rules.specs.SplitImport.{Laid}
-use Rattle.rules.specs.Line.{dropBlank, orOperation, broken, oneLine, fitted}
+use Rattle.rules.specs.Line.{dropBlank, orOperation, broken, oneLine, splitWide}
 use Rattle.rules.specs.declared.Carry.{Carry}
 use Rattle.rules.specs.declared.PrintWidth.{PrintWidth}
 use Rattle.rules.proofs.CellsLaws.{cells-classify, length-classBytes, length-classify}
@@ -45,8 +46,8 @@ code-test line class r g e =
 -- a line that is not split
 module _
     (w : PrintWidth) (indent line class : List ℕ) (level : ℕ) (eol : List ℕ) (drops : Bool) (out out′ : List ℕ) (t u : Written)
-    (v : ValidIndent indent) (flat : level ≤ 1048576) (g : GoesOn line class) (a : Adds eol drops (times level indent ++ decode line) out t out′ u)
-    (p : Placed) (is : p ≡ aloneIn u) (same : (o : Options) → o .indent ≡ indent → fitted w o level (decode line) ≡ oneLine (times level indent ++ decode line))
+    (v : ValidIndent indent) (flat : level ≤ maxSource) (g : GoesOn line class) (a : Adds eol drops (times level indent ++ decode line) out t out′ u)
+    (p : Placed) (is : p ≡ aloneIn u) (same : (o : Options) → o .indent ≡ indent → splitWide w o level (decode line) ≡ oneLine (times level indent ++ decode line))
   where
     lays-alone : Lays w indent (decode line) level eol drops (length line) out t (aloneIn u) out′
     lays-alone =
@@ -66,20 +67,20 @@ module _
 abbrev fits : Bool → PrintWidth → PrintWidth
 fits b width = choose b width PrintWidth.Off
 
-off-same : (b : Bool) (level : ℕ) (indent l : List ℕ) (o : Options) → o .indent ≡ indent → fitted (fits b PrintWidth.Off) o level l ≡ oneLine (times level indent ++ l)
-unfolding choose fitted indentOf
+off-same : (b : Bool) (level : ℕ) (indent l : List ℕ) (o : Options) → o .indent ≡ indent → splitWide (fits b PrintWidth.Off) o level l ≡ oneLine (times level indent ++ l)
+unfolding choose splitWide indentOf
 off-same true level indent l o e = rw e
 off-same false level indent l o e = rw e
 
 narrow-same : (b : Bool) (max level : ℕ) (indent l : List ℕ) (o : Options) → o .indent ≡ indent → overWide o max (times level indent ++ l) ≡ false
-    → fitted (fits b (PrintWidth.Columns max)) o level l ≡ oneLine (times level indent ++ l)
-unfolding choose fitted indentOf overWide times measure
+    → splitWide (fits b (PrintWidth.Columns max)) o level l ≡ oneLine (times level indent ++ l)
+unfolding choose splitWide indentOf overWide times measure
 narrow-same true max level indent l o e h = rw (e, h)
 narrow-same false max level indent l o e h = rw e
 
 module _
     (indent line class : List ℕ) (level : ℕ) (eol : List ℕ) (drops : Bool) (out out′ : List ℕ) (t u : Written) (v : ValidIndent indent)
-    (flat : level ≤ 1048576) (g : GoesOn line class) (a : Adds eol drops (times level indent ++ decode line) out t out′ u) (p : Placed) (is : p ≡ aloneIn u)
+    (flat : level ≤ maxSource) (g : GoesOn line class) (a : Adds eol drops (times level indent ++ decode line) out t out′ u) (p : Placed) (is : p ≡ aloneIn u)
   where
     abbrev here : Bool
     here = allCodeOrStr (classify Carry.Code (decode line))
@@ -87,28 +88,28 @@ module _
     pub fit-off : (width : PrintWidth) → width ≡ PrintWidth.Off → Lays (choose here width PrintWidth.Off) indent (decode line) level eol drops (length line) out t p out′
     fit-off width e =
         lays-one (choose here width PrintWidth.Off) indent line class level eol drops out out′ t u v flat g a p is
-        (λ o k. ap (λ (x : PrintWidth). fitted (fits here x) o level (decode line)) e ∙ off-same here level indent (decode line) o k)
+        (λ o k. ap (λ (x : PrintWidth). splitWide (fits here x) o level (decode line)) e ∙ off-same here level indent (decode line) o k)
 
     pub fit-narrow : (width : PrintWidth) (max : ℕ) (r : Bool) → width ≡ PrintWidth.Columns max → Wide indent level line max r → r ≡ false
         → Lays (choose here width PrintWidth.Off) indent (decode line) level eol drops (length line) out t p out′
     fit-narrow width max r e wide q =
         lays-one (choose here width PrintWidth.Off) indent line class level eol drops out out′ t u v flat g a p is
-        (λ o k. ap (λ (x : PrintWidth). fitted (fits here x) o level (decode line)) e ∙ narrow-same here max level indent (decode line) o k (sym (wide .is o) ∙ q))
+        (λ o k. ap (λ (x : PrintWidth). splitWide (fits here x) o level (decode line)) e ∙ narrow-same here max level indent (decode line) o k (sym (wide .is o) ∙ q))
 
     pub fit-mixed : (width : PrintWidth) (c : Bool) → c ≡ onlyCodeOrStr class → c ≡ false
         → Lays (choose here width PrintWidth.Off) indent (decode line) level eol drops (length line) out t p out′
     fit-mixed width c e q =
         let k : here ≡ false = sym (code-test line class c g e) ∙ q in
         lays-one (choose here width PrintWidth.Off) indent line class level eol drops out out′ t u v flat g a p is
-        (λ o i. ap (λ (b : Bool). fitted (choose b width PrintWidth.Off) o level (decode line)) k ∙ off-is o i)
+        (λ o i. ap (λ (b : Bool). splitWide (choose b width PrintWidth.Off) o level (decode line)) k ∙ off-is o i)
       where
-        off-is : (o : Options) → o .indent ≡ indent → fitted (choose false width PrintWidth.Off) o level (decode line) ≡ oneLine (times level indent ++ decode line)
-        off-is o i = unfold choose fitted indentOf in (rw i)
+        off-is : (o : Options) → o .indent ≡ indent → splitWide (choose false width PrintWidth.Off) o level (decode line) ≡ oneLine (times level indent ++ decode line)
+        off-is o i = unfold choose splitWide indentOf in (rw i)
 
 -- a line that is split
 wide-same : (max level : ℕ) (indent l : List ℕ) (o : Options) → o .indent ≡ indent → overWide o max (times level indent ++ l) ≡ true
-    → fitted (PrintWidth.Columns max) o level l ≡ broken o max level l
-unfolding choose fitted indentOf overWide broken measure orOperation
+    → splitWide (PrintWidth.Columns max) o level l ≡ broken o max level l
+unfolding choose splitWide indentOf overWide broken measure orOperation
 wide-same max level indent l o e h = rw (e, h)
 
 pub fit-broken : (indent line class : List ℕ) (level : ℕ) (eol : List ℕ) (drops : Bool) (out out′ : List ℕ) (t : Written) (p : Placed) (width : PrintWidth) (max : ℕ) (r c : Bool)
@@ -128,8 +129,8 @@ fit-broken indent line class level eol drops out out′ t p width max r c g e wi
     }
   where
     is : allCodeOrStr (classify Carry.Code (decode line)) ≡ true → (o : Options) → o .indent ≡ indent
-        → fitted (choose (allCodeOrStr (classify Carry.Code (decode line))) width PrintWidth.Off) o level (decode line) ≡ broken o max level (decode line)
+        → splitWide (choose (allCodeOrStr (classify Carry.Code (decode line))) width PrintWidth.Off) o level (decode line) ≡ broken o max level (decode line)
     is here o i =
-        ap (λ (x : Bool). fitted (choose x width PrintWidth.Off) o level (decode line)) here
-        ∙ ap (λ (x : PrintWidth). fitted (choose true x PrintWidth.Off) o level (decode line)) e
+        ap (λ (x : Bool). splitWide (choose x width PrintWidth.Off) o level (decode line)) here
+        ∙ ap (λ (x : PrintWidth). splitWide (choose true x PrintWidth.Off) o level (decode line)) e
         ∙ (unfold choose in (wide-same max level indent (decode line) o i (sym (wide .is o) ∙ q)))

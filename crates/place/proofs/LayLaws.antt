@@ -1,7 +1,7 @@
 -- A line placed: its level, the blank before it and the width that it may be broken at, as the code finds them, are those of the rules.
 use Prim.Native.Nat.{ℕ, zero, suc, _+_, _-_}
 use mathlib.Core.Bool.{Bool, true, false, not, _&&_, and-false}
-use mathlib.Core.List.{List}
+use mathlib.Core.List.{List, _++_}
 use mathlib.Core.Path.{_≡_, refl, sym, ap, _∙_, subst}
 use native.Mathlib.Omega.{arith}
 use borrow.Author.Tests.{ne-eqb}
@@ -10,11 +10,11 @@ use lib.ListN.{length}
 use Rattle.unicode.specs.Unicode.{decode}
 use Rattle.rules.specs.Basics.{choose, isEmpty}
 use Rattle.rules.specs.Scan.{classify, allCodeOrStr}
-use Rattle.rules.specs.Options.{Options}
+use Rattle.rules.specs.Options.{Options, indentOf}
 use Rattle.rules.specs.Brackets.{leadingClosers}
 use Rattle.rules.specs.Words.{sameDeclaration}
 use Rattle.rules.specs.Else.{isPlainElse, canJoin}
-use Rattle.rules.specs.Line.{Formatter, elseLine, dropBlank, linesBefore, continues, levelOf, fitted, mayBreak, laid, placedLine, spacedLine}
+use Rattle.rules.specs.Line.{Formatter, elseLine, dropBlank, linesBefore, continues, levelOf, oneLine, splitWide, maySplit, laid, placedLine, spacedLine}
 use Rattle.rules.specs.declared.Carry.{Carry}
 use Rattle.rules.specs.declared.PrintWidth.{PrintWidth}
 use Rattle.rules.proofs.Choose.{choose-true, choose-false}
@@ -51,6 +51,13 @@ width-same false true true false w = refl
 width-same false true false true w = refl
 width-same false true false false w = refl
 
+-- a line that may not be split is laid out as with no width
+width-off : (b : Bool) (w : PrintWidth) (o : Options) (level : ℕ) (l : List ℕ)
+    → choose b (splitWide w o level l) (oneLine (indentOf o level ++ l)) ≡ splitWide (choose b w PrintWidth.Off) o level l
+unfolding choose splitWide
+width-off true w o level l = refl
+width-off false w o level l = refl
+
 and-choose : (a b : Bool) → (a && b) ≡ choose a b false
 unfolding choose
 and-choose true b = refl
@@ -84,15 +91,15 @@ module _
       level-same =
           sym (wl .is ∙ rw (el, ← stacked-drop scratch (b .base) (b .depth) closers, k .stack, closers-same, continued-same) refl)
 
-      fits-same : choose (mayBreak f marker (decode line)) (o .printWidth) PrintWidth.Off
+      fits-same : choose (maySplit f marker (decode line)) (o .printWidth) PrintWidth.Off
           ≡ choose (allCodeOrStr (classify Carry.Code (decode line))) max PrintWidth.Off
-      unfolding mayBreak
+      unfolding maySplit
       fits-same =
           rw (em, ← continued-same, ← closers-same, u .breaks) (width-same continued (eqb closers 0) marker (allCodeOrStr (classify Carry.Code (decode line))) width)
 
-      laid-same : laid o f marker (decode line) ≡ fitted (choose (allCodeOrStr (classify Carry.Code (decode line))) max PrintWidth.Off) o level (decode line)
+      laid-same : laid o f marker (decode line) ≡ splitWide (choose (allCodeOrStr (classify Carry.Code (decode line))) max PrintWidth.Off) o level (decode line)
       unfolding laid
-      laid-same = rw (fits-same, level-same) refl
+      laid-same = width-off (maySplit f marker (decode line)) (o .printWidth) o (levelOf f (decode line)) (decode line) ∙ rw (fits-same, level-same) refl
 
       drops-same : (isEmpty (f .stack) && sameDeclaration (decode line) (f .prev)) ≡ drops
       drops-same =

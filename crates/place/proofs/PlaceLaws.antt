@@ -1,5 +1,5 @@
 -- Laws of putting a line into the text.
-use Prim.Native.Nat.{ℕ, _+_, _≤_, _<_}
+use Prim.Native.Nat.{ℕ, _+_, _*_, _≤_, _<_}
 use mathlib.Core.Bool.{Bool, true, false}
 use mathlib.Core.List.{List, [], _∷_, _++_}
 use mathlib.Core.Path.{_≡_, refl, sym, ap, _∙_}
@@ -17,7 +17,8 @@ use Rattle.buffer.specs.Repeat.{times}
 use Rattle.buffer.proofs.RepeatLaws.{times-within}
 use Rattle.rules.specs.Basics.{choose, is, lastIs}
 use Rattle.rules.specs.Else.{joinable}
-use Rattle.rules.specs.Options.{defaults, withIndent, indentOf, measure, overWide}
+use Rattle.rules.specs.Call.{maxSource}
+use Rattle.rules.specs.Options.{maxIndent, defaults, withIndent, indentOf, measure, overWide}
 use Rattle.brackets.specs.Stack.{Levels}
 use Rattle.text.specs.Text.{Line, ElseLine}
 use Rattle.split.specs.Measure.{Measured, IndentMeasured}
@@ -89,8 +90,8 @@ else-goes line class j g e =
 
 -- ---- an indent is small
 
-pub indent-small : (indent : List ℕ) (level : ℕ) → ValidIndent indent → level ≤ 1048576 → length (times level indent) ≤ 67108864
-indent-small indent level v h = omega (arith, times-within level indent {a = 1048576} {b = 64} h (v .short))
+pub indent-small : (indent : List ℕ) (level : ℕ) → ValidIndent indent → level ≤ maxSource → length (times level indent) ≤ maxSource * maxIndent
+indent-small indent level v h = omega (arith, times-within level indent {a = maxSource} {b = maxIndent} h (v .short))
 
 -- what `push_line` is told of a line that is trimmed at its end
 pub trimmed-told : (line : List ℕ) (joins : Bool) → WellFormed line → trimEnd (decode line) ≡ decode line → joins ≡ joinable (decode line) → Line line (length line) joins

@@ -1,5 +1,5 @@
 -- What putting a line into the text does.
-use Prim.Native.Nat.{ℕ, _+_, _*_, _≤_}
+use Prim.Native.Nat.{ℕ, _+_, _*_, _≤_, _<_, _^_}
 use mathlib.Core.Bool.{Bool, false}
 use mathlib.Core.List.{List, _++_, reverseAux}
 use mathlib.Core.Path.{_≡_}
@@ -11,15 +11,16 @@ use Rattle.rules.specs.Basics.{choose, is, lastIs}
 use Rattle.rules.specs.Scan.{classify}
 use Rattle.rules.specs.ClassBytes.{classBytes}
 use Rattle.rules.specs.Options.{Options, overWide}
+use Rattle.rules.specs.Call.{maxSource}
 use Rattle.rules.specs.Brackets.{levels}
-use Rattle.rules.specs.Line.{Formatter, dropBlank, broken, fitted, spacedLine, placedLine}
+use Rattle.rules.specs.Line.{Formatter, dropBlank, broken, splitWide, spacedLine, placedLine}
 use Rattle.rules.specs.declared.Carry.{Carry}
 use Rattle.rules.specs.declared.PrintWidth.{PrintWidth}
 use Rattle.basics.specs.Closers.{Closers}
 use Rattle.brackets.specs.Stack.{stacked}
 use Rattle.format.specs.Words.{declarationOf, sameOf}
 use Rattle.format.specs.declared.words.Declaration.{Declaration}
-use Rattle.text.specs.Text.{Text, Ordered}
+use Rattle.text.specs.Text.{Text, Ordered, farPlace}
 use Rattle.text.specs.declared.Written.{Written}
 use Rattle.line.specs.Holds.{Uses}
 use Rattle.place.specs.declared.Before.{Before}
@@ -29,7 +30,7 @@ use Rattle.place.specs.declared.Placed.{Placed}
 pub record GoesOn (line class : List ℕ) : Type 0 where
   pub well : WellFormed line
   pub some : 1 ≤ length line
-  pub short : length line ≤ 2097152
+  pub short : length line ≤ 2 * maxSource
   pub trimmed : trimEnd (decode line) ≡ decode line
   pub classes : class ≡ classBytes (classify Carry.Code line)
 
@@ -48,9 +49,13 @@ pub record Heads (line : List ℕ) (b : Before) : Type 0 where
 -- what it asks
 pub record Asks (b : Before) (scratch : List ℕ) : Type 0 where
   pub ordered : Ordered (b .text)
-  pub small : b .text .at .0 ≤ 1152921504606846976
-  pub depth : b .depth ≤ 1048575
+  pub small : b .text .at .0 ≤ farPlace
+  pub depth : b .depth < maxSource
   pub fits : b .base + b .depth ≤ length scratch
+
+-- a line that goes on, of n bytes, adds at most (n + 1) × respacedGrowth bytes to the text; respaced it may have twice the bytes of the source's
+abbrev pub respacedGrowth : ℕ
+respacedGrowth = 2 ^ 28
 
 -- the line of characters l was put into the text, as the step g says
 pub record Puts (g : Options → Formatter → Formatter) (indent : List ℕ) (width : PrintWidth) (eol : List ℕ) (n : ℕ) (b : Before) (out scratch : List ℕ) (r : Placed) (out′ : List ℕ) : Type 0 where
@@ -58,7 +63,7 @@ pub record Puts (g : Options → Formatter → Formatter) (indent : List ℕ) (w
   pub imports : (o : Options) (f : Formatter) → Uses o indent width → Knows eol f b out scratch → g o f .importsSplit ≡ f .importsSplit + r .imports
   pub blanks : (o : Options) (f : Formatter) → Uses o indent width → Knows eol f b out scratch → g o f .blankNames ≡ f .blankNames + r .blanks
   pub ordered : Ordered (r .text)
-  pub at : r .text .at .0 ≤ b .text .at .0 + (n + 1) * 268435456
+  pub at : r .text .at .0 ≤ b .text .at .0 + (n + 1) * respacedGrowth
   pub few : r .imports ≤ 1
   pub fewer : r .blanks ≤ n
 
@@ -81,13 +86,13 @@ dropsBlank depth d before = choose (eqb depth 0) (sameOf d before) false
 pub record Wide (indent : List ℕ) (level : ℕ) (line : List ℕ) (max : ℕ) (r : Bool) : Type 0 where
   pub is : (o : Options) → r ≡ overWide o max (times level indent ++ decode line)
 
--- the line of characters l was laid out at a level as `fitted` says for the width w, after an empty newest line was dropped if `drops` says so
+-- the line of characters l was laid out at a level as `splitWide` says for the width w, after an empty newest line was dropped if `drops` says so
 pub record Lays (w : PrintWidth) (indent l : List ℕ) (level : ℕ) (eol : List ℕ) (drops : Bool) (n : ℕ) (out : List ℕ) (t : Written) (r : Placed) (out′ : List ℕ) : Type 0 where
-  pub text : (o : Options) (ls : List (List ℕ)) → o .indent ≡ indent → Text eol ls t out → Text eol (reverseAux (fitted w o level l .lines) (choose drops (dropBlank ls) ls)) (r .text) out′
-  pub imports : (o : Options) → o .indent ≡ indent → r .imports ≡ fitted w o level l .importsSplit
-  pub blanks : (o : Options) → o .indent ≡ indent → r .blanks ≡ fitted w o level l .blankNames
+  pub text : (o : Options) (ls : List (List ℕ)) → o .indent ≡ indent → Text eol ls t out → Text eol (reverseAux (splitWide w o level l .lines) (choose drops (dropBlank ls) ls)) (r .text) out′
+  pub imports : (o : Options) → o .indent ≡ indent → r .imports ≡ splitWide w o level l .importsSplit
+  pub blanks : (o : Options) → o .indent ≡ indent → r .blanks ≡ splitWide w o level l .blankNames
   pub ordered : Ordered (r .text)
-  pub at : r .text .at .0 ≤ t .at .0 + (n + 1) * 268435456
+  pub at : r .text .at .0 ≤ t .at .0 + (n + 1) * respacedGrowth
   pub few : r .imports ≤ 1
   pub fewer : r .blanks ≤ n
 
@@ -102,7 +107,7 @@ pub record Breaks (max : ℕ) (indent l : List ℕ) (level : ℕ) (eol : List �
   pub imports : (o : Options) → o .indent ≡ indent → r .imports ≡ broken o max level l .importsSplit
   pub blanks : (o : Options) → o .indent ≡ indent → r .blanks ≡ broken o max level l .blankNames
   pub ordered : Ordered (r .text)
-  pub at : r .text .at .0 ≤ t .at .0 + (n + 1) * 268435456
+  pub at : r .text .at .0 ≤ t .at .0 + (n + 1) * respacedGrowth
   pub few : r .imports ≤ 1
   pub fewer : r .blanks ≤ n
 

@@ -2,13 +2,14 @@
 ghost use mathlib.Core.Path.{_≡_};
 ghost use mathlib.Core.Bool.{true, false};
 ghost use Rattle.rules.specs.Basics.{choose};
-ghost use Prim.Native.Nat.{_+_, _≤_, _<_};
+ghost use Prim.Native.Nat.{_+_, _*_, _≤_, _<_};
 ghost use lib.ListN.{length};
 ghost use Rattle.unicode.specs.Unicode.{decode, trimEnd, WellFormed};
 ghost use Rattle.buffer.specs.Repeat.{times};
 ghost use Rattle.rules.specs.Lines.{asStr};
 ghost use mathlib.Core.List.{_++_};
-ghost use Rattle.text.specs.Text.{Adds, Joins, Ordered};
+ghost use Rattle.text.specs.Text.{Adds, Joins, Ordered, farPlace};
+ghost use Rattle.rules.specs.Call.{maxSource};
 ghost use Rattle.rules.specs.Scan.{classify, allCodeOrStr};
 ghost use Rattle.rules.specs.declared.Carry.{Carry};
 ghost use Rattle.rules.specs.declared.PrintWidth.{PrintWidth};
@@ -41,7 +42,7 @@ pub struct Placed {
 // The levels left after the leading closers, and one more if the line continues the one before.
 fn level_of(scratch: &[u8], base: usize, left: usize, continued: bool) -> usize
     requires { ⌜ base + left ≤ length (now scratch) ⌝ }
-    requires { ⌜ left ≤ 1048575 ⌝ }
+    requires { ⌜ left < maxSource ⌝ }
     ensures { λ r. ⌜ Level (now (scratch .entry)) base left continued r ⌝ }
 {
     let n = brackets::levels_of(scratch, base, left);
@@ -64,8 +65,8 @@ fn drops_blank(depth: usize, d: Declaration, before: Declaration) -> bool
 // Whether the line, with its indent, is wider than max. A character takes no more UTF-16 units than bytes, so that most lines are not measured.
 fn over_wide(indent: &[u8], level: usize, line: &[u8], max: usize) -> bool
     requires { ⌜ ValidIndent (now indent) ⌝ }
-    requires { ⌜ level ≤ 1048576 ⌝ }
-    requires { ⌜ WellFormed (now line) × (length (now line) ≤ 2097152) ⌝ }
+    requires { ⌜ level ≤ maxSource ⌝ }
+    requires { ⌜ WellFormed (now line) × (length (now line) ≤ 2 * maxSource) ⌝ }
     ensures { λ r. ⌜ Wide (now (indent .entry)) level (now (line .entry)) max r ⌝ }
 {
     let pad = split::indent_column(indent, level);
@@ -88,10 +89,10 @@ fn push_one(
     t: Written,
 ) -> Written
     requires { ⌜ ValidIndent (now indent) ⌝ }
-    requires { ⌜ level ≤ 1048576 ⌝ }
-    requires { ⌜ WellFormed (now line) × (length (now line) ≤ 2097152) ⌝ }
+    requires { ⌜ level ≤ maxSource ⌝ }
+    requires { ⌜ WellFormed (now line) × (length (now line) ≤ 2 * maxSource) ⌝ }
     requires { ⌜ trimEnd (decode (now line)) ≡ decode (now line) ⌝ }
-    requires { ⌜ Ordered t × (t .at .0 ≤ 1152921504606846976) ⌝ }
+    requires { ⌜ Ordered t × (t .at .0 ≤ farPlace) ⌝ }
     ensures { λ r. ⌜ Adds (asStr ending) drops (times level (now (indent .entry)) ++ decode (now (line .entry))) (now (out .entry)) t (now (out .exit)) r ⌝ }
 {
     let joins = format::else_line::trimmed_takes_else(line);
@@ -102,7 +103,7 @@ fn push_one(
 // A plain else joined to the newest line.
 fn join_one(line: &[u8], class: &[u8], out: &mut [u8], t: Written) -> Written
     requires { ⌜ GoesOn (now line) (now class) ⌝ }
-    requires { ⌜ Ordered t × (t .at .0 ≤ 1152921504606846976) ⌝ }
+    requires { ⌜ Ordered t × (t .at .0 ≤ farPlace) ⌝ }
     ensures { λ r. ⌜ Joins (decode (now (line .entry))) (now (out .entry)) t (now (out .exit)) r ⌝ }
 {
     let brace = format::else_line::ends_in_brace(line);
@@ -150,9 +151,9 @@ fn fit_line(
     t: Written,
 ) -> Placed
     requires { ⌜ ValidIndent (now indent) ⌝ }
-    requires { ⌜ level ≤ 1048576 ⌝ }
+    requires { ⌜ level ≤ maxSource ⌝ }
     requires { ⌜ GoesOn (now line) (now class) ⌝ }
-    requires { ⌜ Ordered t × (t .at .0 ≤ 1152921504606846976) ⌝ }
+    requires { ⌜ Ordered t × (t .at .0 ≤ farPlace) ⌝ }
     ensures { λ r. ⌜ Lays (choose (allCodeOrStr (classify Carry.Code (decode (now (line .entry))))) width PrintWidth.Off) (now (indent .entry)) (decode (now (line .entry))) level (asStr ending) drops (length (now (line .entry))) (now (out .entry)) t r (now (out .exit)) ⌝ }
 {
     match width {
@@ -243,9 +244,9 @@ fn break_line(
     t: Written,
 ) -> Placed
     requires { ⌜ ValidIndent (now indent) ⌝ }
-    requires { ⌜ level ≤ 1048576 ⌝ }
+    requires { ⌜ level ≤ maxSource ⌝ }
     requires { ⌜ GoesOn (now line) (now class) ⌝ }
-    requires { ⌜ Ordered t × (t .at .0 ≤ 1152921504606846976) ⌝ }
+    requires { ⌜ Ordered t × (t .at .0 ≤ farPlace) ⌝ }
     requires { ⌜ allCodeOrStr (classify Carry.Code (now line)) ≡ true ⌝ }
     ensures { λ r. ⌜ Breaks max (now (indent .entry)) (decode (now (line .entry))) level (asStr ending) drops (length (now (line .entry))) (now (out .entry)) t r (now (out .exit)) ⌝ }
 {

@@ -17,13 +17,13 @@ use Rattle.rules.specs.declared.Class.{Class}
 use Rattle.rules.specs.declared.Carry.{Carry}
 use Rattle.rules.specs.Basics.{choose}
 use Rattle.rules.specs.Scan.{Cell, cell, isCode, charsOf, classify}
-use Rattle.rules.specs.Brackets.{Entry, Open, opened, leadingClosers, bracketStep, scanBrackets, countBrackets}
+use Rattle.rules.specs.Brackets.{Entry, Open, opened, escaped, leadingClosers, bracketStep, scanBrackets, countBrackets}
 use Rattle.rules.proofs.StartsBytes.{allAscii, not-ascii, steady-opener, steady-closer, closers-ascii}
 use Rattle.rules.proofs.ScanBytes.{label, encodeCells, classify-encode, chars-classify, fold-encode}
 
 -- a character from 80 hex on, of code or not, only ends an escape
 after : Bool → Open → Open
-after code o = choose (not code) o (choose (o .esc) (opened (o .room) false (o .stack)) o)
+after code o = choose (not code) o (choose (o .esc) (escaped false o) o)
 
 step-high : (b : ℕ) → 0x80 ≤ b → (k : Class) (o : Open) → bracketStep o (cell b k) ≡ after (isCode k) o
 unfolding after bracketStep choose
@@ -32,11 +32,12 @@ step-high b h k o = rw (not-ascii b 92 h refl, steady-opener b h, steady-closer 
 after-after : (t : Bool) (o : Open) → after t (after t o) ≡ after t o
 unfolding after choose
 after-after false o = refl
-after-after true o = go (o .room) (o .esc) (o .stack)
+after-after true o = go (o .added) (o .popped) (o .esc) (o .stack)
   where
-    go : (room : ℕ) (esc : Bool) (stack : List Entry) → after true (after true (opened room esc stack)) ≡ after true (opened room esc stack)
-    go room true stack = refl
-    go room false stack = refl
+    go : (added popped : ℕ) (esc : Bool) (stack : List Entry)
+        → after true (after true (opened added popped esc stack)) ≡ after true (opened added popped esc stack)
+    go added popped true stack = refl
+    go added popped false stack = refl
 
 rest-high : (bs : List ℕ) → High bs → (k : Class) (o : Open) → foldl bracketStep (after (isCode k) o) (label k bs) ≡ after (isCode k) o
 unfolding label
@@ -58,7 +59,7 @@ fold-same cells o = fold-encode bracketStep bracketStep _≡_ low high cells o o
 
 pub brackets-encode : (cells : List Cell) (stack : List Entry) → scanBrackets (encodeCells cells) stack ≡ scanBrackets cells stack
 unfolding scanBrackets
-brackets-encode cells stack = ap (λ (o : Open). o .stack) (sym (fold-same cells (opened 1 false stack)))
+brackets-encode cells stack = ap (λ (o : Open). o .stack) (sym (fold-same cells (opened 0 0 false stack)))
 
 -- ---- after the leading closers
 

@@ -4,7 +4,7 @@
 --     length-cells, chars-cells, take-cells, drop-cells, getD-cells, append-cells, cells-take
 --     cells-at, cells-end           the cell at a place, and what is left after it
 --     Folding                       a loop that folds over the line
---     Finding, Found                a loop that looks for the first cell that passes a test
+--     Finding                       a loop that looks for the first cell that passes a test
 use Prim.Native.Nat.{ℕ, zero, suc, _+_, _<_, _≤_, zero-le}
 use native.Mathlib.Omega.{arith}
 use native.Mathlib.Numerals.{add-one}
@@ -19,9 +19,9 @@ use Rattle.unicode.specs.Unicode.{decode, WellFormed}
 use Rattle.rules.specs.declared.Class.{Class}
 use Rattle.rules.specs.declared.Carry.{Carry}
 use Rattle.rules.specs.Basics.{choose}
-use Rattle.rules.specs.Scan.{Cell, cell, charsOf, classesOf, classify, isCode, isStr, isLineComment, isCodeOrStr}
-use Rattle.rules.specs.ClassBytes.{classByte, classOf, classBytes, cellsOf}
-use Rattle.rules.proofs.ScanBytes.{encodeCells, classify-encode, chars-classify, before, from}
+use Rattle.rules.specs.Scan.{Cell, cell, charsOf, classesOf, classify, isCode, isStr, isLineComment, isCodeOrStr, before, from}
+use Rattle.rules.specs.ClassBytes.{classByte, classOf, classBytes, cellsOf, cellAt, FirstAt}
+use Rattle.rules.proofs.ScanBytes.{encodeCells, classify-encode, chars-classify}
 
 pub class-of-byte : (k : Class) → classOf (classByte k) ≡ k
 class-of-byte Class.Code = refl
@@ -141,10 +141,6 @@ cells-take (c ∷ s) (k ∷ ks) = rw (cells-take s ks)
 
 -- ---- a loop over the line
 
--- the cell at i
-abbrev pub cellAt : List ℕ → List ℕ → ℕ → Cell
-cellAt s ks i = cell (getD s i 0) (classOf (getD ks i 0))
-
 pub cells-at : (s ks : List ℕ) (i : ℕ) → i < length s → length s ≤ length ks
     → cellsOf (drop i s) (drop i ks) ≡ cell (getD s i 0) (classOf (getD ks i 0)) ∷ cellsOf (drop (i + 1) s) (drop (i + 1) ks)
 unfolding cellsOf
@@ -169,13 +165,7 @@ module _ {S : Type 0} {f : S → Cell → S} {t₀ t : S} {s ks : List ℕ} {i :
   pub fold-end : length s ≤ i → t ≡ foldl f t₀ (cellsOf s ks)
   fold-end l = sym (r .same ∙ ap (foldl f t) (cells-end s ks i l))
 
--- the first cell that passes the test p stands at i, or none does and i is the line's length
-pub record Found (p : Cell → Bool) (s ks : List ℕ) (i : ℕ) : Type 0 where
-  pub within : i ≤ length s
-  pub before : before p (cellsOf s ks) ≡ cellsOf (take i s) (take i ks)
-  pub from : from p (cellsOf s ks) ≡ cellsOf (drop i s) (drop i ks)
-
--- none before i does
+-- of the first cell that passes the test p: none before i does
 pub record Finding (p : Cell → Bool) (s ks : List ℕ) (i : ℕ) : Type 0 where
   pub within : i ≤ length s
   pub before : before p (cellsOf s ks) ≡ cellsOf (take i s) (take i ks) ++ before p (cellsOf (drop i s) (drop i ks))
@@ -202,7 +192,7 @@ module _ {p : Cell → Bool} {s ks : List ℕ} {i : ℕ} (r : Finding p s ks i) 
         from = r .from ∙ rw (cells-at s ks i h l, e);
       }
 
-  pub find-stop : i < length s → length s ≤ length ks → p (cell (getD s i 0) (classOf (getD ks i 0))) ≡ true → Found p s ks i
+  pub find-stop : i < length s → length s ≤ length ks → p (cell (getD s i 0) (classOf (getD ks i 0))) ≡ true → FirstAt p s ks i
   unfolding before from choose
   find-stop h l e =
       record {
@@ -211,7 +201,7 @@ module _ {p : Cell → Bool} {s ks : List ℕ} {i : ℕ} (r : Finding p s ks i) 
         from = r .from ∙ rw (cells-at s ks i h l, e);
       }
 
-  pub find-end : length s ≤ i → Found p s ks i
+  pub find-end : length s ≤ i → FirstAt p s ks i
   unfolding before from
   find-end h =
       record {

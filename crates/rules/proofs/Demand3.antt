@@ -8,7 +8,7 @@ use Rattle.unicode.specs.Unicode.{isWhite}
 use Rattle.unicode.proofs.Trim.{White}
 use Rattle.rules.specs.Basics.{is, Pieces, pieces, splitOn, atSep}
 use Rattle.rules.specs.Demand3.{Kept}
-use Rattle.rules.specs.Lines.{asStr, consCr, dropCr, linesOf}
+use Rattle.rules.specs.Lines.{asStr, dropCr, linesOf}
 use Rattle.rules.specs.Options.{Options, allBlank}
 use Rattle.rules.specs.Line.{Formatter, start}
 use Rattle.rules.specs.Assembly.{endingOf, dropEmpty, joined, lastEnding, finish, formatLines, formatWith}
@@ -21,16 +21,12 @@ use Rattle.rules.proofs.LineLaws.{holds-lines}
 
 -- ---- the lines of a source hold all but its white space
 
-like-consCr : (c : ℕ) (cs r : List ℕ) → Like r cs → Like (consCr c cs r) (c ∷ cs)
-unfolding consCr isWhite
-like-consCr c [] r e =
-    choose-case (λ (l : List ℕ). Like l (c ∷ [])) (λ h. like-sym (like-white (c ∷ []) (ap isWhite (eqb-true c 13 h), tt))) (λ h. like-refl (c ∷ []))
-like-consCr c (d ∷ ds) r e = like-append (like-refl (c ∷ [])) e
-
 like-dropCr : (l : List ℕ) → Like (dropCr l) l
-unfolding dropCr
+unfolding dropCr isWhite
 like-dropCr [] = like-refl []
-like-dropCr (c ∷ cs) = like-consCr c cs (dropCr cs) (like-dropCr cs)
+like-dropCr (c ∷ []) =
+    choose-case (λ (l : List ℕ). Like l (c ∷ [])) (λ h. like-sym (like-white (c ∷ []) (ap isWhite (eqb-true c 13 h), tt))) (λ h. like-refl (c ∷ []))
+like-dropCr (c ∷ d ∷ ds) = like-append (like-refl (c ∷ [])) (like-dropCr (d ∷ ds))
 
 like-sep : (b : Bool) (c : ℕ) (p : Pieces) (l : List ℕ) → is "\n" c ≡ b → Like (flatten (pieces p)) l → Like (flatten (pieces (atSep b c p))) (c ∷ l)
 unfolding atSep flatten isWhite

@@ -4,6 +4,7 @@ pub mod Computing
 pub mod Examples
 -- on the bytes of a text as on the text
 pub mod StartsBytes
+pub mod Leading
 pub mod ScanBytes
 pub mod CellsLaws
 pub mod SpacingBytes
@@ -30,4 +31,5 @@ pub mod SplitLines
 pub mod SplitSizes
 -- readings and calls, computed
 pub mod Readings
+pub mod OperatorReadings
 pub mod CallExamples

@@ -16,11 +16,13 @@ use Rattle.rules.specs.Words.{isMarker}
 use Rattle.rules.specs.Else.{joinElse}
 use Rattle.rules.specs.SplitImport.{Laid, splitImport}
 use Rattle.rules.specs.SplitOperation.{strengths}
-use Rattle.rules.specs.Line.{Formatter, asWritten, insideLine, blankLine, protectedLine, elseLine, dropBlank, linesBefore, levelOf, oneLine, orOperation, broken, fitted, mayBreak, laid, placedLine, spacedLine, codeLine, formatLine}
+use Rattle.rules.specs.Line.{Formatter, asWritten, keptLine, insideLine, blankLine, protectedLine, elseLine, dropBlank, linesBefore, levelOf, oneLine, orOperation, broken, splitWide, laid, placedLine, spacedLine, codeLine, formatLine}
+use Rattle.rules.specs.Brackets.{leadingClosers}
 use Rattle.rules.specs.declared.Carry.{Carry}
+use Rattle.rules.specs.declared.Ignore.{Ignore}
 use Rattle.rules.specs.declared.PrintWidth.{PrintWidth}
 use Rattle.rules.proofs.Choose.{choose-case}
-use Rattle.rules.proofs.Struck.{Like, like-eq, like-refl, _then_, like-append, like-before, like-trim, like-trimEnd, flattenBack, flattenBack-reverse, kept-like, kept-append, kept-from, kept-to, kept-counts, kept-width}
+use Rattle.rules.proofs.Struck.{Like, like-eq, like-refl, _then_, like-append, like-before, like-trim, like-trimEnd, flattenBack, flattenBack-reverse, kept-like, kept-append, kept-from, kept-to, kept-counts}
 use Rattle.rules.proofs.ScanBytes.{chars-classify}
 use Rattle.rules.proofs.SpacingLaws.{like-spacing}
 use Rattle.rules.proofs.SplitOperationLaws.{like-indent, like-operation}
@@ -44,20 +46,16 @@ module _ (o : Options) (white : White (o .indent)) where
       kept-or (splitImport o max level (classify Carry.Code line)) max level line
       (rw chars-classify at (kept-import o white max level (classify Carry.Code line)))
 
-  kept-fitted : (w : PrintWidth) (level : ℕ) (line : List ℕ) → LaidKept w line (fitted w o level line)
-  unfolding fitted
-  kept-fitted PrintWidth.Off level line = kept-one PrintWidth.Off level line
-  kept-fitted (PrintWidth.Columns max) level line =
+  kept-split : (w : PrintWidth) (level : ℕ) (line : List ℕ) → LaidKept w line (splitWide w o level line)
+  unfolding splitWide
+  kept-split PrintWidth.Off level line = kept-one PrintWidth.Off level line
+  kept-split (PrintWidth.Columns max) level line =
       choose-case (LaidKept (PrintWidth.Columns max) line) (λ t. kept-broken max level line) (λ t. kept-one (PrintWidth.Columns max) level line)
 
   kept-laid : (f : Formatter) (marker : Bool) (line : List ℕ) → LaidKept (o .printWidth) line (laid o f marker line)
-  unfolding laid choose
+  unfolding laid
   kept-laid f marker line =
-      kept-width (o .printWidth) (only (mayBreak f marker line)) (kept-fitted (choose (mayBreak f marker line) (o .printWidth) PrintWidth.Off) (levelOf f line) line)
-    where
-      only : (b : Bool) → o .printWidth ≡ PrintWidth.Off → choose b (o .printWidth) PrintWidth.Off ≡ PrintWidth.Off
-      only true e = e
-      only false e = refl
+      choose-case (LaidKept (o .printWidth) line) (λ t. kept-split (o .printWidth) (levelOf f line) line) (λ t. kept-one (o .printWidth) (levelOf f line) line)
 
 -- ---- one line more
 
@@ -110,9 +108,13 @@ module _ (o : Options) (white : White (o .indent)) (src : List ℕ) (f : Formatt
   unfolding flattenBack
   push raw l e = like-append (like-refl (flattenBack (f .lines))) e
 
+  -- a line that is kept
+  holds-kept : (raw shown : List ℕ) (n : ℕ) (line : List ℕ) (i : Ignore) → Like shown raw → Holds o (src ++ raw) (keptLine f shown n line i)
+  unfolding keptLine
+  holds-kept raw shown n line i e = grow raw (shown ∷ f .lines) (push raw shown e)
+
   holds-inside : (raw : List ℕ) → Holds o (src ++ raw) (insideLine f raw)
-  unfolding insideLine
-  holds-inside raw = grow raw (asWritten (f .carry) raw ∷ f .lines) (push raw (asWritten (f .carry) raw) (like-asWritten (f .carry) raw))
+  holds-inside raw = holds-kept raw (asWritten (f .carry) raw) 0 raw (f .ignore) (like-asWritten (f .carry) raw)
 
   holds-blank : (raw : List ℕ) → Like [] raw → Holds o (src ++ raw) (blankLine f)
   unfolding blankLine
@@ -122,8 +124,7 @@ module _ (o : Options) (white : White (o .indent)) (src : List ℕ) (f : Formatt
       (λ t. grow raw ([] ∷ f .lines) (push raw [] e))
 
   holds-protected : (raw : List ℕ) → Holds o (src ++ raw) (protectedLine f raw)
-  unfolding protectedLine
-  holds-protected raw = grow raw (raw ∷ f .lines) (push raw raw (like-refl raw))
+  holds-protected raw = holds-kept raw raw (leadingClosers (trim raw)) (trim raw) Ignore.Nothing (like-refl raw)
 
   holds-else : (raw line : List ℕ) → Like line raw → Holds o (src ++ raw) (elseLine f line)
   unfolding elseLine

@@ -9,38 +9,38 @@ use mathlib.Core.Path.{_≡_, refl, sym, ap, _∙_}
 use Rattle.unicode.specs.Unicode.{encodeChar, encode}
 use Rattle.unicode.proofs.Table.{High, none, also, Bytes, single, several, bytes}
 use Rattle.rules.specs.Basics.{choose, is, isEmpty, pieces, splitOn, count}
-use Rattle.rules.specs.Lines.{consCr, dropCr, linesOf, crlfs, dominantIn, endsInLf}
+use Rattle.rules.specs.Lines.{dropCr, linesOf, crlfs, dominantIn, endsInLf}
 use Rattle.rules.specs.TextKind.{rustLines}
 use Rattle.rules.proofs.StartsBytes.{encode-some, choose-map, Steady, steady-is, first-encode, last-encode, empty-encode}
 use Rattle.rules.proofs.WordsBytes.{pieces-encode}
 
 -- ---- lines
 
-cr-high : (b : ℕ) (s : List ℕ) → 0x80 ≤ b → consCr b s (dropCr s) ≡ b ∷ dropCr s
-unfolding consCr dropCr choose
+-- before a character that is no CR at the end
+cr-high : (b : ℕ) (s : List ℕ) → 0x80 ≤ b → dropCr (b ∷ s) ≡ b ∷ dropCr s
+unfolding dropCr choose
 cr-high b [] h = rw (steady-is "\r" refl b h)
 cr-high b (d ∷ s) h = refl
 
 drop-high : (bs s : List ℕ) → High bs → dropCr (bs ++ s) ≡ bs ++ dropCr s
-unfolding dropCr
 drop-high bs s none = refl
 drop-high bs s (also {b = b} {bs = bs′} h hs) = cr-high b (bs′ ++ s) h ∙ rw (drop-high bs′ s hs)
 
-cr-more : (c d : ℕ) (ds r : List ℕ) → consCr c (encode (d ∷ ds)) r ≡ c ∷ r
-unfolding consCr
-cr-more c d ds r = rw (encode-some d ds .2)
+cr-more : (c d : ℕ) (ds : List ℕ) → dropCr (c ∷ encode (d ∷ ds)) ≡ c ∷ dropCr (encode (d ∷ ds))
+unfolding dropCr
+cr-more c d ds = rw (encode-some d ds .2)
 
-cr-low : (c : ℕ) (cs : List ℕ) → encodeChar c ≡ c ∷ [] → dropCr (encode cs) ≡ encode (dropCr cs) → consCr c (encode cs) (dropCr (encode cs)) ≡ encode (consCr c cs (dropCr cs))
-unfolding encode consCr
+cr-low : (c : ℕ) (cs : List ℕ) → encodeChar c ≡ c ∷ [] → dropCr (encode cs) ≡ encode (dropCr cs) → dropCr (c ∷ encode cs) ≡ encode (dropCr (c ∷ cs))
+unfolding encode dropCr
 cr-low c [] e i = rw (choose-map encode (is "\r" c), e)
-cr-low c (d ∷ ds) e i = cr-more c d ds (dropCr (encode (d ∷ ds))) ∙ rw (i, e)
+cr-low c (d ∷ ds) e i = cr-more c d ds ∙ rw (i, e)
 
 pub drop-cr-encode : (l : List ℕ) → dropCr (encode l) ≡ encode (dropCr l)
-unfolding dropCr encode
+unfolding encode dropCr
 drop-cr-encode [] = refl
 drop-cr-encode (c ∷ cs) = go (encodeChar c) refl (bytes c) (drop-cr-encode cs)
   where
-    go : (bs : List ℕ) → encodeChar c ≡ bs → Bytes c bs → dropCr (encode cs) ≡ encode (dropCr cs) → dropCr (bs ++ encode cs) ≡ encode (consCr c cs (dropCr cs))
+    go : (bs : List ℕ) → encodeChar c ≡ bs → Bytes c bs → dropCr (encode cs) ≡ encode (dropCr cs) → dropCr (bs ++ encode cs) ≡ encode (dropCr (c ∷ cs))
     go bs e (single h) i = cr-low c cs e i
     go bs e (several {b = b} {bs = bs′} hc hb hs) i = drop-high (b ∷ bs′) (encode cs) (also hb hs) ∙ rw (cr-high c cs hc, i, e)
 

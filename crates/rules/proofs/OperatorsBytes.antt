@@ -1,6 +1,4 @@
--- Operators found on bytes. `top_level_ops` itself would take the tail bytes of an escaped longer character for ordinary characters, so a byte that
--- is a tail changes nothing here.
---     byteStep, byteMarks             the marks of a line's bytes
+-- Operators found on bytes.
 --     encodeMarks                     a character's first byte has its strength, its other bytes have 0
 --     marks-encode                    the marks of the bytes are those of the characters
 --     loosest-encode, cut-encode      the loosest strength, and the pieces
@@ -18,24 +16,17 @@ use Rattle.unicode.proofs.Tests.{and-left, and-right, by-test}
 use Rattle.unicode.proofs.Machine.{not-tail-low, not-tail-high}
 use Rattle.unicode.proofs.Table.{Shape, one, two, three, four, shape, tail-make, Bytes, single, several, bytes}
 use Rattle.rules.specs.declared.Class.{Class}
-use Rattle.rules.specs.Basics.{choose, is, codes, at, same, oneOf, startsWith, firstIs, Pieces, isIdent}
+use Rattle.rules.specs.Basics.{choose, is, codes, at, same, oneOf, leading, startsWith, firstIs, Pieces}
 use Rattle.rules.specs.Scan.{Cell, cell, charsOf, isStr}
 use Rattle.rules.specs.Words.{operators}
-use Rattle.rules.specs.SplitOperation.{endsOperand, atomLen, Ops, OpStep, token, operator, escape, bracket, oneCharStep, twoCharStep, codeStep, freshStep, opStepAt, opStep, OpMark, opMark, marksFrom, noOps, topLevelOps, looser, loosest, atMark, cutBefore}
+use Rattle.rules.specs.SplitOperation.{endsOperand, atomChar, atomLen, startsPair, Ops, OpStep, token, operator, escape, bracket, oneCharStep, twoCharStep, codeStep, freshStep, opStepAt, opStep, OpMark, opMark, marksFrom, noOps, topLevelOps, looser, loosest, atMark, cutBefore}
+use Rattle.rules.specs.OperatorBytes.{byteStep, byteMarks}
 use Rattle.rules.proofs.Choose.{choose-case}
-use Rattle.rules.proofs.StartsBytes.{allAscii, Steady, not-ascii, low-of, steady-is, steady-blank, steady-opener, steady-closer, steady-ident, starts-cons, starts-ascii, first-encode, take-ascii, drop-ascii}
+use Rattle.rules.proofs.StartsBytes.{allAscii, Steady, not-ascii, low-of, steady-is, steady-blank, steady-opener, steady-closer, steady-ident, starts-cons, starts-ascii, first-encode, take-ascii, drop-ascii, leading-encode, leading-ascii}
 use Rattle.rules.proofs.ScanBytes.{label, encodeCells, chars-encodeCells}
 use Rattle.rules.proofs.WordsBytes.{encodePieces}
 
 -- ---- definitions
-
-abbrev pub byteStep : List ℕ → Ops → Cell → List ℕ → OpStep
-byteStep table s x cs = choose (tail (x .ch)) (record { strength = 0; after = s }) (opStep table s x cs)
-
-unfoldable pub byteMarks : List ℕ → Ops → List Cell → List OpMark
-byteMarks table s [] = []
-byteMarks table s (x ∷ xs) =
-    opMark (x .ch) (byteStep table s x (charsOf xs) .strength) ∷ byteMarks table (byteStep table s x (charsOf xs) .after) xs
 
 -- a strength at the first of some bytes, 0 at the others
 unfoldable pub markBytes : ℕ → List ℕ → List OpMark
@@ -140,34 +131,21 @@ unfolding choose
 choose-with b true x x′ y y′ e f g = rw e (f refl)
 choose-with b false x x′ y y′ e f g = rw e g
 
-atom-encode : (l : List ℕ) → atomLen (encode l) ≡ atomLen l
-unfolding atomLen encode choose
-atom-encode [] = refl
-atom-encode (c ∷ cs) = go (encodeChar c) (bytes c) (atom-encode cs)
-  where
-    go : (bs : List ℕ) → Bytes c bs → atomLen (encode cs) ≡ atomLen cs → atomLen (bs ++ encode cs) ≡ atomLen (c ∷ cs)
-    go bs (single h) e = rw e
-    go bs (several {b = b} hc hb hs) e = rw (steady-ident b hb, not-ascii b 45 hb refl, steady-ident c hc, not-ascii c 45 hc refl)
-
-steady-atom : Steady (λ c. isIdent c || is "-" c) false
+steady-atom : Steady atomChar false
 steady-atom b h = rw (steady-ident b h, not-ascii b 45 h refl)
 
+atom-encode : (l : List ℕ) → atomLen (encode l) ≡ atomLen l
+atom-encode l = leading-encode atomChar steady-atom l
+
 atom-ascii : (l : List ℕ) → allAscii (take (atomLen l) l) ≡ true
-unfolding atomLen
-atom-ascii [] = refl
-atom-ascii (c ∷ cs) =
-    choose-case (λ (n : ℕ). allAscii (take n (c ∷ cs)) ≡ true) (λ e. rw (low-of (λ c. isIdent c || is "-" c) steady-atom c e) (atom-ascii cs)) (λ e. refl)
+atom-ascii l = leading-ascii atomChar steady-atom l
 
 getD-ascii : (n c : ℕ) (l : List ℕ) → allAscii (take n l) ≡ true → getD (c ∷ encode l) n 0 ≡ getD (c ∷ l) n 0
 getD-ascii zero c l a = refl
 getD-ascii (suc n) c l a =
     sym (getD-take (suc n) (encode l) n 0 (omega arith)) ∙ ap (λ (s : List ℕ). getD s n 0) (take-ascii (suc n) l a) ∙ getD-take (suc n) l n 0 (omega arith)
 
--- whether two characters are an operator
-abbrev pub isPair : List ℕ → Bool
-isPair l = eqb (length (take 2 l)) 2 && oneOf operators (take 2 l)
-
-pair-encode : (c : ℕ) (l : List ℕ) → isPair (c ∷ encode l) ≡ isPair (c ∷ l)
+pair-encode : (c : ℕ) (l : List ℕ) → startsPair (c ∷ encode l) ≡ startsPair (c ∷ l)
 unfolding encode
 pair-encode c [] = refl
 pair-encode c (d ∷ ds) = go (encodeChar d) (bytes d)
@@ -175,11 +153,11 @@ pair-encode c (d ∷ ds) = go (encodeChar d) (bytes d)
     none-high : (b : ℕ) → 0x80 ≤ b → oneOf operators (c ∷ b ∷ []) ≡ false
     none-high b h = no-operator (c ∷ b ∷ []) (rw (le-ltb b 0x80 h) (and-false (ltb c 0x80)))
 
-    go : (bs : List ℕ) → Bytes d bs → isPair (c ∷ (bs ++ encode ds)) ≡ isPair (c ∷ d ∷ ds)
+    go : (bs : List ℕ) → Bytes d bs → startsPair (c ∷ (bs ++ encode ds)) ≡ startsPair (c ∷ d ∷ ds)
     go bs (single h) = refl
     go bs (several {b = b} hc hb hs) = rw (none-high b hb, none-high d hc)
 
-two-low : (table : List ℕ) (s : Ops) (c : ℕ) (cs : List ℕ) → isPair (c ∷ cs) ≡ true
+two-low : (table : List ℕ) (s : Ops) (c : ℕ) (cs : List ℕ) → startsPair (c ∷ cs) ≡ true
     → twoCharStep table s (take 2 (c ∷ encode cs)) (drop 1 (encode cs)) ≡ twoCharStep table s (take 2 (c ∷ cs)) (drop 1 cs)
 unfolding twoCharStep
 two-low table s c cs e =
@@ -203,8 +181,8 @@ code-low table s c cs =
       pair-low,
     )
   where
-    pair-low : choose (isPair (c ∷ encode cs)) (twoCharStep table s (take 2 (c ∷ encode cs)) (drop 1 (encode cs))) (oneCharStep table s c (encode cs))
-        ≡ choose (isPair (c ∷ cs)) (twoCharStep table s (take 2 (c ∷ cs)) (drop 1 cs)) (oneCharStep table s c cs)
+    pair-low : choose (startsPair (c ∷ encode cs)) (twoCharStep table s (take 2 (c ∷ encode cs)) (drop 1 (encode cs))) (oneCharStep table s c (encode cs))
+        ≡ choose (startsPair (c ∷ cs)) (twoCharStep table s (take 2 (c ∷ cs)) (drop 1 cs)) (oneCharStep table s c cs)
     pair-low = choose-with _ _ _ _ _ _ (pair-encode c cs) (two-low table s c cs) (one-low table s c cs)
 
 step-low : (n : ℕ) (table : List ℕ) (s : Ops) (x : Cell) (cs : List ℕ) → opStepAt n table s x (encode cs) ≡ opStepAt n table s x cs
@@ -284,7 +262,7 @@ code-skips table s c cs =
     arrow : (at (c ∷ cs) "->" || at (c ∷ cs) "=>") ≡ true → allAscii (take 1 cs) ≡ true
     arrow e = by-test (at (c ∷ cs) "->") (λ h. starts-rest 45 (codes ">") c cs refl h) (λ h. starts-rest 61 (codes ">") c cs refl (rw h at e))
 
-    pair-ascii : isPair (c ∷ cs) ≡ true → allAscii (take 1 cs) ≡ true
+    pair-ascii : startsPair (c ∷ cs) ≡ true → allAscii (take 1 cs) ≡ true
     pair-ascii e =
         and-right (ltb c 0x80) (allAscii (take 1 cs))
         (operator-ascii (take 2 (c ∷ cs)) (and-right (eqb (length (take 2 (c ∷ cs))) 2) (oneOf operators (take 2 (c ∷ cs))) e))

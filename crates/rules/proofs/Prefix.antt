@@ -22,7 +22,7 @@ use Rattle.rules.specs.declared.Class.{Class}
 use Rattle.rules.specs.declared.Carry.{Carry}
 use Rattle.rules.specs.declared.Mode.{Mode}
 use Rattle.rules.specs.declared.Mark.{Mark}
-use Rattle.rules.specs.Basics.{choose, is, codes, at, isIdent, same, oneOf, startsWith, firstIs, isBlank}
+use Rattle.rules.specs.Basics.{choose, is, codes, at, isIdent, same, oneOf, leading, startsWith, firstIs, isBlank}
 use Rattle.rules.specs.Scan.{one, inCode, inQuoted, inInterp, inInner, inBlock, inPrefab, markAt, nextOf, next, Cell, cell, charsOf, scan, begin, isCodeOrStr, allCodeOrStr}
 use Rattle.rules.specs.Words.{operators}
 use Rattle.rules.specs.SplitOperation.{lookup, precedence, endsOperand, atomLen, Ops, OpStep, token, operator, escape, bracket, oneCharStep, twoCharStep, codeStep, freshStep, opStepAt, opStep, OpMark, opMark, marksFrom, noOps, topLevelOps, looser, loosest, atMark, cutBefore}
@@ -175,7 +175,7 @@ ident-visible c h =
     (λ g. let k : c ≡ 95 = eqb-true c 95 (rw (e, f, g) at h) in visible c (omega arith) (omega arith))))
 
 atom-solid : (cs : List ℕ) → allSolid (take (atomLen cs) cs) ≡ true
-unfolding atomLen allSolid
+unfolding leading allSolid
 atom-solid [] = refl
 atom-solid (c ∷ cs) =
     let r = atom-solid cs in
@@ -559,7 +559,7 @@ pair-agrees table s c (d ∷ ds) z = agrees-or (suc (length ds)) _ _ _ _ _ (λ e
 
 -- an atom's name that does not run on past the beginning
 atom-more : (cs z : List ℕ) → atomLen cs ≤ atomLen (cs ++ z)
-unfolding atomLen choose
+unfolding leading choose
 atom-more [] z = omega arith
 atom-more (c ∷ cs) z = go (isIdent c || is "-" c) (atom-more cs z)
   where
@@ -568,7 +568,7 @@ atom-more (c ∷ cs) z = go (isIdent c || is "-" c) (atom-more cs z)
     go false h = omega arith
 
 atom-near : (cs z : List ℕ) → atomLen (cs ++ z) ≤ length cs → atomLen (cs ++ z) ≡ atomLen cs
-unfolding atomLen choose
+unfolding leading choose
 atom-near [] z h = omega arith
 atom-near (c ∷ cs) z h = go (isIdent c || is "-" c) (atom-near cs z) h
   where

@@ -22,7 +22,7 @@ use Rattle.rules.specs.declared.Carry.{Carry}
 use Rattle.rules.specs.declared.Mode.{Mode}
 use Rattle.rules.specs.declared.Mark.{Mark}
 use Rattle.rules.specs.Basics.{choose, startsWith}
-use Rattle.rules.specs.Scan.{long, one, inCode, inQuoted, inInterp, inInner, inBlock, inPrefab, markAt, nextOf, next, Cell, cell, charsOf, scan, final, begin, openAfter, classify, carryAfter, isLineComment, isCodeOrStr, codePart, commentPart, allCodeOrStr}
+use Rattle.rules.specs.Scan.{long, one, inCode, inQuoted, inInterp, inInner, inBlock, inPrefab, markAt, nextOf, next, Cell, cell, charsOf, scan, final, begin, openAfter, classify, carryAfter, isLineComment, isCodeOrStr, before, from, inComment, codePart, commentPart, allCodeOrStr}
 use Rattle.rules.proofs.Choose.{choose-case}
 use Rattle.rules.proofs.StartsBytes.{allAscii, Steady, not-ascii, starts-encode}
 
@@ -267,15 +267,7 @@ module _
         rw (foldl-append g u (label (x .class) (encodeChar (x .ch))) (encodeCells xs))
         (fold-encode xs (f t x) _ (one-char (x .ch) (x .class) t u r))
 
--- ---- before the first cell that passes a test, and from it on: codePart and commentPart, beforeCode and fromCode are this for a test each
-
-unfoldable pub before : (Cell → Bool) → List Cell → List Cell
-before p [] = []
-before p (x ∷ xs) = let r = before p xs in choose (p x) [] (x ∷ r)
-
-unfoldable pub from : (Cell → Bool) → List Cell → List Cell
-from p [] = []
-from p (x ∷ xs) = let r = from p xs in choose (p x) (x ∷ xs) r
+-- ---- before the first cell that passes a test, and from it on: codePart and commentPart, and an import's parts, are this for a test each
 
 -- the test gives one answer for all characters of a class from 80 hex on
 abbrev pub SteadyCell : (Cell → Bool) → (Class → Bool) → Type 0
@@ -320,24 +312,11 @@ module _ (p : Cell → Bool) (v : Class → Bool) (f : SteadyCell p v) where
 
 -- ---- the code part, the comment, and whether all is code or string
 
-abbrev pub startsComment : Cell → Bool
-startsComment x = isLineComment (x .class)
-
-pub codePart-before : (xs : List Cell) → codePart xs ≡ before startsComment xs
-unfolding codePart before
-codePart-before [] = refl
-codePart-before (x ∷ xs) = rw (codePart-before xs)
-
-pub commentPart-from : (xs : List Cell) → commentPart xs ≡ from startsComment xs
-unfolding commentPart from
-commentPart-from [] = refl
-commentPart-from (x ∷ xs) = rw (commentPart-from xs)
-
 pub code-part-encode : (xs : List Cell) → codePart (encodeCells xs) ≡ encodeCells (codePart xs)
-code-part-encode xs = rw (codePart-before (encodeCells xs), codePart-before xs) (before-encode startsComment isLineComment (λ k b h. refl) xs)
+code-part-encode xs = before-encode inComment isLineComment (λ k b h. refl) xs
 
 pub comment-part-encode : (xs : List Cell) → commentPart (encodeCells xs) ≡ encodeCells (commentPart xs)
-comment-part-encode xs = rw (commentPart-from (encodeCells xs), commentPart-from xs) (from-encode startsComment isLineComment (λ k b h. refl) xs)
+comment-part-encode xs = from-encode inComment isLineComment (λ k b h. refl) xs
 
 all-label : (k : Class) (b : ℕ) (bs : List ℕ) (ys : List Cell) → allCodeOrStr (label k (b ∷ bs) ++ ys) ≡ (isCodeOrStr k && allCodeOrStr ys)
 unfolding allCodeOrStr label

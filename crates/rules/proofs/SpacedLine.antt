@@ -19,7 +19,7 @@ use Rattle.rules.specs.Basics.{choose, is, codes, isBlank, isOpener, isE
 use Rattle.rules.specs.Scan.{Cell, isCode, charsOf, classify}
 use Rattle.rules.specs.ClassBytes.{classBytes, cellsOf}
 use Rattle.rules.specs.Spacing.{Spaced, spaced, trimBlanks, putPlain, putAfterComma, putAt, spaceStep, normalizeSpacing, respaced}
-use Rattle.rules.specs.Brackets.{Entry, Open, opened, push, pop, bracketStep, scanBrackets, countBrackets}
+use Rattle.rules.specs.Brackets.{Entry, Open, opened, push, popFrom, bracketStep, scanBrackets, countBrackets}
 use Rattle.rules.specs.Demand3.{strikeWhite}
 use Rattle.rules.specs.declared.Carry.{Carry}
 use Rattle.rules.specs.declared.Gap.{Gap}
@@ -141,15 +141,14 @@ spaced-trimmed l e n = let r = spaced-solid l e n in (r .trimmed, r .some)
 
 -- ---- the height of the stack
 
-push-height : (room : ℕ) (stack : List Entry) → length (push room stack .stack) ≤ suc (length stack)
+push-height : (o : Open) → length (push o .stack) ≤ suc (length (o .stack))
 unfolding push
-push-height zero stack = omega arith
-push-height (suc room) stack = omega arith
+push-height o = omega arith
 
-pop-height : (room : ℕ) (stack : List Entry) → length (pop room stack .stack) ≤ length stack
-unfolding pop
-pop-height room [] = omega arith
-pop-height room (adds ∷ stack) = omega arith
+pop-height : (stack : List Entry) (o : Open) → length (popFrom stack o .stack) ≤ length stack
+unfolding popFrom
+pop-height [] o = omega arith
+pop-height (adds ∷ stack) o = omega arith
 
 step-height : (o : Open) (x : Cell) (n : ℕ) → (isOpener (x .ch) ≡ true → 1 ≤ n) → length (bracketStep o x .stack) ≤ length (o .stack) + n
 unfolding bracketStep
@@ -158,8 +157,8 @@ step-height o x n f =
     choose-case P (λ h. omega arith)
     (λ h. choose-case P (λ i. omega arith)
     (λ i. choose-case P (λ j. omega arith)
-    (λ j. choose-case P (λ k. omega (arith, f k, push-height (o .room) (o .stack)))
-    (λ k. choose-case P (λ m. omega (arith, pop-height (o .room) (o .stack))) (λ m. omega arith)))))
+    (λ j. choose-case P (λ k. omega (arith, f k, push-height o))
+    (λ k. choose-case P (λ m. omega (arith, pop-height (o .stack) o)) (λ m. omega arith)))))
 
 fold-height : (cells : List Cell) (o : Open) → length (foldl bracketStep o cells .stack) ≤ length (o .stack) + count isOpener (charsOf cells)
 unfolding charsOf count choose
@@ -171,7 +170,7 @@ fold-height (x ∷ xs) o =
 
 pub brackets-height : (cells : List Cell) (stack : List Entry) → length (scanBrackets cells stack) ≤ length stack + count isOpener (charsOf cells)
 unfolding scanBrackets
-brackets-height cells stack = fold-height cells (opened 1 false stack)
+brackets-height cells stack = fold-height cells (opened 0 0 false stack)
 
 -- white space is no opener
 white-no-opener : (c : ℕ) → not (isWhite c) ≡ false → isOpener c ≡ false

@@ -14,7 +14,7 @@ use Rattle.unicode.proofs.Trim.{White}
 use Rattle.rules.specs.Basics.{choose, is, codes, isEmpty, keep, count, Pieces, pieces, splitOn, atSep}
 use Rattle.rules.specs.Demand3.{strikeWhite, strike, commasIn, Kept}
 use Rattle.rules.specs.Options.{Options, indentOf}
-use Rattle.rules.specs.Scan.{Cell, charsOf, isCode}
+use Rattle.rules.specs.Scan.{Cell, charsOf, isCode, before, from}
 use Rattle.rules.specs.SplitImport.{Laid, codeIs, beforeCode, fromCode, consName, namesOf, blanksOf, withComma, addName, fillNames, importLines, importParts, closedImport, openedImport, splitImport}
 use Rattle.rules.specs.declared.PrintWidth.{PrintWidth}
 use Rattle.rules.proofs.Choose.{choose-case}
@@ -101,7 +101,7 @@ module _ (o : Options) (max : ℕ) (cont : List ℕ) (white : White cont) where
 -- ---- the parts of the line
 
 cut-at : (k : Char) (cells : List Cell) → charsOf (beforeCode k cells) ++ charsOf (fromCode k cells) ≡ charsOf cells
-unfolding beforeCode fromCode charsOf choose
+unfolding before from charsOf choose
 cut-at k [] = refl
 cut-at k (x ∷ xs) = go (codeIs k x) (cut-at k xs)
   where
@@ -115,7 +115,7 @@ StartsAt k [] = Unit {0}
 StartsAt k (x ∷ xs) = x .ch ≡ code k
 
 from-starts : (k : Char) (cells : List Cell) → StartsAt k (fromCode k cells)
-unfolding StartsAt fromCode
+unfolding StartsAt from
 from-starts k [] = tt
 from-starts k (x ∷ xs) =
     let ih : StartsAt k (fromCode k xs) = from-starts k xs in

@@ -21,7 +21,7 @@ use Rattle.unicode.proofs.Tests.{and-left, and-right}
 use Rattle.unicode.proofs.Trim.{White, start-append-white, start-other, end-split, end-append, end-append-white, length-trimEnd}
 use Rattle.rules.specs.Basics.{choose, is, at, isEmpty, startsWith, lastIs, Pieces}
 use Rattle.rules.specs.Options.{Options, allBlank, indentOf}
-use Rattle.rules.specs.Scan.{Cell, charsOf, isCode, classify}
+use Rattle.rules.specs.Scan.{Cell, charsOf, isCode, before, from, classify}
 use Rattle.rules.specs.Else.{joinable}
 use Rattle.rules.specs.SplitImport.{Laid, codeIs, beforeCode, fromCode, namesOf, fillNames, importLines, importParts, closedImport, openedImport, splitImport}
 use Rattle.rules.specs.SplitOperation.{OpMark, topLevelOps, loosest, atMark, cutBefore, trimmed, breakAt, splitOnce, nextBreak, breakOn, breakFirst, layPieces, splitOperation}
@@ -173,7 +173,7 @@ pub record CodeParts (k : Char) (cells : List Cell) : Type 0 where
   pub first : (x : Cell) (xs : List Cell) → fromCode k cells ≡ x ∷ xs → x .ch ≡ code k
 
 pub code-parts : (k : Char) (cells : List Cell) → CodeParts k cells
-unfolding beforeCode fromCode charsOf choose
+unfolding before from charsOf choose
 code-parts k [] = record { whole = refl; first = λ x xs e. absurd (nil≢cons e) }
 code-parts k (x ∷ xs) = go (codeIs k x) refl (code-parts k xs)
   where

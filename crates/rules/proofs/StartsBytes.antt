@@ -4,7 +4,8 @@
 --     starts-encode, starts-cons    startsWith, for an ASCII text; and after a first character of its own
 --     drop-ascii, take-ascii        an ASCII front: as many bytes as characters; drop-starts, starts-column after startsWith
 --     first-encode, last-encode, then-encode, empty-encode, same-encode     the tests of Basics
---     closers-encode, drop-closers, slashes-encode                          leading closers and slashes
+--     leading-encode, leading-ascii                                         as many first bytes as characters pass a test of ASCII characters
+--     closers-encode, drop-closers                                          leading closers
 use Prim.Native.Nat.{ℕ, zero, suc, _<_, _≤_}
 use Prim.Native.Char.{Char, code}
 use native.Mathlib.Omega.{arith}
@@ -19,8 +20,7 @@ use Rattle.unicode.specs.Places.{Column}
 use Rattle.unicode.proofs.Tests.{by-test, and-left, and-right}
 use Rattle.unicode.proofs.Table.{encodeChar-1, High, none, also, Bytes, single, several, bytes}
 use Rattle.unicode.proofs.Decode.{encode-nil, scalars-right, decode-scalars, decode-encode, wf-encode}
-use Rattle.rules.specs.Basics.{choose, is, isBlank, isOpener, isCloser, isIdent, isEmpty, same, startsWith, firstIs, lastIs, startsThen}
-use Rattle.rules.specs.Words.{dropSlashes}
+use Rattle.rules.specs.Basics.{choose, is, isBlank, isOpener, isCloser, isIdent, isEmpty, same, startsWith, firstIs, lastIs, startsThen, leading}
 use Rattle.rules.specs.Brackets.{leadingClosers}
 use Rattle.rules.proofs.Choose.{choose-case}
 
@@ -220,31 +220,30 @@ same-encode (c ∷ cs) (w ∷ ws) a = go (encodeChar c) (bytes c) (same-encode c
     go bs (single h) e = rw e
     go bs (several {b = b} hc hb hs) e = rw (not-ascii b w hb k, not-ascii c w hc k)
 
--- ---- leading closers, leading slashes
+-- ---- leading characters that pass a test; leading closers
+
+pub leading-encode : (p : ℕ → Bool) → Steady p false → (l : List ℕ) → leading p (encode l) ≡ leading p l
+unfolding leading encode choose
+leading-encode p f [] = refl
+leading-encode p f (c ∷ cs) = go (encodeChar c) (bytes c) (leading-encode p f cs)
+  where
+    go : (bs : List ℕ) → Bytes c bs → leading p (encode cs) ≡ leading p cs → leading p (bs ++ encode cs) ≡ leading p (c ∷ cs)
+    go bs (single h) e = rw e
+    go bs (several {b = b} hc hb hs) e = rw (f b hb, f c hc)
+
+pub leading-ascii : (p : ℕ → Bool) → Steady p false → (l : List ℕ) → allAscii (take (leading p l) l) ≡ true
+unfolding leading
+leading-ascii p f [] = refl
+leading-ascii p f (c ∷ cs) =
+    choose-case (λ (n : ℕ). allAscii (take n (c ∷ cs)) ≡ true) (λ e. rw (low-of p f c e) (leading-ascii p f cs)) (λ e. refl)
 
 pub closers-encode : (l : List ℕ) → leadingClosers (encode l) ≡ leadingClosers l
-unfolding leadingClosers encode choose
-closers-encode [] = refl
-closers-encode (c ∷ cs) = go (encodeChar c) (bytes c) (closers-encode cs)
-  where
-    go : (bs : List ℕ) → Bytes c bs → leadingClosers (encode cs) ≡ leadingClosers cs → leadingClosers (bs ++ encode cs) ≡ leadingClosers (c ∷ cs)
-    go bs (single h) e = rw e
-    go bs (several {b = b} hc hb hs) e = rw (steady-closer b hb, steady-closer c hc)
+unfolding leadingClosers
+closers-encode l = leading-encode isCloser steady-closer l
 
 pub closers-ascii : (l : List ℕ) → allAscii (take (leadingClosers l) l) ≡ true
 unfolding leadingClosers
-closers-ascii [] = refl
-closers-ascii (c ∷ cs) =
-    choose-case (λ (n : ℕ). allAscii (take n (c ∷ cs)) ≡ true) (λ e. rw (low-of isCloser steady-closer c e) (closers-ascii cs)) (λ e. refl)
+closers-ascii l = leading-ascii isCloser steady-closer l
 
 pub drop-closers : (l : List ℕ) → drop (leadingClosers l) (encode l) ≡ encode (drop (leadingClosers l) l)
 drop-closers l = drop-ascii (leadingClosers l) l (closers-ascii l)
-
-pub slashes-encode : (l : List ℕ) → dropSlashes (encode l) ≡ encode (dropSlashes l)
-unfolding dropSlashes encode choose
-slashes-encode [] = refl
-slashes-encode (c ∷ cs) = go (encodeChar c) refl (bytes c) (slashes-encode cs)
-  where
-    go : (bs : List ℕ) → encodeChar c ≡ bs → Bytes c bs → dropSlashes (encode cs) ≡ encode (dropSlashes cs) → dropSlashes (bs ++ encode cs) ≡ encode (dropSlashes (c ∷ cs))
-    go bs q (single h) e = rw (e, choose-map encode (is "/" c), q)
-    go bs q (several {b = b} hc hb hs) e = rw (steady-is "/" refl b hb, steady-is "/" refl c hc, q)

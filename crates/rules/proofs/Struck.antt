@@ -201,7 +201,3 @@ module _ {w : PrintWidth} where
 
   pub kept-to : {s t u : List ℕ} {i b : ℕ} → Like u t → Kept w s t i b → Kept w s u i b
   kept-to {i} {b} p q = kept-counts i b (omega arith) (kept-then q (kept-like p))
-
--- with no width at w there is none at v
-pub kept-width : {v : PrintWidth} {s t : List ℕ} {i b : ℕ} (w : PrintWidth) → (w ≡ PrintWidth.Off → v ≡ PrintWidth.Off) → Kept v s t i b → Kept w s t i b
-kept-width w f p = record { struck = p .struck; unbroken = λ h. p .unbroken (f h); commas = p .commas }

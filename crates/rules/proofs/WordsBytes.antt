@@ -19,7 +19,7 @@ use Rattle.rules.specs.Words.{startsWithWord, sameDeclaration}
 use Rattle.rules.specs.SplitImport.{codeIs, beforeCode, fromCode, startsImport}
 use Rattle.rules.specs.SplitOperation.{balanceStep, isZero, isBalanced, inWord, wordOn, hasWordFrom, hasWord, keywords}
 use Rattle.rules.proofs.StartsBytes.{allAscii, choose-both, steady-is, steady-blank, steady-opener, steady-closer, steady-ident, steady-not, starts-encode, then-encode}
-use Rattle.rules.proofs.ScanBytes.{label, encodeCells, fold-encode, before, from, SteadyCell, before-encode, from-encode}
+use Rattle.rules.proofs.ScanBytes.{label, encodeCells, fold-encode, SteadyCell, before-encode, from-encode}
 
 -- ---- pieces
 
@@ -69,25 +69,14 @@ declaration-encode a b = simp starts-encode
 
 -- ---- the parts of a line at a Code character
 
-pub beforeCode-before : (k : Char) (xs : List Cell) → beforeCode k xs ≡ before (codeIs k) xs
-unfolding beforeCode before
-beforeCode-before k [] = refl
-beforeCode-before k (x ∷ xs) = rw (beforeCode-before k xs)
-
-pub fromCode-from : (k : Char) (xs : List Cell) → fromCode k xs ≡ from (codeIs k) xs
-unfolding fromCode from
-fromCode-from k [] = refl
-fromCode-from k (x ∷ xs) = rw (fromCode-from k xs)
-
 steady-code : (k : Char) → ltb (code k) 0x80 ≡ true → SteadyCell (codeIs k) (λ j. false)
 steady-code k a j b h = rw (steady-is k a b h, and-false (isCode j))
 
 pub beforeCode-encode : (k : Char) → ltb (code k) 0x80 ≡ true → (xs : List Cell) → beforeCode k (encodeCells xs) ≡ encodeCells (beforeCode k xs)
-beforeCode-encode k a xs =
-    rw (beforeCode-before k (encodeCells xs), beforeCode-before k xs) (before-encode (codeIs k) (λ j. false) (steady-code k a) xs)
+beforeCode-encode k a xs = before-encode (codeIs k) (λ j. false) (steady-code k a) xs
 
 pub fromCode-encode : (k : Char) → ltb (code k) 0x80 ≡ true → (xs : List Cell) → fromCode k (encodeCells xs) ≡ encodeCells (fromCode k xs)
-fromCode-encode k a xs = rw (fromCode-from k (encodeCells xs), fromCode-from k xs) (from-encode (codeIs k) (λ j. false) (steady-code k a) xs)
+fromCode-encode k a xs = from-encode (codeIs k) (λ j. false) (steady-code k a) xs
 
 -- ---- is_balanced
 

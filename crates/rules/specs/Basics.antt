@@ -69,6 +69,11 @@ lastIs p [] = false
 lastIs p (c ∷ []) = p c
 lastIs p (c ∷ d ∷ ds) = lastIs p (d ∷ ds)
 
+-- how many of the first characters pass the test
+unfoldable pub leading : (ℕ → Bool) → List ℕ → ℕ
+leading p [] = 0
+leading p (c ∷ cs) = let r = suc (leading p cs) in choose (p c) r 0
+
 -- l starts with w, and the first character after it passes the test, or nothing follows and `end` says yes
 unfoldable pub startsThen : List ℕ → (ℕ → Bool) → Bool → List ℕ → Bool
 startsThen w p end l = startsWith l w && (firstIs p (drop (length w) l) || (isEmpty (drop (length w) l) && end))

@@ -1,51 +1,60 @@
 -- Brackets: the stack, one entry for each open bracket, the newest first; and the levels.
-use Prim.Native.Nat.{ℕ, zero, suc, _+_}
-use mathlib.Core.Bool.{Bool, true, false, not, _||_}
+use Prim.Native.Nat.{ℕ, _+_}
+use mathlib.Core.Bool.{Bool, true, false, not}
 use mathlib.Core.List.{List, [], _∷_, foldl}
+use lib.Dec.{leb}
 use lib.ListN.{drop}
-use Rattle.rules.specs.Basics.{choose, is, isOpener, isCloser}
+use Rattle.rules.specs.Basics.{choose, is, isOpener, isCloser, leading}
 use Rattle.rules.specs.Scan.{Cell, isCode}
 
 -- an entry of the stack: whether opening the bracket added a level
 abbrev pub Entry : Type 0
 Entry = Bool
 
--- how many of the line's first characters are closers
+-- the closers that the line starts with
 unfoldable pub leadingClosers : List ℕ → ℕ
-leadingClosers [] = 0
-leadingClosers (c ∷ cs) = let r = suc (leadingClosers cs) in choose (isCloser c) r 0
+leadingClosers line = leading isCloser line
 
--- `room` is 1 less the line's net added count: an opener adds a level while that count is at most 0
+-- Within a line: its net added count is `added` less `popped`.
 pub record Open : Type 0 where
-  pub room : ℕ
+  pub added : ℕ
+  pub popped : ℕ
   pub esc : Bool
   pub stack : List Entry
 
-abbrev pub opened : ℕ → Bool → List Entry → Open
-opened room esc stack = record { room = room; esc = esc; stack = stack }
+abbrev pub opened : ℕ → ℕ → Bool → List Entry → Open
+opened added popped esc stack = record { added = added; popped = popped; esc = esc; stack = stack }
 
-unfoldable pub push : ℕ → List Entry → Open
-push zero stack = opened 0 false (false ∷ stack)
-push (suc room) stack = opened room false (true ∷ stack)
+-- an opener adds a level only while the count is at most 0, and the count rises by one if it does
+unfoldable pub push : Open → Open
+push o = let adds = leb (o .added) (o .popped) in opened (o .added + choose adds 1 0) (o .popped) false (adds ∷ o .stack)
 
--- a closer pops any opener, and on an empty stack does nothing
-unfoldable pub pop : ℕ → List Entry → Open
-pop room [] = opened room false []
-pop room (adds ∷ stack) = opened (choose adds (suc room) room) false stack
+-- a closer pops any opener, from any line, and the count falls by one if that added a level; on an empty stack it does nothing
+unfoldable pub popFrom : List Entry → Open → Open
+popFrom [] o = opened (o .added) (o .popped) false []
+popFrom (adds ∷ stack) o = opened (o .added) (o .popped + choose adds 1 0) false stack
+
+abbrev pub pop : Open → Open
+pop o = popFrom (o .stack) o
+
+-- whether the next character is escaped
+abbrev pub escaped : Bool → Open → Open
+escaped esc o = opened (o .added) (o .popped) esc (o .stack)
 
 unfoldable pub bracketStep : Open → Cell → Open
 bracketStep o x =
     choose (not (isCode (x .class))) o
-    (choose (o .esc) (opened (o .room) false (o .stack))
-    (choose (is "\\" (x .ch)) (opened (o .room) true (o .stack))
-    (choose (isOpener (x .ch)) (push (o .room) (o .stack))
-    (choose (isCloser (x .ch)) (pop (o .room) (o .stack))
+    (choose (o .esc) (escaped false o)
+    (choose (is "\\" (x .ch)) (escaped true o)
+    (choose (isOpener (x .ch)) (push o)
+    (choose (isCloser (x .ch)) (pop o)
     o))))
 
 -- scan_brackets: the net added count starts at 0
 unfoldable pub scanBrackets : List Cell → List Entry → List Entry
-scanBrackets cells stack = foldl bracketStep (opened 1 false stack) cells .stack
+scanBrackets cells stack = foldl bracketStep (opened 0 0 false stack) cells .stack
 
+-- how many of the open brackets added a level
 unfoldable pub levels : List Entry → ℕ
 levels [] = 0
 levels (adds ∷ stack) = choose adds 1 0 + levels stack

@@ -11,6 +11,7 @@ pub mod Else
 pub mod Brackets
 pub mod SplitImport
 pub mod SplitOperation
+pub mod OperatorBytes
 pub mod Assembly
 pub mod Call
 pub mod TextKind

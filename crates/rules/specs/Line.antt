@@ -43,24 +43,37 @@ start =
       blankNames = 0;
     }
 
--- A line starting inside a comment is trimmed at its end; one inside a prefab is kept whole.
+-- The record after a line that was written: the lines, the stack, the line as the previous one, what its marker protects, what it leaves open.
+abbrev pub after : Formatter → List (List ℕ) → List Entry → List ℕ → Ignore → Carry → Formatter
+after f lines stack prev ignore carry =
+    record {
+      lines = lines;
+      stack = stack;
+      prevBlank = false;
+      prev = prev;
+      ignore = ignore;
+      carry = carry;
+      importsSplit = f .importsSplit;
+      blankNames = f .blankNames;
+    }
+
+-- A line that is kept goes out as `shown`. Its brackets are counted, n leading closers popping first, and it becomes the previous line, trimmed.
+unfoldable pub keptLine : Formatter → List ℕ → ℕ → List ℕ → Ignore → Formatter
+keptLine f shown n line ignore =
+    after f (shown ∷ f .lines) (countBrackets n (classify (f .carry) line) (f .stack)) (trim line) ignore (carryAfter (f .carry) line)
+
+-- A line starting inside a comment is trimmed at its end; one inside a prefab is kept whole. It has no leading closers.
 unfoldable pub asWritten : Carry → List ℕ → List ℕ
 asWritten Carry.Code raw = raw
 asWritten (Carry.Block d) raw = trimEnd raw
 asWritten Carry.Prefab raw = raw
 
-unfoldable pub insideLine : Formatter → List ℕ → Formatter
-insideLine f raw =
-    record {
-      lines = asWritten (f .carry) raw ∷ f .lines;
-      stack = scanBrackets (classify (f .carry) raw) (f .stack);
-      prevBlank = false;
-      prev = trim raw;
-      ignore = f .ignore;
-      carry = carryAfter (f .carry) raw;
-      importsSplit = f .importsSplit;
-      blankNames = f .blankNames;
-    }
+abbrev pub insideLine : Formatter → List ℕ → Formatter
+insideLine f raw = keptLine f (asWritten (f .carry) raw) 0 raw (f .ignore)
+
+-- A protected line is kept as written. A protected marker protects nothing.
+abbrev pub protectedLine : Formatter → List ℕ → Formatter
+protectedLine f raw = keptLine f raw (leadingClosers (trim raw)) (trim raw) Ignore.Nothing
 
 -- Of blank lines in a row one is written, and none before the first written line. A pending marker stays pending.
 unfoldable pub blankLine : Formatter → Formatter
@@ -77,33 +90,10 @@ blankLine f =
       blankNames = f .blankNames;
     })
 
--- A protected line is kept as written; its brackets are counted, and it becomes the previous line, trimmed. A protected marker protects nothing.
-unfoldable pub protectedLine : Formatter → List ℕ → Formatter
-protectedLine f raw =
-    record {
-      lines = raw ∷ f .lines;
-      stack = countBrackets (leadingClosers (trim raw)) (classify Carry.Code (trim raw)) (f .stack);
-      prevBlank = false;
-      prev = trim raw;
-      ignore = Ignore.Nothing;
-      carry = carryAfter Carry.Code (trim raw);
-      importsSplit = f .importsSplit;
-      blankNames = f .blankNames;
-    }
-
 -- a plain `else` joined to the newest line: no indent, blank or split rule applies
 unfoldable pub elseLine : Formatter → List ℕ → Formatter
 elseLine f line =
-    record {
-      lines = joinElse line (f .lines);
-      stack = scanBrackets (classify Carry.Code line) (f .stack);
-      prevBlank = false;
-      prev = line;
-      ignore = Ignore.Nothing;
-      carry = carryAfter Carry.Code line;
-      importsSplit = f .importsSplit;
-      blankNames = f .blankNames;
-    }
+    after f (joinElse line (f .lines)) (scanBrackets (classify Carry.Code line) (f .stack)) line Ignore.Nothing (carryAfter Carry.Code line)
 
 -- Blank between declarations: the newest line goes if it is empty, no bracket is open and both lines declare the same.
 unfoldable pub dropBlank : List (List ℕ) → List (List ℕ)
@@ -137,31 +127,43 @@ orOperation none o max level line = record { lines = splitOperation strengths o 
 unfoldable pub broken : Options → ℕ → ℕ → List ℕ → Laid
 broken o max level line = orOperation (splitImport o max level (classify Carry.Code line)) o max level line
 
--- a line that may be split is, where it is wider than the width with its indent
-unfoldable pub fitted : PrintWidth → Options → ℕ → List ℕ → Laid
-fitted PrintWidth.Off o level line = oneLine (indentOf o level ++ line)
-fitted (PrintWidth.Columns max) o level line =
-    choose (overWide o max (indentOf o level ++ line)) (broken o max level line) (oneLine (indentOf o level ++ line))
-
-unfoldable pub mayBreak : Formatter → Bool → List ℕ → Bool
-mayBreak f marker line =
+-- the line may be split: it doesn't continue, has no leading closers, is no marker and is all Code and Str
+unfoldable pub maySplit : Formatter → Bool → List ℕ → Bool
+maySplit f marker line =
     not (continues (f .prev) line) && eqb (leadingClosers line) 0 && not marker && allCodeOrStr (classify Carry.Code line)
 
+-- broken, where the line, its indent included, is wider than the print width
+unfoldable pub splitWide : PrintWidth → Options → ℕ → List ℕ → Laid
+splitWide PrintWidth.Off o level line = oneLine (indentOf o level ++ line)
+splitWide (PrintWidth.Columns max) o level line =
+    choose (overWide o max (indentOf o level ++ line)) (broken o max level line) (oneLine (indentOf o level ++ line))
+
 unfoldable pub laid : Options → Formatter → Bool → List ℕ → Laid
-laid o f marker line = fitted (choose (mayBreak f marker line) (o .printWidth) PrintWidth.Off) o (levelOf f line) line
+laid o f marker line =
+    choose (maySplit f marker line) (splitWide (o .printWidth) o (levelOf f line) line) (oneLine (indentOf o (levelOf f line) ++ line))
+
+-- the counts of a line that was laid out, added to the record's
+abbrev pub counting : Laid → Formatter → Formatter
+counting l f =
+    record {
+      lines = f .lines;
+      stack = f .stack;
+      prevBlank = f .prevBlank;
+      prev = f .prev;
+      ignore = f .ignore;
+      carry = f .carry;
+      importsSplit = f .importsSplit + l .importsSplit;
+      blankNames = f .blankNames + l .blankNames;
+    }
 
 unfoldable pub placedLine : Options → Formatter → Bool → List ℕ → Formatter
 placedLine o f marker line =
-    record {
-      lines = reverseAux (laid o f marker line .lines) (linesBefore f line);
-      stack = countBrackets (leadingClosers line) (classify Carry.Code line) (f .stack);
-      prevBlank = false;
-      prev = line;
-      ignore = choose marker Ignore.NextLine Ignore.Nothing;
-      carry = carryAfter Carry.Code line;
-      importsSplit = f .importsSplit + laid o f marker line .importsSplit;
-      blankNames = f .blankNames + laid o f marker line .blankNames;
-    }
+    counting (laid o f marker line)
+    (after f (reverseAux (laid o f marker line .lines) (linesBefore f line))
+    (countBrackets (leadingClosers line) (classify Carry.Code line) (f .stack))
+    line
+    (choose marker Ignore.NextLine Ignore.Nothing)
+    (carryAfter Carry.Code line))
 
 unfoldable pub spacedLine : Options → Formatter → Bool → List ℕ → Formatter
 spacedLine o f marker line = choose (isPlainElse line && canJoin (f .lines)) (elseLine f line) (placedLine o f marker line)

@@ -12,13 +12,10 @@ asStr LineEnding.Lf = codes "\n"
 asStr LineEnding.Crlf = codes "\r\n"
 
 -- without one CR at its end
-unfoldable pub consCr : ℕ → List ℕ → List ℕ → List ℕ
-consCr c [] r = choose (is "\r" c) [] (c ∷ [])
-consCr c (d ∷ ds) r = c ∷ r
-
 unfoldable pub dropCr : List ℕ → List ℕ
 dropCr [] = []
-dropCr (c ∷ cs) = consCr c cs (dropCr cs)
+dropCr (c ∷ []) = choose (is "\r" c) [] (c ∷ [])
+dropCr (c ∷ d ∷ ds) = c ∷ dropCr (d ∷ ds)
 
 unfoldable pub linesOf : List ℕ → List (List ℕ)
 linesOf source = map dropCr (pieces (splitOn "\n" source))

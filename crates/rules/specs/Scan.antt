@@ -170,14 +170,24 @@ isCodeOrStr Class.LineComment = false
 isCodeOrStr Class.BlockComment = false
 isCodeOrStr Class.Prefab = false
 
--- code_end: before the line's `//` comment, and from it on
-unfoldable pub codePart : List Cell → List Cell
-codePart [] = []
-codePart (x ∷ xs) = let r = codePart xs in choose (isLineComment (x .class)) [] (x ∷ r)
+-- before the first character that passes the test, and from it on
+unfoldable pub before : (Cell → Bool) → List Cell → List Cell
+before p [] = []
+before p (x ∷ xs) = let r = before p xs in choose (p x) [] (x ∷ r)
 
-unfoldable pub commentPart : List Cell → List Cell
-commentPart [] = []
-commentPart (x ∷ xs) = let r = commentPart xs in choose (isLineComment (x .class)) (x ∷ xs) r
+unfoldable pub from : (Cell → Bool) → List Cell → List Cell
+from p [] = []
+from p (x ∷ xs) = let r = from p xs in choose (p x) (x ∷ xs) r
+
+-- code_end: before the line's `//` comment, and from it on
+abbrev pub inComment : Cell → Bool
+inComment x = isLineComment (x .class)
+
+abbrev pub codePart : List Cell → List Cell
+codePart cells = before inComment cells
+
+abbrev pub commentPart : List Cell → List Cell
+commentPart cells = from inComment cells
 
 -- all characters of the line are code or string
 unfoldable pub allCodeOrStr : List Cell → Bool

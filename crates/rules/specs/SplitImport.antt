@@ -8,7 +8,7 @@ use lib.Dec.{leb}
 use lib.ListN.{length}
 use Rattle.unicode.specs.Unicode.{trim, trimEnd}
 use Rattle.rules.specs.Basics.{choose, is, codes, startsThen, pieces, splitOn, isEmpty, isIdent}
-use Rattle.rules.specs.Scan.{Cell, charsOf, isCode}
+use Rattle.rules.specs.Scan.{Cell, charsOf, isCode, before, from}
 use Rattle.rules.specs.Options.{Options, indentOf, overWide}
 
 -- the lines that one line becomes, in order, and what they add to the two counts
@@ -22,13 +22,11 @@ abbrev pub codeIs : Char → Cell → Bool
 codeIs k x = isCode (x .class) && is k (x .ch)
 
 -- before the first Code character k, and from it on
-unfoldable pub beforeCode : Char → List Cell → List Cell
-beforeCode k [] = []
-beforeCode k (x ∷ xs) = let r = beforeCode k xs in choose (codeIs k x) [] (x ∷ r)
+abbrev pub beforeCode : Char → List Cell → List Cell
+beforeCode k cells = before (codeIs k) cells
 
-unfoldable pub fromCode : Char → List Cell → List Cell
-fromCode k [] = []
-fromCode k (x ∷ xs) = let r = fromCode k xs in choose (codeIs k x) (x ∷ xs) r
+abbrev pub fromCode : Char → List Cell → List Cell
+fromCode k cells = from (codeIs k) cells
 
 -- the pieces, trimmed, that are not blank; and how many are blank
 unfoldable pub consName : List ℕ → List (List ℕ) → List (List ℕ)

@@ -6,7 +6,7 @@ use mathlib.Core.Option.{Option, none, some}
 use lib.Dec.{eqb}
 use lib.ListN.{length, drop, take, getD}
 use Rattle.unicode.specs.Unicode.{trim}
-use Rattle.rules.specs.Basics.{choose, is, codes, at, same, oneOf, firstIs, Pieces, isBlank, isOpener, isCloser, isIdent}
+use Rattle.rules.specs.Basics.{choose, is, codes, at, same, oneOf, leading, firstIs, Pieces, isBlank, isOpener, isCloser, isIdent}
 use Rattle.rules.specs.Scan.{Cell, charsOf, isCode, isStr, classify}
 use Rattle.rules.specs.Words.{operators}
 use Rattle.rules.specs.Options.{Options, indentOf, overWide}
@@ -29,10 +29,12 @@ precedence table op = lookup operators table op
 unfoldable pub endsOperand : ℕ → Bool
 endsOperand c = isIdent c || is ")" c || is "]" c || is "\"" c || is "'" c
 
--- how many characters of an atom's name l starts with: ASCII, and `-`
-unfoldable pub atomLen : List ℕ → ℕ
-atomLen [] = 0
-atomLen (c ∷ cs) = let r = suc (atomLen cs) in choose (isIdent c || is "-" c) r 0
+-- how many characters of an atom's name l starts with: those of a name, and `-`
+abbrev pub atomChar : ℕ → Bool
+atomChar c = isIdent c || is "-" c
+
+abbrev pub atomLen : List ℕ → ℕ
+atomLen l = leading atomChar l
 
 -- Before a character: brackets opened and closed so far, whether an operand ends here, an escape, and how many more characters belong to the
 -- token before.
@@ -71,7 +73,8 @@ bracket opened closed operand =
 unfoldable pub isSign : ℕ → Bool
 isSign c = is "+" c || is "-" c
 
--- one of `+ - * / % & | ^ < >`, and `=` after it; a sign where no operand ends
+-- An operator of one character: one of `+ - * / % & | ^`, and also `<` and `>`, whose `=` 01 doesn't name: `<=` and `>=` are operators of
+-- two characters, and were read before. With `=` after it, it is none; nor is a sign where no operand ends.
 unfoldable pub oneCharStep : List ℕ → Ops → ℕ → List ℕ → OpStep
 oneCharStep table s c cs =
     choose (not (oneOf operators (c ∷ []))) (token s (endsOperand c) 0)
@@ -84,6 +87,10 @@ twoCharStep table s op rest =
     choose ((same op (codes "<<") || same op (codes ">>")) && firstIs (is "=") rest) (token s false 2)
     (operator s (precedence table op) 1)
 
+-- l starts with an operator of two characters
+abbrev pub startsPair : List ℕ → Bool
+startsPair l = eqb (length (take 2 l)) 2 && oneOf operators (take 2 l)
+
 -- the character c of code with cs after it; an atom's name may hold `-`, with which no operand ends
 unfoldable pub codeStep : List ℕ → Ops → ℕ → List ℕ → OpStep
 codeStep table s c cs =
@@ -93,7 +100,7 @@ codeStep table s c cs =
     (choose (isCloser c) (bracket (s .opened) (suc (s .closed)) (endsOperand c))
     (choose (at (c ∷ cs) "...") (token s false 2)
     (choose (at (c ∷ cs) "->" || at (c ∷ cs) "=>") (token s false 1)
-    (choose (eqb (length (take 2 (c ∷ cs))) 2 && oneOf operators (take 2 (c ∷ cs))) (twoCharStep table s (take 2 (c ∷ cs)) (drop 1 cs))
+    (choose (startsPair (c ∷ cs)) (twoCharStep table s (take 2 (c ∷ cs)) (drop 1 cs))
     (oneCharStep table s c cs)))))))
 
 -- a string is one operand; an escaped character is passed over

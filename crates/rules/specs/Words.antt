@@ -2,8 +2,9 @@
 use Prim.Native.Nat.{ℕ}
 use mathlib.Core.Bool.{Bool, true, false, not, _&&_, _||_}
 use mathlib.Core.List.{List, [], _∷_}
+use lib.ListN.{drop}
 use Rattle.unicode.specs.Unicode.{isWhite, trim, trimStart}
-use Rattle.rules.specs.Basics.{choose, is, codes, at, same, startsThen, isEmpty, isBlank}
+use Rattle.rules.specs.Basics.{is, codes, at, same, leading, startsThen, isEmpty, isBlank}
 use Rattle.rules.specs.Scan.{Cell, charsOf, codePart, commentPart}
 
 -- a space, a tab or nothing follows the word
@@ -32,9 +33,9 @@ startsWithBinaryOp line = startsWithOneOf operators line
 unfoldable pub sameDeclaration : List ℕ → List ℕ → Bool
 sameDeclaration a b = (at a "in " && at b "in ") || (at a "out " && at b "out ") || (at a "var " && at b "var ")
 
+-- without its leading slashes
 unfoldable pub dropSlashes : List ℕ → List ℕ
-dropSlashes [] = []
-dropSlashes (c ∷ cs) = let r = dropSlashes cs in choose (is "/" c) r (c ∷ cs)
+dropSlashes comment = drop (leading (is "/") comment) comment
 
 -- the comment starts `//` but not `///`, and after its leading slashes and trimming it is exactly `fmt-ignore`
 unfoldable pub isMarkerText : List ℕ → Bool

@@ -10,7 +10,7 @@ use lib.Dec.{eqb}
 use lib.ListN.{length, getD, take, drop, drop-of-length-le}
 use lib.Seq.{drop-cons, take-nil, drop-nil}
 use Rattle.rules.specs.Basics.{choose}
-use Rattle.rules.specs.Scan.{cell, codePart, commentPart, allCodeOrStr, isLineComment, isCodeOrStr}
+use Rattle.rules.specs.Scan.{cell, before, from, codePart, commentPart, allCodeOrStr, isLineComment, isCodeOrStr}
 use Rattle.rules.specs.ClassBytes.{cellsOf, classOf}
 use Rattle.rules.proofs.CellsLaws.{comment-byte, code-or-str-byte}
 use Rattle.rules.proofs.Choose.{choose-true, choose-false}
@@ -102,7 +102,7 @@ code-length-le (k ∷ ks) = go (isLineComment (classOf k)) (code-length-le ks)
 
 -- the line before its `//` comment, and from it on
 pub code-part : (s ks : List ℕ) → codePart (cellsOf s ks) ≡ cellsOf (take (codeLength ks) s) (take (codeLength ks) ks)
-unfolding codePart cellsOf codeLength choose
+unfolding before cellsOf codeLength choose
 code-part [] ks = rw take-nil
 code-part (c ∷ s) [] = refl
 code-part (c ∷ s) (k ∷ ks) = go (isLineComment (classOf k)) (code-part s ks)
@@ -112,7 +112,7 @@ code-part (c ∷ s) (k ∷ ks) = go (isLineComment (classOf k)) (code-part s ks)
     go false h = rw h
 
 pub comment-part : (s ks : List ℕ) → commentPart (cellsOf s ks) ≡ cellsOf (drop (codeLength ks) s) (drop (codeLength ks) ks)
-unfolding commentPart cellsOf codeLength choose
+unfolding from cellsOf codeLength choose
 comment-part [] ks = rw drop-nil
 comment-part (c ∷ s) [] = refl
 comment-part (c ∷ s) (k ∷ ks) = go (isLineComment (classOf k)) (comment-part s ks)

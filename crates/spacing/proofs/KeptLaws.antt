@@ -12,11 +12,11 @@ use lib.Seq.{take-suc, take-all}
 use Rattle.unicode.proofs.Tests.{by-test}
 use Rattle.rules.specs.Basics.{choose, isBlank, isCloser}
 use Rattle.rules.specs.Scan.{Cell, cell, isCode}
-use Rattle.rules.specs.ClassBytes.{classOf, cellsOf}
+use Rattle.rules.specs.ClassBytes.{classOf, cellsOf, cellAt}
 use Rattle.rules.specs.Spacing.{Spaced, spaced, trimBlanks, putPlain, putAfterComma, putAt, spaceStep, normalizeSpacing}
 use Rattle.rules.specs.declared.Gap.{Gap}
 use Rattle.rules.proofs.Choose.{choose-true, choose-false}
-use Rattle.rules.proofs.CellsLaws.{cellAt, cells-at, cells-end}
+use Rattle.rules.proofs.CellsLaws.{cells-at, cells-end}
 use Rattle.spacing.specs.Respaced.{respacedFrom, InCode, KeptAt, NoBlank, Keeping, Unchanged}
 use Rattle.basics.proofs.ClassPicks.{code-other}
 use Rattle.spacing.proofs.SpacingLaws.{trim-snoc, plain-char}

@@ -24,19 +24,19 @@ use Rattle.unicode.proofs.Decode.{encode-nil, encode-append, encode-ascii, deco
 use Rattle.rules.specs.declared.Carry.{Carry}
 use Rattle.rules.specs.Basics.{choose, codes, startsWith, firstIs, startsThen, isIdent}
 use Rattle.rules.specs.Options.{Options, indentOf, measure, overWide}
-use Rattle.rules.specs.Scan.{Cell, charsOf, classify, isCode}
-use Rattle.rules.specs.ClassBytes.{classOf, cellsOf}
+use Rattle.rules.specs.Scan.{Cell, charsOf, classify, isCode, before, from}
+use Rattle.rules.specs.ClassBytes.{classOf, cellsOf, FirstAt}
 use Rattle.rules.specs.SplitImport.{Laid, codeIs, beforeCode, fromCode, namesOf, addName, fillNames, importLines, importParts, closedImport, openedImport, startsImport, splitImport}
 use Rattle.rules.proofs.Choose.{choose-true, choose-false}
-use Rattle.rules.proofs.ScanBytes.{label, encodeCells, encodeCells-cons, chars-classify, chars-encodeCells, before, from}
-use Rattle.rules.proofs.CellsLaws.{code-byte, cells-bytes, chars-cells, drop-cells, length-classBytes, length-classify, Found, Finding, find-start, find-more, find-stop, find-end}
-use Rattle.rules.proofs.WordsBytes.{import-encode, beforeCode-before, fromCode-from, beforeCode-encode, fromCode-encode}
+use Rattle.rules.proofs.ScanBytes.{label, encodeCells, encodeCells-cons, chars-classify, chars-encodeCells}
+use Rattle.rules.proofs.CellsLaws.{code-byte, cells-bytes, chars-cells, drop-cells, length-classBytes, length-classify, Finding, find-start, find-more, find-stop, find-end}
+use Rattle.rules.proofs.WordsBytes.{import-encode, beforeCode-encode, fromCode-encode}
 use Rattle.split.specs.declared.NewLine.{NewLine}
 use Rattle.split.specs.Text.{indented, lay, following, lastOf, LineRoom, LineWritten}
 use Rattle.split.proofs.TextLaws.{following-append, last-append, written-lines, lay-encode, indent-short, level-fits, deeper-fits}
 use Rattle.split_import.specs.declared.Names.{Names}
 use Rattle.split_import.specs.declared.ImportSplit.{ImportSplit}
-use Rattle.split_import.specs.Names.{codeByte, parts, Countable, Counted, namesText, NamesFit, NamesWritten}
+use Rattle.split_import.specs.Names.{codeByte, parts, CountableNames, NamesCounted, namesText, NamesFit, NamesWritten}
 use Rattle.split_import.specs.Import.{Given, ImportFits, HeadFits, headLine, HeadWritten, Braces, partsOf}
 
 -- ---- the word
@@ -72,10 +72,10 @@ module _ (c : ℕ) (line class : List ℕ) (i : ℕ) (q : Finding (codeByte c) l
   pub code-more : (r : Bool) → i < length line → r ≡ (isCode (classOf (getD class i 0)) && eqb (getD line i 0) c) → r ≡ false → Finding (codeByte c) line class (i + 1)
   code-more r h e f = find-more q h room (sym e ∙ f)
 
-  pub code-found : (r : Bool) → i < length line → r ≡ (isCode (classOf (getD class i 0)) && eqb (getD line i 0) c) → r ≡ true → Found (codeByte c) line class i
+  pub code-found : (r : Bool) → i < length line → r ≡ (isCode (classOf (getD class i 0)) && eqb (getD line i 0) c) → r ≡ true → FirstAt (codeByte c) line class i
   code-found r h e f = find-stop q h room (sym e ∙ f)
 
-  pub code-end : length line ≤ i → Found (codeByte c) line class i
+  pub code-end : length line ≤ i → FirstAt (codeByte c) line class i
   code-end h = find-end q h
 
 pub code-begin : (c : ℕ) (line class : List ℕ) → Finding (codeByte c) line class 0
@@ -125,7 +125,7 @@ module _ {line : List ℕ} {start end : ℕ} {indent : List ℕ} {level : ℕ} {
   inside-long : length (part line (start + 1) end) ≡ end - (start + 1)
   inside-long = length-take-le (end - (start + 1)) (drop (start + 1) line) (omega (arith, length-drop (start + 1) line, b .order, b .within))
 
-  pub inside-countable : Countable (part line (start + 1) end)
+  pub inside-countable : CountableNames (part line (start + 1) end)
   inside-countable = record { well = b .inside; short = omega (arith, inside-long, b .within, b .fits .size) }
 
   head-long : length (take start line) ≡ start
@@ -155,7 +155,7 @@ module _ {line : List ℕ} {start end : ℕ} {indent : List ℕ} {level : ℕ} {
 
   -- ---- what is written
 
-  module _ {c : Names} (q : Counted (part line (start + 1) end) c) where
+  module _ {c : Names} (q : NamesCounted (part line (start + 1) end) c) where
     pub parts-none : (out : List ℕ) (r : ImportSplit) (max : ℕ) → c .names < 2 → r .split ≡ false → (o : Options) → o .indent ≡ indent → Given (partsOf o max level line start end) eol out out at r
     unfolding importParts
     parts-none out r max h f o e =
@@ -219,7 +219,7 @@ module _ {line : List ℕ} {start end : ℕ} {indent : List ℕ} {level : ℕ} {
 -- ---- a brace, found in the bytes, and in the characters
 
 cells-scalars : (k : Char) (xs : List Cell) → Scalars (charsOf xs) → Scalars (charsOf (beforeCode k xs)) × Scalars (charsOf (fromCode k xs))
-unfolding beforeCode fromCode charsOf choose
+unfolding before from charsOf choose
 cells-scalars k [] s = (tt, tt)
 cells-scalars k (x ∷ xs) s = go (codeIs k x) (cells-scalars k xs (s .1))
   where
@@ -245,7 +245,7 @@ unfolding charsOf
 none-bytes = encode-nil
 
 from-head : (k : Char) (xs : List Cell) (y : Cell) (ys : List Cell) → fromCode k xs ≡ y ∷ ys → codeIs k y ≡ true
-unfolding fromCode choose
+unfolding from choose
 from-head k [] y ys e = cc
 from-head k (x ∷ xs) y ys e = go (codeIs k x) refl e (from-head k xs y ys)
   where
@@ -267,12 +267,12 @@ record Next (k : Char) (D : List Cell) (s ks : List ℕ) (i : ℕ) : Type 0 wher
   is : fromCode k D ≡ head ∷ rest
   cells : cellsOf (drop (i + 1) s) (drop (i + 1) ks) ≡ encodeCells rest
 
-module _ (k : Char) (low : ltb (code k) 0x80 ≡ true) (D : List Cell) (s ks : List ℕ) (eq : cellsOf s ks ≡ encodeCells D) (room : length s ≤ length ks) (i : ℕ) (f : Found (codeIs k) s ks i) where
+module _ (k : Char) (low : ltb (code k) 0x80 ≡ true) (D : List Cell) (s ks : List ℕ) (eq : cellsOf s ks ≡ encodeCells D) (room : length s ≤ length ks) (i : ℕ) (f : FirstAt (codeIs k) s ks i) where
   before-cells : cellsOf (take i s) (take i ks) ≡ encodeCells (beforeCode k D)
-  before-cells = sym (f .before) ∙ sym (beforeCode-before k (cellsOf s ks)) ∙ ap (beforeCode k) eq ∙ beforeCode-encode k low D
+  before-cells = sym (f .before) ∙ ap (beforeCode k) eq ∙ beforeCode-encode k low D
 
   from-cells : cellsOf (drop i s) (drop i ks) ≡ encodeCells (fromCode k D)
-  from-cells = sym (f .from) ∙ sym (fromCode-from k (cellsOf s ks)) ∙ ap (fromCode k) eq ∙ fromCode-encode k low D
+  from-cells = sym (f .from) ∙ ap (fromCode k) eq ∙ fromCode-encode k low D
 
   before-bytes : take i s ≡ encode (charsOf (beforeCode k D))
   before-bytes =
@@ -330,7 +330,7 @@ module _ {line class indent : List ℕ} {level : ℕ} {eol : List ℕ} {at : ℕ
     unfolding splitImport
     no-import out s max e g o i = not-given out s _ (choose-false _ _ _ (starts-chars ∙ sym q ∙ e)) g
 
-    module _ (e : r ≡ true) (start : ℕ) (u : Found (codeByte 123) line class start) where
+    module _ (e : r ≡ true) (start : ℕ) (u : FirstAt (codeByte 123) line class start) where
       opened : (o : Options) (max : ℕ) → splitImport o max level chars ≡ openedImport o max level (charsOf (beforeCode "{" chars)) (fromCode "{" chars)
       unfolding splitImport
       opened o max = choose-true _ _ _ (starts-chars ∙ sym q ∙ e)
@@ -340,7 +340,7 @@ module _ {line class indent : List ℕ} {level : ℕ} {eol : List ℕ} {at : ℕ
       no-brace out s max h g o i =
           not-given out s _ (opened o max ∙ ap (openedImport o max level (charsOf (beforeCode "{" chars))) (brace-none "{" refl chars line class cells-are class-room start u h)) g
 
-      module _ (h : start < length line) (n : ℕ) (v : Found (codeByte 125) (take (length line - (start + 1)) (drop (start + 1) line)) (take (length class - (start + 1)) (drop (start + 1) class)) n) where
+      module _ (h : start < length line) (n : ℕ) (v : FirstAt (codeByte 125) (take (length line - (start + 1)) (drop (start + 1) line)) (take (length class - (start + 1)) (drop (start + 1) class)) n) where
         next : Next "{" chars line class start
         next = brace-next "{" refl chars line class cells-are class-room start u h
 
@@ -350,7 +350,7 @@ module _ {line class indent : List ℕ} {level : ℕ} {eol : List ℕ} {at : ℕ
         abbrev inner : List Cell
         inner = next .rest
 
-        v′ : Found (codeByte 125) (drop a line) (drop a class) n
+        v′ : FirstAt (codeByte 125) (drop a line) (drop a class) n
         v′ = rw (part-from line a, part-from class a) at v
 
         room : length (drop a line) ≤ length (drop a class)

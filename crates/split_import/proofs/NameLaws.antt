@@ -29,7 +29,7 @@ use Rattle.split.proofs.MeasureLaws.{measure-append, part-length, ascii-times}
 use Rattle.rules.proofs.SplitSizes.{blank-ascii}
 use Rattle.split.proofs.TextLaws.{AllScalars, all-well, all-decode, following-append, indent-short}
 use Rattle.split_import.specs.declared.Filled.{Filled}
-use Rattle.split_import.specs.Names.{left, NameLen, parts, Countable, Counted, Place, NameMeasured, Column, NameFits, namesText, OnNewLine, addIf, AddedTo, Added, NamesFit, NamesWritten}
+use Rattle.split_import.specs.Names.{left, NameLen, parts, CountableNames, NamesCounted, NamePlace, NameMeasured, NewestAt, NameFits, namesText, OnNewLine, addIf, AddedTo, Added, NamesFit, NamesWritten}
 
 -- ---- pieces between commas
 
@@ -173,7 +173,7 @@ blanks-some d ds h = go (trim d) h
 -- ---- counting: the pieces before a are counted
 
 pub record Counting (s : List ℕ) (names blanks a : ℕ) : Type 0 where
-  pub pre : Countable s
+  pub pre : CountableNames s
   pub within : a ≤ length s + 1
   pub well : AllWell (left s a)
   pub named : length (namesOf (parts s)) ≡ names + length (namesOf (map decode (left s a)))
@@ -181,7 +181,7 @@ pub record Counting (s : List ℕ) (names blanks a : ℕ) : Type 0 where
   pub few : names ≤ a
   pub fewer : blanks ≤ a
 
-pub counting-start : (s : List ℕ) → Countable s → Counting s 0 0 0
+pub counting-start : (s : List ℕ) → CountableNames s → Counting s 0 0 0
 counting-start s c =
     let q : AllPieces s = all-pieces s (c .well) in
     record {
@@ -240,7 +240,7 @@ module _ (s : List ℕ) (names blanks a : ℕ) (q : Counting s names blanks a) (
           fewer = omega (arith, q .fewer);
         }
 
-pub counting-end : (s : List ℕ) (names blanks a : ℕ) → Counting s names blanks a → length s < a → Counted s (record { names = names; blanks = blanks })
+pub counting-end : (s : List ℕ) (names blanks a : ℕ) → Counting s names blanks a → length s < a → NamesCounted s (record { names = names; blanks = blanks })
 unfolding namesOf blanksOf
 counting-end s names blanks a q h =
     let e : left s a ≡ [] = left-none s a h in
@@ -271,11 +271,11 @@ pub put-line : (eol indent : List ℕ) (level : ℕ) (name : List ℕ) {x y z u 
 put-line eol indent level name a b c =
     rw (← (append-assoc (times level indent) name (44 ∷ [])), ← (append-assoc eol (times level indent ++ name) (44 ∷ []))) (appended-append (appended-append a b) c)
 
-pub line-room : {eol indent : List ℕ} {level : ℕ} {name : List ℕ} {at : ℕ} (q : Place eol indent level name at) {x y : List ℕ} {n : ℕ} → Appended x y at eol n
+pub line-room : {eol indent : List ℕ} {level : ℕ} {name : List ℕ} {at : ℕ} (q : NamePlace eol indent level name at) {x y : List ℕ} {n : ℕ} → Appended x y at eol n
     → n + (length (times level indent) + length name) < 2 ^ 64
 line-room {indent = indent} {level = level} q a = omega (arith, a .next, q .end, q .room, indent-short indent level (q .indents))
 
-pub comma-room : {eol indent : List ℕ} {level : ℕ} {name : List ℕ} {at : ℕ} (q : Place eol indent level name at) {x y z : List ℕ} {n m : ℕ} → Appended x y at eol n → Appended y z n (times level indent ++ name) m
+pub comma-room : {eol indent : List ℕ} {level : ℕ} {name : List ℕ} {at : ℕ} (q : NamePlace eol indent level name at) {x y z : List ℕ} {n m : ℕ} → Appended x y at eol n → Appended y z n (times level indent ++ name) m
     → m + 1 < 2 ^ 64
 comma-room {indent = indent} {level = level} {name = name} q a b =
     omega (arith, a .next, b .next, q .end, q .room, indent-short indent level (q .indents), length-append (times level indent) name)
@@ -377,7 +377,7 @@ module _ (indent : List ℕ) (level : ℕ) (eol : List ℕ) (max : ℕ) (name ou
           room = line-at out′ r q;
         }
       where
-        go : (lines : List (List ℕ)) → Column lines f → AddedTo lines (addName opts max cont lines (decode name)) eol out out′ f r
+        go : (lines : List (List ℕ)) → NewestAt lines f → AddedTo lines (addName opts max cont lines (decode name)) eol out out′ f r
         go [] c = added-line [] out′ r q
         go (cur ∷ done) c = absurd (let y : _≡_ {A = ℕ} 0 1 = cc (c .some, e) in omega arith)
 
@@ -386,7 +386,7 @@ module _ (indent : List ℕ) (level : ℕ) (eol : List ℕ) (max : ℕ) (name ou
       joinedLine cur = cur ++ (codes " " ++ withComma (decode name))
 
       -- the column that the newest line would reach
-      column-of : (cur : List ℕ) (done : List (List ℕ)) → Column (cur ∷ done) f → (o : Options) → n ≡ measure o 0 (joinedLine cur)
+      column-of : (cur : List ℕ) (done : List (List ℕ)) → NewestAt (cur ∷ done) f → (o : Options) → n ≡ measure o 0 (joinedLine cur)
       column-of cur done c o =
           q .is o ∙ ap (λ (k : ℕ). measure o k (withComma (decode name))) (one-measured o (f .column .0) 32 b (omega arith) p ∙ ap (λ (k : ℕ). measure o k (32 ∷ [])) (c .at o))
           ∙ sym (measure-append o 0 cur (codes " " ++ withComma (decode name)) ∙ measure-append o (measure o 0 cur) (codes " ") (withComma (decode name)))
@@ -400,7 +400,7 @@ module _ (indent : List ℕ) (level : ℕ) (eol : List ℕ) (max : ℕ) (name ou
             room = line-at out′ r l;
           }
         where
-          go : (lines : List (List ℕ)) → Column lines f → AddedTo lines (addName opts max cont lines (decode name)) eol out out′ f r
+          go : (lines : List (List ℕ)) → NewestAt lines f → AddedTo lines (addName opts max cont lines (decode name)) eol out out′ f r
           go [] c = absurd (let y : _≡_ {A = ℕ} 0 1 = cc (c .some, e) in omega arith)
           go (cur ∷ done) c =
               rw (choose-true (ltb max (measure opts 0 (joinedLine cur))) (newLine ∷ cur ∷ done) (joinedLine cur ∷ done) (rw (← (column-of cur done c opts)) (lt-ltb max n h)))
@@ -415,7 +415,7 @@ module _ (indent : List ℕ) (level : ℕ) (eol : List ℕ) (max : ℕ) (name ou
             room = omega (arith, a .next, length-append name (44 ∷ []));
           }
         where
-          go : (lines : List (List ℕ)) → Column lines f → AddedTo lines (addName opts max cont lines (decode name)) eol out out′ f (record { at = at; column = col; some = true })
+          go : (lines : List (List ℕ)) → NewestAt lines f → AddedTo lines (addName opts max cont lines (decode name)) eol out out′ f (record { at = at; column = col; some = true })
           go [] c = absurd (let y : _≡_ {A = ℕ} 0 1 = cc (c .some, e) in omega arith)
           go (cur ∷ done) c =
               rw (choose-false (ltb max (measure opts 0 (joinedLine cur))) (newLine ∷ cur ∷ done) (joinedLine cur ∷ done) (rw (← (column-of cur done c opts)) (le-ltb max n h)))
@@ -434,7 +434,7 @@ pub record Filling (s indent : List ℕ) (level : ℕ) (eol : List ℕ) (max : �
   pub well : AllWell (left s a)
   pub lines : List (List ℕ)
   pub fill : fillNames (indented indent) max (times level indent) (namesOf (parts s)) ≡ foldl (addName (indented indent) max (times level indent)) lines (namesOf (map decode (left s a)))
-  pub column : Column lines f
+  pub column : NewestAt lines f
   pub text : Appended out₀ out at (namesText eol lines) (f .at)
   pub narrow : f .column .0 ≤ 67108928 + 4 * a
   pub room : f .at ≤ at + a * lineRoom

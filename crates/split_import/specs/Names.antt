@@ -36,17 +36,17 @@ pub record NameLen (s : List ℕ) (r : ℕ) : Type 0 where
 abbrev pub parts : List ℕ → List (List ℕ)
 parts s = pieces (splitOn "," (decode s))
 
-pub record Countable (s : List ℕ) : Type 0 where
+pub record CountableNames (s : List ℕ) : Type 0 where
   pub well : WellFormed s
   pub short : length s < 2 ^ 31
 
-pub record Counted (s : List ℕ) (r : Names) : Type 0 where
+pub record NamesCounted (s : List ℕ) (r : Names) : Type 0 where
   pub names : r .names ≡ length (namesOf (parts s))
   pub blanks : r .blanks ≡ blanksOf (parts s)
 
 -- ---- lines of names
 
-pub record Place (eol indent : List ℕ) (level : ℕ) (name : List ℕ) (at : ℕ) : Type 0 where
+pub record NamePlace (eol indent : List ℕ) (level : ℕ) (name : List ℕ) (at : ℕ) : Type 0 where
   pub indents : Indent indent level
   pub end : length eol ≤ 2
   pub room : at + (67108931 + length name) < 2 ^ 64
@@ -65,7 +65,7 @@ abbrev pub reached : List (List ℕ) → ℕ → Type 0
 reached [] n = Unit {0}
 reached (cur ∷ done) n = (o : Options) → n ≡ measure o 0 cur
 
-pub record Column (lines : List (List ℕ)) (f : Filled) : Type 0 where
+pub record NewestAt (lines : List (List ℕ)) (f : Filled) : Type 0 where
   pub some : f .some ≡ not (isEmpty lines)
   pub at : reached lines (f .column .0)
 
@@ -93,13 +93,13 @@ addIf o max cont lines [] = lines
 addIf o max cont lines (c ∷ cs) = addName o max cont lines (c ∷ cs)
 
 pub record AddedTo (lines lines′ : List (List ℕ)) (eol out out′ : List ℕ) (f r : Filled) : Type 0 where
-  pub column : Column lines′ r
+  pub column : NewestAt lines′ r
   pub grown : List ℕ
   pub text : Appended out out′ (f .at) grown (r .at)
   pub grows : namesText eol lines′ ≡ namesText eol lines ++ grown
 
 pub record Added (indent : List ℕ) (level : ℕ) (eol : List ℕ) (max : ℕ) (name out out′ : List ℕ) (f r : Filled) : Type 0 where
-  pub to : (lines : List (List ℕ)) → Column lines f → AddedTo lines (addIf (indented indent) max (times level indent) lines (decode name)) eol out out′ f r
+  pub to : (lines : List (List ℕ)) → NewestAt lines f → AddedTo lines (addIf (indented indent) max (times level indent) lines (decode name)) eol out out′ f r
   pub small : (n : ℕ) → 67108928 ≤ n → f .column .0 ≤ n → r .column .0 ≤ n + 2 * length name + 4
   pub room : r .at ≤ f .at + (67108931 + length name)
 

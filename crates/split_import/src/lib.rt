@@ -9,12 +9,11 @@ ghost use Rattle.buffer.specs.Buffer.{Appended};
 ghost use Rattle.unicode.specs.Unicode.{decode};
 ghost use Rattle.rules.specs.Options.{Options};
 ghost use Rattle.rules.specs.Scan.{isCode, classify};
-ghost use Rattle.rules.specs.ClassBytes.{classOf};
+ghost use Rattle.rules.specs.ClassBytes.{classOf, FirstAt};
 ghost use Rattle.rules.specs.SplitImport.{splitImport, startsImport};
 ghost use Rattle.rules.specs.declared.Carry.{Carry};
-ghost use Rattle.rules.proofs.CellsLaws.{Found};
 ghost use Rattle.split.specs.Text.{lay};
-ghost use Rattle.split_import.specs.Names.{codeByte, NameLen, Countable, Counted, Place, Named, NameMeasured, NameFits, OnNewLine, Added, NamesFit, NamesWritten};
+ghost use Rattle.split_import.specs.Names.{codeByte, NameLen, CountableNames, NamesCounted, NamePlace, Named, NameMeasured, NameFits, OnNewLine, Added, NamesFit, NamesWritten};
 ghost use Rattle.split_import.specs.Import.{HeadFits, HeadWritten, Braces, partsOf, Given, ImportFits};
 use basics::is_ident;
 use basics::starts_with;
@@ -61,7 +60,7 @@ fn code_is(c: u8, b: u8, k: u8) -> bool
 // Where the first code character c stands, or the line's length.
 fn find_code(line: &[u8], class: &[u8], c: u8) -> usize
     requires { ⌜ length (now line) ≤ length (now class) ⌝ }
-    ensures { λ r. ⌜ Found (codeByte c) (now (line .entry)) (now (class .entry)) r ⌝ }
+    ensures { λ r. ⌜ FirstAt (codeByte c) (now (line .entry)) (now (class .entry)) r ⌝ }
 {
     let mut i = 0;
     while i < line.len() {
@@ -94,8 +93,8 @@ pub struct Names {
 }
 
 fn count_names(s: &[u8]) -> Names
-    requires { ⌜ Countable (now s) ⌝ }
-    ensures { λ r. ⌜ Counted (now (s .entry)) r ⌝ }
+    requires { ⌜ CountableNames (now s) ⌝ }
+    ensures { λ r. ⌜ NamesCounted (now (s .entry)) r ⌝ }
 {
     let mut names = 0;
     let mut blanks = 0;
@@ -132,7 +131,7 @@ fn put_line(
     level: usize,
     name: &[u8],
 ) -> usize
-    requires { ⌜ Place (now eol) (now indent) level (now name) at ⌝ }
+    requires { ⌜ NamePlace (now eol) (now indent) level (now name) at ⌝ }
     ensures { λ r. ⌜ Appended (now (out .entry)) (now (out .exit)) at (now (eol .entry) ++ lay (now (indent .entry)) level (now (name .entry) ++ 44 ∷ [])) r ⌝ }
 {
     let n = buffer::append(out, at, eol);

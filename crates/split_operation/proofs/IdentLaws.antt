@@ -13,16 +13,15 @@ use Rattle.unicode.proofs.Tests.{by-test, split, and-left, and-right}
 use Rattle.rules.specs.declared.Class.{Class}
 use Rattle.rules.specs.Basics.{choose, same, oneOf, startsWith, isIdent, isOpener, isCloser}
 use Rattle.rules.specs.Scan.{cell, isCode}
-use Rattle.rules.specs.ClassBytes.{classOf}
+use Rattle.rules.specs.ClassBytes.{classOf, cellAt}
 use Rattle.rules.specs.Words.{operators}
 use Rattle.rules.specs.SplitOperation.{Ops, endsOperand, token, oneCharStep, codeStep, freshStep, opStepAt, inWord}
 use Rattle.rules.proofs.Choose.{choose-false}
 use Rattle.rules.proofs.StartsBytes.{low-of, steady-ident}
-use Rattle.rules.proofs.CellsLaws.{cellAt}
-use Rattle.rules.proofs.OperatorsBytes.{byteStep}
+use Rattle.rules.specs.OperatorBytes.{byteStep}
 use Rattle.operators.specs.declared.OpState.{OpState}
 use Rattle.operators.specs.Operators.{opsOf, stepOf}
-use Rattle.split_operation.specs.Pass.{Breakable, Plain, PlainTest, IdentRun, PlainRun, pastIdent, Balances, Seeking, Pass, Passing}
+use Rattle.split_operation.specs.Pass.{Breakable, NonePending, PlainTest, IdentRun, PlainRun, pastIdent, Balances, Seeking, Pass, Passing}
 use Rattle.split_operation.proofs.PassLaws.{ReadAt, read-step, looser-zero, eqb-swap, balance-fell, balance-plain, word-on, passing-more, seek-read, ops-left}
 
 -- ---- one of them
@@ -85,7 +84,7 @@ module _ (c : ℕ) (h : isIdent c ≡ true) where
   ident-at zero table s cs z e = ident-fresh table s cs e
   ident-at (suc n) table s cs z e = absurd (omega arith)
 
-  ident-step : (table : List ℕ) (s : OpState) (cs : List ℕ) → Plain s → stepOf (record { strength = 0; after = pastIdent s }) ≡ byteStep table (opsOf s) (cell c Class.Code) cs
+  ident-step : (table : List ℕ) (s : OpState) (cs : List ℕ) → NonePending s → stepOf (record { strength = 0; after = pastIdent s }) ≡ byteStep table (opsOf s) (cell c Class.Code) cs
   unfolding token
   ident-step table s cs p = sym (choose-false _ _ _ ident-low ∙ ident-at (s .skip) table (opsOf s) cs (p .skip) (p .esc))
 
@@ -96,7 +95,7 @@ code-class Class.LineComment e = absurd (true≢false (sym e))
 code-class Class.BlockComment e = absurd (true≢false (sym e))
 code-class Class.Prefab e = absurd (true≢false (sym e))
 
-module _ (table : List ℕ) (s : OpState) (line class : List ℕ) (i : ℕ) (h : i < length line) (b : Breakable line class) (p : Plain s) (e : inWord (cellAt line class i) ≡ true) where
+module _ (table : List ℕ) (s : OpState) (line class : List ℕ) (i : ℕ) (h : i < length line) (b : Breakable line class) (p : NonePending s) (e : inWord (cellAt line class i) ≡ true) where
   is-code : isCode (classOf (getD class i 0)) ≡ true
   is-code = and-left (isCode (classOf (getD class i 0))) (isIdent (getD line i 0)) e
 
@@ -115,7 +114,7 @@ module _ (table : List ℕ) (s : OpState) (line class : List ℕ) (i : ℕ) (h :
       balance-plain (suc d) (cellAt line class i) (λ (z : suc d ≡ 0). omega arith) true (sym is-code) refl false (sym (ident-opener (getD line i 0) is-ident)) refl false
       (sym (ident-closer (getD line i 0) is-ident)) refl
 
-past-plain : (s : OpState) → Plain (pastIdent s)
+past-plain : (s : OpState) → NonePending (pastIdent s)
 past-plain s = record { skip = refl; esc = refl }
 
 -- ---- a run of them
@@ -124,7 +123,7 @@ past-plain s = record { skip = refl; esc = refl }
 abbrev pub withState : Pass → OpState → Pass
 withState p s = record { ops = record { ops = s; strength = p .ops .strength; cut = p .ops .cut }; start = p .start; depth = p .depth }
 
-passing-ident : (table line class : List ℕ) (p : Pass) (i : ℕ) → Passing table line class p i → i < length line → Plain (p .ops .ops) → inWord (cellAt line class i) ≡ true
+passing-ident : (table line class : List ℕ) (p : Pass) (i : ℕ) → Passing table line class p i → i < length line → NonePending (p .ops .ops) → inWord (cellAt line class i) ≡ true
     → Passing table line class (withState p (pastIdent (p .ops .ops))) (i + 1)
 passing-ident table line class p i q h y e =
     passing-more table line class p i q h (record { start = p .start; found = false }) (word-on line (p .start) i (cellAt line class i) (h, q .start) true (sym e) refl refl)
@@ -133,7 +132,7 @@ passing-ident table line class p i q h y e =
 
 module _ {line class : List ℕ} {i e : ℕ} {s : OpState} (u : PlainRun line class i s e) (h : i < e) where
   -- what one of them leaves as it is, the run does
-  run-ends : (P : OpState → ℕ → Type 0) → ((t : OpState) (k : ℕ) → k < length line → Plain t → inWord (cellAt line class k) ≡ true → P t k → P (pastIdent t) (k + 1)) → P s i → P (pastIdent s) e
+  run-ends : (P : OpState → ℕ → Type 0) → ((t : OpState) (k : ℕ) → k < length line → NonePending t → inWord (cellAt line class k) ≡ true → P t k → P (pastIdent t) (k + 1)) → P s i → P (pastIdent s) e
   run-ends P f q = subst (P (pastIdent s)) whole (go n (omega arith))
     where
       n : ℕ

@@ -27,7 +27,8 @@ use Rattle.rules.proofs.CellsLaws.{cells-bytes, chars-cells}
 use Rattle.rules.proofs.Twelve.{twelve-lines}
 use Rattle.rules.proofs.WordsBytes.{encodePieces, balanced-encode, keywords-encode}
 use Rattle.rules.proofs.Prefix.{markedChars, marks-chars}
-use Rattle.rules.proofs.OperatorsBytes.{byteMarks, encodeMarks, marks-encode, loosest-encode, cut-encode}
+use Rattle.rules.specs.OperatorBytes.{byteMarks}
+use Rattle.rules.proofs.OperatorsBytes.{encodeMarks, marks-encode, loosest-encode, cut-encode}
 use Rattle.operators.specs.First.{anyStarts}
 use Rattle.operators.proofs.FirstLaws.{loosest-none}
 use Rattle.split_operation.specs.declared.pass.Cut.{Cut}
@@ -37,7 +38,7 @@ use Rattle.split.specs.declared.NewLine.{NewLine}
 use Rattle.split_operation.specs.declared.OperationSplit.{OperationSplit}
 use Rattle.split.specs.Measure.{Measured, Indent, IndentMeasured, Within, Trimmed}
 use Rattle.split.specs.Text.{indented, lay, AllWell, following, lastOf, LineRoom, LineWritten, Fits, lineRoom}
-use Rattle.split_operation.specs.Pass.{fresh, Sound, Breakable, Cutting, breakStrength, restFrom, cutsAt, NextOp, Unbroken, BreakFound}
+use Rattle.split_operation.specs.Pass.{lineStart, Sound, Breakable, Cutting, breakStrength, restFrom, cutsAt, NextOp, Unbroken, BreakFound}
 use Rattle.split_operation.specs.Operation.{Broken, trimBytes, restLines, RestFits, After, RestWritten, Classed, OperationFits, LineFits, roundStrength, RoundBreak, firstLine, otherLines, PiecesWritten, brokenIn, FirstBroken}
 use Rattle.split.proofs.MeasureLaws.{measure-append, part-length}
 use Rattle.split.proofs.TextLaws.{AllScalars, all-well, following-append, last-append, written-lines, lay-encode, indent-short, level-fits, deeper-fits}
@@ -111,9 +112,9 @@ pub record FirstCut (table line class : List ℕ) (p : ℕ) (c : Cut) : Type 0 w
   pub well : WellFormed (part line 0 (c .place))
   pub others : AllWell (restFrom table p line class c)
 
-pub first-cut : (table line class : List ℕ) (p : ℕ) (c : Cut) → WellFormed line → Classed line class → (p ≡ 0 → ⊥) → NextOp table p line class 0 fresh c → FirstCut table line class p c
+pub first-cut : (table line class : List ℕ) (p : ℕ) (c : Cut) → WellFormed line → Classed line class → (p ≡ 0 → ⊥) → NextOp table p line class 0 lineStart c → FirstCut table line class p c
 first-cut table line class p c w k n q =
-    let e : cutsAt table p fresh line class 0 ≡ encodePieces (piecesAt table line p) = cuts-line table line class w k p (omega arith) in
+    let e : cutsAt table p lineStart line class 0 ≡ encodePieces (piecesAt table line p) = cuts-line table line class w k p (omega arith) in
     let f : part line 0 (c .place) ≡ encode (piecesAt table line p .first) = sym (q .first) ∙ ap (λ (x : Pieces). x .first) e in
     let r : restFrom table p line class c ≡ map encode (piecesAt table line p .rest) = sym (q .rest) ∙ ap (λ (x : Pieces). x .rest) e in
     let z = pieces-scalars table line p in
@@ -412,7 +413,7 @@ module _ (table line class indent : List ℕ) (level : ℕ) (eol : List ℕ) (ma
     abbrev c : Cut
     c = b .cut
 
-    abbrev q : NextOp table p line class 0 fresh c
+    abbrev q : NextOp table p line class 0 lineStart c
     q = e .cut z
 
     abbrev cutting : FirstCut table line class p c

@@ -18,21 +18,21 @@ use Rattle.unicode.proofs.Tests.{by-test, split}
 use Rattle.split.proofs.MeasureLaws.{part-length}
 use Rattle.rules.specs.Basics.{choose, same, oneOf, startsWith, Pieces, isOpener, isCloser}
 use Rattle.rules.specs.Scan.{Cell, cell, charsOf, isCode}
-use Rattle.rules.specs.ClassBytes.{classOf, cellsOf}
+use Rattle.rules.specs.ClassBytes.{classOf, cellsOf, cellAt}
 use Rattle.rules.specs.SplitOperation.{Ops, OpStep, OpMark, opMark, noOps, token, operator, escape, bracket, oneCharStep, twoCharStep, codeStep, freshStep, opStepAt, deeper, shallower, balanceStep, isZero, isBalanced, inWord, wordOn, hasWordFrom, hasWord, keywords, looser, loosest, atMark, cutBefore}
 use Rattle.rules.proofs.Choose.{choose-true, choose-false}
-use Rattle.rules.proofs.CellsLaws.{cellAt, cells-at, cells-end, chars-cells, code-byte}
-use Rattle.rules.proofs.OperatorsBytes.{byteStep, byteMarks}
+use Rattle.rules.proofs.CellsLaws.{cells-at, cells-end, chars-cells, code-byte}
+use Rattle.rules.specs.OperatorBytes.{byteStep, byteMarks}
 use Rattle.operators.specs.declared.OpState.{OpState}
 use Rattle.operators.specs.declared.OpFound.{OpFound}
 use Rattle.operators.specs.declared.PlainStep.{PlainStep}
 use Rattle.operators.specs.declared.Token.{Token}
-use Rattle.operators.specs.Operators.{opsOf, stepOf, stepWith, stepOr, byteOr, tokenStep, Countable}
+use Rattle.operators.specs.Operators.{opsOf, stepOf, stepWith, stepOr, byteOr, tokenStep, FewBrackets}
 use Rattle.operators.proofs.OperatorLaws.{byte-or}
 use Rattle.split_operation.specs.declared.pass.Span.{Span}
 use Rattle.split_operation.specs.declared.pass.Word.{Word}
 use Rattle.split_operation.specs.declared.pass.Break.{Break}
-use Rattle.split_operation.specs.Pass.{marksAt, fresh, Sound, Breakable, cutsAt, restFrom, Cutting, NextOp, Seeking, breakStrength, depthAs, Balances, WordStep, SpanStep, TakesOver, IsLooser, breakAt, Loosest, OpsAt, Pass, passAt, Passing, Unbroken, BreakFound, PassEnd}
+use Rattle.split_operation.specs.Pass.{marksAt, lineStart, Sound, Breakable, cutsAt, restFrom, Cutting, NextOp, Seeking, breakStrength, depthAs, Balances, WordStep, SpanStep, TakesOver, IsLooser, brokenAt, Loosest, OpsAt, Pass, passAt, Passing, Unbroken, BreakFound, PassEnd}
 
 -- ---- one byte
 
@@ -126,7 +126,7 @@ module _ (table : List ℕ) (s : OpState) (line class : List ℕ) (i : ℕ) (h :
         let u : OpStep = tokenStep table (opsOf s) (getD line i 0 ∷ drop (i + 1) line) in
         read-step f (g ∙ q (opsOf s) refl ∙ ap (tokenStep table (opsOf s)) d ∙ ap (λ (v : Bool). stepOr v u (r .after)) (sym k) ∙ e u ∙ sym (byte-or table (opsOf s) x (drop (i + 1) line)))
 
-pub countable : {s : OpState} {i : ℕ} {line class : List ℕ} → Sound s i → i < length line → Breakable line class → Countable s
+pub countable : {s : OpState} {i : ℕ} {line class : List ℕ} → Sound s i → i < length line → Breakable line class → FewBrackets s
 countable q h b = record { opened = omega (arith, q .opened, b .short); closed = omega (arith, q .closed, b .short) }
 
 -- ---- strengths
@@ -358,7 +358,7 @@ loosest-cons : (m : OpMark) (ms : List OpMark) → loosest (m ∷ ms) ≡ looser
 unfolding loosest
 loosest-cons m ms = refl
 
-pub ops-start : (table line class : List ℕ) (b : Loosest) → Breakable line class → b .ops ≡ fresh → b .strength ≡ 0 → OpsAt table line class b 0
+pub ops-start : (table line class : List ℕ) (b : Loosest) → Breakable line class → b .ops ≡ lineStart → b .strength ≡ 0 → OpsAt table line class b 0
 unfolding looser
 ops-start table line class b h e z =
     record {
@@ -366,7 +366,7 @@ ops-start table line class b h e z =
       breaks = h;
       sound = rw e (record { opened = omega arith; closed = omega arith });
       loosest = rw (e, z);
-      clear = λ p pos less. rw e (seek-start table p line class 0 fresh (record { some = λ y. omega arith; within = zero-le; breaks = h; sound = record { opened = omega arith; closed = omega arith } }));
+      clear = λ p pos less. rw e (seek-start table p line class 0 lineStart (record { some = λ y. omega arith; within = zero-le; breaks = h; sound = record { opened = omega arith; closed = omega arith } }));
       found = λ l. absurd (omega arith);
     }
 
@@ -377,7 +377,7 @@ left-apart (suc m) zero p pos less e z = omega arith
 left-apart (suc m) (suc n) p pos less e z = let l : p < suc m = less (omega arith) in omega arith
 
 module _ {table line class : List ℕ} {b : Loosest} {i : ℕ} (q : OpsAt table line class b i) (h : i < length line) (f : OpFound) (a : ReadAt table (b .ops) line class i f) where
-  sum : loosest (marksAt table fresh line class 0) ≡ looser (looser (b .strength) (f .strength)) (loosest (marksAt table (f .after) line class (i + 1)))
+  sum : loosest (marksAt table lineStart line class 0) ≡ looser (looser (b .strength) (f .strength)) (loosest (marksAt table (f .after) line class (i + 1)))
   sum = q .loosest ∙ ap (λ (ms : List OpMark). looser (b .strength) (loosest ms)) (a .marks) ∙ rw (loosest-cons, ← looser-assoc)
 
   -- an operator that takes over
@@ -408,7 +408,7 @@ module _ {table line class : List ℕ} {b : Loosest} {i : ℕ} (q : OpsAt table 
 
 -- ---- the pass for a line's strength
 
-pub passing-start : (table line class : List ℕ) (p : Pass) → Breakable line class → p .ops .ops ≡ fresh → p .ops .strength ≡ 0 → p .start ≡ 0 → p .depth ≡ 1 → Passing table line class p 0
+pub passing-start : (table line class : List ℕ) (p : Pass) → Breakable line class → p .ops .ops ≡ lineStart → p .ops .strength ≡ 0 → p .start ≡ 0 → p .depth ≡ 1 → Passing table line class p 0
 unfolding hasWord isBalanced
 passing-start table line class p h e z a d =
     record { ops = ops-start table line class (p .ops) h e z; start = omega arith; deep = omega arith; words = rw a; balance = rw d }
@@ -495,7 +495,7 @@ module _ {table line class : List ℕ} {s : OpState} {start depth : ℕ} {a : Br
         read : ReadAt table s line class i f
         read = read-token table s line class i h (q .ops .breaks) r e k t g f u
 
-        pub pass-taken : l ≡ true → (b : Break) → b ≡ breakAt i f → Passing table line class (passAt (f .after) (w .start) (w .depth) b) (i + 1)
+        pub pass-taken : l ≡ true → (b : Break) → b ≡ brokenAt i f → Passing table line class (passAt (f .after) (w .start) (w .depth) b) (i + 1)
         pass-taken z b j =
             subst (λ (x : Break). Passing table line class (passAt (f .after) (w .start) (w .depth) x) (i + 1)) (sym j)
             (pass-on (record { ops = f .after; strength = f .strength; cut = record { place = i; after = f .after } }) (ops-taken (q .ops) h f read (y .taken z)))

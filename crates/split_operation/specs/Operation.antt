@@ -15,7 +15,7 @@ use Rattle.rules.specs.Options.{indentOf, overWide}
 use Rattle.rules.specs.SplitOperation.{breakFirst}
 use Rattle.split.specs.Measure.{Indent}
 use Rattle.split.specs.Text.{indented, lay, AllWell, following, lastOf, Written, Fits, lineRoom}
-use Rattle.split_operation.specs.Pass.{breakStrength, restFrom, Sound, Breakable, NextOp, fresh}
+use Rattle.split_operation.specs.Pass.{breakStrength, restFrom, Sound, Breakable, NextOp, lineStart}
 use Rattle.split_operation.specs.declared.pass.Break.{Break}
 use Rattle.split_operation.specs.declared.pass.Cut.{Cut}
 use Rattle.split_operation.specs.declared.OperationSplit.{OperationSplit}
@@ -76,7 +76,7 @@ roundStrength table indent level max rounds line cells =
 
 pub record RoundBreak (table indent : List ℕ) (level max rounds : ℕ) (line class : List ℕ) (r : Break) : Type 0 where
   pub strength : r .strength ≡ roundStrength table indent level max rounds line (cellsOf line class)
-  pub cut : (r .strength ≡ 0 → ⊥) → NextOp table (r .strength) line class 0 fresh (r .cut)
+  pub cut : (r .strength ≡ 0 → ⊥) → NextOp table (r .strength) line class 0 lineStart (r .cut)
 
 -- the lines of pieces, as bytes
 abbrev pub firstLine : List ℕ → ℕ → Pieces → List ℕ

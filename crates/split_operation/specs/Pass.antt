@@ -9,10 +9,9 @@ use lib.ListN.{length, getD, drop}
 use Rattle.buffer.specs.Buffer.{part}
 use Rattle.rules.specs.Basics.{choose, oneOf, Pieces}
 use Rattle.rules.specs.Scan.{Cell}
-use Rattle.rules.specs.ClassBytes.{cellsOf}
+use Rattle.rules.specs.ClassBytes.{cellsOf, cellAt}
 use Rattle.rules.specs.SplitOperation.{OpMark, noOps, balanceStep, isZero, isBalanced, inWord, wordOn, hasWordFrom, hasWord, keywords, looser, loosest, cutBefore}
-use Rattle.rules.proofs.CellsLaws.{cellAt}
-use Rattle.rules.proofs.OperatorsBytes.{byteMarks}
+use Rattle.rules.specs.OperatorBytes.{byteMarks}
 use Rattle.operators.specs.Operators.{opsOf}
 use Rattle.operators.specs.declared.OpFound.{OpFound}
 use Rattle.operators.specs.declared.OpState.{OpState}
@@ -26,8 +25,8 @@ abbrev pub marksAt : List ℕ → OpState → List ℕ → List ℕ → ℕ → 
 marksAt table s line class i = byteMarks table (opsOf s) (cellsOf (drop i line) (drop i class))
 
 -- before a line's first byte
-abbrev pub fresh : OpState
-fresh = record { opened = 0; closed = 0; operand = false; esc = false; skip = 0 }
+abbrev pub lineStart : OpState
+lineStart = record { opened = 0; closed = 0; operand = false; esc = false; skip = 0 }
 
 -- n bytes were read
 pub record Sound (s : OpState) (n : ℕ) : Type 0 where
@@ -37,12 +36,12 @@ pub record Sound (s : OpState) (n : ℕ) : Type 0 where
 -- ---- a run of letters, digits and underscores
 
 -- nothing is pending
-pub record Plain (s : OpState) : Type 0 where
+pub record NonePending (s : OpState) : Type 0 where
   pub skip : s .skip ≡ 0
   pub esc : s .esc ≡ false
 
 pub record PlainTest (s : OpState) (b : Bool) : Type 0 where
-  pub yes : b ≡ true → Plain s
+  pub yes : b ≡ true → NonePending s
 
 pub record IdentRun (line class : List ℕ) (from e : ℕ) : Type 0 where
   pub after : from ≤ e
@@ -51,7 +50,7 @@ pub record IdentRun (line class : List ℕ) (from e : ℕ) : Type 0 where
 
 pub record PlainRun (line class : List ℕ) (from : ℕ) (s : OpState) (e : ℕ) : Type 0 where
   pub run : IdentRun line class from e
-  pub plain : from < e → Plain s
+  pub plain : from < e → NonePending s
 
 -- after such a run
 abbrev pub pastIdent : OpState → OpState
@@ -149,9 +148,9 @@ pub record OpsAt (table line class : List ℕ) (b : Loosest) (i : ℕ) : Type 0 
   pub within : i ≤ length line
   pub breaks : Breakable line class
   pub sound : Sound (b .ops) i
-  pub loosest : loosest (marksAt table fresh line class 0) ≡ looser (b .strength) (loosest (marksAt table (b .ops) line class i))
-  pub clear : (p : ℕ) → 0 < p → (0 < b .strength → p < b .strength) → Seeking table p line class 0 fresh (b .ops) i
-  pub found : 0 < b .strength → NextOp table (b .strength) line class 0 fresh (b .cut)
+  pub loosest : loosest (marksAt table lineStart line class 0) ≡ looser (b .strength) (loosest (marksAt table (b .ops) line class i))
+  pub clear : (p : ℕ) → 0 < p → (0 < b .strength → p < b .strength) → Seeking table p line class 0 lineStart (b .ops) i
+  pub found : 0 < b .strength → NextOp table (b .strength) line class 0 lineStart (b .cut)
 
 -- what a pass knows before a byte: the operators, where the word that ends there starts, and the depth of brackets and 1
 pub record Pass : Type 0 where
@@ -163,8 +162,8 @@ abbrev pub passAt : OpState → ℕ → ℕ → Break → Pass
 passAt s start depth b = record { ops = record { ops = s; strength = b .strength; cut = b .cut }; start = start; depth = depth }
 
 -- a line broken at what was found at i
-abbrev pub breakAt : ℕ → OpFound → Break
-breakAt i f = record { strength = f .strength; cut = record { place = i; after = f .after } }
+abbrev pub brokenAt : ℕ → OpFound → Break
+brokenAt i f = record { strength = f .strength; cut = record { place = i; after = f .after } }
 
 -- what the first i bytes say of the whole line
 pub record Passing (table line class : List ℕ) (p : Pass) (i : ℕ) : Type 0 where
@@ -179,7 +178,7 @@ pub record Unbroken (r : Break) : Type 0 where
 
 pub record BreakFound (table line class : List ℕ) (r : Break) : Type 0 where
   pub strength : r .strength ≡ breakStrength table (cellsOf line class)
-  pub cut : (r .strength ≡ 0 → ⊥) → NextOp table (r .strength) line class 0 fresh (r .cut)
+  pub cut : (r .strength ≡ 0 → ⊥) → NextOp table (r .strength) line class 0 lineStart (r .cut)
 
 -- what a pass over the whole line says
 pub record PassEnd (line : List ℕ) (start depth : ℕ) (b r : Break) : Type 0 where

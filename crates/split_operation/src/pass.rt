@@ -6,7 +6,7 @@ ghost use Rattle.rules.specs.Basics.{same, oneOf};
 ghost use Rattle.rules.specs.Scan.{cell, isCode};
 ghost use Rattle.rules.specs.ClassBytes.{classOf};
 ghost use Rattle.rules.specs.SplitOperation.{inWord, keywords};
-ghost use Rattle.split_operation.specs.Pass.{fresh, PlainTest, IdentRun, PlainRun, pastIdent, Balances, WordStep, IsLooser, SpanStep, breakAt, Breakable, Unbroken, PassEnd, BreakFound, Cutting, NextOp};
+ghost use Rattle.split_operation.specs.Pass.{lineStart, PlainTest, IdentRun, PlainRun, pastIdent, Balances, WordStep, IsLooser, SpanStep, brokenAt, Breakable, Unbroken, PassEnd, BreakFound, Cutting, NextOp};
 use basics::is_closer;
 use basics::is_ident;
 use basics::is_opener;
@@ -19,7 +19,7 @@ use operators::token_at;
 
 // Before a line's first byte.
 fn begin() -> OpState
-    ensures { λ r. ⌜ r ≡ fresh ⌝ }
+    ensures { λ r. ⌜ r ≡ lineStart ⌝ }
 {
     OpState {
         opened: 0,
@@ -200,7 +200,7 @@ pub struct Break {
 }
 
 fn break_at(i: usize, f: OpFound) -> Break
-    ensures { λ r. ⌜ r ≡ breakAt i f ⌝ }
+    ensures { λ r. ⌜ r ≡ brokenAt i f ⌝ }
 {
     let after = f.after;
     Break {

@@ -20,13 +20,13 @@ use Rattle.marks.specs.Within.{ClassifiedAt}
 use Rattle.basics.specs.Region.{Only}
 use Rattle.basics.specs.Closers.{Closers}
 use Rattle.spacing.specs.Respaced.{Normalized, Unchanged}
-use Rattle.brackets.specs.Stack.{stacked, Fits, Settled}
+use Rattle.brackets.specs.Stack.{stacked, StackFits, BracketsDone}
 use Rattle.basics.proofs.OnlyLaws.{only-same, only-wider, only-then, only-part-before}
 use Rattle.buffer.proofs.RegionLaws.{length-part}
 use Rattle.line.specs.Holds.{Classes}
 use Rattle.line.proofs.HoldsLaws.{stack-counted}
 use Rattle.step.specs.declared.Going.{Going}
-use Rattle.step.specs.Going.{Room, goingLine, Goes, Went, Counts}
+use Rattle.step.specs.Going.{LineRoom, goingLine, Goes, Went, BracketsCounted}
 
 -- ---- the line that goes on
 
@@ -34,7 +34,7 @@ use Rattle.step.specs.Going.{Room, goingLine, Goes, Went, Counts}
 pub front-part : (scratch : List ℕ) (n : ℕ) → part scratch 0 (0 + n) ≡ take n scratch
 front-part scratch n = let e : 0 + n - 0 ≡ n = omega arith in rw e
 
-module _ (line scratch : List ℕ) (unit : ℕ) (after : Carry) (well : WellFormed line) (room : Room scratch unit (length line)) (classes : Classes Carry.Code line scratch 0 after) where
+module _ (line scratch : List ℕ) (unit : ℕ) (after : Carry) (well : WellFormed line) (room : LineRoom scratch unit (length line)) (classes : Classes Carry.Code line scratch 0 after) where
   pub goes-own : (r : Bool) → Unchanged line (take (length line) scratch) r → r ≡ true
       → Went line scratch scratch unit (record { own = true; len = length line; «class_at» = 0; carry = after })
   unfolding choose
@@ -81,10 +81,10 @@ module _ (line scratch : List ℕ) (unit : ℕ) (after : Carry) (well : WellForm
       }
 
 -- the class bytes are lent to `is_spaced`
-pub front-fits : (line scratch : List ℕ) (unit : ℕ) → Room scratch unit (length line) → length line ≡ length (take (length line) scratch)
+pub front-fits : (line scratch : List ℕ) (unit : ℕ) → LineRoom scratch unit (length line) → length line ≡ length (take (length line) scratch)
 front-fits line scratch unit r = sym (length-take-le (length line) scratch (omega (arith, r .short, r .room)))
 
-pub front-has : (line scratch : List ℕ) (unit : ℕ) → Room scratch unit (length line) → length line ≤ length (take (length line) scratch)
+pub front-has : (line scratch : List ℕ) (unit : ℕ) → LineRoom scratch unit (length line) → length line ≤ length (take (length line) scratch)
 front-has line scratch unit r = omega (arith, front-fits line scratch unit r)
 
 -- ---- its brackets
@@ -97,9 +97,9 @@ length-stacked buf base (suc n) = ap suc (length-stacked buf base n)
 module _ (line scratch scratch′ : List ℕ) (unit : ℕ) (g : Going) (depth closers left deep : ℕ) (well : WellFormed line) (goes : Goes line scratch unit g) (l : left ≡ depth - closers)
     (k : Closers (encode (respaced (decode line))) closers) where
   counts : (L : List ℕ) → goingLine line scratch unit g ≡ L
-      → Settled scratch scratch′ (5 * unit) left (length L)
+      → BracketsDone scratch scratch′ (5 * unit) left (length L)
       (scanBrackets (drop closers (cellsOf L (part scratch (g .«class_at») (g .«class_at» + length L)))) (stacked scratch (5 * unit) left)) deep
-      → Counts (respaced (decode line)) scratch scratch′ (5 * unit) depth (length line) deep
+      → BracketsCounted (respaced (decode line)) scratch scratch′ (5 * unit) depth (length line) deep
   counts L e w =
       let n : g .len ≡ length L = sym (goes .long) ∙ ap length e in
       let classes : Classes Carry.Code L scratch (g .«class_at») (g .carry) =
@@ -120,25 +120,25 @@ module _ (line scratch scratch′ : List ℕ) (unit : ℕ) (g : Going) (depth cl
       }
 
   pub counts-own : g .own ≡ true
-      → Settled scratch scratch′ (5 * unit) left (length line)
+      → BracketsDone scratch scratch′ (5 * unit) left (length line)
       (scanBrackets (drop closers (cellsOf line (part scratch (g .«class_at») (g .«class_at» + length line)))) (stacked scratch (5 * unit) left)) deep
-      → Counts (respaced (decode line)) scratch scratch′ (5 * unit) depth (length line) deep
+      → BracketsCounted (respaced (decode line)) scratch scratch′ (5 * unit) depth (length line) deep
   counts-own e w = counts line (choose-true (g .own) line _ e) w
 
   pub counts-spaced : g .own ≡ false
-      → Settled scratch scratch′ (5 * unit) left (g .len)
+      → BracketsDone scratch scratch′ (5 * unit) left (g .len)
       (scanBrackets (drop closers (cellsOf (part scratch unit (unit + g .len)) (part scratch (g .«class_at») (g .«class_at» + g .len)))) (stacked scratch (5 * unit) left)) deep
-      → Counts (respaced (decode line)) scratch scratch′ (5 * unit) depth (length line) deep
+      → BracketsCounted (respaced (decode line)) scratch scratch′ (5 * unit) depth (length line) deep
   counts-spaced e w =
       let p : goingLine line scratch unit g ≡ part scratch unit (unit + g .len) = choose-false (g .own) line _ e in
       let n : length (part scratch unit (unit + g .len)) ≡ g .len = ap length (sym p) ∙ goes .long in
       counts (part scratch unit (unit + g .len)) p
-      (subst (λ (m : ℕ). Settled scratch scratch′ (5 * unit) left m
+      (subst (λ (m : ℕ). BracketsDone scratch scratch′ (5 * unit) left m
       (scanBrackets (drop closers (cellsOf (part scratch unit (unit + g .len)) (part scratch (g .«class_at») (g .«class_at» + m)))) (stacked scratch (5 * unit) left)) deep) (sym n) w)
 
 -- there is room for the stack
-pub count-room : (line scratch : List ℕ) (unit : ℕ) (g : Going) (depth left n : ℕ) → Room scratch unit (length line) → Goes line scratch unit g
-    → depth + length line ≤ unit → left ≤ depth → n ≡ g .len → Fits scratch (g .«class_at») n (5 * unit) left
+pub count-room : (line scratch : List ℕ) (unit : ℕ) (g : Going) (depth left n : ℕ) → LineRoom scratch unit (length line) → Goes line scratch unit g
+    → depth + length line ≤ unit → left ≤ depth → n ≡ g .len → StackFits scratch (g .«class_at») n (5 * unit) left
 count-room line scratch unit g depth left n r w h k e = record { classes = omega (arith, w .fits); stack = omega (arith, w .most, r .room, r .short) }
 
 pub own-length : (line scratch : List ℕ) (unit : ℕ) (g : Going) → Goes line scratch unit g → g .own ≡ true → length line ≡ g .len

@@ -12,8 +12,8 @@ use Rattle.unicode.specs.Unicode.{Scalars, encode, decode, WellFormed, isWhite,
 use Rattle.unicode.proofs.Tests.{and-left}
 use Rattle.unicode.proofs.Decode.{decode-encode, decode-scalars, wf-encode, scalars-left, scalars-right}
 use Rattle.buffer.proofs.RegionLaws.{part-from}
-use Rattle.rules.specs.Basics.{choose, is, isEmpty, startsWith, startsThen, keep}
-use Rattle.rules.specs.Scan.{Cell, charsOf, classify, codePart, commentPart, isLineComment}
+use Rattle.rules.specs.Basics.{choose, is, isEmpty, startsWith, startsThen, keep, leading}
+use Rattle.rules.specs.Scan.{Cell, charsOf, classify, before, from, codePart, commentPart, isLineComment}
 use Rattle.rules.specs.ClassBytes.{classBytes, cellsOf}
 use Rattle.rules.specs.Words.{isMarkerText, isMarker, hasCode}
 use Rattle.rules.specs.Else.{isPlainElse}
@@ -33,7 +33,7 @@ use Rattle.step.specs.Going.{markerIn}
 -- ---- the line before its comment, and from it on
 
 parts-whole : (xs : List Cell) → charsOf (codePart xs) ++ charsOf (commentPart xs) ≡ charsOf xs
-unfolding codePart commentPart charsOf choose
+unfolding before from charsOf choose
 parts-whole [] = refl
 parts-whole (x ∷ xs) = go (isLineComment (x .class)) (parts-whole xs)
   where
@@ -144,7 +144,7 @@ else-first [] h = absurd (no-start 101 _ (and-left _ _ (and-left _ _ h)))
 else-first (c ∷ l) h = (l, ap (λ (x : ℕ). x ∷ l) (starts-first c 101 l _ (and-left _ _ (and-left _ _ h))))
 
 pub else-closers : (l : List ℕ) → isPlainElse l ≡ true → leadingClosers l ≡ 0
-unfolding leadingClosers choose
+unfolding leadingClosers leading choose
 else-closers l h = rw (else-first l h .1)
 
 marker-first : (l : List ℕ) → isMarkerText l ≡ true → (t : List ℕ) × (l ≡ 47 ∷ t)
@@ -171,7 +171,7 @@ e-no-white = refl
 -- the first character of the line that is no white space
 struck-slash : (xs : List Cell) → isMarkerText (charsOf (commentPart xs)) ≡ true → not (isEmpty (trimStart (charsOf (codePart xs)))) ≡ false
     → (t : List ℕ) × (strikeWhite (charsOf xs) ≡ 47 ∷ t)
-unfolding commentPart codePart charsOf choose trimStart
+unfolding from before charsOf choose trimStart
 struck-slash [] m h = absurd (let z = marker-first [] m in omega (arith, ap length (z .1)))
 struck-slash (x ∷ xs) m h = go (isLineComment (x .class)) (struck-slash xs) m h
   where

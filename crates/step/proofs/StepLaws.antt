@@ -36,7 +36,7 @@ use Rattle.place.specs.Placing.{spacedBy}
 use Rattle.step.specs.declared.Going.{Going}
 use Rattle.step.specs.declared.Marker.{Marker}
 use Rattle.step.specs.declared.Put.{Put}
-use Rattle.step.specs.Going.{markerIn, keptOf, aloneOf, SolidLine, Marks, Room, goingLine, Went, Counts, PutOn, afterLine, codeOf, formatOf, ignoreOf}
+use Rattle.step.specs.Going.{markerIn, isKept, isAlone, SolidLine, Marks, LineRoom, goingLine, Went, BracketsCounted, PutOn, afterLine, codeLineBy, formatLineBy, ignoreOf}
 use Rattle.step.proofs.MarkerLaws.{found, else-closers, alone-other}
 use Rattle.step.proofs.GoingLaws.{front-part}
 
@@ -54,7 +54,7 @@ ready-as scratch′ m r e h =
       room = omega (arith, r .room);
     }
 
-pub ready-room : {st : State} {scratch : List ℕ} {unit n : ℕ} (scratch′ : List ℕ) → Ready st scratch unit n → length scratch′ ≡ length scratch → Room scratch′ unit n
+pub ready-room : {st : State} {scratch : List ℕ} {unit n : ℕ} (scratch′ : List ℕ) → Ready st scratch unit n → length scratch′ ≡ length scratch → LineRoom scratch′ unit n
 ready-room scratch′ r e = record { short = omega (arith, r .depth); limit = r .limit; room = omega (arith, r .room) }
 
 -- ---- a step that starts after scratch was used before the stack
@@ -111,7 +111,7 @@ leaves o f marker l n = choose-case (Leaves marker l f) (λ h. joined marker n h
 pub spaced-step : (line eol out out′ s₀ s₁ s₂ indent : List ℕ) (width : PrintWidth) (unit : ℕ) (marker : Bool) (st : State) (g : Going) (p : Put) (deep : ℕ) (ignore : Ignore) (r : State)
     → Marks marker line → Went line s₀ s₁ unit g
     → PutOn marker (respaced (decode line)) indent width eol (length line) unit st out s₁ p out′
-    → Counts (respaced (decode line)) s₁ s₂ (5 * unit) (st .depth) (length line) deep → ignore ≡ ignoreOf marker → r ≡ afterLine st p deep ignore (g .carry)
+    → BracketsCounted (respaced (decode line)) s₁ s₂ (5 * unit) (st .depth) (length line) deep → ignore ≡ ignoreOf marker → r ≡ afterLine st p deep ignore (g .carry)
     → (o : Options) → Uses o indent width
     → Stepped (spacedBy marker (respaced (decode line)) o) (length line) unit eol st out s₀ r out′ s₂
 spaced-step line eol out out′ s₀ s₁ s₂ indent width unit marker st g p deep ignore r n w q v i e o u =
@@ -154,7 +154,7 @@ unfolding codeLine
 code-kept o f raw l e q = rw (← e) (sym (choose-true _ _ _ q))
 
 -- whether it is kept as written, by its marker
-keeps : (l : List ℕ) (i : Ignore) (m : Marker) → m ≡ markerIn l → keptOf i m ≡ true → (protects i || (isMarker (classify Carry.Code l) && hasCode (classify Carry.Code l))) ≡ true
+keeps : (l : List ℕ) (i : Ignore) (m : Marker) → m ≡ markerIn l → isKept i m ≡ true → (protects i || (isMarker (classify Carry.Code l) && hasCode (classify Carry.Code l))) ≡ true
 keeps l i Marker.Nothing d e = rw e
 keeps l i Marker.Alone d e = rw e
 keeps l i Marker.AfterCode d e =
@@ -166,7 +166,7 @@ record Opens (l : List ℕ) (i : Ignore) (alone : Bool) : Type 0 where
   marks : isMarker (classify Carry.Code l) ≡ alone
   none : (isMarker (classify Carry.Code l) && hasCode (classify Carry.Code l)) ≡ false
 
-opens : (l : List ℕ) (i : Ignore) (m : Marker) → m ≡ markerIn l → keptOf i m ≡ false → Opens l i (aloneOf m)
+opens : (l : List ℕ) (i : Ignore) (m : Marker) → m ≡ markerIn l → isKept i m ≡ false → Opens l i (isAlone m)
 opens l i Marker.Nothing d e = let x = found l Marker.Nothing d in record { free = e; marks = x .marks; none = rw (x .marks) }
 opens l i Marker.Alone d e = let x = found l Marker.Alone d in record { free = e; marks = x .marks; none = rw (x .marks) (x .code (x .marks)) }
 opens l i Marker.AfterCode d e = absurd (true≢false e)
@@ -201,18 +201,18 @@ module _
 
     module _ {eol out out′ s₂ : List ℕ} {r : State} where
       -- kept as written
-      pub code-protected : (m : Marker) (b : Bool) → m ≡ markerIn (decode line) → b ≡ keptOf (st .ignore) m → b ≡ true
+      pub code-protected : (m : Marker) (b : Bool) → m ≡ markerIn (decode line) → b ≡ isKept (st .ignore) m → b ≡ true
           → Stepped (protectedOf (decode raw)) (length raw) unit eol st out (w ++ drop (length line) s₀) r out′ s₂
-          → (o : Options) → Stepped (codeOf o (decode raw)) (length raw) unit eol st out s₀ r out′ s₂
+          → (o : Options) → Stepped (codeLineBy o (decode raw)) (length raw) unit eol st out s₀ r out′ s₂
       code-protected m b d e q v o =
           stepped-as _ _ s₀ only within (omega arith)
           (λ f h. code-kept o f (decode raw) (decode line) (t .text) (rw (h .ignore) at (keeps (decode line) (st .ignore) m d (sym e ∙ q))))
           v
 
       -- spaced, with or without a marker that stands alone
-      pub code-open : (m : Marker) (b a : Bool) → m ≡ markerIn (decode line) → b ≡ keptOf (st .ignore) m → b ≡ false → a ≡ aloneOf m → (o : Options)
+      pub code-open : (m : Marker) (b a : Bool) → m ≡ markerIn (decode line) → b ≡ isKept (st .ignore) m → b ≡ false → a ≡ isAlone m → (o : Options)
           → Stepped (spacedBy a (respaced (decode line)) o) (length line) unit eol st out (w ++ drop (length line) s₀) r out′ s₂
-          → Stepped (codeOf o (decode raw)) (length raw) unit eol st out s₀ r out′ s₂
+          → Stepped (codeLineBy o (decode raw)) (length raw) unit eol st out s₀ r out′ s₂
       code-open m b a d e q k o v =
           let x = opens (decode line) (st .ignore) m d (sym e ∙ q) in
           stepped-as _ _ s₀ only within (t .short)
@@ -223,33 +223,39 @@ module _
 pub solid : (raw line : List ℕ) → TrimmedLine raw line → isEmpty (decode line) ≡ false → SolidLine line
 solid raw line t e = record { well = t .well; trimmed = ap trimEnd (t .text) ∙ trim-trimEnd (decode raw) ∙ sym (t .text); some = e }
 
-pub marks-of : (line : List ℕ) (m : Marker) (a : Bool) → m ≡ markerIn (decode line) → a ≡ aloneOf m → Marks a line
+pub marks-of : (line : List ℕ) (m : Marker) (a : Bool) → m ≡ markerIn (decode line) → a ≡ isAlone m → Marks a line
 marks-of line m a d k = record { other = λ h. go m d (sym k ∙ h) }
   where
-    go : (m : Marker) → m ≡ markerIn (decode line) → aloneOf m ≡ true → isPlainElse (respaced (decode line)) ≡ false
+    go : (m : Marker) → m ≡ markerIn (decode line) → isAlone m ≡ true → isPlainElse (respaced (decode line)) ≡ false
     go Marker.Nothing d h = absurd (false≢true h)
     go Marker.Alone d h = let x = found (decode line) Marker.Alone d in alone-other (decode line) (x .marks) (x .code (x .marks))
     go Marker.AfterCode d h = absurd (false≢true h)
 
 -- ---- any line
 
+-- a line starts in code
+pub code-carry : (y : Carry) (b : Bool) → b ≡ inCodeNow y → b ≡ true → y ≡ Carry.Code
+code-carry Carry.Code b e q = refl
+code-carry (Carry.Block d) b e q = absurd (true≢false (sym q ∙ e))
+code-carry Carry.Prefab b e q = absurd (true≢false (sym q ∙ e))
+
 module _ {st : State} {s₀ out eol : List ℕ} {unit : ℕ} (b : Bool) (e : b ≡ inCodeNow (st .carry)) where
   in-now : {f : Formatter} → Holds eol unit f st out s₀ → inCodeNow (f .carry) ≡ b
   in-now h = ap inCodeNow (sym (h .carry)) ∙ sym e
 
   module _ {r : State} {out′ s₂ : List ℕ} (raw : List ℕ) (o : Options) where
-    pub format-inside : b ≡ false → Stepped (insideOf (decode raw)) (length raw) unit eol st out s₀ r out′ s₂ → Stepped (formatOf o (decode raw)) (length raw) unit eol st out s₀ r out′ s₂
+    pub format-inside : b ≡ false → Stepped (insideOf (decode raw)) (length raw) unit eol st out s₀ r out′ s₂ → Stepped (formatLineBy o (decode raw)) (length raw) unit eol st out s₀ r out′ s₂
     unfolding formatLine
     format-inside q v = stepped-as _ _ s₀ (only-same s₀ 0 0) (omega arith) (omega arith) (λ f h. sym (choose-false _ _ _ (in-now h ∙ q))) v
 
-    pub format-code : b ≡ true → isEmpty (trim (decode raw)) ≡ false → Stepped (codeOf o (decode raw)) (length raw) unit eol st out s₀ r out′ s₂
-        → Stepped (formatOf o (decode raw)) (length raw) unit eol st out s₀ r out′ s₂
+    pub format-code : b ≡ true → isEmpty (trim (decode raw)) ≡ false → Stepped (codeLineBy o (decode raw)) (length raw) unit eol st out s₀ r out′ s₂
+        → Stepped (formatLineBy o (decode raw)) (length raw) unit eol st out s₀ r out′ s₂
     unfolding formatLine
     format-code q z v =
         stepped-as _ _ s₀ (only-same s₀ 0 0) (omega arith) (omega arith) (λ f h. sym (choose-true _ _ _ (in-now h ∙ q) ∙ choose-false _ _ _ z)) v
 
     pub format-blank : b ≡ true → isEmpty (trim (decode raw)) ≡ true → Stepped blankLine 0 unit eol st out s₀ r out′ s₂
-        → Stepped (formatOf o (decode raw)) (length raw) unit eol st out s₀ r out′ s₂
+        → Stepped (formatLineBy o (decode raw)) (length raw) unit eol st out s₀ r out′ s₂
     unfolding formatLine
     format-blank q z v =
         stepped-as _ _ s₀ (only-same s₀ 0 0) (omega arith) (omega arith) (λ f h. sym (choose-true _ _ _ (in-now h ∙ q) ∙ choose-true _ _ _ z)) v

@@ -14,6 +14,7 @@ use Rattle.rules.specs.Brackets.{leadingClosers, countBrackets}
 use Rattle.rules.specs.Words.{isMarker, hasCode}
 use Rattle.rules.specs.Else.{isPlainElse}
 use Rattle.rules.specs.Options.{Options}
+use Rattle.rules.specs.Call.{maxSource}
 use Rattle.rules.specs.Line.{Formatter, protects, codeLine, formatLine}
 use Rattle.rules.specs.declared.Carry.{Carry}
 use Rattle.rules.specs.declared.Ignore.{Ignore}
@@ -25,7 +26,7 @@ use Rattle.brackets.specs.Stack.{stacked}
 use Rattle.format.specs.Words.{declarationOf}
 use Rattle.format.specs.declared.words.Declaration.{Declaration}
 use Rattle.text.specs.Text.{Text, Ordered}
-use Rattle.place.specs.Placing.{spacedBy}
+use Rattle.place.specs.Placing.{spacedBy, respacedGrowth}
 use Rattle.place.specs.declared.Before.{Before}
 use Rattle.line.specs.Holds.{Holds, Uses}
 use Rattle.line.specs.declared.state.State.{State}
@@ -42,15 +43,15 @@ abbrev pub markerIn : List ℕ → Marker
 markerIn l = markerOf (isMarker (classify Carry.Code l)) (hasCode (classify Carry.Code l))
 
 -- whether a line with this marker is kept as written, where `pending` is pending
-abbrev pub keptOf : Ignore → Marker → Bool
-keptOf pending Marker.Nothing = protects pending
-keptOf pending Marker.Alone = protects pending
-keptOf pending Marker.AfterCode = true
+abbrev pub isKept : Ignore → Marker → Bool
+isKept pending Marker.Nothing = protects pending
+isKept pending Marker.Alone = protects pending
+isKept pending Marker.AfterCode = true
 
-abbrev pub aloneOf : Marker → Bool
-aloneOf Marker.Nothing = false
-aloneOf Marker.Alone = true
-aloneOf Marker.AfterCode = false
+abbrev pub isAlone : Marker → Bool
+isAlone Marker.Nothing = false
+isAlone Marker.Alone = true
+isAlone Marker.AfterCode = false
 
 -- a line of code that is not blank, trimmed at its end
 pub record SolidLine (line : List ℕ) : Type 0 where
@@ -63,9 +64,9 @@ pub record Marks (marker : Bool) (line : List ℕ) : Type 0 where
   pub other : marker ≡ true → isPlainElse (respaced (decode line)) ≡ false
 
 -- room for a line of n bytes
-pub record Room (scratch : List ℕ) (unit n : ℕ) : Type 0 where
+pub record LineRoom (scratch : List ℕ) (unit n : ℕ) : Type 0 where
   pub short : n ≤ unit
-  pub limit : unit ≤ 1048576
+  pub limit : unit ≤ maxSource
   pub room : 7 * unit ≤ length scratch
 
 -- the bytes of the line that goes on
@@ -89,17 +90,17 @@ pub record Went (line before after : List ℕ) (unit : ℕ) (g : Going) : Type 0
   pub only : Only before after 0 (5 * unit)
 
 -- the brackets of a line of n bytes, which goes on as the characters l, were counted: r are open
-pub record Counts (l before after : List ℕ) (base depth n r : ℕ) : Type 0 where
+pub record BracketsCounted (l before after : List ℕ) (base depth n r : ℕ) : Type 0 where
   pub stack : stacked after base r ≡ countBrackets (leadingClosers l) (classify Carry.Code l) (stacked before base depth)
   pub most : r ≤ depth + n
   pub long : length after ≡ length before
 
 -- the step of a line
-abbrev pub codeOf : Options → List ℕ → Formatter → Formatter
-codeOf o raw f = codeLine o f raw
+abbrev pub codeLineBy : Options → List ℕ → Formatter → Formatter
+codeLineBy o raw f = codeLine o f raw
 
-abbrev pub formatOf : Options → List ℕ → Formatter → Formatter
-formatOf o raw f = formatLine o f raw
+abbrev pub formatLineBy : Options → List ℕ → Formatter → Formatter
+formatLineBy o raw f = formatLine o f raw
 
 -- what a marker protects
 abbrev pub ignoreOf : Bool → Ignore
@@ -142,6 +143,6 @@ pub record PutOn (marker : Bool) (l indent : List ℕ) (width : PrintWidth) (eol
   pub decl : r .decl ≡ declarationOf l
   pub brace : r .brace ≡ lastIs (is "}") l
   pub ordered : Ordered (r .text)
-  pub at : r .text .at .0 ≤ st .text .at .0 + (2 * n + 1) * 268435456
+  pub at : r .text .at .0 ≤ st .text .at .0 + (2 * n + 1) * respacedGrowth
   pub few : r .imports ≤ 1
   pub fewer : r .blanks ≤ 2 * n

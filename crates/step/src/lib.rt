@@ -8,6 +8,7 @@ ghost use Rattle.rules.specs.Basics.{isEmpty};
 ghost use Rattle.rules.specs.Lines.{asStr};
 ghost use Rattle.rules.specs.Line.{protects, inCodeNow};
 ghost use Rattle.rules.specs.Options.{Options};
+ghost use Rattle.rules.specs.Call.{maxSource};
 ghost use Rattle.rules.specs.Scan.{classify};
 ghost use Rattle.rules.specs.Spacing.{respaced};
 ghost use Rattle.rules.specs.ClassBytes.{classBytes};
@@ -15,7 +16,7 @@ ghost use Rattle.rules.specs.declared.Carry.{Carry};
 ghost use Rattle.basics.specs.Closers.{Closers};
 ghost use Rattle.line.specs.Holds.{Classes, Ready, Stepped, TrimmedLine, Uses, ValidIndent};
 ghost use Rattle.place.specs.Placing.{spacedBy};
-ghost use Rattle.step.specs.Going.{markerIn, keptOf, aloneOf, SolidLine, Marks, Room, Goes, Went, Counts, beforeOf, PutOn, afterLine, codeOf, formatOf, ignoreOf};
+ghost use Rattle.step.specs.Going.{markerIn, isKept, isAlone, SolidLine, Marks, LineRoom, Goes, Went, BracketsCounted, beforeOf, PutOn, afterLine, codeLineBy, formatLineBy, ignoreOf};
 use format::words::Declaration;
 use line::state::State;
 use place::Before;
@@ -53,7 +54,7 @@ pub struct Put {
 // Spacing: the source's own line goes on if it is spaced already, else the respaced one in scratch, classified anew.
 fn go_on(line: &[u8], scratch: &mut [u8], unit: usize, after: Carry) -> Going
     requires { ⌜ WellFormed (now line) ⌝ }
-    requires { ⌜ Room (now scratch) unit (length (now line)) ⌝ }
+    requires { ⌜ LineRoom (now scratch) unit (length (now line)) ⌝ }
     requires { ⌜ Classes Carry.Code (now line) (now scratch) 0 after ⌝ }
     ensures { λ r. ⌜ Went (now (line .entry)) (now (scratch .entry)) (now (scratch .exit)) unit r ⌝ }
 {
@@ -87,11 +88,11 @@ fn count_going(
     depth: usize,
 ) -> usize
     requires { ⌜ WellFormed (now line) ⌝ }
-    requires { ⌜ Room (now scratch) unit (length (now line)) ⌝ }
+    requires { ⌜ LineRoom (now scratch) unit (length (now line)) ⌝ }
     requires { ⌜ Goes (now line) (now scratch) unit g ⌝ }
     requires { ⌜ Closers (encode (respaced (decode (now line)))) closers ⌝ }
     requires { ⌜ depth + length (now line) ≤ unit ⌝ }
-    ensures { λ r. ⌜ Counts (respaced (decode (now (line .entry)))) (now (scratch .entry)) (now (scratch .exit)) (5 * unit) depth (length (now (line .entry))) r ⌝ }
+    ensures { λ r. ⌜ BracketsCounted (respaced (decode (now (line .entry)))) (now (scratch .entry)) (now (scratch .exit)) (5 * unit) depth (length (now (line .entry))) r ⌝ }
 {
     let len = g.len;
     let class_at = g.class_at;
@@ -105,7 +106,7 @@ fn count_going(
 
 // What is known before the line is put.
 fn before_of(st: State, unit: usize, closers: usize, declares: Declaration) -> Before
-    requires { ⌜ unit ≤ 1048576 ⌝ }
+    requires { ⌜ unit ≤ maxSource ⌝ }
     ensures { λ r. ⌜ r ≡ beforeOf st unit closers declares ⌝ }
 {
     let text = st.text;
@@ -259,7 +260,7 @@ fn protects_next(ignore: Ignore) -> bool
 
 // Whether the line is kept as written: a marker is pending, or one stands after its code.
 fn is_kept(pending: Ignore, marker: Marker) -> bool
-    ensures { λ r. ⌜ r ≡ keptOf pending marker ⌝ }
+    ensures { λ r. ⌜ r ≡ isKept pending marker ⌝ }
 {
     match marker {
         Marker::Nothing => protects_next(pending),
@@ -270,7 +271,7 @@ fn is_kept(pending: Ignore, marker: Marker) -> bool
 
 // Whether a marker stands alone.
 fn is_alone(marker: Marker) -> bool
-    ensures { λ r. ⌜ r ≡ aloneOf marker ⌝ }
+    ensures { λ r. ⌜ r ≡ isAlone marker ⌝ }
 {
     match marker {
         Marker::Nothing => false,
@@ -292,11 +293,12 @@ fn code_line(
     st: State,
 ) -> State
     requires { ⌜ Ready st (now scratch) unit (length (now raw)) ⌝ }
+    requires { ⌜ st .carry ≡ Carry.Code ⌝ }
     requires { ⌜ WellFormed (now raw) ⌝ }
     requires { ⌜ TrimmedLine (now raw) (now line) ⌝ }
     requires { ⌜ isEmpty (decode (now line)) ≡ false ⌝ }
     requires { ⌜ ValidIndent (now indent) ⌝ }
-    ensures { λ r. ⌜ ((o : Options) → Uses o (now (indent .entry)) width → Stepped (codeOf o (decode (now (raw .entry)))) (length (now (raw .entry))) unit (asStr ending) st (now (out .entry)) (now (scratch .entry)) r (now (out .exit)) (now (scratch .exit))) ⌝ }
+    ensures { λ r. ⌜ ((o : Options) → Uses o (now (indent .entry)) width → Stepped (codeLineBy o (decode (now (raw .entry)))) (length (now (raw .entry))) unit (asStr ending) st (now (out .entry)) (now (scratch .entry)) r (now (out .exit)) (now (scratch .exit))) ⌝ }
 {
     let n = line.len();
     let after = scan::classify(line, Carry::Code, &mut scratch[..n]);
@@ -345,7 +347,7 @@ pub fn line_step(
     requires { ⌜ Ready st (now scratch) unit (length (now raw)) ⌝ }
     requires { ⌜ WellFormed (now raw) ⌝ }
     requires { ⌜ ValidIndent (now indent) ⌝ }
-    ensures { λ r. ⌜ ((o : Options) → Uses o (now (indent .entry)) width → Stepped (formatOf o (decode (now (raw .entry)))) (length (now (raw .entry))) unit (asStr ending) st (now (out .entry)) (now (scratch .entry)) r (now (out .exit)) (now (scratch .exit))) ⌝ }
+    ensures { λ r. ⌜ ((o : Options) → Uses o (now (indent .entry)) width → Stepped (formatLineBy o (decode (now (raw .entry)))) (length (now (raw .entry))) unit (asStr ending) st (now (out .entry)) (now (scratch .entry)) r (now (out .exit)) (now (scratch .exit))) ⌝ }
 {
     let carry = st.carry;
     if in_code(carry) {

@@ -15,7 +15,7 @@ use Rattle.rules.specs.Assembly.{joined, dropEmpty}
 use Rattle.rules.specs.Line.{dropBlank}
 use Rattle.rules.specs.Else.{joinable, canJoin}
 use Rattle.text.specs.declared.Last.the-variants.{Empty, Joinable, Other}
-use Rattle.text.specs.Text.{lastOf, isFirst, isJoinable, sepOf}
+use Rattle.text.specs.Text.{newestOf, isFirst, isJoinable, sepOf}
 
 -- a text that starts with another is cut back to it
 pub cut-back : (a b r : List ℕ) → a ≡ b ++ r → take (size b) (encode a) ≡ encode b
@@ -27,34 +27,34 @@ not-first true b = refl
 not-first false true = refl
 not-first false false = refl
 
-pub not-alone : (l : List ℕ) (ls : List (List ℕ)) → isFirst (lastOf (l ∷ ls)) ≡ false
-unfolding lastOf
+pub not-alone : (l : List ℕ) (ls : List (List ℕ)) → isFirst (newestOf (l ∷ ls)) ≡ false
+unfolding newestOf
 not-alone l ls = not-first (joinable l) (eqb (size l) 0)
 
 module _ (eol : List ℕ) where
-  pub joined-cons : (l : List ℕ) (ls : List (List ℕ)) → joined eol (l ∷ ls) ≡ joined eol ls ++ (sepOf eol (lastOf ls) ++ l)
+  pub joined-cons : (l : List ℕ) (ls : List (List ℕ)) → joined eol (l ∷ ls) ≡ joined eol ls ++ (sepOf eol (newestOf ls) ++ l)
   unfolding joined choose
-  joined-cons l [] = unfold lastOf in refl
+  joined-cons l [] = unfold newestOf in refl
   joined-cons l (m ∷ ls) = rw (not-alone m ls)
 
   pub joined-grow : (a b : List ℕ) (ls : List (List ℕ)) → joined eol ((a ++ b) ∷ ls) ≡ joined eol (a ∷ ls) ++ b
   joined-grow a b ls = rw (joined-cons (a ++ b) ls, joined-cons a ls) (simp append-assoc)
 
-  pub size-joined : (l : List ℕ) (ls : List (List ℕ)) → size (joined eol (l ∷ ls)) ≡ size (joined eol ls) + size (sepOf eol (lastOf ls)) + size l
+  pub size-joined : (l : List ℕ) (ls : List (List ℕ)) → size (joined eol (l ∷ ls)) ≡ size (joined eol ls) + size (sepOf eol (newestOf ls)) + size l
   size-joined l ls =
-      ap size (joined-cons l ls) ∙ size-append (joined eol ls) (sepOf eol (lastOf ls) ++ l) ∙ omega (arith, size-append (sepOf eol (lastOf ls)) l)
+      ap size (joined-cons l ls) ∙ size-append (joined eol ls) (sepOf eol (newestOf ls) ++ l) ∙ omega (arith, size-append (sepOf eol (newestOf ls)) l)
 
   -- several lines, the newest first, after others
-  pub joined-append : (m : List ℕ) (ms ls : List (List ℕ)) → joined eol ((m ∷ ms) ++ ls) ≡ joined eol ls ++ (sepOf eol (lastOf ls) ++ joined eol (m ∷ ms))
+  pub joined-append : (m : List ℕ) (ms ls : List (List ℕ)) → joined eol ((m ∷ ms) ++ ls) ≡ joined eol ls ++ (sepOf eol (newestOf ls) ++ joined eol (m ∷ ms))
   unfolding joined
   joined-append m [] ls = joined-cons m ls
   joined-append m (n ∷ ms) ls = ap (λ (x : List ℕ). x ++ (eol ++ m)) (joined-append n ms ls) ∙ simp append-assoc
 
   pub encode-append-lines : (m : List ℕ) (ms ls : List (List ℕ))
-      → encode (joined eol ((m ∷ ms) ++ ls)) ≡ encode (joined eol ls ++ sepOf eol (lastOf ls)) ++ encode (joined eol (m ∷ ms))
+      → encode (joined eol ((m ∷ ms) ++ ls)) ≡ encode (joined eol ls ++ sepOf eol (newestOf ls)) ++ encode (joined eol (m ∷ ms))
   encode-append-lines m ms ls =
-      ap encode (joined-append m ms ls ∙ sym (append-assoc (joined eol ls) (sepOf eol (lastOf ls)) (joined eol (m ∷ ms))))
-      ∙ encode-append (joined eol ls ++ sepOf eol (lastOf ls)) (joined eol (m ∷ ms))
+      ap encode (joined-append m ms ls ∙ sym (append-assoc (joined eol ls) (sepOf eol (newestOf ls)) (joined eol (m ∷ ms))))
+      ∙ encode-append (joined eol ls ++ sepOf eol (newestOf ls)) (joined eol (m ∷ ms))
 
   -- one more
   pub encode-one-line : (l : List ℕ) → encode (joined eol (l ∷ [])) ≡ encode l
@@ -68,7 +68,7 @@ module _ (eol : List ℕ) where
   -- what the last empty lines are in the text
   restOf : List (List ℕ) → List ℕ
   restOf [] = []
-  restOf ([] ∷ ls) = restOf ls ++ sepOf eol (lastOf ls)
+  restOf ([] ∷ ls) = restOf ls ++ sepOf eol (newestOf ls)
   restOf ((c ∷ cs) ∷ ls) = []
 
   full-front : (ls : List (List ℕ)) → joined eol ls ≡ joined eol (dropEmpty ls) ++ restOf ls
@@ -77,7 +77,7 @@ module _ (eol : List ℕ) where
   full-front ([] ∷ ls) =
       joined-cons [] ls
       ∙ rw append-nil
-      (ap (λ (x : List ℕ). x ++ sepOf eol (lastOf ls)) (full-front ls) ∙ append-assoc (joined eol (dropEmpty ls)) (restOf ls) (sepOf eol (lastOf ls)))
+      (ap (λ (x : List ℕ). x ++ sepOf eol (newestOf ls)) (full-front ls) ∙ append-assoc (joined eol (dropEmpty ls)) (restOf ls) (sepOf eol (newestOf ls)))
   full-front ((c ∷ cs) ∷ ls) = sym (append-nil (joined eol ((c ∷ cs) ∷ ls)))
 
   -- the text without its last empty lines
@@ -87,7 +87,7 @@ module _ (eol : List ℕ) where
   below-front : (ls : List (List ℕ)) → (r : List ℕ) × (joined eol ls ≡ joined eol (dropBlank ls) ++ r)
   unfolding dropBlank
   below-front [] = ([], sym (append-nil (joined eol [])))
-  below-front ([] ∷ ls) = (sepOf eol (lastOf ls) ++ [], joined-cons [] ls)
+  below-front ([] ∷ ls) = (sepOf eol (newestOf ls) ++ [], joined-cons [] ls)
   below-front ((c ∷ cs) ∷ ls) = ([], sym (append-nil (joined eol ((c ∷ cs) ∷ ls))))
 
   -- an empty newest line dropped
@@ -139,8 +139,8 @@ laid-between l ns m = laid-last (l ∷ reverse ns) m ∙ ap (λ (x : List (List 
 
 -- ---- the kind of the newest line
 
-pub kind-first : (ls : List (List ℕ)) → isFirst (lastOf ls) ≡ isEmpty ls
-kind-first [] = unfold lastOf in refl
+pub kind-first : (ls : List (List ℕ)) → isFirst (newestOf ls) ≡ isEmpty ls
+kind-first [] = unfold newestOf in refl
 kind-first (l ∷ ls) = not-alone l ls
 
 kind-joins : (a b : Bool) → isJoinable (choose a Joinable (choose b Empty Other)) ≡ a
@@ -149,7 +149,7 @@ kind-joins true b = refl
 kind-joins false true = refl
 kind-joins false false = refl
 
-pub kind-joinable : (ls : List (List ℕ)) → isJoinable (lastOf ls) ≡ canJoin ls
-unfolding lastOf canJoin
+pub kind-joinable : (ls : List (List ℕ)) → isJoinable (newestOf ls) ≡ canJoin ls
+unfolding newestOf canJoin
 kind-joinable [] = refl
 kind-joinable (l ∷ ls) = kind-joins (joinable l) (eqb (size l) 0)

@@ -25,7 +25,7 @@ use Rattle.rules.specs.Call.{filled}
 use Rattle.rules.proofs.Choose.{choose-case, choose-true, choose-false}
 use Rattle.text.specs.declared.Last.{Last}
 use Rattle.text.specs.declared.Written.{Written}
-use Rattle.text.specs.Text.{trimNewest, kindOf, lastOf, isFirst, sepBy, sepOf, linesBefore, aloneOf, tailOf, fullOf, nothing, afterLines, Line, ElseLine, Text, Grown, Ordered, From, Adds, Joins, Continues, Finished}
+use Rattle.text.specs.Text.{trimNewest, newestBy, newestOf, isFirst, sepBy, sepOf, keptLines, aloneAfter, tailOf, fullOf, nothing, afterLines, Line, ElseLine, Text, Grown, Ordered, From, Adds, Joins, Continued, Finished}
 use Rattle.text.proofs.LinesLaws.{not-alone, joined-cons, joined-grow, size-joined, encode-append-lines, full-cut, full-empty, full-line, below-cut, below-full, below-empty, below-line, newest-cut}
 use Rattle.text.proofs.PadLaws.{Blanks, indent-blanks, blanks-encode, some-size, some-chars, none-test, some-test, tail-pad, join-pad, else-trimmed, else-joinable}
 
@@ -75,7 +75,7 @@ unfolding choose
 full-mono true x y at h = h
 full-mono false x y at h = omega arith
 
-kind-some : (l : List ℕ) (b : Bool) → 1 ≤ size l → kindOf 1 b ≡ kindOf (size l) b
+kind-some : (l : List ℕ) (b : Bool) → 1 ≤ size l → newestBy 1 b ≡ newestBy (size l) b
 kind-some l b h = rw (some-test l h) refl
 
 -- what the text is written after: its lines, the place, the place without its last empty lines, and whether there is no line
@@ -83,7 +83,7 @@ record Stem (eol : List ℕ) (ls : List (List ℕ)) (from full : ℕ) (first : B
   pub place : from ≡ size (joined eol ls)
   pub holds : Agree out (encode (joined eol ls))
   pub whole : full ≡ size (joined eol (dropEmpty ls))
-  pub starts : first ≡ isFirst (lastOf ls)
+  pub starts : first ≡ isFirst (newestOf ls)
 
 module _ (eol : List ℕ) where
   full-at : (l : List ℕ) (ls : List (List ℕ)) (full at : ℕ) → full ≡ size (joined eol (dropEmpty ls)) → at ≡ size (joined eol (l ∷ ls))
@@ -100,14 +100,14 @@ module _ (eol : List ℕ) where
       choose-false (eqb (size (c ∷ cs)) 0) from at (some-test (c ∷ cs) (some-size c cs)) ∙ f
       ∙ ap (λ (x : List (List ℕ)). size (joined eol x)) (sym (below-line (c ∷ cs) ls (some-size c cs)))
 
-  alone-at : (l : List ℕ) (ls : List (List ℕ)) (first : Bool) → first ≡ isFirst (lastOf ls) → aloneOf (size l) first ≡ isFirst (lastOf (dropBlank (l ∷ ls)))
-  alone-at [] ls first e = choose-true (eqb (size []) 0) first false none-test ∙ e ∙ ap (λ (x : List (List ℕ)). isFirst (lastOf x)) (sym (below-empty ls))
+  alone-at : (l : List ℕ) (ls : List (List ℕ)) (first : Bool) → first ≡ isFirst (newestOf ls) → aloneAfter (size l) first ≡ isFirst (newestOf (dropBlank (l ∷ ls)))
+  alone-at [] ls first e = choose-true (eqb (size []) 0) first false none-test ∙ e ∙ ap (λ (x : List (List ℕ)). isFirst (newestOf x)) (sym (below-empty ls))
   alone-at (c ∷ cs) ls first e =
       choose-false (eqb (size (c ∷ cs)) 0) first false (some-test (c ∷ cs) (some-size c cs)) ∙ sym (not-alone (c ∷ cs) ls)
-      ∙ ap (λ (x : List (List ℕ)). isFirst (lastOf x)) (sym (below-line (c ∷ cs) ls (some-size c cs)))
+      ∙ ap (λ (x : List (List ℕ)). isFirst (newestOf x)) (sym (below-line (c ∷ cs) ls (some-size c cs)))
 
   stem : (drops : Bool) (ls : List (List ℕ)) (t : Written) (out : List ℕ) → Text eol ls t out
-      → Stem eol (linesBefore drops ls) (choose drops (t .below) (t .at .0)) (t .full) (choose drops (t .alone) (isFirst (t .last))) out
+      → Stem eol (keptLines drops ls) (choose drops (t .below) (t .at .0)) (t .full) (choose drops (t .alone) (isFirst (t .last))) out
   unfolding choose
   stem true ls t out r =
       record {
@@ -121,11 +121,11 @@ module _ (eol : List ℕ) where
   -- the separator is written
   after-sep : (ls : List (List ℕ)) (from full : ℕ) (f : Bool) (out o1 : List ℕ) (start : ℕ) → Ending eol → Stem eol ls from full f out
       → Appended out o1 from (sepBy eol f) start
-      → (start ≡ size (joined eol ls ++ sepOf eol (lastOf ls))) × Agree o1 (encode (joined eol ls ++ sepOf eol (lastOf ls)))
+      → (start ≡ size (joined eol ls ++ sepOf eol (newestOf ls))) × Agree o1 (encode (joined eol ls ++ sepOf eol (newestOf ls)))
   after-sep ls from full f out o1 start ends r w =
-      let s : encode (sepOf eol (lastOf ls)) ≡ sepBy eol f = ap (λ (b : Bool). encode (sepBy eol b)) (sym (r .starts)) ∙ sep-bytes eol f ends in
-      let e : encode (joined eol ls ++ sepOf eol (lastOf ls)) ≡ encode (joined eol ls) ++ sepBy eol f =
-      encode-append (joined eol ls) (sepOf eol (lastOf ls)) ∙ ap (λ (x : List ℕ). encode (joined eol ls) ++ x) s in (
+      let s : encode (sepOf eol (newestOf ls)) ≡ sepBy eol f = ap (λ (b : Bool). encode (sepBy eol b)) (sym (r .starts)) ∙ sep-bytes eol f ends in
+      let e : encode (joined eol ls ++ sepOf eol (newestOf ls)) ≡ encode (joined eol ls) ++ sepBy eol f =
+      encode-append (joined eol ls) (sepOf eol (newestOf ls)) ∙ ap (λ (x : List ℕ). encode (joined eol ls) ++ x) s in (
         omega (arith, ap length e, length-append (encode (joined eol ls)) (sepBy eol f), w .next, r .place),
         rw e (appended-agree w (encode (joined eol ls)) (sym (r .place)) (r .holds)),
       )
@@ -156,23 +156,23 @@ module _
           cut = start + tailOf (next - start - length line) tail;
           full = fullOf (next - start) full next;
           below = fullOf (next - start) from next;
-          alone = aloneOf (next - start) f;
-          last = kindOf (next - start) joins;
+          alone = aloneAfter (next - start) f;
+          last = newestBy (next - start) joins;
         }
 
     push-text : (ls : List (List ℕ)) → Stem eol ls from full f out → Text eol ((p ++ decode line) ∷ ls) pushed o2
-    unfolding lastOf trimNewest
+    unfolding newestOf trimNewest
     push-text ls r =
         let l = p ++ decode line in
         let s = after-sep eol ls from full f out o1 start ends r first in
-        let e : encode (joined eol (l ∷ ls)) ≡ encode (joined eol ls ++ sepOf eol (lastOf ls)) ++ (p ++ line) =
-        ap encode (joined-cons eol l ls ∙ sym (append-assoc (joined eol ls) (sepOf eol (lastOf ls)) l))
-        ∙ encode-append (joined eol ls ++ sepOf eol (lastOf ls)) l ∙ ap (λ (x : List ℕ). encode (joined eol ls ++ sepOf eol (lastOf ls)) ++ x) bytes in
-        let n : next ≡ size (joined eol (l ∷ ls)) = omega (arith, ap length e, length-append (encode (joined eol ls ++ sepOf eol (lastOf ls))) (p ++ line), second .next, s .0) in
+        let e : encode (joined eol (l ∷ ls)) ≡ encode (joined eol ls ++ sepOf eol (newestOf ls)) ++ (p ++ line) =
+        ap encode (joined-cons eol l ls ∙ sym (append-assoc (joined eol ls) (sepOf eol (newestOf ls)) l))
+        ∙ encode-append (joined eol ls ++ sepOf eol (newestOf ls)) l ∙ ap (λ (x : List ℕ). encode (joined eol ls ++ sepOf eol (newestOf ls)) ++ x) bytes in
+        let n : next ≡ size (joined eol (l ∷ ls)) = omega (arith, ap length e, length-append (encode (joined eol ls ++ sepOf eol (newestOf ls))) (p ++ line), second .next, s .0) in
         record {
           at = n;
-          holds = rw e (appended-agree second (encode (joined eol ls ++ sepOf eol (lastOf ls))) (sym (s .0)) (s .1));
-          cut = rw (pad, kept) (omega (arith, size-joined eol (trimEnd l) ls, tail-pad p (decode line) b, s .0, size-append (joined eol ls) (sepOf eol (lastOf ls))));
+          holds = rw e (appended-agree second (encode (joined eol ls ++ sepOf eol (newestOf ls))) (sym (s .0)) (s .1));
+          cut = rw (pad, kept) (omega (arith, size-joined eol (trimEnd l) ls, tail-pad p (decode line) b, s .0, size-append (joined eol ls) (sepOf eol (newestOf ls))));
           full = rw long (full-at eol l ls full next (r .whole) n);
           last = rw (long, told .takes, ← join-pad p (decode line) b) refl;
           below = rw long (below-at eol l ls from next (r .place) n);
@@ -195,7 +195,7 @@ pub push-done : (e : LineEnding) (drops : Bool) (out o1 o2 : List ℕ) (t : Writ
     → allBlank indent ≡ true → Line line tail joins → Ordered t → From drops t from → f ≡ choose drops (t .alone) (isFirst (t .last))
     → Appended out o1 from (sepBy (asStr e) f) start → Appended o1 o2 start (times levels indent ++ line) next
     → kept ≡ tailOf (next - start - length line) tail → full ≡ fullOf (next - start) (t .full) next
-    → below ≡ fullOf (next - start) from next → alone ≡ aloneOf (next - start) f → last ≡ kindOf (next - start) joins
+    → below ≡ fullOf (next - start) from next → alone ≡ aloneAfter (next - start) f → last ≡ newestBy (next - start) joins
     → Adds (asStr e) drops (times levels indent ++ decode line) out t o2
     (record { at = record { 0 = next }; cut = start + kept; full = full; below = below; alone = alone; last = last })
 push-done e drops out o1 o2 t indent levels line from f start next tail joins kept full below alone last blank told order wf ef first second ek efull eb ea el =
@@ -204,7 +204,7 @@ push-done e drops out o1 o2 t indent levels line from f start next tail joins ke
     let over : t .full ≤ from = rw (wf .is) (choose-case (λ (n : ℕ). t .full ≤ n) (λ _. order .full) (λ _. omega (arith, order .full, order .below))) in
     rw (ek, efull, eb, ea, el)
     (record {
-      text = λ ls r. push-text (asStr e) out o1 o2 p line from (t .full) f start next tail joins (ending e) b told first second (linesBefore drops ls) (rw (wf .is, ef) (stem (asStr e) drops ls t out r));
+      text = λ ls r. push-text (asStr e) out o1 o2 p line from (t .full) f start next tail joins (ending e) b told first second (keptLines drops ls) (rw (wf .is, ef) (stem (asStr e) drops ls t out r));
       grown = record {
         at = omega (arith, second .next, first .next, sep-le e f, wf .small, ap length (blanks-encode p (decode line) b), ap length (told .well), length-append p line, length-append p (encode (decode line)));
         cut = kept-room p line second told refl;
@@ -216,9 +216,9 @@ push-done e drops out o1 o2 t indent levels line from f start next tail joins ke
 -- ---- an else is joined
 
 pub join-done : (out o1 o2 : List ℕ) (t : Written) (line : List ℕ) (start next : ℕ) (joins : Bool) (last : Last)
-    → ElseLine line joins → t .cut ≤ t .at .0 → Appended out o1 (t .cut) (32 ∷ []) start → Appended o1 o2 start line next → last ≡ kindOf 1 joins
+    → ElseLine line joins → t .cut ≤ t .at .0 → Appended out o1 (t .cut) (32 ∷ []) start → Appended o1 o2 start line next → last ≡ newestBy 1 joins
     → Joins (decode line) out t o2 (record { at = record { 0 = next }; cut = next; full = next; below = next; alone = false; last = last })
-unfolding canJoin joinElse trimNewest lastOf
+unfolding canJoin joinElse trimNewest newestOf
 join-done out o1 o2 t line start next joins last told small first second el =
     record {
       text = go;
@@ -249,47 +249,47 @@ join-done out o1 o2 t line start next joins last told small first second el =
           full = n ∙ rw (full-line new ls k) refl;
           below = n ∙ rw (below-line new ls k) refl;
           alone = rw (below-line new ls k) (sym (not-alone new ls));
-          last = el ∙ ap (kindOf 1) (told .takes ∙ sym (else-joinable l (decode line) (told .trimmed) h j)) ∙ kind-some new (joinable new) k;
+          last = el ∙ ap (newestBy 1) (told .takes ∙ sym (else-joinable l (decode line) (told .trimmed) h j)) ∙ kind-some new (joinable new) k;
         }
 
 -- ---- several lines
 
 pub continue-done : (e : LineEnding) (drops : Bool) (out o1 : List ℕ) (t : Written) (from : ℕ) (f : Bool) (r : ℕ) → From drops t from → f ≡ choose drops (t .alone) (isFirst (t .last))
-    → Appended out o1 from (sepBy (asStr e) f) r → Continues (asStr e) drops out t o1 r
+    → Appended out o1 from (sepBy (asStr e) f) r → Continued (asStr e) drops out t o1 r
 continue-done e drops out o1 t from f r wf ef w =
-    let s : (ls : List (List ℕ)) → Text (asStr e) ls t out → Stem (asStr e) (linesBefore drops ls) from (t .full) f out = λ ls x. rw (wf .is, ef) (stem (asStr e) drops ls t out x) in
+    let s : (ls : List (List ℕ)) → Text (asStr e) ls t out → Stem (asStr e) (keptLines drops ls) from (t .full) f out = λ ls x. rw (wf .is, ef) (stem (asStr e) drops ls t out x) in
     record {
-      place = λ ls x. after-sep (asStr e) (linesBefore drops ls) from (t .full) f out o1 r (ending e) (s ls x) w .0;
-      holds = λ ls x. after-sep (asStr e) (linesBefore drops ls) from (t .full) f out o1 r (ending e) (s ls x) w .1;
+      place = λ ls x. after-sep (asStr e) (keptLines drops ls) from (t .full) f out o1 r (ending e) (s ls x) w .0;
+      holds = λ ls x. after-sep (asStr e) (keptLines drops ls) from (t .full) f out o1 r (ending e) (s ls x) w .1;
       small = omega (arith, w .next, wf .small, sep-le e f);
     }
 
-pub lines-record : (next : ℕ) (joins : Bool) (last : Last) → last ≡ kindOf 1 joins
+pub lines-record : (next : ℕ) (joins : Bool) (last : Last) → last ≡ newestBy 1 joins
     → _≡_ {A = Written} (record { at = record { 0 = next }; cut = next; full = next; below = next; alone = false; last = last }) (afterLines next joins)
 lines-record next joins last e =
     ap {B = Written} (λ (k : Last). record { at = record { 0 = next }; cut = next; full = next; below = next; alone = false; last = k }) e
 
 module _
     {eol out out′ after : List ℕ} {drops : Bool} {t : Written} {r next : ℕ} (m : List ℕ) (ms : List (List ℕ))
-    (go-on : Continues eol drops out t out′ r) (written : Appended out′ after r (encode (joined eol (m ∷ ms))) next)
+    (go-on : Continued eol drops out t out′ r) (written : Appended out′ after r (encode (joined eol (m ∷ ms))) next)
   where
     -- lines written after `continue_text`, the newest of which is trimmed and not empty
     pub lines-done : {joins : Bool} → 1 ≤ size m → trimEnd m ≡ m → joinable m ≡ joins
-        → (ls : List (List ℕ)) → Text eol ls t out → Text eol ((m ∷ ms) ++ linesBefore drops ls) (afterLines next joins) after
-    unfolding trimNewest lastOf
+        → (ls : List (List ℕ)) → Text eol ls t out → Text eol ((m ∷ ms) ++ keptLines drops ls) (afterLines next joins) after
+    unfolding trimNewest newestOf
     lines-done {joins} some trims takes ls x =
-        let before = linesBefore drops ls in
-        let e : encode (joined eol ((m ∷ ms) ++ before)) ≡ encode (joined eol before ++ sepOf eol (lastOf before)) ++ encode (joined eol (m ∷ ms)) = encode-append-lines eol m ms before in
+        let before = keptLines drops ls in
+        let e : encode (joined eol ((m ∷ ms) ++ before)) ≡ encode (joined eol before ++ sepOf eol (newestOf before)) ++ encode (joined eol (m ∷ ms)) = encode-append-lines eol m ms before in
         let n : next ≡ size (joined eol ((m ∷ ms) ++ before)) =
-        omega (arith, ap length e, length-append (encode (joined eol before ++ sepOf eol (lastOf before))) (encode (joined eol (m ∷ ms))), written .next, go-on .place ls x) in
+        omega (arith, ap length e, length-append (encode (joined eol before ++ sepOf eol (newestOf before))) (encode (joined eol (m ∷ ms))), written .next, go-on .place ls x) in
         record {
           at = n;
-          holds = rw e (appended-agree written (encode (joined eol before ++ sepOf eol (lastOf before))) (sym (go-on .place ls x)) (go-on .holds ls x));
+          holds = rw e (appended-agree written (encode (joined eol before ++ sepOf eol (newestOf before))) (sym (go-on .place ls x)) (go-on .holds ls x));
           cut = n ∙ ap (λ (l : List ℕ). size (joined eol (l ∷ (ms ++ before)))) (sym trims);
           full = n ∙ rw (full-line m (ms ++ before) some) refl;
           below = n ∙ rw (below-line m (ms ++ before) some) refl;
           alone = rw (below-line m (ms ++ before) some) (sym (not-alone m (ms ++ before)));
-          last = ap (kindOf 1) (sym takes) ∙ kind-some m (joinable m) some;
+          last = ap (newestBy 1) (sym takes) ∙ kind-some m (joinable m) some;
         }
 
     pub lines-grown : (joins : Bool) → Grown t (size (joined eol (m ∷ ms)) + 2) (afterLines next joins)
@@ -298,7 +298,7 @@ module _
 -- ---- the start and the end
 
 pub text-nothing : (eol out : List ℕ) → Text eol [] nothing out
-unfolding joined encode trimNewest dropEmpty dropBlank lastOf
+unfolding joined encode trimNewest dropEmpty dropBlank newestOf
 text-nothing eol out = record { at = refl; holds = agree-nil out; cut = refl; full = refl; last = refl; below = refl; alone = refl }
 
 pub nothing-ordered : Ordered nothing

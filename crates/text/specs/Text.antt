@@ -1,5 +1,5 @@
 -- The text as its lines, the newest first, joined by the ending `eol`; and what the code holds of it.
-use Prim.Native.Nat.{ℕ, _+_, _≤_}
+use Prim.Native.Nat.{ℕ, _+_, _≤_, _^_}
 use mathlib.Core.Bool.{Bool, true, false}
 use mathlib.Core.List.{List, [], _∷_, _++_}
 use mathlib.Core.Path.{_≡_}
@@ -17,17 +17,21 @@ use Rattle.text.specs.declared.Last.{Last}
 use Rattle.text.specs.declared.Last.the-variants.{Nothing, Empty, Joinable, Other}
 use Rattle.text.specs.declared.Written.{Written}
 
+-- a place that no text of a source reaches: what is written next fits below 2 ^ 64
+abbrev pub farPlace : ℕ
+farPlace = 2 ^ 60
+
 -- the newest line trimmed at its end
 unfoldable pub trimNewest : List (List ℕ) → List (List ℕ)
 trimNewest [] = []
 trimNewest (l ∷ ls) = trimEnd l ∷ ls
 
-abbrev pub kindOf : ℕ → Bool → Last
-kindOf long joins = choose joins Joinable (choose (eqb long 0) Empty Other)
+abbrev pub newestBy : ℕ → Bool → Last
+newestBy long joins = choose joins Joinable (choose (eqb long 0) Empty Other)
 
-unfoldable pub lastOf : List (List ℕ) → Last
-lastOf [] = Nothing
-lastOf (l ∷ ls) = kindOf (size l) (joinable l)
+unfoldable pub newestOf : List (List ℕ) → Last
+newestOf [] = Nothing
+newestOf (l ∷ ls) = newestBy (size l) (joinable l)
 
 abbrev pub isFirst : Last → Bool
 isFirst Nothing = true
@@ -48,11 +52,11 @@ sepBy eol first = choose first [] eol
 abbrev pub sepOf : List ℕ → Last → List ℕ
 sepOf eol last = sepBy eol (isFirst last)
 
-abbrev pub linesBefore : Bool → List (List ℕ) → List (List ℕ)
-linesBefore drops ls = choose drops (dropBlank ls) ls
+abbrev pub keptLines : Bool → List (List ℕ) → List (List ℕ)
+keptLines drops ls = choose drops (dropBlank ls) ls
 
-abbrev pub aloneOf : ℕ → Bool → Bool
-aloneOf long first = choose (eqb long 0) first false
+abbrev pub aloneAfter : ℕ → Bool → Bool
+aloneAfter long first = choose (eqb long 0) first false
 
 -- the length of a line trimmed at its end: pad blanks, and then a line whose trimmed length is tail
 abbrev pub tailOf : ℕ → ℕ → ℕ
@@ -68,7 +72,7 @@ nothing = record { at = record { 0 = 0 }; cut = 0; full = 0; below = 0; alone = 
 -- after several lines that reach up to next, of which the newest is trimmed and not empty
 abbrev pub afterLines : ℕ → Bool → Written
 afterLines next joins =
-    record { at = record { 0 = next }; cut = next; full = next; below = next; alone = false; last = kindOf 1 joins }
+    record { at = record { 0 = next }; cut = next; full = next; below = next; alone = false; last = newestBy 1 joins }
 
 -- what the caller tells of a line: its length trimmed at its end, and whether it can take an else
 pub record Line (line : List ℕ) (tail : ℕ) (joins : Bool) : Type 0 where
@@ -89,9 +93,9 @@ pub record Text (eol : List ℕ) (ls : List (List ℕ)) (t : Written) (out : Lis
   pub holds : Agree out (encode (joined eol ls))
   pub cut : t .cut ≡ size (joined eol (trimNewest ls))
   pub full : t .full ≡ size (joined eol (dropEmpty ls))
-  pub last : t .last ≡ lastOf ls
+  pub last : t .last ≡ newestOf ls
   pub below : t .below ≡ size (joined eol (dropBlank ls))
-  pub alone : t .alone ≡ isFirst (lastOf (dropBlank ls))
+  pub alone : t .alone ≡ isFirst (newestOf (dropBlank ls))
 
 -- the lengths after a step that adds at most n bytes
 pub record Grown (t : Written) (n : ℕ) (u : Written) : Type 0 where
@@ -113,7 +117,7 @@ pub record From (drops : Bool) (t : Written) (r : ℕ) : Type 0 where
 
 -- a line l of characters is added, after an empty newest line is dropped if `drops` says so
 pub record Adds (eol : List ℕ) (drops : Bool) (l out : List ℕ) (t : Written) (out′ : List ℕ) (u : Written) : Type 0 where
-  pub text : (ls : List (List ℕ)) → Text eol ls t out → Text eol (l ∷ linesBefore drops ls) u out′
+  pub text : (ls : List (List ℕ)) → Text eol ls t out → Text eol (l ∷ keptLines drops ls) u out′
   pub grown : Grown t (size l + 2) u
 
 -- an else, trimmed, is joined to the newest line
@@ -122,10 +126,10 @@ pub record Joins (line out : List ℕ) (t : Written) (out′ : List ℕ) (u : Wr
   pub grown : Grown t (size line + 1) u
 
 -- the separator before new lines was written; the first of them starts at r
-pub record Continues (eol : List ℕ) (drops : Bool) (out : List ℕ) (t : Written) (out′ : List ℕ) (r : ℕ) : Type 0 where
-  pub place : (ls : List (List ℕ)) → Text eol ls t out → r ≡ size (joined eol (linesBefore drops ls) ++ sepOf eol (lastOf (linesBefore drops ls)))
+pub record Continued (eol : List ℕ) (drops : Bool) (out : List ℕ) (t : Written) (out′ : List ℕ) (r : ℕ) : Type 0 where
+  pub place : (ls : List (List ℕ)) → Text eol ls t out → r ≡ size (joined eol (keptLines drops ls) ++ sepOf eol (newestOf (keptLines drops ls)))
   pub holds : (ls : List (List ℕ)) → Text eol ls t out
-      → Agree out′ (encode (joined eol (linesBefore drops ls) ++ sepOf eol (lastOf (linesBefore drops ls))))
+      → Agree out′ (encode (joined eol (keptLines drops ls) ++ sepOf eol (newestOf (keptLines drops ls))))
   pub small : r ≤ t .at .0 + 2
 
 -- the text is finished: its length, and the output, which is the text and then zeros, or all zeros where it does not fit

@@ -10,7 +10,7 @@ ghost use Rattle.buffer.specs.Repeat.{times};
 ghost use Rattle.rules.specs.Basics.{choose};
 ghost use Rattle.rules.specs.Lines.{asStr};
 ghost use Rattle.rules.specs.Options.{allBlank};
-ghost use Rattle.text.specs.Text.{nothing, sepBy, aloneOf, tailOf, kindOf, fullOf, isFirst, isJoinable, afterLines, Ordered, Line, ElseLine, From, Adds, Joins, Continues, Finished};
+ghost use Rattle.text.specs.Text.{nothing, sepBy, aloneAfter, tailOf, newestBy, fullOf, isFirst, isJoinable, afterLines, Ordered, Line, ElseLine, From, Adds, Joins, Continued, Finished};
 use rules::LineEnding;
 use unicode::ByteOffset;
 
@@ -115,7 +115,7 @@ fn stem_first(t: Written, drops: bool) -> bool
 }
 
 fn alone_of(long: usize, first: bool) -> bool
-    ensures { λ r. ⌜ r ≡ aloneOf long first ⌝ }
+    ensures { λ r. ⌜ r ≡ aloneAfter long first ⌝ }
 {
     if long == 0 {
         return first;
@@ -134,7 +134,7 @@ fn tail_of(pad: usize, tail: usize) -> usize
 }
 
 fn kind_of(long: usize, joins: bool) -> Last
-    ensures { λ r. ⌜ r ≡ kindOf long joins ⌝ }
+    ensures { λ r. ⌜ r ≡ newestBy long joins ⌝ }
 {
     if joins {
         return Last::Joinable;
@@ -215,7 +215,7 @@ pub fn join_else(out: &mut [u8], t: Written, line: &[u8], joins: bool) -> Writte
 pub fn continue_text(out: &mut [u8], t: Written, ending: LineEnding, drops: bool) -> usize
     requires { ⌜ Ordered t ⌝ }
     requires { ⌜ t .at .0 + 2 < 2 ^ 64 ⌝ }
-    ensures { λ r. ⌜ Continues (asStr ending) drops (now (out .entry)) t (now (out .exit)) r ⌝ }
+    ensures { λ r. ⌜ Continued (asStr ending) drops (now (out .entry)) t (now (out .exit)) r ⌝ }
 {
     let from = stem_at(t, drops);
     let first = stem_first(t, drops);

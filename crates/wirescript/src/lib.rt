@@ -1,5 +1,6 @@
 // What a host links.
 mod config;
+pub mod interface;
 mod number;
 pub mod settings;
 

@@ -3,8 +3,10 @@
 use crate::call::{Call, Outcome, scratch_needed};
 use crate::library::Library;
 use crate::model;
+use crate::safe::SafeCall;
 use std::fmt::Debug;
 use upstream::FormatOptions;
+use wirescript_format::Formatter;
 use wirescript_format::raw::{Answer, Kind, Resolved, Settings};
 
 /// A thing to compare.
@@ -32,6 +34,8 @@ pub enum Check {
         call: Call,
         values: Resolved,
     },
+    /// A call of the host crate's safe functions.
+    Safe(SafeCall),
 }
 
 /// A place of a source whose kind is asked for, with a scratch of so many bytes more than needed.
@@ -43,11 +47,13 @@ pub struct Place {
     pub scratch: isize,
 }
 
-/// Lent buffers, with bytes before and after them that no call may change.
+/// Lent buffers, with bytes before and after them that no call may change; and a formatter with
+/// buffers of its own.
 #[derive(Default)]
 pub struct Buffers {
     output: Vec<u8>,
     scratch: Vec<u8>,
+    formatter: Formatter,
 }
 
 const GUARD: usize = 32;
@@ -103,6 +109,11 @@ impl Buffers {
                 self.step(call, found.as_ref(), &|output| {
                     library.editorconfig(call.choices(), *values, output)
                 })
+            }
+            Check::Safe(call) => {
+                let must = call.must();
+                let told = library.safe(call, must.most, &mut self.formatter);
+                (told != must.told).then(|| differ("what the host crate tells", told, must.told))
             }
         }
     }

@@ -7,6 +7,7 @@ pub mod grammar;
 pub mod library;
 pub mod model;
 pub mod random;
+pub mod safe;
 pub mod shrink;
 pub mod sources;
 pub mod stages;

@@ -2,7 +2,9 @@
 
 use crate::call::{Call, Size};
 use crate::model;
+use crate::safe::{self, SafeCall, Told};
 use upstream::FormatOptions;
+use wirescript_format::Formatter;
 use wirescript_format::raw::{self, Answer, Choices, Kind, Resolved, Settings};
 
 /// The functions that a host can reach.
@@ -11,6 +13,7 @@ pub trait Library: Sync {
     fn text_kind_at(&self, source: &[u8], line: u64, column: u64, scratch: &mut [u8]) -> Kind;
     fn indent_with(&self, s: Choices, tabs: u64, size: u64, output: &mut [u8]) -> Settings;
     fn editorconfig(&self, s: Choices, values: Resolved, output: &mut [u8]) -> Settings;
+    fn safe(&self, call: &SafeCall, most: Option<usize>, formatter: &mut Formatter) -> Told;
 
     /// Whether a text that doesn't fit takes it no longer than one that does.
     fn goes_far(&self) -> bool {
@@ -36,6 +39,10 @@ impl Library for Linked {
 
     fn editorconfig(&self, s: Choices, values: Resolved, output: &mut [u8]) -> Settings {
         raw::editorconfig(s, values, output)
+    }
+
+    fn safe(&self, call: &SafeCall, most: Option<usize>, formatter: &mut Formatter) -> Told {
+        safe::told(call, most, formatter)
     }
 }
 
@@ -64,10 +71,14 @@ pub enum Fault {
     Cr,
     /// The bytes after an indent left as they were.
     IndentRest,
+    /// The two counts taken for each other by the host crate.
+    Swapped,
+    /// A refusal's place not told by the host crate.
+    Place,
 }
 
 impl Fault {
-    pub const ALL: [Self; 11] = [
+    pub const ALL: [Self; 13] = [
         Self::Text,
         Self::OutputRest,
         Self::OutputRefused,
@@ -79,6 +90,8 @@ impl Fault {
         Self::Size64,
         Self::Cr,
         Self::IndentRest,
+        Self::Swapped,
+        Self::Place,
     ];
 }
 
@@ -175,6 +188,18 @@ impl Library for Standin {
         }
         let options = model::editorconfig(&Self::call(b"", s, 0, 0), values);
         self.settle(options.as_ref(), output)
+    }
+
+    fn safe(&self, call: &SafeCall, _: Option<usize>, _: &mut Formatter) -> Told {
+        let mut told = call.must().told;
+        match &mut told {
+            Told::Formatted(formatted) if self.has(Fault::Swapped) => {
+                std::mem::swap(&mut formatted.imports_split, &mut formatted.blank_names);
+            }
+            Told::Refused(_, place) if self.has(Fault::Place) => *place = 0,
+            _ => {}
+        }
+        told
     }
 
     fn goes_far(&self) -> bool {

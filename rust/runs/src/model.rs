@@ -99,8 +99,11 @@ pub fn indent_with(call: &Call, tabs: u64, size: u64) -> Option<FormatOptions> {
 
 /// The options that the `.editorconfig` step gives; `None` is refusal 2.
 pub fn editorconfig(call: &Call, values: Resolved) -> Option<FormatOptions> {
-    let options = call.options()?;
-    let values = properties(values)?;
+    configured(call.options()?, properties(values)?)
+}
+
+/// The same of options and values that are allowed.
+pub fn configured(options: FormatOptions, values: Properties) -> Option<FormatOptions> {
     // the size that the step resolves to
     let size = match (values.size, values.tab) {
         (Some(IndentSize::Value(n)), _) | (_, Some(TabWidth::Value(n))) => n,

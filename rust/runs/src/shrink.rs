@@ -3,6 +3,7 @@
 use crate::call::{Call, Size};
 use crate::compare::{Buffers, Check, Place};
 use crate::library::Library;
+use crate::safe::SafeCall;
 
 /// Makes a check that differs as small as it gets: the first smaller one that differs
 /// still, again and again.
@@ -91,7 +92,44 @@ fn candidates(check: &Check, take: &mut dyn FnMut(Check) -> bool) -> bool {
                 other != *call && take(Check::Format(other))
             })
         }
+        Check::Safe(call) => safe_candidates(call, &mut |c| take(Check::Safe(c))),
         Check::Indent { .. } | Check::Config { .. } | Check::Far { .. } => false,
+    }
+}
+
+/// The same for a call of a safe function: a smaller source, then a smaller width.
+fn safe_candidates(call: &SafeCall, take: &mut dyn FnMut(SafeCall) -> bool) -> bool {
+    match call {
+        SafeCall::Format {
+            source,
+            options,
+            most,
+        } => {
+            let with = |source: Vec<u8>, width: Option<usize>| {
+                let mut options = options.clone();
+                options.print_width = width;
+                SafeCall::Format {
+                    source,
+                    options,
+                    most: *most,
+                }
+            };
+            let width = options.print_width;
+            sources(source, &mut |s| take(with(s, width)))
+                || width.is_some_and(|w| w > 0 && take(with(source.clone(), Some(w / 2))))
+        }
+        SafeCall::Kind {
+            source,
+            line,
+            column,
+        } => sources(source, &mut |source| {
+            take(SafeCall::Kind {
+                source,
+                line: *line,
+                column: *column,
+            })
+        }),
+        SafeCall::Indent { .. } | SafeCall::Config { .. } => false,
     }
 }
 

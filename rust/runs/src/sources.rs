@@ -2,6 +2,8 @@
 
 use crate::call::{Call, Size};
 use crate::random::Random;
+use ec4rs::Properties;
+use ec4rs::property::{EndOfLine, FinalNewline, IndentSize, IndentStyle, MaxLineLen, TabWidth};
 use upstream::{FormatOptions, LineEnding};
 
 /// The twelve characters over which every short source is run.
@@ -102,6 +104,47 @@ fn import(random: &mut Random) -> String {
     }
     source.push_str(random.pick(&["}", " }", "} from \"l\"", "} * b", "}}", "", "} // c"]));
     source
+}
+
+/// Some imports, each on a line of its own, with blank names among the others.
+pub fn imports(random: &mut Random) -> String {
+    let mut source = String::new();
+    for _ in 0..=random.below(4) {
+        source.push_str("import {");
+        for _ in 0..=random.below(8) {
+            source.push_str(random.pick(&["a", "bc", "long_name", "", "", " ", "\u{a0}"]));
+            source.push_str(random.pick(&[",", ", ", " ,"]));
+        }
+        source.push_str(random.pick(&["} from \"l\"\n", "}\n", "d } from 'm'\r\n"]));
+    }
+    source
+}
+
+/// Resolved values of .editorconfig, of which each may be unset.
+pub fn values(random: &mut Random) -> Properties {
+    const SIZES: [usize; 7] = [0, 1, 2, 8, 64, 65, usize::MAX];
+    let size = |random: &mut Random| SIZES[random.below(SIZES.len())];
+    Properties {
+        style: [None, Some(IndentStyle::Tabs), Some(IndentStyle::Spaces)][random.below(3)],
+        size: match random.below(3) {
+            0 => None,
+            1 => Some(IndentSize::UseTabWidth),
+            _ => Some(IndentSize::Value(size(random))),
+        },
+        tab: random.one_in(2).then(|| TabWidth::Value(size(random))),
+        max: match random.below(3) {
+            0 => None,
+            1 => Some(MaxLineLen::Off),
+            _ => Some(MaxLineLen::Value(size(random))),
+        },
+        ending: [
+            None,
+            Some(EndOfLine::Lf),
+            Some(EndOfLine::CrLf),
+            Some(EndOfLine::Cr),
+        ][random.below(4)],
+        newline: [None, Some(false), Some(true)][random.below(3)].map(FinalNewline::Value),
+    }
 }
 
 /// An expression with operators.

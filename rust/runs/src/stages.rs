@@ -5,6 +5,7 @@ use crate::call::{Call, Size};
 use crate::compare::{Check, Place};
 use crate::grammar;
 use crate::random::Random;
+use crate::safe::SafeCall;
 use crate::sources::{self, ALPHABETS};
 use upstream::{FormatOptions, LineEnding};
 use wirescript_format::raw::Resolved;
@@ -44,6 +45,7 @@ pub const LONG: &str = "long sources";
 pub fn all(seed: u64) -> Vec<Stage> {
     let mut stages = vec![
         Stage::list("cases of the rules", cases()),
+        Stage::list("safe cases", safe_cases()),
         Stage::list("limits", limits()),
         Stage::list(LONG, long_sources()),
         Stage::list("indent_with", indents()),
@@ -108,7 +110,62 @@ pub fn all(seed: u64) -> Vec<Stage> {
             }
         }
     }));
+    stages.push(Stage::new("safe", None, move |n| {
+        Check::Safe(safe(&mut random(6, n)))
+    }));
     stages
+}
+
+/// A call of a safe function; most of them format.
+fn safe(r: &mut Random) -> SafeCall {
+    match r.below(12) {
+        0 => SafeCall::Indent {
+            options: loose(r),
+            tabs: r.one_in(2),
+            size: SIZES[r.below(SIZES.len())],
+        },
+        1 => SafeCall::Config {
+            options: loose(r),
+            values: sources::values(r),
+        },
+        2 => SafeCall::Kind {
+            source: sources::call(r).source,
+            line: r.below(4) as u64,
+            column: r.below(12) as u64,
+        },
+        kind => {
+            let (source, options) = match kind {
+                3 => (sources::call(r).source, loose(r)),
+                4 | 5 => (sources::short(r).into(), sources::options(r)),
+                6 => (written(r).into(), wide(r)),
+                7 => {
+                    let source = written(r);
+                    (grammar::mutate(r, &source).into(), wide(r))
+                }
+                _ => (sources::imports(r).into(), sources::options(r)),
+            };
+            SafeCall::Format {
+                source,
+                options,
+                most: (!r.one_in(4)).then(|| sources::room(r)),
+            }
+        }
+    }
+}
+
+const SIZES: [u64; 8] = [0, 1, 2, 8, 63, 64, 65, u64::MAX];
+
+/// Options that may be refused.
+fn loose(r: &mut Random) -> FormatOptions {
+    let mut options = sources::options(r);
+    match r.below(8) {
+        0 => options.indent = " ".repeat(64),
+        1 => options.indent = "\t".repeat(65),
+        2 => options.indent = " q".into(),
+        3 => options.indent = "\u{a0}".into(),
+        _ => {}
+    }
+    options
 }
 
 fn written(r: &mut Random) -> String {
@@ -250,6 +307,117 @@ fn cases() -> Vec<Check> {
             output: 1000,
         },
     ]
+}
+
+/// Through the safe functions: imports whose two counts differ, kinds, setting steps, the cases of the
+/// rules, and each refusal that these functions can tell. What is quick comes first.
+fn safe_cases() -> Vec<Check> {
+    [
+        safe_imports(),
+        safe_kinds(),
+        safe_indents(),
+        safe_rules(),
+        safe_refusals(),
+    ]
+    .concat()
+}
+
+/// A source through the function `format`, and through a formatter whose texts have at most about as many bytes.
+fn safe_formats(source: &[u8], options: &FormatOptions) -> Vec<Check> {
+    let sizes = [0, 1, -1, 4000].map(|more| Some(Size::Needed(more)));
+    [None]
+        .into_iter()
+        .chain(sizes)
+        .map(|most| {
+            Check::Safe(SafeCall::Format {
+                source: source.into(),
+                options: options.clone(),
+                most,
+            })
+        })
+        .collect()
+}
+
+fn safe_imports() -> Vec<Check> {
+    let narrow = FormatOptions {
+        print_width: Some(10),
+        ..FormatOptions::default()
+    };
+    let lists = [
+        &["a,b"][..],
+        &["a,,,b"],
+        &[",", "a"],
+        &["a,b", ",a,b", "c,d"],
+        &["a,,b,,c,,", ",,,d"],
+    ];
+    let import = |names: &&str| format!("import {{{names}}} from \"l\"\n");
+    lists
+        .iter()
+        .map(|names| names.iter().map(import).collect::<String>())
+        .flat_map(|source| safe_formats(source.as_bytes(), &narrow))
+        .collect()
+}
+
+fn safe_kinds() -> Vec<Check> {
+    let mut checks = Vec::new();
+    for source in [&b"a \"s\" // c"[..], b"\xff", &vec![b'a'; MIB + 1]] {
+        for column in [0, 3, 8, u64::MAX] {
+            checks.push(Check::Safe(SafeCall::Kind {
+                source: source.into(),
+                line: 0,
+                column,
+            }));
+        }
+    }
+    checks
+}
+
+fn safe_indents() -> Vec<Check> {
+    let mut checks = Vec::new();
+    for options in starting_options() {
+        for (tabs, size) in [(true, 8), (false, 3), (true, 65), (false, 64), (false, 65)] {
+            checks.push(Check::Safe(SafeCall::Indent {
+                options: options.clone(),
+                tabs,
+                size,
+            }));
+        }
+    }
+    checks
+}
+
+fn safe_rules() -> Vec<Check> {
+    let mut checks = Vec::new();
+    for check in cases() {
+        if let Check::Format(call) = check
+            && let Some(options) = call.options()
+        {
+            checks.extend(safe_formats(&call.source, &options));
+        }
+    }
+    checks
+}
+
+fn safe_refusals() -> Vec<Check> {
+    let mut checks = Vec::new();
+    for indent in ["q", "\u{a0}", "\0", &" ".repeat(64), &"\t".repeat(65)] {
+        let options = FormatOptions {
+            indent: indent.into(),
+            ..FormatOptions::default()
+        };
+        checks.extend(safe_formats(b"{\na", &options));
+        checks.extend(safe_formats(b"\xff", &options));
+    }
+    let plain = FormatOptions::default();
+    for source in [
+        &b"a\xff"[..],
+        "(\n".repeat(500).as_bytes(),
+        &vec![b'a'; MIB],
+        &vec![b'a'; MIB + 1],
+    ] {
+        checks.extend(safe_formats(source, &plain));
+    }
+    checks
 }
 
 const MIB: usize = 1_048_576;

@@ -1,7 +1,7 @@
 //! Formats Wirescript, through a library of which every function is proved against its
 //! rules (`libwirescript.a`).
 //!
-//! ```no_run
+//! ```
 //! use wirescript_format::{Options, format};
 //!
 //! let formatted = format("f(a ,b)", &Options::new())?;
@@ -11,7 +11,13 @@
 //!
 //! An editor keeps a [`Formatter`], which reuses its buffers. [`raw`] has the exported
 //! functions as they are, for callers with buffers of their own.
+//!
+//! A build looks for the archive in the folder whose absolute path `WIRESCRIPT_LIB` holds, by
+//! default in the repository's `target/staticlib` (`rt staticlib wirescript` writes it there), and
+//! fails where it is missing. An archive with other signatures than this crate declares doesn't
+//! link: the error names the symbol `wirescript_interface_N`, with this crate's number for N.
 
+mod interface;
 mod options;
 pub mod raw;
 mod refusal;

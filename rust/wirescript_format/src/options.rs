@@ -66,15 +66,40 @@ impl Options {
         self
     }
 
-    /// Indent with a tab, or with `size` spaces. A size over 64 is refused, needed or not.
-    pub fn indent_with(self, tabs: bool, size: u64) -> Result<Self, Refusal> {
+    /// These options with a tab as their indent, or with `size` spaces. A size over 64 is refused,
+    /// needed or not; the options that were asked stay as they are.
+    ///
+    /// ```
+    /// use wirescript_format::{Options, Refusal};
+    ///
+    /// let options = Options::new().width(None);
+    /// assert_eq!(options.indent_with(false, 4), Ok(Options::new().width(None).indent("    ")));
+    /// assert_eq!(options.indent_with(true, 65), Err(Refusal::BadOption));
+    /// assert_eq!(options, Options::new().width(None));
+    /// ```
+    pub fn indent_with(&self, tabs: bool, size: u64) -> Result<Self, Refusal> {
         let mut indent = [0; MAX_INDENT];
         let set = raw::indent_with(self.choices(), u64::from(tabs), size, &mut indent);
         Self::of(set, &indent)
     }
 
-    /// These options overridden by what .editorconfig files say.
-    pub fn with_editorconfig(self, config: EditorConfig) -> Result<Self, Refusal> {
+    /// These options overridden by what .editorconfig files say. A size over 64 is refused; the
+    /// options that were asked stay as they are.
+    ///
+    /// ```
+    /// use wirescript_format::{EditorConfig, IndentSize, Options, Refusal};
+    ///
+    /// let options = Options::new().indent("\t");
+    /// let size = |n| EditorConfig {
+    ///     indent_size: Some(IndentSize::Value(n)),
+    ///     ..EditorConfig::default()
+    /// };
+    /// // no style is set: the tabs stay
+    /// assert_eq!(options.with_editorconfig(size(4)), Ok(Options::new().indent("\t")));
+    /// assert_eq!(options.with_editorconfig(size(65)), Err(Refusal::BadOption));
+    /// assert_eq!(options, Options::new().indent("\t"));
+    /// ```
+    pub fn with_editorconfig(&self, config: EditorConfig) -> Result<Self, Refusal> {
         let mut indent = [0; MAX_INDENT];
         let set = raw::editorconfig(self.choices(), config.resolved(), &mut indent);
         Self::of(set, &indent)
@@ -233,6 +258,12 @@ mod tests {
         assert_eq!(Options::of(set, b"\t\0"), Ok(wanted));
         set.refusal = 2;
         assert_eq!(Options::of(set, b"\t\0"), Err(Refusal::BadOption));
+        (set.refusal, set.place) = (17, 3);
+        let other = Refusal::Other {
+            number: 17,
+            place: 3,
+        };
+        assert_eq!(Options::of(set, b"\t\0"), Err(other));
     }
 
     #[test]

@@ -2,7 +2,10 @@
 //! None of them asks anything of its arguments.
 //!
 //! A slice passes as pointer and length. After a call the scratch is all zeros, and so
-//! is the output but for the text.
+//! is the output but for the text. The declarations fit an archive of one interface, the one
+//! whose number [`interface`] gives; another one doesn't link.
+
+pub use crate::interface::interface;
 
 /// What a formatting call comes to. `refusal` 0 is an accepted call.
 #[repr(C)]
@@ -65,7 +68,6 @@ pub struct Resolved {
     pub newline: u64,
 }
 
-#[cfg(not(wirescript_missing))]
 mod linked {
     use super::{Answer, Kind, Settings};
 
@@ -92,30 +94,6 @@ mod linked {
             max_kind: u64, max: u64, ending: u64, newline: u64,
             output: *mut u8, output_length: usize,
         ) -> Settings;
-    }
-}
-
-/// Stands where the archive was missing when this crate was built.
-#[cfg(wirescript_missing)]
-#[allow(clippy::too_many_arguments)]
-mod linked {
-    use super::{Answer, Kind, Settings};
-
-    const MISSING: &str = "built without libwirescript.a";
-
-    macro_rules! missing {
-        ($($name:ident($($type:ty),*) -> $answer:ty;)*) => {
-            $(pub unsafe fn $name($(_: $type),*) -> $answer { panic!("{MISSING}") })*
-        };
-    }
-
-    #[rustfmt::skip]
-    missing! {
-        wirescript_format(*const u8, usize, *const u8, usize, u64, u64, u64, u64, *mut u8, usize, *mut u8, usize) -> Answer;
-        wirescript_text_kind_at(*const u8, usize, u64, u64, *mut u8, usize) -> Kind;
-        wirescript_indent_with(*const u8, usize, u64, u64, u64, u64, u64, u64, *mut u8, usize) -> Settings;
-        wirescript_editorconfig(
-            *const u8, usize, u64, u64, u64, u64, u64, u64, u64, u64, u64, u64, u64, u64, u64, *mut u8, usize) -> Settings;
     }
 }
 

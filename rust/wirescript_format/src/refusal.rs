@@ -4,6 +4,9 @@ use std::fmt;
 /// The longest source, in bytes.
 pub const MAX_SOURCE: usize = 1_048_576;
 
+/// The place of the refusal of a longer one.
+const SOURCE_END: u64 = MAX_SOURCE as u64;
+
 /// The longest indent, in bytes.
 pub const MAX_INDENT: usize = 64;
 
@@ -22,18 +25,30 @@ pub enum Refusal {
     NotUtf8 { prefix: u64 },
     /// The text takes this many bytes, more than the output has.
     OutputShort { needed: u64 },
+    /// A refusal that this crate has no name for, as the library tells it.
+    Other { number: u64, place: u64 },
 }
 
 impl Refusal {
     /// The refusal that a number and a place name; `None` for an accepted call.
-    pub(crate) fn of(number: u64, place: u64) -> Option<Self> {
-        Some(match number {
-            0 => return None,
-            1 => Self::SourceTooLong,
-            3 => Self::ScratchShort { needed: place },
-            4 => Self::NotUtf8 { prefix: place },
-            5 => Self::OutputShort { needed: place },
-            _ => Self::BadOption,
+    ///
+    /// ```
+    /// use wirescript_format::Refusal;
+    ///
+    /// assert_eq!(Refusal::of(4, 7), Some(Refusal::NotUtf8 { prefix: 7 }));
+    /// assert_eq!(Refusal::of(99, 7), Some(Refusal::Other { number: 99, place: 7 }));
+    /// assert_eq!(Refusal::of(0, 0), None);
+    /// ```
+    #[must_use]
+    pub fn of(number: u64, place: u64) -> Option<Self> {
+        Some(match (number, place) {
+            (0, _) => return None,
+            (1, SOURCE_END) => Self::SourceTooLong,
+            (2, 0) => Self::BadOption,
+            (3, needed) => Self::ScratchShort { needed },
+            (4, prefix) => Self::NotUtf8 { prefix },
+            (5, needed) => Self::OutputShort { needed },
+            (number, place) => Self::Other { number, place },
         })
     }
 
@@ -46,6 +61,7 @@ impl Refusal {
             Self::ScratchShort { .. } => 3,
             Self::NotUtf8 { .. } => 4,
             Self::OutputShort { .. } => 5,
+            Self::Other { number, .. } => number,
         }
     }
 
@@ -53,10 +69,11 @@ impl Refusal {
     #[must_use]
     pub fn place(self) -> u64 {
         match self {
-            Self::SourceTooLong => MAX_SOURCE as u64,
+            Self::SourceTooLong => SOURCE_END,
             Self::BadOption => 0,
             Self::ScratchShort { needed } | Self::OutputShort { needed } => needed,
             Self::NotUtf8 { prefix } => prefix,
+            Self::Other { place, .. } => place,
         }
     }
 }
@@ -79,6 +96,7 @@ impl fmt::Display for Refusal {
                     "the text takes {needed} bytes, more than there is room for"
                 )
             }
+            Self::Other { number, place } => write!(f, "refusal {number} at {place}"),
         }
     }
 }
@@ -89,14 +107,42 @@ impl Error for Refusal {}
 mod tests {
     use super::*;
 
+    /// Whatever the library tells comes back as it was told.
     #[test]
     fn numbers_and_places_come_back() {
-        for number in 1..=5 {
-            let refusal = Refusal::of(number, 7).expect("a refusal");
-            assert_eq!(refusal.number(), number);
-            let place = [MAX_SOURCE as u64, 0, 7, 7, 7][number as usize - 1];
-            assert_eq!(refusal.place(), place);
+        for number in (1..=20).chain([255, 1 << 32, u64::MAX]) {
+            for place in [0, 1, 7, SOURCE_END, u64::MAX] {
+                let refusal = Refusal::of(number, place).expect("a refusal");
+                assert_eq!((refusal.number(), refusal.place()), (number, place));
+            }
         }
         assert_eq!(Refusal::of(0, 0), None);
+    }
+
+    #[test]
+    fn known_refusals_have_names() {
+        let named = [
+            (1, SOURCE_END, Refusal::SourceTooLong),
+            (2, 0, Refusal::BadOption),
+            (3, 7, Refusal::ScratchShort { needed: 7 }),
+            (4, 7, Refusal::NotUtf8 { prefix: 7 }),
+            (5, 7, Refusal::OutputShort { needed: 7 }),
+        ];
+        for (number, place, refusal) in named {
+            assert_eq!(Refusal::of(number, place), Some(refusal));
+        }
+    }
+
+    #[test]
+    fn one_without_a_name_says_its_number() {
+        let refusal = Refusal::of(17, 3).expect("a refusal");
+        assert_eq!(
+            refusal,
+            Refusal::Other {
+                number: 17,
+                place: 3
+            }
+        );
+        assert_eq!(refusal.to_string(), "refusal 17 at 3");
     }
 }

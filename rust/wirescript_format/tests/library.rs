@@ -1,5 +1,4 @@
 //! The crate over the linked library.
-#![cfg(not(wirescript_missing))]
 
 use wirescript_format::{
     EditorConfig, EndOfLine, Formatter, IndentSize, IndentStyle, LineEnding, MAX_SOURCE,
@@ -27,12 +26,26 @@ fn formats() {
     assert_eq!(text("a + b*c", &options.width(None)), "a + b*c\n");
 }
 
+/// The two counts are not taken for each other: where they are equal nothing would show it.
 #[test]
 fn counts_imports_and_blank_names() {
-    let formatted = format("import {a,,b} from \"l\"", &Options::new().width(Some(10)));
-    let formatted = formatted.expect("accepted");
-    assert_eq!(formatted.text, "import {\n  a, b,\n} from \"l\"\n");
-    assert_eq!((formatted.imports_split, formatted.blank_names), (1, 1));
+    let options = Options::new().width(Some(10));
+    let import = |names: &str| format!("import {{{names}}} from \"l\"\n");
+    let broken = "import {\n  a, b,\n} from \"l\"\n";
+    let counted = |source: &str| {
+        let kept = format(source, &options).expect("accepted");
+        let mut formatter = Formatter::new();
+        let lent = formatter.format(source, &options).expect("accepted");
+        assert_eq!(lent.text, kept.text);
+        assert_eq!(lent.imports_split, kept.imports_split);
+        assert_eq!(lent.blank_names, kept.blank_names);
+        (kept.text, kept.imports_split, kept.blank_names)
+    };
+    assert_eq!(counted(&import("a,b")), (broken.into(), 1, 0));
+    assert_eq!(counted(&import("a,,b")), (broken.into(), 1, 1));
+    assert_eq!(counted(&import("a,,,b")), (broken.into(), 1, 2));
+    let three = import("a,b") + &import(",a,b") + &import("a,b");
+    assert_eq!(counted(&three), (broken.repeat(3), 3, 1));
 }
 
 #[test]
@@ -93,16 +106,12 @@ fn tells_text_kinds() {
 fn setting_steps() {
     let options = Options::new();
     assert_eq!(
-        options.clone().indent_with(true, 8),
+        options.indent_with(true, 8),
         Ok(options.clone().indent("\t"))
     );
     assert_eq!(
-        options.clone().indent_with(false, 3),
+        options.indent_with(false, 3),
         Ok(options.clone().indent("   "))
-    );
-    assert_eq!(
-        options.clone().indent_with(true, 65),
-        Err(Refusal::BadOption)
     );
     let config = EditorConfig {
         indent_style: Some(IndentStyle::Spaces),
@@ -117,7 +126,25 @@ fn setting_steps() {
         .width(None)
         .line_ending(LineEnding::Crlf)
         .final_newline(false);
-    assert_eq!(options.clone().with_editorconfig(config), Ok(wanted));
+    assert_eq!(options.with_editorconfig(config), Ok(wanted));
     let unset = EditorConfig::default();
-    assert_eq!(options.clone().with_editorconfig(unset), Ok(options));
+    assert_eq!(options.with_editorconfig(unset), Ok(options));
+}
+
+/// The options that a refused step was asked of are still there, and still serve.
+#[test]
+fn a_refused_step_changes_nothing() {
+    let options = Options::new().indent("\t").width(None);
+    let before = options.clone();
+    assert_eq!(options.indent_with(true, 65), Err(Refusal::BadOption));
+    let config = EditorConfig {
+        indent_size: Some(IndentSize::Value(65)),
+        ..EditorConfig::default()
+    };
+    assert_eq!(options.with_editorconfig(config), Err(Refusal::BadOption));
+    assert_eq!(options, before);
+    assert_eq!(text("{\na", &options), "{\n\ta\n");
+    let bad = Options::new().indent("q");
+    assert_eq!(bad.indent_with(false, 2), Err(Refusal::BadOption));
+    assert_eq!(bad, Options::new().indent("q"));
 }

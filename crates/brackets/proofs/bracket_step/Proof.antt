@@ -1,23 +1,23 @@
+use mathlib.Core.Bool.{true, false}
 use borrow.Author.Needs.{needs}
-use mathlib.Core.Path.{refl}
 use Rattle.rules.specs.Brackets.{bracketStep}
 use Rattle.rules.proofs.Choose.{picks}
 use Rattle.basics.proofs.ClassPicks.{class-picks}
-use Rattle.brackets.proofs.StackLaws.{turn-still, turn-by}
+use Rattle.brackets.proofs.StackLaws.{turn-same, turn-escaped, turn-by}
 use Rattle.brackets.proofs.bracket_step.Statement.{statement}
 use Rattle.brackets.proofs.bracket_step.Tie as tie
 
 returns : tie.Need-returns
 unfolding bracketStep
-returns c = turn-still _ _ _ _ _ refl refl (search (picks, class-picks) depth 20)
+returns c = turn-by _ _ _ (turn-same _ _ _) (λ o h. search (picks, class-picks) depth 20)
 
 returns-2 : tie.Need-returns-2
 unfolding bracketStep
-returns-2 c = turn-still _ _ _ _ _ refl refl (search (picks, class-picks) depth 20)
+returns-2 c = turn-by _ _ _ (turn-escaped _ _ _ false) (λ o h. search (picks, class-picks) depth 20)
 
 returns-3 : tie.Need-returns-3
 unfolding bracketStep
-returns-3 c = turn-still _ _ _ _ _ refl refl (search (picks, class-picks) depth 20)
+returns-3 c = turn-by _ _ _ (turn-escaped _ _ _ true) (λ o h. search (picks, class-picks) depth 20)
 
 is-opener-requires : tie.Need-is-opener-requires
 is-opener-requires c κs = search needs
@@ -30,7 +30,7 @@ same-length c = search needs
 
 returns-4 : tie.Need-returns-4
 unfolding bracketStep
-returns-4 c = turn-by _ _ _ _ _ _ _ (c .before .before .push .ensures) (search (picks, class-picks) depth 20)
+returns-4 c = turn-by _ _ _ (c .before .before .push .ensures) (λ o h. search (picks, class-picks) depth 20)
 
 is-closer-requires : tie.Need-is-closer-requires
 is-closer-requires c κs = search needs
@@ -43,11 +43,11 @@ same-length-2 c = search needs
 
 returns-5 : tie.Need-returns-5
 unfolding bracketStep
-returns-5 c = turn-by _ _ _ _ _ _ _ (c .pop .ensures) (search (picks, class-picks) depth 20)
+returns-5 c = turn-by _ _ _ (c .pop .ensures) (λ o h. search (picks, class-picks) depth 20)
 
 returns-6 : tie.Need-returns-6
 unfolding bracketStep
-returns-6 c = turn-still _ _ _ _ _ refl refl (search (picks, class-picks) depth 20)
+returns-6 c = turn-by _ _ _ (turn-same _ _ _) (λ o h. search (picks, class-picks) depth 20)
 
 pub bracket-step-spec : {M : Type 1} → statement M
 bracket-step-spec =

@@ -1,4 +1,4 @@
-use Rattle.step.proofs.StepLaws.{format-inside, format-code, format-blank, blank-trim, some-line, some-trim}
+use Rattle.step.proofs.StepLaws.{code-carry, format-inside, format-code, format-blank, blank-trim, some-line, some-trim}
 use Rattle.line.proofs.HoldsLaws.{start-within, trimmed-line}
 use lib.Seq.{length-take-le}
 use mathlib.Core.Path.{sym}
@@ -44,7 +44,8 @@ code-line-requires c κs =
     let s = c .before .before .before .before .before .before .before .before .before .before .before .before .before .pre in
     let e = c .before .before .before .before .before .before .trim-end .ensures in
     let a = c .before .before .before .before .trim-start .ensures in
-    (s .0, (s .1 .0, (trimmed-line _ _ _ e a, (some-line _ _ _ e a (c .before .before .before .if2 .left), s .1 .1))))
+    let i = c .before .before .before .before .before .before .before .before .in-code .ensures in
+    (s .0, (code-carry _ _ i (c .before .before .before .before .before .before .before .if1 .taken), (s .1 .0, (trimmed-line _ _ _ e a, (some-line _ _ _ e a (c .before .before .before .if2 .left), s .1 .1)))))
 
 same-length-2 : tie.Need-same-length-2
 same-length-2 c = search needs

@@ -2,12 +2,14 @@
 //!
 //!     diff [--seconds N] [--sources N] [--seed N] [--threads N] [--stage NAME] [--standin]
 //!
-//! Without a limit it is the full run, of some minutes: every stage with an end whole, the
-//! others up to a number of checks. `--seconds` is for all stages, `--sources` for each. `--standin` puts the Rust
-//! in the library's place. The first difference is made small and printed, with status 1.
+//! Without a limit it is the full run, of some minutes: every stage with an end whole, the others
+//! up to a number of checks. `--seconds` is for all stages, `--sources` for each; the first batch of
+//! a stage is made whatever the time. `--standin` puts the Rust in the library's place. The first
+//! difference is made small and printed, with status 1; a stage that made no check gives status 1 too.
 
 use runs::compare::{Buffers, Check};
 use runs::library::{Library, Linked, Standin};
+use runs::safe::SafeCall;
 use runs::shrink::shrink;
 use runs::stages::{self, Stage};
 use std::sync::Mutex;
@@ -56,7 +58,8 @@ fn run(
                 let mut buffers = Buffers::default();
                 while !stop.load(Ordering::Relaxed) {
                     let from = next.fetch_add(BATCH, Ordering::Relaxed);
-                    if from >= most || time.is_some_and(|t| start.elapsed() > t) {
+                    let late = || time.is_some_and(|t| start.elapsed() > t);
+                    if from >= most || (from > 0 && late()) {
                         return;
                     }
                     for number in from..most.min(from.saturating_add(BATCH)) {
@@ -106,6 +109,14 @@ fn show(check: &Check) -> String {
             text(&place.source)
         ),
         Check::Kinds(source) => format!("kinds of {}", text(source)),
+        Check::Safe(SafeCall::Format {
+            source,
+            options,
+            most,
+        }) => format!(
+            "the safe `format` of {}\n{options:?}, most {most:?}",
+            text(source)
+        ),
         other => format!("{other:?}"),
     }
 }
@@ -153,6 +164,7 @@ fn main() {
     }
     let start = Instant::now();
     let mut total = 0;
+    let mut idle = Vec::new();
     for (i, stage) in stages.iter().enumerate() {
         let left = (stages.len() - i) as f64;
         let time = limits.seconds.map(|s| {
@@ -161,6 +173,9 @@ fn main() {
         let begun = Instant::now();
         let (done, found) = run(stage, library, &limits, time);
         total += done;
+        if done == 0 {
+            idle.push(stage.name.as_str());
+        }
         let of = stage.count.map_or(String::new(), |n| format!(" of {n}"));
         println!(
             "{}: {done}{of} in {:.1} s",
@@ -175,6 +190,10 @@ fn main() {
             println!("DIFFERENCE\n{}\n{what}", show(&small));
             std::process::exit(1);
         }
+    }
+    if !idle.is_empty() {
+        println!("NO CHECK was made by: {}", idle.join(", "));
+        std::process::exit(1);
     }
     println!(
         "{total} checks agree, seed {seed}, {:.0} s",

@@ -19,7 +19,7 @@ push-line-requires : tie.Need-push-line-requires
 push-line-requires c κs =
     let a = c .before .before in
     let s = a .before .before .before .before .before .before .before .pre in
-    (indent-none, (line-told _ _ _ (s .1 .0) (a .before .line-facts .ensures) (a .takes-else .ensures), (s .0 .small .ordered, push-room (s .0) _ (omega arith))))
+    (indent-none, (line-told _ _ _ (s .1 .1 .0) (a .before .line-facts .ensures) (a .takes-else .ensures), (s .0 .small .ordered, push-room (s .0) _ (omega arith))))
 
 leading-closers-requires : tie.Need-leading-closers-requires
 leading-closers-requires c κs = search needs
@@ -33,7 +33,7 @@ mul-scan-brackets c = search needs
 scan-brackets-requires : tie.Need-scan-brackets-requires
 scan-brackets-requires c κs =
     let s = c .before .before .before .before .before .before .before .before .before .before .before .before .before .before .before .pre in
-    let k = s .1 .1 .0 .short in
+    let k = s .1 .1 .1 .0 .short in
     stack-room (s .0) _ 0 _ _ refl (omega (arith, s .0 .depth, k)) (omega (arith, k)) (omega (arith, c .before .pop-closers .ensures))
 
 declaration-of-requires : tie.Need-declaration-of-requires
@@ -53,7 +53,7 @@ returns c =
     let b = c .before .before .before .before in
     let a = b .before .before .before .before .before .before in
     let s = a .before .before .before .before .before .before .before .before .before .before .pre in
-    protected-step _ _ _ _ _ _ _ _ _ _ _ _ _ _ _ _ (s .1 .0) (s .1 .1 .0) (s .1 .1 .1) (a .push-line .ensures) (b .before .before .before .leading-closers .ensures)
+    protected-step _ _ _ _ _ _ _ _ _ _ _ _ _ _ _ _ (s .1 .0) (s .1 .1 .0) (s .1 .1 .1 .0) (s .1 .1 .1 .1) (a .push-line .ensures) (b .before .before .before .leading-closers .ensures)
     (b .before .before .pop-closers .ensures) (b .scan-brackets .ensures) (c .before .declaration-of .ensures) (c .ends-in-brace .ensures)
 
 pub protected-line-spec : {M : Type 1} → statement M

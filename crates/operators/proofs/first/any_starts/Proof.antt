@@ -3,12 +3,12 @@ use native.Mathlib.Omega.{arith}
 use Prim.Native.Nat.{_-_}
 use Rattle.unicode.specs.Places.{NoneAmong}
 use Rattle.unicode.proofs.Among.{among-start, among-more, among-all}
-use Rattle.operators.specs.First.{startsAt}
+use Rattle.operators.specs.First.{operatorStartsAt}
 use Rattle.operators.proofs.first.any_starts.Statement.{statement}
 use Rattle.operators.proofs.first.any_starts.Tie as tie
 
 abbrev Inv-loop : tie.InvT-loop
-Inv-loop line at any₀ k₀ any k = NoneAmong (startsAt line) at k any
+Inv-loop line at any₀ k₀ any k = NoneAmong (operatorStartsAt line) at k any
 
 abbrev μ-loop : tie.MeasureT-loop
 μ-loop line at any₀ k₀ any k = 16 - k

@@ -1,0 +1,198 @@
+//! Calls of the host crate's safe functions: what they are given, what they must tell by the Rust,
+//! and what they tell.
+
+use crate::call::{Call, Size};
+use crate::model;
+use ec4rs::Properties;
+use ec4rs::property;
+use upstream::FormatOptions;
+use wirescript_format::{
+    EditorConfig, EndOfLine, Formatted, Formatter, IndentSize, IndentStyle, LineEnding,
+    MaxLineLength, Options, TextKind,
+};
+
+/// What a safe function is given. Options and values are the Rust's, which can name what the host
+/// crate's can.
+#[derive(Clone, Debug, PartialEq, Eq)]
+pub enum SafeCall {
+    /// By a formatter whose texts have at most so many bytes, or by the function `format`.
+    Format {
+        source: Vec<u8>,
+        options: FormatOptions,
+        most: Option<Size>,
+    },
+    Kind {
+        source: Vec<u8>,
+        line: u64,
+        column: u64,
+    },
+    Indent {
+        options: FormatOptions,
+        tabs: bool,
+        size: u64,
+    },
+    Config {
+        options: FormatOptions,
+        values: Properties,
+    },
+}
+
+/// What a safe function tells; a refusal by its number and place.
+#[derive(Clone, Debug, PartialEq, Eq)]
+pub enum Told {
+    Formatted(Formatted),
+    Kind(TextKind),
+    Options(Options),
+    Refused(u64, u64),
+}
+
+/// What a call must tell.
+pub struct Must {
+    pub told: Told,
+    /// The longest text, for a formatter.
+    pub most: Option<usize>,
+}
+
+impl SafeCall {
+    pub fn must(&self) -> Must {
+        let told = match self {
+            Self::Format {
+                source,
+                options,
+                most,
+            } => return must_format(&Call::new(source.clone(), options), *most),
+            Self::Kind {
+                source,
+                line,
+                column,
+            } => must_kind(source, *line, *column),
+            Self::Indent {
+                options,
+                tabs,
+                size,
+            } => {
+                let call = Call::new("", options);
+                must_settle(model::indent_with(&call, u64::from(*tabs), *size).as_ref())
+            }
+            Self::Config { options, values } => {
+                let options = Call::new("", options).options();
+                must_settle(options.and_then(|o| model::configured(o, *values)).as_ref())
+            }
+        };
+        Must { told, most: None }
+    }
+}
+
+fn must_format(call: &Call, most: Option<Size>) -> Must {
+    let found = model::text_of(call);
+    let most = most.map(|size| size.of(model::length(&found)));
+    let told = match found {
+        Err((number, place)) => Told::Refused(number, place),
+        Ok(counted) if counted.text.len() > most.unwrap_or(Formatter::MOST) => {
+            Told::Refused(5, counted.text.len() as u64)
+        }
+        Ok(counted) => Told::Formatted(Formatted {
+            text: counted.text,
+            imports_split: counted.imports_split as u64,
+            blank_names: counted.blank_names as u64,
+        }),
+    };
+    Must { told, most }
+}
+
+fn must_kind(source: &[u8], line: u64, column: u64) -> Told {
+    let kind = model::text_kind_at(source, line, column, usize::MAX);
+    match (kind.refusal, kind.kind) {
+        (0, 0) => Told::Kind(TextKind::Code),
+        (0, 1) => Told::Kind(TextKind::Str),
+        (0, _) => Told::Kind(TextKind::Comment),
+        (number, _) => Told::Refused(number, kind.place),
+    }
+}
+
+fn must_settle(options: Option<&FormatOptions>) -> Told {
+    options.map_or(Told::Refused(2, 0), |options| {
+        Told::Options(options_of(options))
+    })
+}
+
+/// The host crate's options that are the Rust's.
+pub fn options_of(options: &FormatOptions) -> Options {
+    Options::new()
+        .indent(&*options.indent)
+        .width(options.print_width.map(|width| width as u64))
+        .line_ending(match options.end_of_line {
+            None => LineEnding::Kept,
+            Some(upstream::LineEnding::Lf) => LineEnding::Lf,
+            Some(upstream::LineEnding::Crlf) => LineEnding::Crlf,
+        })
+        .final_newline(options.insert_final_newline)
+}
+
+/// The host crate's values that are the Rust's.
+fn config_of(values: Properties) -> EditorConfig {
+    EditorConfig {
+        indent_style: values.style.map(|style| match style {
+            property::IndentStyle::Tabs => IndentStyle::Tabs,
+            property::IndentStyle::Spaces => IndentStyle::Spaces,
+        }),
+        indent_size: values.size.map(|size| match size {
+            property::IndentSize::UseTabWidth => IndentSize::Tab,
+            property::IndentSize::Value(n) => IndentSize::Value(n as u64),
+        }),
+        tab_width: values.tab.map(|property::TabWidth::Value(n)| n as u64),
+        max_line_length: values.max.map(|max| match max {
+            property::MaxLineLen::Off => MaxLineLength::Off,
+            property::MaxLineLen::Value(n) => MaxLineLength::Value(n as u64),
+        }),
+        end_of_line: values.ending.map(|ending| match ending {
+            property::EndOfLine::Lf => EndOfLine::Lf,
+            property::EndOfLine::CrLf => EndOfLine::Crlf,
+            property::EndOfLine::Cr => EndOfLine::Cr,
+        }),
+        insert_final_newline: values.newline.map(|property::FinalNewline::Value(v)| v),
+    }
+}
+
+/// What the host crate tells. The formatter is kept from call to call, as an editor keeps it.
+pub fn told(call: &SafeCall, most: Option<usize>, formatter: &mut Formatter) -> Told {
+    let found = match call {
+        SafeCall::Format {
+            source, options, ..
+        } => {
+            let options = options_of(options);
+            match most {
+                None => wirescript_format::format(source, &options).map(Told::Formatted),
+                Some(bytes) => {
+                    *formatter = std::mem::take(formatter).most(bytes);
+                    let lent = formatter.format(source, &options);
+                    lent.map(|formatted| {
+                        Told::Formatted(Formatted {
+                            text: formatted.text.into(),
+                            imports_split: formatted.imports_split,
+                            blank_names: formatted.blank_names,
+                        })
+                    })
+                }
+            }
+        }
+        SafeCall::Kind {
+            source,
+            line,
+            column,
+        } => formatter
+            .text_kind_at(source, *line, *column)
+            .map(Told::Kind),
+        SafeCall::Indent {
+            options,
+            tabs,
+            size,
+        } => options_of(options)
+            .indent_with(*tabs, *size)
+            .map(Told::Options),
+        SafeCall::Config { options, values } => options_of(options)
+            .with_editorconfig(config_of(*values))
+            .map(Told::Options),
+    };
+    found.unwrap_or_else(|refusal| Told::Refused(refusal.number(), refusal.place()))
+}

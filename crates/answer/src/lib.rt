@@ -1,12 +1,45 @@
-// What a host is told: an outcome in numbers.
+// Refusals: the tests that several calls share, numbers and places; and an outcome in the numbers that a host is told.
 ghost use mathlib.Core.Path.{_≡_};
-ghost use Rattle.rules.specs.Call.{numberOf, placeOf, answerOf};
+ghost use mathlib.Core.List.{[], _∷_};
+ghost use Prim.Native.Nat.{_≤_};
+ghost use lib.ListN.{length};
+ghost use Rattle.rules.specs.Refusals.{maxSource, scratchNeeded, numberOf, placeOf, tested, longSource, shortScratch, illFormed};
+ghost use Rattle.rules.specs.Call.{answerOf};
 use rules::Answer;
 use rules::Outcome;
 use rules::Refusal;
+use rules::Verdict;
 
 // The bytes that a source may have.
 pub const MAX_SOURCE: usize = 1048576;
+
+// Refusal 1.
+pub fn test_length(source: &[u8]) -> Verdict
+    ensures { λ r. ⌜ r ≡ longSource (now (source .entry)) ⌝ }
+{
+    if MAX_SOURCE < source.len() {
+        return Verdict::Refused(Refusal::SourceTooLong);
+    }
+    Verdict::Accepted
+}
+
+// Refusals 3 and 4: the scratch has `each` bytes for each of the source's and 256, and the source is well-formed UTF-8.
+pub fn test_bytes(source: &[u8], each: usize, scratch: usize) -> Verdict
+    requires { ⌜ length (now source) ≤ maxSource ⌝ }
+    requires { ⌜ each ≤ 255 ⌝ }
+    ensures { λ r. ⌜ r ≡ tested (shortScratch (scratchNeeded each (now (source .entry))) scratch ∷ illFormed (now (source .entry)) ∷ []) ⌝ }
+{
+    let n = source.len();
+    let needed = each * n + 256;
+    if scratch < needed {
+        return Verdict::Refused(Refusal::ScratchShort(needed));
+    }
+    let prefix = unicode::well_formed_prefix(source);
+    if prefix != n {
+        return Verdict::Refused(Refusal::NotUtf8(prefix));
+    }
+    Verdict::Accepted
+}
 
 pub fn number_of(r: Refusal) -> u64
     ensures { λ n. ⌜ n ≡ numberOf r ⌝ }
@@ -17,6 +50,8 @@ pub fn number_of(r: Refusal) -> u64
         Refusal::ScratchShort(_) => 3,
         Refusal::NotUtf8(_) => 4,
         Refusal::OutputShort(_) => 5,
+        Refusal::PlacesUnordered => 9,
+        Refusal::KindsShort => 10,
     }
 }
 
@@ -29,6 +64,8 @@ pub fn place_of(r: Refusal) -> u64
         Refusal::ScratchShort(needed) => needed as u64,
         Refusal::NotUtf8(prefix) => prefix as u64,
         Refusal::OutputShort(needed) => needed as u64,
+        Refusal::PlacesUnordered => 0,
+        Refusal::KindsShort => 0,
     }
 }
 

@@ -1,41 +1,50 @@
 -- The finish, and what a call comes to, by its tests in their order.
 --     ending-kept, ending-set, last-always, last-source     the ending, and the last one
 --     text-short, text-fits                                 the text in the output
---     too-long, bad-option, scratch-short, not-utf8, done   the outcome of a call; answered the answer
-use Prim.Native.Nat.{ℕ, _+_, _≤_, _<_}
+--     test-long, test-option, test-rest                     the tests
+--     ran-refused, ran-formatted                            the outcome of a call; answered the answer
+use Prim.Native.Nat.{ℕ, _≤_, _<_}
 use native.Mathlib.Omega.{arith}
-use mathlib.Core.Bool.{Bool, true, false, _&&_}
-use mathlib.Core.List.{List, [], _++_}
+use mathlib.Core.Bool.{Bool, true, false, not, _&&_}
+use mathlib.Core.List.{List, [], _∷_, _++_}
 use mathlib.Core.Path.{_≡_, refl, sym, ap, _∙_}
 use borrow.Author.Tests.{lt-ltb, le-ltb, leb-true}
 use lib.Dec.{leb}
 use lib.ListN.{length, replicate}
-use Rattle.unicode.specs.Unicode.{size, decode, prefixLen, WellFormed}
-use Rattle.unicode.proofs.Decode.{wf-whole, test-whole, test-part}
+use Rattle.unicode.specs.Unicode.{size, decode, WellFormed}
+use Rattle.unicode.proofs.Decode.{test-wf}
 use Rattle.unicode.proofs.Tests.{and-left, and-right}
 use Rattle.rules.specs.Basics.{choose}
 use Rattle.rules.specs.Lines.{asStr, linesOf, dominantIn, endsInLf}
 use Rattle.rules.specs.Options.{Options, allBlank, validIndent, maxIndent}
 use Rattle.rules.specs.Line.{Formatter, start}
 use Rattle.rules.specs.Assembly.{Formatted, endingOf, dropEmpty, joined, lastEnding, finish, formatLines, formatWith}
-use Rattle.rules.specs.Call.{Call, maxSource, scratchNeeded, validOptions, optionsOf, formatted, textOf, outcomeOf, answerOf, outputOf}
+use Rattle.rules.specs.Refusals.{maxSource, scratchNeeded, refuseIf, tested, longSource, badOption, shortScratch, illFormed, shortOutput}
+use Rattle.rules.specs.Choices.{validOptions, optionsOf}
+use Rattle.rules.specs.Call.{Call, formatted, textOf, formatScratch, formatTests, verdictOf, outcomeAfter, outcomeOf, answerOf, outputOf}
 use Rattle.rules.specs.declared.LineEnding.{LineEnding}
 use Rattle.rules.specs.declared.EndOfLine.{EndOfLine}
 use Rattle.rules.specs.declared.FinalNewline.{FinalNewline}
+use Rattle.rules.specs.declared.OptionNumbers.{OptionNumbers}
 use Rattle.rules.specs.declared.Refusal.{Refusal}
+use Rattle.rules.specs.declared.Verdict.{Verdict}
 use Rattle.rules.specs.declared.Outcome.{Outcome}
 use Rattle.rules.specs.declared.Answer.{Answer}
 use Rattle.rules.proofs.StartsBytes.{on-decode}
 use Rattle.rules.proofs.LinesBytes.{dominant-encode, ends-lf-encode}
-use Rattle.rules.proofs.CallLaws.{answer-kept, first-of-four}
-use Rattle.options.specs.Held.{held, numbers}
+use Rattle.rules.proofs.RefusalLaws.{test-on, test-off, pass, stop, one-test, goes-on, ends, source-short}
+use Rattle.rules.proofs.CallLaws.{Admitted, admitted, indent-valid, answer-well, answer-kept}
+use Rattle.options.specs.Held.{heldNamed}
 use Rattle.options.specs.declared.FormatOptions.{FormatOptions}
+use Rattle.options.specs.declared.Changed.{Changed}
+use Rattle.options.proofs.NumbersLaws.{named-valid-is, named-options}
 use Rattle.text.specs.Text.{Finished}
 use Rattle.line.specs.Holds.{Holds, ValidIndent}
 use Rattle.line.specs.declared.state.State.{State}
 use Rattle.lines.specs.Lines.{Passed, LinesDone}
 use Rattle.call.specs.Formatted.{optionsWith, outcomeIn, Fitted, RefusedCall}
-use Rattle.call.specs.Answered.{callOf, Ran, FormatAnswered}
+use Rattle.call.specs.Ran.{callOf, Ran}
+use Rattle.call.specs.FormatAnswered.{FormatAnswered}
 
 -- ---- the ending of the lines, and whether one more follows
 
@@ -66,10 +75,10 @@ formattedLines o source = formatLines o (linesOf (decode source)) start
 module _
     (source indent : List ℕ) (chosen : FormatOptions) (ending : LineEnding) (last : Bool) (st : State)
     (out₀ scratch₀ out₁ scratch₁ out₂ scratch₂ : List ℕ) (n : ℕ)
-    (e : ending ≡ endingOf (chosen .ending) (decode source))
-    (l : LinesDone source indent (chosen .width) (asStr ending) st out₁ scratch₁)
+    (e : ending ≡ endingOf (chosen .«end_of_line») (decode source))
+    (l : LinesDone source indent (chosen .«print_width») (asStr ending) st out₁ scratch₁)
     (z : scratch₂ ≡ replicate (length scratch₁) 0)
-    (k : (eol : List ℕ) → choose last eol [] ≡ lastEnding (chosen .newline) (decode source) eol)
+    (k : (eol : List ℕ) → choose last eol [] ≡ lastEnding (chosen .«insert_final_newline») (decode source) eol)
     (w : Finished (asStr ending) (choose last (asStr ending) []) out₁ (st .text) out₂ n)
     (eo : length out₁ ≡ length out₀) (es : length scratch₁ ≡ length scratch₀) (ef : length out₂ ≡ length out₁)
   where
@@ -95,7 +104,7 @@ module _
     long-is = ap size text-is ∙ sym (w .long (formattedLines o source .lines) (held-here .text))
 
     pub text-short : length out₂ < n → Fitted (formatWith o (decode source)) (length out₀) (length scratch₀) (Outcome.Refused (Refusal.OutputShort n)) out₂ scratch₂
-    unfolding choose
+    unfolding shortOutput refuseIf choose
     text-short h =
         record {
           outcome = rw (long-is, lt-ltb (length out₀) n (omega arith));
@@ -104,7 +113,7 @@ module _
         }
 
     pub text-fits : n ≤ length out₂ → Fitted (formatWith o (decode source)) (length out₀) (length scratch₀) (Outcome.Formatted n (st .imports) (st .blanks)) out₂ scratch₂
-    unfolding choose
+    unfolding shortOutput refuseIf choose
     text-fits h =
         record {
           outcome = rw (long-is, le-ltb (length out₀) n (omega arith), imports-is, blanks-is);
@@ -112,88 +121,83 @@ module _
           cleared = z ∙ rw es;
         }
 
+-- ---- the tests
+
+module _ (source : List ℕ) (bad : Bool) (scratch : ℕ) (v : Verdict) (e : v ≡ longSource source) where
+  pub test-long : (why : Refusal) → v ≡ Verdict.Refused why → Verdict.Refused why ≡ tested (formatTests source bad scratch)
+  test-long why p = sym (stop (longSource source) why _ (sym e ∙ p))
+
+  module _ (p : v ≡ Verdict.Accepted) where
+    pub length-passed : length source ≤ maxSource
+    length-passed = source-short source (sym e ∙ p)
+
+    pub test-option : bad ≡ true → Verdict.Refused Refusal.BadOption ≡ tested (formatTests source bad scratch)
+    unfolding badOption
+    test-option q = sym (pass (longSource source) _ (sym e ∙ p) ∙ stop (badOption bad) _ _ (test-on bad _ q))
+
+    pub test-rest : (r : Verdict) → bad ≡ false → r ≡ tested (shortScratch (scratchNeeded formatScratch source) scratch ∷ illFormed source ∷ [])
+        → r ≡ tested (formatTests source bad scratch)
+    unfolding badOption
+    test-rest r q t = t ∙ sym (pass (longSource source) _ (sym e ∙ p) ∙ pass (badOption bad) _ (test-off bad _ q))
+
 -- ---- the outcome of a call
 
--- what `valid_options` tells
-abbrev Tells : List ℕ → ℕ → ℕ → ℕ → Bool → Type 0
-Tells indent widthSet lineEnding finalNewline v = (width : ℕ) → v ≡ validOptions (numbers indent widthSet width lineEnding finalNewline)
+-- t is what `from_numbers` gives, v what `test` gives
+module _
+    (source indent : List ℕ) (numbers : OptionNumbers) (output scratch : List ℕ) (t : Changed) (v : Verdict)
+    (named : t ≡ heldNamed (record { indent = indent; numbers = numbers }))
+    (tests : v ≡ tested (formatTests source (t .refused) (length scratch)))
+  where
+    abbrev c : Call
+    c = callOf source indent numbers (length output) (length scratch)
 
-module _ (indent : List ℕ) (widthSet lineEnding finalNewline : ℕ) (v : Bool) (t : Tells indent widthSet lineEnding finalNewline v) (e : v ≡ true) where
-  indent-valid : ValidIndent indent
-  unfolding validOptions validIndent
-  indent-valid =
-      let i : (leb (length indent) maxIndent && allBlank indent) ≡ true =
-      first-of-four (validIndent indent) (leb widthSet 1) (leb lineEnding 2) (leb finalNewline 1) (sym (t 0) ∙ e) in
-      record {
-        blank = and-right (leb (length indent) maxIndent) (allBlank indent) i;
-        short = leb-true (length indent) maxIndent (and-left (leb (length indent) maxIndent) (allBlank indent) i);
-      }
+    first-tests : tested (formatTests source (not (validOptions (c .choices))) (length scratch)) ≡ v
+    first-tests = ap (λ (b : Bool). tested (formatTests source b (length scratch))) (sym (named-valid-is (c .choices) t named)) ∙ sym tests
 
-  pub indent-short : length indent ≤ 64
-  indent-short = indent-valid .short
+    ran-short : (why : Refusal) → v ≡ Verdict.Refused why → outcomeOf c ≡ Outcome.Refused why
+    unfolding outcomeOf verdictOf
+    ran-short why e = rw (ends (formatTests source (not (validOptions (c .choices))) (length scratch)) (shortOutput (length (textOf c)) (length output) ∷ []) why (first-tests ∙ e))
 
-  pub passed : (source scratch : List ℕ) (prefix : ℕ) → length source ≤ maxSource → scratchNeeded source ≤ length scratch → prefix ≡ prefixLen source → prefix ≡ length source
-      → Passed source indent scratch
-  passed source scratch prefix h k p q =
-      record { limit = h; well = wf-whole source (sym p ∙ q); indents = indent-valid; room = omega arith }
-
-module _ (source indent : List ℕ) (widthSet width lineEnding finalNewline n m : ℕ) where
-  abbrev c : Call
-  c = callOf source indent widthSet width lineEnding finalNewline n m
-
-  valid-is : (v : Bool) → Tells indent widthSet lineEnding finalNewline v → validOptions c ≡ v
-  unfolding validOptions
-  valid-is v t = sym (t width)
-
-  outcome-is : length source ≤ maxSource → validOptions c ≡ true → scratchNeeded source ≤ m → prefixLen source ≡ length source → outcomeOf c ≡ outcomeIn n (formatted c)
-  unfolding outcomeOf choose textOf
-  outcome-is h e k p =
-      rw (le-ltb maxSource (length source) h, e, le-ltb m (scratchNeeded source) k, test-whole source p)
-
-  options-are : (s : FormatOptions) → s ≡ held (optionsOf (numbers indent widthSet width lineEnding finalNewline))
-      → formatted c ≡ formatWith (optionsWith indent s) (decode source)
-  unfolding formatted optionsOf
-  options-are s g = rw g
-
-  module _ (r : Outcome) (out work : List ℕ) where
-    ran-refused : (why : Refusal) → outcomeOf c ≡ Outcome.Refused why → RefusedCall why n m r out work → Ran c r out work
+    pub ran-refused : (why : Refusal) (r : Outcome) (out work : List ℕ) → v ≡ Verdict.Refused why
+        → RefusedCall why (length output) (length scratch) r out work → Ran c r out work
     unfolding outputOf
-    ran-refused why e w = record { outcome = w .outcome ∙ sym e; output = w .zeros ∙ rw e; scratch = w .cleared }
+    ran-refused why r out work e w =
+        record { outcome = w .outcome ∙ sym (ran-short why e); output = w .zeros ∙ rw (ran-short why e); scratch = w .cleared }
 
-    pub too-long : maxSource < length source → RefusedCall Refusal.SourceTooLong n m r out work → Ran c r out work
-    unfolding outcomeOf choose
-    too-long h = ran-refused _ (rw (lt-ltb maxSource (length source) h))
+    module _ (e : v ≡ Verdict.Accepted) where
+      admits : Admitted source (c .choices) (length scratch)
+      admits = admitted source (c .choices) (length scratch) (first-tests ∙ e)
 
-    module _ (h : length source ≤ maxSource) (v : Bool) (t : Tells indent widthSet lineEnding finalNewline v) where
-      pub bad-option : v ≡ false → RefusedCall Refusal.BadOption n m r out work → Ran c r out work
-      unfolding outcomeOf choose
-      bad-option e = ran-refused _ (rw (le-ltb maxSource (length source) h, valid-is v t, e))
+      indent-is : ValidIndent indent
+      unfolding validIndent
+      indent-is =
+          let i : (leb (length indent) maxIndent && allBlank indent) ≡ true = indent-valid (c .choices) (admits .valid) in
+          record {
+            blank = and-right (leb (length indent) maxIndent) (allBlank indent) i;
+            short = leb-true (length indent) maxIndent (and-left (leb (length indent) maxIndent) (allBlank indent) i);
+          }
 
-      module _ (e : v ≡ true) where
-        pub scratch-short : m < scratchNeeded source → RefusedCall (Refusal.ScratchShort (scratchNeeded source)) n m r out work → Ran c r out work
-        unfolding outcomeOf choose
-        scratch-short k = ran-refused _ (rw (le-ltb maxSource (length source) h, valid-is v t, e, lt-ltb m (scratchNeeded source) k))
+      pub passed : Passed source indent scratch
+      passed =
+          record { limit = admits .reads .short; well = test-wf source (admits .reads .well); indents = indent-is; room = omega (arith, admits .reads .room) }
 
-        module _ (k : scratchNeeded source ≤ m) (prefix : ℕ) (p : prefix ≡ prefixLen source) where
-          pub not-utf8 : (prefix ≡ length source → ⊥) → RefusedCall (Refusal.NotUtf8 prefix) n m r out work → Ran c r out work
-          unfolding outcomeOf choose
-          not-utf8 q =
-              ran-refused _
-              (rw (
-                le-ltb maxSource (length source) h,
-                valid-is v t,
-                e,
-                le-ltb m (scratchNeeded source) k,
-                test-part source (λ i. q (p ∙ i)),
-                p,
-              ))
+      options-are : formatted c ≡ formatWith (optionsWith indent (t .options)) (decode source)
+      unfolding formatted optionsOf
+      options-are = rw (named-options (c .choices) t named (named-valid-is (c .choices) t named ∙ rw (admits .valid)))
 
-          pub done : prefix ≡ length source → (s : FormatOptions) → s ≡ held (optionsOf (numbers indent widthSet width lineEnding finalNewline))
-              → Fitted (formatWith (optionsWith indent s) (decode source)) n m r out work → Ran c r out work
-          unfolding outputOf textOf
-          done q s g w =
-              let i : r ≡ outcomeOf c = w .outcome ∙ ap (outcomeIn n) (sym (options-are s g)) ∙ sym (outcome-is h (valid-is v t ∙ e) k (sym p ∙ q)) in
-              record { outcome = i; output = w .output ∙ rw (← options-are s g, i); scratch = w .cleared }
+      outcome-is : outcomeOf c ≡ outcomeIn (length output) (formatted c)
+      unfolding outcomeOf verdictOf textOf
+      outcome-is =
+          ap (λ (u : Verdict). outcomeAfter u (length (textOf c)) (formatted c .importsSplit) (formatted c .blankNames))
+          (goes-on (formatTests source (not (validOptions (c .choices))) (length scratch)) (shortOutput (length (textOf c)) (length output) ∷ []) (first-tests ∙ e)
+          ∙ one-test (shortOutput (length (textOf c)) (length output)))
+
+      pub ran-formatted : (r : Outcome) (out work : List ℕ)
+          → Fitted (formatWith (optionsWith indent (t .options)) (decode source)) (length output) (length scratch) r out work → Ran c r out work
+      unfolding outputOf textOf
+      ran-formatted r out work w =
+          let i : r ≡ outcomeOf c = w .outcome ∙ ap (outcomeIn (length output)) (sym options-are) ∙ sym outcome-is in
+          record { outcome = i; output = w .output ∙ rw (← options-are, i); scratch = w .cleared }
 
 pub answered : (c : Call) (r : Outcome) (a : Answer) (out work : List ℕ) → Ran c r out work → a ≡ answerOf r → FormatAnswered c a out work
 answered c r a out work w e =
@@ -202,7 +206,6 @@ answered c r a out work w e =
       answer = i;
       output = w .output;
       scratch = w .scratch;
-      struck = λ z. answer-kept c a out i (w .output) z .struck;
-      unbroken = λ z. answer-kept c a out i (w .output) z .unbroken;
-      commas = λ z. answer-kept c a out i (w .output) z .commas;
+      well = answer-well c a out i (w .output);
+      kept = answer-kept c a out i (w .output);
     }

@@ -2,13 +2,12 @@
 use Prim.Native.Nat.{ℕ}
 use mathlib.Core.List.{List}
 use mathlib.Core.Path.{_≡_}
-use lib.Dec.{ltb}
 use lib.ListN.{replicate}
 use Rattle.unicode.specs.Unicode.{encode, size}
-use Rattle.rules.specs.Basics.{choose}
 use Rattle.rules.specs.Options.{Options}
+use Rattle.rules.specs.Refusals.{shortOutput}
 use Rattle.rules.specs.Assembly.{Formatted}
-use Rattle.rules.specs.Call.{outputFor}
+use Rattle.rules.specs.Call.{outcomeAfter, outputFor}
 use Rattle.rules.specs.declared.Refusal.{Refusal}
 use Rattle.rules.specs.declared.Outcome.{Outcome}
 use Rattle.options.specs.declared.FormatOptions.{FormatOptions}
@@ -16,13 +15,16 @@ use Rattle.options.specs.declared.FormatOptions.{FormatOptions}
 -- the options that a struct holds, with the indent as it was lent
 abbrev pub optionsWith : List ℕ → FormatOptions → Options
 optionsWith indent s =
-    record { indent = indent; printWidth = s .width; endOfLine = s .ending; finalNewline = s .newline }
+    record {
+      indent = indent;
+      printWidth = s .«print_width»;
+      endOfLine = s .«end_of_line»;
+      insertFinalNewline = s .«insert_final_newline»;
+    }
 
 -- what a finished text comes to in an output of n bytes
 abbrev pub outcomeIn : ℕ → Formatted → Outcome
-outcomeIn n t =
-    choose (ltb n (size (t .text))) (Outcome.Refused (Refusal.OutputShort (size (t .text))))
-    (Outcome.Formatted (size (t .text)) (t .importsSplit) (t .blankNames))
+outcomeIn n t = outcomeAfter (shortOutput (size (t .text)) n) (size (t .text)) (t .importsSplit) (t .blankNames)
 
 -- the text t went to an output of n bytes; the scratch of m bytes is cleared
 pub record Fitted (t : Formatted) (n m : ℕ) (r : Outcome) (out scratch : List ℕ) : Type 0 where

@@ -1,3 +1,4 @@
 -- What the contracts cite besides the rules.
 pub mod Formatted
-pub mod Answered
+pub mod Ran
+pub mod FormatAnswered

@@ -48,9 +48,9 @@ pub fn format_with(
     requires { ⌜ Passed (now source) (now indent) (now scratch) ⌝ }
     ensures { λ r. ⌜ Fitted (formatWith (optionsWith (now (indent .entry)) chosen) (decode (now (source .entry)))) (length (now (output .entry))) (length (now (scratch .entry))) r (now (output .exit)) (now (scratch .exit)) ⌝ }
 {
-    let width = chosen.width;
-    let end_of_line = chosen.ending;
-    let newline = chosen.newline;
+    let width = chosen.print_width;
+    let end_of_line = chosen.end_of_line;
+    let newline = chosen.insert_final_newline;
     let ending = ending_of(end_of_line, source);
     let st = lines::format_lines(source, indent, width, ending, output, scratch);
     buffer::zero(scratch);

@@ -1,13 +1,37 @@
 // The whole formatting call: the refusals, then the text, then the answer.
+ghost use mathlib.Core.Path.{_≡_};
 ghost use lib.ListN.{length};
+ghost use Rattle.rules.specs.Refusals.{tested};
+ghost use Rattle.rules.specs.Call.{formatTests};
 ghost use Rattle.call.specs.Formatted.{RefusedCall};
-ghost use Rattle.call.specs.Answered.{callOf, Ran, FormatAnswered};
-use answer::MAX_SOURCE;
+ghost use Rattle.call.specs.Ran.{callOf, numbersOf, Ran};
+ghost use Rattle.call.specs.FormatAnswered.{FormatAnswered};
+use options::FormatOptions;
 use rules::Answer;
+use rules::OptionNumbers;
 use rules::Outcome;
 use rules::Refusal;
+use rules::Verdict;
 
 pub mod assembly;
+
+// The bytes of scratch for each of the source's, beside 256.
+pub const FORMAT_SCRATCH: usize = 8;
+
+// Refusals 1 to 4 in number order.
+fn test(source: &[u8], bad_option: bool, scratch: usize) -> Verdict
+    ensures { λ r. ⌜ r ≡ tested (formatTests (now (source .entry)) «bad_option» scratch) ⌝ }
+{
+    match answer::test_length(source) {
+        Verdict::Refused(why) => Verdict::Refused(why),
+        Verdict::Accepted => {
+            if bad_option {
+                return Verdict::Refused(Refusal::BadOption);
+            }
+            answer::test_bytes(source, FORMAT_SCRATCH, scratch)
+        }
+    }
+}
 
 // Both buffers are cleared.
 fn refuse(output: &mut [u8], scratch: &mut [u8], why: Refusal) -> Outcome
@@ -18,36 +42,22 @@ fn refuse(output: &mut [u8], scratch: &mut [u8], why: Refusal) -> Outcome
     Outcome::Refused(why)
 }
 
-// The refusals in number order; a call to which none applies is accepted.
+// The tests, then the text, which may turn out too long for the output.
 fn run_call(
     source: &[u8],
     indent: &[u8],
-    width_set: u64,
-    width: u64,
-    line_ending: u64,
-    final_newline: u64,
+    numbers: OptionNumbers,
     output: &mut [u8],
     scratch: &mut [u8],
 ) -> Outcome
-    ensures { λ r. ⌜ Ran (callOf (now (source .entry)) (now (indent .entry)) «width_set» width «line_ending» «final_newline» (length (now (output .entry))) (length (now (scratch .entry)))) r (now (output .exit)) (now (scratch .exit)) ⌝ }
+    ensures { λ r. ⌜ Ran (callOf (now (source .entry)) (now (indent .entry)) numbers (length (now (output .entry))) (length (now (scratch .entry)))) r (now (output .exit)) (now (scratch .exit)) ⌝ }
 {
-    let n = source.len();
-    if MAX_SOURCE < n {
-        return refuse(output, scratch, Refusal::SourceTooLong);
+    let named = FormatOptions::from_numbers(indent, numbers);
+    let chosen = named.options;
+    match test(source, named.refused, scratch.len()) {
+        Verdict::Refused(why) => refuse(output, scratch, why),
+        Verdict::Accepted => assembly::format_with(source, indent, chosen, output, scratch),
     }
-    if options::numbers::valid_options(indent, width_set, line_ending, final_newline) {
-        let needed = 8 * n + 256;
-        if scratch.len() < needed {
-            return refuse(output, scratch, Refusal::ScratchShort(needed));
-        }
-        let prefix = unicode::well_formed_prefix(source);
-        if prefix != n {
-            return refuse(output, scratch, Refusal::NotUtf8(prefix));
-        }
-        let chosen = options::numbers::named(indent, width_set, width, line_ending, final_newline);
-        return assembly::format_with(source, indent, chosen, output, scratch);
-    }
-    refuse(output, scratch, Refusal::BadOption)
 }
 
 // The whole call, with its answer in numbers.
@@ -61,17 +71,14 @@ pub fn format_call(
     output: &mut [u8],
     scratch: &mut [u8],
 ) -> Answer
-    ensures { λ r. ⌜ FormatAnswered (callOf (now (source .entry)) (now (indent .entry)) «width_set» width «line_ending» «final_newline» (length (now (output .entry))) (length (now (scratch .entry)))) r (now (output .exit)) (now (scratch .exit)) ⌝ }
+    ensures { λ r. ⌜ FormatAnswered (callOf (now (source .entry)) (now (indent .entry)) (numbersOf «width_set» width «line_ending» «final_newline») (length (now (output .entry))) (length (now (scratch .entry)))) r (now (output .exit)) (now (scratch .exit)) ⌝ }
 {
-    let outcome = run_call(
-        source,
-        indent,
+    let numbers = OptionNumbers {
         width_set,
         width,
         line_ending,
         final_newline,
-        output,
-        scratch,
-    );
+    };
+    let outcome = run_call(source, indent, numbers, output, scratch);
     answer::answer_of(outcome)
 }

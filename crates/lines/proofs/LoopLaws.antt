@@ -69,7 +69,7 @@ next-line source at e q = go (split e (length source))
 -- options with this indent and this width
 abbrev someOptions : List ℕ → PrintWidth → Options
 someOptions indent width =
-    record { indent = indent; printWidth = width; endOfLine = EndOfLine.Kept; finalNewline = FinalNewline.Always }
+    record { indent = indent; printWidth = width; endOfLine = EndOfLine.Kept; insertFinalNewline = FinalNewline.Always }
 
 -- the lines `left` are still to come, after the definition's record f
 pub record Running (o : Options) (source eol : List ℕ) (left : List (List ℕ)) (st : State) (out scratch : List ℕ) : Type 0 where

@@ -5,8 +5,7 @@ use mathlib.Core.Path.{_≡_, refl, sym, ap, _∙_}
 use mathlib.Core.List.{List}
 use native.Mathlib.Omega.{arith}
 use lib.ListN.{length, take, length-take}
-use Rattle.rules.specs.Options.{Options, withIndent}
-use Rattle.rules.specs.Options as rules
+use Rattle.rules.specs.Options.{Options, SettingStep, maxIndent, withIndent}
 use Rattle.rules.specs.Call.{filled}
 use Rattle.rules.proofs.Choose.{choose-case}
 use Rattle.options.specs.Held.{optionsIn, held, heldChange}
@@ -22,13 +21,13 @@ stepped refused s = record { refused = refused; options = s }
 
 -- the struct of some options stands for them
 pub in-held : (o : Options) → optionsIn (held o) ≡ o
-in-held o = ap (λ (l : List ℕ). withIndent o l) (take-filled 64 (o .indent))
+in-held o = ap (λ (l : List ℕ). withIndent o l) (take-filled maxIndent (o .indent))
 
 pub held-again : (s : FormatOptions) (o : Options) → s ≡ held o → s ≡ held (optionsIn s)
 held-again s o e = e ∙ ap held (sym (in-held o) ∙ ap optionsIn (sym e))
 
 -- what a step hands back is such a struct again
-pub change-held : (s : FormatOptions) (c : rules.Changed) (t : Changed) → t ≡ heldChange s c → s ≡ held (optionsIn s)
+pub change-held : (s : FormatOptions) (c : SettingStep) (t : Changed) → t ≡ heldChange s c → s ≡ held (optionsIn s)
     → t .options ≡ held (optionsIn (t .options))
 change-held s c t e w =
     rw e
@@ -42,10 +41,17 @@ pub used-within : (s : FormatOptions) → s ≡ held (optionsIn s) → s .used �
 used-within s e = omega (arith, used-is s e, length-take (s .used) (s .indent))
 
 -- a struct that is made of its parts
-pub held-parts : (o : Options) (bytes : List ℕ) (n : ℕ) → bytes ≡ filled 64 (o .indent) → n ≡ length (o .indent)
-    → _≡_ {A = FormatOptions} (record { indent = bytes; used = n; width = o .printWidth; ending = o .endOfLine; newline = o .finalNewline }) (held o)
+pub held-parts : (o : Options) (bytes : List ℕ) (n : ℕ) → bytes ≡ filled maxIndent (o .indent) → n ≡ length (o .indent)
+    → _≡_ {A = FormatOptions} (record {
+      indent = bytes;
+      used = n;
+      «print_width» = o .printWidth;
+      «end_of_line» = o .endOfLine;
+      «insert_final_newline» = o .insertFinalNewline;
+    })
+    (held o)
 held-parts o bytes n e k = rw (e, k)
 
--- an array of 64 bytes holds no longer indent
-pub in-short : (s : FormatOptions) → length (s .indent) ≡ 64 → length (optionsIn s .indent) ≤ 64
+-- an array of that many bytes holds no longer indent
+pub in-short : (s : FormatOptions) → length (s .indent) ≡ maxIndent → length (optionsIn s .indent) ≤ maxIndent
 in-short s e = omega (arith, length-take (s .used) (s .indent))

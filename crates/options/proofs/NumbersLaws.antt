@@ -1,23 +1,26 @@
 -- Options as a host gives them.
 use Prim.Native.Nat.{ℕ, suc, _+_, _-_, _≤_, _<_}
-use mathlib.Core.Bool.{Bool, true, false, _&&_}
+use mathlib.Core.Bool.{Bool, true, false, not, _&&_, and-false}
 use mathlib.Core.Path.{_≡_, refl, sym, ap, _∙_}
 use mathlib.Core.List.{List}
 use native.Mathlib.Omega.{arith}
-use lib.Dec.{leb}
 use lib.ListN.{length, getD, drop, drop-of-length-le}
 use borrow.Author.Tests.{ne-eqb, le-leb, lt-leb, leb-true, not-true, not-false}
 use Rattle.buffer.specs.Repeat.{times}
 use Rattle.rules.specs.Basics.{choose}
-use Rattle.rules.specs.Options.{defaults, allBlank, validIndent}
-use Rattle.rules.specs.Call.{Call, filled, validOptions, widthNamed, endingNamed, newlineNamed, optionsOf}
+use Rattle.rules.specs.Options.{defaults, maxIndent, allBlank, validIndent}
+use Rattle.rules.specs.Choices.{Choices, printWidthNamed, endOfLineNamed, finalNewlineNamed, isNamed, validOptions, optionsOf}
+use Rattle.rules.specs.Call.{filled}
 use Rattle.rules.specs.declared.EndOfLine.{EndOfLine}
 use Rattle.rules.specs.declared.PrintWidth.{PrintWidth}
 use Rattle.rules.specs.declared.FinalNewline.{FinalNewline}
 use Rattle.rules.proofs.Choose.{choose-true}
-use Rattle.options.specs.Held.{optionsIn, held, heldNamed, numbers}
+use Rattle.options.specs.Held.{optionsIn, held, heldNamed, widthIn, endingIn, newlineIn}
 use Rattle.options.specs.declared.FormatOptions.{FormatOptions}
 use Rattle.options.specs.declared.Changed.{Changed}
+use Rattle.options.specs.declared.numbers.WidthNamed.{WidthNamed}
+use Rattle.options.specs.declared.numbers.EndingNamed.{EndingNamed}
+use Rattle.options.specs.declared.numbers.NewlineNamed.{NewlineNamed}
 use Rattle.options.proofs.ListLaws.{drop-next, times-one}
 use Rattle.options.proofs.HeldLaws.{stepped, in-held, held-again}
 
@@ -49,13 +52,13 @@ module _ {s : List ℕ} {i : ℕ} (c : Blank s i) where
     blank-not m n = sym (c .is ∙ ap allBlank (drop-next s i h) ∙ rw (ne-eqb (getD s i 0) 32 m, ne-eqb (getD s i 0) 9 n))
 
 module _ (s : List ℕ) where
-  pub indent-long : 64 < length s → false ≡ validIndent s
+  pub indent-long : maxIndent < length s → false ≡ validIndent s
   unfolding validIndent
-  indent-long h = rw (lt-leb (length s) 64 h)
+  indent-long h = rw (lt-leb (length s) maxIndent h)
 
-  pub indent-short : (b : Bool) → length s ≤ 64 → b ≡ allBlank s → b ≡ validIndent s
+  pub indent-short : (b : Bool) → length s ≤ maxIndent → b ≡ allBlank s → b ≡ validIndent s
   unfolding validIndent
-  indent-short b h e = rw (le-leb (length s) 64 h) e
+  indent-short b h e = rw (le-leb (length s) maxIndent h) e
 
 -- ---- the numbers
 
@@ -69,48 +72,68 @@ past-one n h k = omega arith
 pub past-two : (n : ℕ) → (n ≡ 0 → ⊥) → (n ≡ 1 → ⊥) → (n ≡ 2 → ⊥) → n ≡ suc (suc (suc (n - 3)))
 past-two n h k m = omega arith
 
-module _ (c : Call) where
-  pub valid-not : (b : Bool) → b ≡ validIndent (c .indent) → b ≡ false → false ≡ validOptions c
-  unfolding validOptions
-  valid-not b e f = rw (← e, f)
-
-  pub valid-both : (b r : Bool) → b ≡ validIndent (c .indent) → b ≡ true
-      → r ≡ (leb (c .widthSet) 1 && leb (c .lineEnding) 2 && leb (c .finalNewline) 1) → r ≡ validOptions c
-  unfolding validOptions
-  valid-both b r e f p = rw (← e, f) p
+-- ---- the options that choices name
 
 both-first : (a b : Bool) → (a && b) ≡ true → a ≡ true
 both-first true b e = refl
 both-first false b e = e
 
-pub valid-length : (c : Call) → validOptions c ≡ true → length (c .indent) ≤ 64
-unfolding validOptions validIndent
-valid-length c e = leb-true (length (c .indent)) 64 (both-first _ _ (both-first _ _ (both-first _ _ (both-first _ _ e))))
+indent-fits : (s : List ℕ) → validIndent s ≡ true → length s ≤ maxIndent
+unfolding validIndent
+indent-fits s e = leb-true (length s) maxIndent (both-first _ _ e)
 
--- ---- the options that a call names
+pub times-fit : (s : List ℕ) (b : Bool) → b ≡ validIndent s → b ≡ true → length (times 1 s) ≤ maxIndent
+times-fit s b e f = rw times-one (indent-fits s (sym e ∙ f))
 
-pub named-parts : (c : Call) (bytes : List ℕ) (w : PrintWidth) (e : EndOfLine) (n : FinalNewline) → bytes ≡ filled 64 (times 1 (c .indent))
-    → w ≡ widthNamed (c .widthSet) (c .width) → e ≡ endingNamed (c .lineEnding) → n ≡ newlineNamed (c .finalNewline)
-    → _≡_ {A = FormatOptions} (record { indent = bytes; used = length (c .indent); width = w; ending = e; newline = n }) (held (optionsOf c))
-unfolding optionsOf
-named-parts c bytes w e n p q r t = rw (p, q, r, t, times-one)
+-- the step that is refused, with the defaults
+abbrev unnamed : Changed
+unnamed = stepped true (held defaults)
 
-module _ (c : Call) (b : Bool) (s : FormatOptions) (e : b ≡ validOptions c) where
-  pub named-made : b ≡ true → s ≡ held (optionsOf c) → stepped false s ≡ heldNamed c
+module _ (c : Choices) (r : Changed) where
+  none-named : validOptions c ≡ false → r ≡ unnamed → r ≡ heldNamed c
   unfolding choose
-  named-made f p = rw (← e, f) (ap (stepped false) p)
+  none-named e p = p ∙ rw e
 
-  pub named-refused : b ≡ false → s ≡ held defaults → stepped true s ≡ heldNamed c
-  unfolding choose
-  named-refused f p = rw (← e, f) (ap (stepped true) p)
+  pub width-unnamed : (w : WidthNamed) → widthIn w ≡ printWidthNamed (c .numbers .«width_set») (c .numbers .width) → w ≡ WidthNamed.Nothing → r ≡ unnamed → r ≡ heldNamed c
+  unfolding validOptions isNamed
+  width-unnamed w p e = none-named (rw (← p, e, and-false))
 
--- What from_numbers gives tells whether the call's options are valid, and then which they are.
-module _ (c : Call) (t : Changed) (e : t ≡ heldNamed c) where
+  pub ending-unnamed : (w : EndingNamed) → endingIn w ≡ endOfLineNamed (c .numbers .«line_ending») → w ≡ EndingNamed.Nothing → r ≡ unnamed → r ≡ heldNamed c
+  unfolding validOptions isNamed
+  ending-unnamed w p e = none-named (rw (← p, e, and-false))
+
+  pub newline-unnamed : (w : NewlineNamed) → newlineIn w ≡ finalNewlineNamed (c .numbers .«final_newline») → w ≡ NewlineNamed.Nothing → r ≡ unnamed → r ≡ heldNamed c
+  unfolding validOptions isNamed
+  newline-unnamed w p e = none-named (rw (← p, e, and-false))
+
+  pub indent-unnamed : (b : Bool) → b ≡ validIndent (c .indent) → b ≡ false → r ≡ unnamed → r ≡ heldNamed c
+  unfolding validOptions
+  indent-unnamed b p e = none-named (rw (← p, e))
+
+module _
+    (c : Choices) (bytes : List ℕ) (w : WidthNamed) (e : EndingNamed) (n : NewlineNamed) (w′ : PrintWidth) (e′ : EndOfLine) (n′ : FinalNewline)
+    (ws : widthIn w ≡ printWidthNamed (c .numbers .«width_set») (c .numbers .width)) (wc : w ≡ WidthNamed.Choice w′)
+    (es : endingIn e ≡ endOfLineNamed (c .numbers .«line_ending»)) (ec : e ≡ EndingNamed.Choice e′)
+    (ns : newlineIn n ≡ finalNewlineNamed (c .numbers .«final_newline»)) (nc : n ≡ NewlineNamed.Choice n′)
+    (b : Bool) (p : b ≡ validIndent (c .indent)) (q : b ≡ true)
+  where
+    pub all-named : bytes ≡ filled maxIndent (times 1 (c .indent))
+        → stepped false
+        (record { indent = bytes; used = length (c .indent); «print_width» = w′; «end_of_line» = e′; «insert_final_newline» = n′ })
+        ≡ heldNamed c
+    unfolding validOptions isNamed optionsOf choose
+    all-named t = rw (t, times-one, ← ws, ← es, ← ns, wc, ec, nc, ← p, q)
+
+-- What from_numbers gives tells whether the choices are valid, and then which options they name.
+module _ (c : Choices) (t : Changed) (e : t ≡ heldNamed c) where
+  pub named-valid-is : t .refused ≡ not (validOptions c)
+  named-valid-is = ap (λ (u : Changed). u .refused) e
+
   pub named-invalid : t .refused ≡ true → validOptions c ≡ false
-  named-invalid f = not-true (validOptions c) (sym (ap (λ (u : Changed). u .refused) e) ∙ f)
+  named-invalid f = not-true (validOptions c) (sym named-valid-is ∙ f)
 
   pub named-valid : t .refused ≡ false → validOptions c ≡ true
-  named-valid f = not-false (validOptions c) (sym (ap (λ (u : Changed). u .refused) e) ∙ f)
+  named-valid f = not-false (validOptions c) (sym named-valid-is ∙ f)
 
   pub named-options : t .refused ≡ false → t .options ≡ held (optionsOf c)
   named-options f = ap (λ (u : Changed). u .options) e ∙ ap held (choose-true (validOptions c) (optionsOf c) defaults (named-valid f))
@@ -120,13 +143,3 @@ module _ (c : Call) (t : Changed) (e : t ≡ heldNamed c) where
 
   pub named-held : t .options ≡ held (optionsIn (t .options))
   named-held = held-again (t .options) _ (ap (λ (u : Changed). u .options) e)
-
--- The options of a whole call are those that its numbers name.
-module _ (c : Call) where
-  pub valid-numbers : validOptions (numbers (c .indent) (c .widthSet) (c .width) (c .lineEnding) (c .finalNewline)) ≡ validOptions c
-  unfolding validOptions
-  valid-numbers = refl
-
-  pub options-numbers : optionsOf (numbers (c .indent) (c .widthSet) (c .width) (c .lineEnding) (c .finalNewline)) ≡ optionsOf c
-  unfolding optionsOf
-  options-numbers = refl

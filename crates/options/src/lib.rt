@@ -1,16 +1,20 @@
 // options.rs: what the host chooses, and the steps that change it.
 ghost use mathlib.Core.Path.{_≡_};
-ghost use mathlib.Core.Bool.{false};
+ghost use mathlib.Core.Bool.{true, false};
 ghost use Prim.Native.Nat.{_≤_};
 ghost use lib.ListN.{length};
 ghost use Rattle.buffer.specs.Repeat.{times};
 ghost use Rattle.rules.specs.Options.{defaults, withIndent, indentWith};
 ghost use Rattle.rules.specs.EditorConfig.{tabSize, startsWithTab, spacesFor, resized, indentFrom, tooLarge, withEditorConfig};
 ghost use Rattle.rules.specs.Call.{filled};
-ghost use Rattle.options.specs.Held.{optionsIn, held, heldChange, valued, heldNamed, numbers};
+ghost use Rattle.options.specs.Held.{optionsIn, held, heldChange, valued, heldNamed};
+use crate::numbers::EndingNamed;
+use crate::numbers::NewlineNamed;
+use crate::numbers::WidthNamed;
 use rules::EndOfLine;
 use rules::FinalNewline;
 use rules::IndentStyle;
+use rules::OptionNumbers;
 use rules::PrintWidth;
 use rules::Resolved;
 use rules::TabWidth;
@@ -23,9 +27,9 @@ pub mod numbers;
 pub struct FormatOptions {
     pub indent: [u8; 64],
     pub used: usize,
-    pub width: PrintWidth,
-    pub ending: EndOfLine,
-    pub newline: FinalNewline,
+    pub print_width: PrintWidth,
+    pub end_of_line: EndOfLine,
+    pub insert_final_newline: FinalNewline,
 }
 
 // What a setting step hands back: the changed options, or, refused, the options as they were.
@@ -35,7 +39,7 @@ pub struct Changed {
 }
 
 impl FormatOptions {
-    pub const DEFAULT_PRINT_WIDTH: usize = 100;
+    pub const DEFAULT_PRINT_WIDTH: usize = PrintWidth::DEFAULT;
 
     pub const MAX_INDENT: usize = 64;
 
@@ -46,34 +50,54 @@ impl FormatOptions {
         Self {
             indent,
             used: 2,
-            width: PrintWidth::Columns(Self::DEFAULT_PRINT_WIDTH),
-            ending: EndOfLine::Kept,
-            newline: FinalNewline::Always,
+            print_width: PrintWidth::Columns(Self::DEFAULT_PRINT_WIDTH),
+            end_of_line: EndOfLine::Kept,
+            insert_final_newline: FinalNewline::Always,
         }
     }
 
-    // The options that numbers name; refused, with the defaults, where the numbers or the indent name none.
-    pub fn from_numbers(
-        indent: &[u8],
-        width_set: u64,
-        width: u64,
-        line_ending: u64,
-        final_newline: u64,
-    ) -> Changed
-        ensures { λ r. ⌜ r ≡ heldNamed (numbers (now (indent .entry)) «width_set» width «line_ending» «final_newline») ⌝ }
+    // A step that is refused, with the defaults.
+    fn unnamed() -> Changed
+        ensures { λ r. ⌜ r ≡ record { refused = true; options = held defaults } ⌝ }
     {
-        if numbers::valid_options(indent, width_set, line_ending, final_newline) {
-            let options = numbers::named(indent, width_set, width, line_ending, final_newline);
-            return Changed {
-                refused: false,
-                options,
-            };
-        }
         let options = FormatOptions::default();
         Changed {
             refused: true,
             options,
         }
+    }
+
+    // The options that an indent and numbers name; refused, with the defaults, where they name none.
+    pub fn from_numbers(indent: &[u8], numbers: OptionNumbers) -> Changed
+        ensures { λ r. ⌜ r ≡ heldNamed (record { indent = now (indent .entry); numbers = numbers }) ⌝ }
+    {
+        let width = numbers::print_width_named(numbers.width_set, numbers.width);
+        let WidthNamed::Choice(print_width) = width else {
+            return FormatOptions::unnamed();
+        };
+        let ending = numbers::end_of_line_named(numbers.line_ending);
+        let EndingNamed::Choice(end_of_line) = ending else {
+            return FormatOptions::unnamed();
+        };
+        let newline = numbers::final_newline_named(numbers.final_newline);
+        let NewlineNamed::Choice(insert_final_newline) = newline else {
+            return FormatOptions::unnamed();
+        };
+        if numbers::valid_indent(indent) {
+            let bytes = repeated(indent, 1);
+            let options = FormatOptions {
+                indent: bytes,
+                used: indent.len(),
+                print_width,
+                end_of_line,
+                insert_final_newline,
+            };
+            return Changed {
+                refused: false,
+                options,
+            };
+        }
+        FormatOptions::unnamed()
     }
 
     // The options with an indent of n times unit.
@@ -200,21 +224,21 @@ impl FormatOptions {
     {
         let indent = self.indent;
         let used = self.used;
-        let old_width = self.width;
-        let old_ending = self.ending;
-        let old_newline = self.newline;
+        let old_width = self.print_width;
+        let old_ending = self.end_of_line;
+        let old_newline = self.insert_final_newline;
         let max = r.max;
         let config_ending = r.ending;
         let config_newline = r.newline;
-        let width = editorconfig::width_from(max, old_width);
-        let ending = editorconfig::ending_from(config_ending, old_ending);
-        let newline = editorconfig::newline_from(config_newline, old_newline);
+        let print_width = editorconfig::width_from(max, old_width);
+        let end_of_line = editorconfig::ending_from(config_ending, old_ending);
+        let insert_final_newline = editorconfig::newline_from(config_newline, old_newline);
         Self {
             indent,
             used,
-            width,
-            ending,
-            newline,
+            print_width,
+            end_of_line,
+            insert_final_newline,
         }
     }
 }

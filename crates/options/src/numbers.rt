@@ -1,18 +1,29 @@
 // The options as a host gives them: bytes and numbers.
 ghost use mathlib.Core.Path.{_≡_};
-ghost use mathlib.Core.Bool.{_&&_};
-ghost use Prim.Native.Nat.{ℕ, _≤_};
-ghost use lib.Dec.{leb};
-ghost use lib.ListN.{length};
 ghost use Rattle.rules.specs.Options.{allBlank, validIndent};
-ghost use Rattle.rules.specs.Call.{validOptions, widthNamed, endingNamed, newlineNamed, optionsOf};
-ghost use Rattle.options.specs.Held.{held, numbers};
+ghost use Rattle.rules.specs.Choices.{printWidthNamed, endOfLineNamed, finalNewlineNamed};
+ghost use Rattle.options.specs.Held.{widthIn, endingIn, newlineIn};
 use crate::FormatOptions;
-use crate::repeated;
 use rules::EndOfLine;
 use rules::FinalNewline;
 use rules::LineEnding;
 use rules::PrintWidth;
+
+// What a number names: a choice, or nothing.
+pub enum WidthNamed {
+    Choice(PrintWidth),
+    Nothing,
+}
+
+pub enum EndingNamed {
+    Choice(EndOfLine),
+    Nothing,
+}
+
+pub enum NewlineNamed {
+    Choice(FinalNewline),
+    Nothing,
+}
 
 // At most 64 bytes, spaces and tabs only.
 pub fn valid_indent(indent: &[u8]) -> bool
@@ -40,78 +51,41 @@ fn all_blank(s: &[u8]) -> bool
     true
 }
 
-pub fn valid_numbers(width_set: u64, line_ending: u64, final_newline: u64) -> bool
-    ensures { λ r. ⌜ r ≡ (leb «width_set» 1 && leb «line_ending» 2 && leb «final_newline» 1) ⌝ }
-{
-    if 1 < width_set {
-        return false;
-    }
-    if 2 < line_ending {
-        return false;
-    }
-    final_newline <= 1
-}
-
-// The indent and the numbers name options, with any width.
-pub fn valid_options(indent: &[u8], width_set: u64, line_ending: u64, final_newline: u64) -> bool
-    ensures { λ r. ⌜ ((width : ℕ) → r ≡ validOptions (numbers (now (indent .entry)) «width_set» width «line_ending» «final_newline»)) ⌝ }
-{
-    if valid_indent(indent) {
-        return valid_numbers(width_set, line_ending, final_newline);
-    }
-    false
-}
-
-fn width_named(width_set: u64, width: u64) -> PrintWidth
-    ensures { λ r. ⌜ r ≡ widthNamed «width_set» width ⌝ }
+pub fn print_width_named(width_set: u64, width: u64) -> WidthNamed
+    ensures { λ r. ⌜ widthIn r ≡ printWidthNamed «width_set» width ⌝ }
 {
     if width_set == 0 {
-        return PrintWidth::Off;
+        return WidthNamed::Choice(PrintWidth::Off);
     }
-    PrintWidth::Columns(width as usize)
+    if width_set == 1 {
+        return WidthNamed::Choice(PrintWidth::Columns(width as usize));
+    }
+    WidthNamed::Nothing
 }
 
-fn ending_named(line_ending: u64) -> EndOfLine
-    ensures { λ r. ⌜ r ≡ endingNamed «line_ending» ⌝ }
+pub fn end_of_line_named(line_ending: u64) -> EndingNamed
+    ensures { λ r. ⌜ endingIn r ≡ endOfLineNamed «line_ending» ⌝ }
 {
     if line_ending == 0 {
-        return EndOfLine::Kept;
+        return EndingNamed::Choice(EndOfLine::Kept);
     }
     if line_ending == 1 {
-        return EndOfLine::Set(LineEnding::LF);
+        return EndingNamed::Choice(EndOfLine::Set(LineEnding::LF));
     }
-    EndOfLine::Set(LineEnding::CRLF)
+    if line_ending == 2 {
+        return EndingNamed::Choice(EndOfLine::Set(LineEnding::CRLF));
+    }
+    EndingNamed::Nothing
 }
 
-fn newline_named(final_newline: u64) -> FinalNewline
-    ensures { λ r. ⌜ r ≡ newlineNamed «final_newline» ⌝ }
+pub fn final_newline_named(final_newline: u64) -> NewlineNamed
+    ensures { λ r. ⌜ newlineIn r ≡ finalNewlineNamed «final_newline» ⌝ }
 {
     if final_newline == 0 {
-        return FinalNewline::AsSource;
+        return NewlineNamed::Choice(FinalNewline::AsSource);
     }
-    FinalNewline::Always
-}
-
-// The options that the numbers name.
-pub fn named(
-    indent: &[u8],
-    width_set: u64,
-    width: u64,
-    line_ending: u64,
-    final_newline: u64,
-) -> FormatOptions
-    requires { ⌜ length (now indent) ≤ 64 ⌝ }
-    ensures { λ r. ⌜ r ≡ held (optionsOf (numbers (now (indent .entry)) «width_set» width «line_ending» «final_newline»)) ⌝ }
-{
-    let bytes = repeated(indent, 1);
-    let print_width = width_named(width_set, width);
-    let ending = ending_named(line_ending);
-    let newline = newline_named(final_newline);
-    FormatOptions {
-        indent: bytes,
-        used: indent.len(),
-        width: print_width,
-        ending,
-        newline,
+    if final_newline == 1 {
+        return NewlineNamed::Choice(FinalNewline::Always);
     }
+    NewlineNamed::Nothing
 }

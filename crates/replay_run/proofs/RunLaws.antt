@@ -18,7 +18,7 @@ use Rattle.rules.specs.Basics.{choose, same}
 use Rattle.rules.specs.Call.{Call, outcomeOf, answerOf, outputOf, textOf}
 use Rattle.rules.specs.declared.Answer.{Answer}
 use Rattle.rules.proofs.CallLaws.{Delivered, delivered}
-use Rattle.call.specs.Answered.{FormatAnswered}
+use Rattle.call.specs.FormatAnswered.{FormatAnswered}
 use Rattle.line_ends.specs.LineEnds.{LineEnd}
 use Rattle.replay_run.specs.Stored.{caseAt, CaseRead, answerAt, endOf}
 use Rattle.replay_run.specs.Replay.{callIn, agrees, agreed, differed, caseSize, counted, stepped, replayed, begin, Counts, StepReady, Stepped}

@@ -7,8 +7,8 @@ use lib.Dec.{eqb, leb, ltb}
 use lib.ListN.{length, drop, getD}
 use Rattle.buffer.specs.Buffer.{part}
 use Rattle.rules.specs.Basics.{choose, same, splitOn}
-use Rattle.rules.specs.Call.{Call, outcomeOf, answerOf, textOf}
-use Rattle.call.specs.Answered.{callOf}
+use Rattle.rules.specs.Call.{Call, formatCall, textOf}
+use Rattle.call.specs.Ran.{callOf, numbersOf}
 use Rattle.replay_run.specs.Stored.{caseAt, indentOf, answerAt, endOf}
 use Rattle.replay_run.specs.declared.list.Case.{Case}
 use Rattle.replay_run.specs.declared.Progress.{Progress}
@@ -16,12 +16,14 @@ use Rattle.replay_run.specs.declared.Progress.{Progress}
 -- a case's call, with an output of n bytes and a scratch of m
 abbrev pub callIn : List ℕ → Case → ℕ → ℕ → Call
 callIn list c n m =
-    callOf (part list (c .from) (indentOf c)) (part list (indentOf c) (answerAt c)) (c .«width_set») (c .width) (c .«line_ending») (c .«final_newline») n m
+    callOf (part list (c .from) (indentOf c)) (part list (indentOf c) (answerAt c))
+    (numbersOf (c .«width_set») (c .width) (c .«line_ending») (c .«final_newline»)) n m
 
 -- the call is accepted, and its text is the stored answer
 unfoldable pub agrees : List ℕ → Case → ℕ → ℕ → Bool
 agrees list c n m =
-    choose (eqb (answerOf (outcomeOf (callIn list c n m)) .refusal) 0) (same (textOf (callIn list c n m)) (part list (answerAt c) (endOf c))) false
+    choose (eqb (formatCall (callIn list c n m) .answer .refusal) 0)
+    (same (textOf (callIn list c n m)) (part list (answerAt c) (endOf c))) false
 
 -- one source more, which agrees or differs
 abbrev pub agreed : Progress → ℕ → Progress

@@ -6,7 +6,9 @@ use mathlib.Core.List.{List, [], _∷_, _++_, map}
 use mathlib.Core.Path.{_≡_, refl}
 use lib.ListN.{length, replicate}
 use Rattle.rules.specs.Basics.{choose, codes}
-use Rattle.rules.specs.Options.{Options, Changed, defaults, withIndent, indentWith, spaces, tab}
+use Rattle.rules.specs.Options.{Options, SettingStep, defaults, withIndent, indentWith, spaces, tab}
+use Rattle.rules.specs.Assembly.{formatWith, formatWirescript}
+use Rattle.rules.specs.Choices.{Choices, defaultNumbers, printWidthNamed, endOfLineNamed, finalNewlineNamed, validOptions, optionsOf}
 use Rattle.rules.specs.Call.{Call, Result, outcomeOf, formatCall}
 use Rattle.rules.specs.TextKind.{textKindAt, kindOutcomeOf, kindNumber}
 use Rattle.rules.specs.EditorConfig.{withEditorConfig}
@@ -36,18 +38,29 @@ abbrev call : List ℕ → List ℕ → ℕ → ℕ → ℕ → ℕ → ℕ → 
 call source indent set width ending newline scratch output =
     record {
       source = source;
-      indent = indent;
-      widthSet = set;
-      width = width;
-      lineEnding = ending;
-      finalNewline = newline;
+      choices = record { indent = indent; numbers = record { «width_set» = set; width = width; «line_ending» = ending; «final_newline» = newline } };
       output = output;
       scratch = scratch;
     }
 
 -- with the default options
 abbrev plain : List ℕ → ℕ → ℕ → Call
-plain source scratch output = call source (codes "  ") 1 100 0 1 scratch output
+plain source scratch output =
+    record { source = source; choices = record { indent = defaults .indent; numbers = defaultNumbers }; output = output; scratch = scratch }
+
+-- the default numbers and two spaces name the defaults
+pub defaults-named : optionsOf (record { indent = defaults .indent; numbers = defaultNumbers }) ≡ defaults
+unfolding computing
+defaults-named = refl
+
+pub defaults-valid : validOptions (record { indent = defaults .indent; numbers = defaultNumbers }) ≡ true
+unfolding computing
+defaults-valid = refl
+
+-- format_wirescript is what the default numbers and an indent give
+pub wirescript-choices : (indent source : List ℕ) → formatWith (optionsOf (record { indent = indent; numbers = defaultNumbers })) source ≡ formatWirescript indent source
+unfolding optionsOf printWidthNamed endOfLineNamed finalNewlineNamed
+wirescript-choices indent source = refl
 
 abbrev fine : ℕ → Outcome
 fine len = Outcome.Formatted len 0 0
@@ -99,7 +112,7 @@ unfolding computing
 longest s e = rw e
 
 pub too-long : (s : List ℕ) → length s ≡ 1048577 → outcomeOf (plain s 8388872 0) ≡ Outcome.Refused Refusal.SourceTooLong
-unfolding outcomeOf choose
+unfolding computing
 too-long s e = rw e
 
 abbrev answer : ℕ → ℕ → ℕ → ℕ → ℕ → Answer
@@ -170,10 +183,10 @@ kind-refusals = refl
 
 -- ---- option steps
 
-abbrev changed : Options → Changed
+abbrev changed : Options → SettingStep
 changed o = record { refused = false; options = o }
 
-abbrev refusedStep : Changed
+abbrev refusedStep : SettingStep
 refusedStep = record { refused = true; options = defaults }
 
 abbrev tabbed : Options
@@ -201,7 +214,7 @@ abbrev rest : MaxLineLen → ConfigEnding → InsertFinalNewline → Resolved
 rest max ending newline =
     record { style = IndentStyle.Unset; size = IndentSize.Unset; tab = TabWidth.Unset; max = max; ending = ending; newline = newline }
 
-abbrev pub steps : List (Options × Resolved × Changed)
+abbrev pub steps : List (Options × Resolved × SettingStep)
 steps =
     -- reading 42: the size is the resolved one; size 0 gives an empty indent
     (defaults, sized IndentStyle.Unset (IndentSize.Value 4) (TabWidth.Value 65), changed (withIndent defaults (spaces 4)))
@@ -225,12 +238,12 @@ steps =
         indent = defaults .indent;
         printWidth = PrintWidth.Off;
         endOfLine = EndOfLine.Set LineEnding.Crlf;
-        finalNewline = FinalNewline.AsSource;
+        insertFinalNewline = FinalNewline.AsSource;
       }),
     )
     ∷ []
 
-pub configured-steps : map (λ (s : Options × Resolved × Changed). withEditorConfig (s .0) (s .1)) steps ≡ map (λ (s : Options × Resolved × Changed). s .2) steps
+pub configured-steps : map (λ (s : Options × Resolved × SettingStep). withEditorConfig (s .0) (s .1)) steps ≡ map (λ (s : Options × Resolved × SettingStep). s .2) steps
 unfolding computing
 configured-steps = refl
 

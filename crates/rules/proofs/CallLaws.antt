@@ -1,29 +1,32 @@
 -- Demand 3 for each accepted call, from bytes to bytes.
 --     accepted          what an accepted call passed, and its outcome
 --     text-scalars      its text consists of scalar values, so its bytes read back as its characters
---     delivered         the first bytes of the output are the text; demand 3 of the source's and the output's characters and of the answer's counts
+--     delivered         the first bytes of the output are the text, which is well formed; demand 3 of the source's and the output's characters and of
+--                       the answer's counts
 use Prim.Native.Nat.{ℕ, _≤_}
 use native.Mathlib.Omega.{arith}
 use mathlib.Core.Bool.{Bool, true, false, not, _&&_}
-use mathlib.Core.List.{List, [], _∷_}
+use mathlib.Core.List.{List, [], _∷_, _++_}
 use mathlib.Core.Path.{_≡_, refl, sym, ap, _∙_, subst}
 use lib.Dec.{T, leb, ltb}
 use lib.ListN.{length, take}
 use lib.Seq.{take-append-seam}
 use borrow.Author.Tests.{ltb-true, ltb-false, eqb-true, not-false, le-leb, lt-leb, ne-eqb}
-use Rattle.unicode.specs.Unicode.{isScalar, Scalars, decode, wellFormed, isWhite}
+use Rattle.unicode.specs.Unicode.{isScalar, Scalars, decode, WellFormed, isWhite}
 use Rattle.unicode.proofs.Tests.{by-test, and-right}
 use Rattle.unicode.proofs.Table.{scalar-low}
-use Rattle.unicode.proofs.Decode.{decode-encode, decode-scalars}
+use Rattle.unicode.proofs.Decode.{decode-encode, decode-scalars, wf-encode}
 use Rattle.rules.specs.Basics.{is, consIf, keep}
 use Rattle.rules.specs.Demand3.{isKept, strike, Kept}
 use Rattle.rules.specs.Options.{allBlank, validIndent, maxIndent}
 use Rattle.rules.specs.Assembly.{Formatted}
-use Rattle.rules.specs.Call.{Call, validOptions, widthNamed, optionsOf, formatted, textOf, outcomeOf, answerOf, filled, outputFor, outputOf}
-use Rattle.rules.specs.declared.Refusal.{Refusal}
+use Rattle.rules.specs.Choices.{Choices, validOptions, optionsOf}
+use Rattle.rules.specs.Refusals.{tested, shortOutput}
+use Rattle.rules.specs.Call.{Call, formatted, textOf, formatScratch, formatTests, verdictOf, outcomeAfter, outcomeOf, answerOf, filled, outputFor, outputOf}
+use Rattle.rules.specs.declared.Verdict.{Verdict}
 use Rattle.rules.specs.declared.Outcome.{Outcome}
 use Rattle.rules.specs.declared.Answer.{Answer}
-use Rattle.rules.proofs.Choose.{choose-case}
+use Rattle.rules.proofs.RefusalLaws.{numbered, Readable, readable, option-good, output-fits, head-passed, tail-passed, front-passed, back-passed}
 use Rattle.rules.proofs.Demand3.{demand3}
 
 -- ---- characters that are struck are scalar values
@@ -83,46 +86,69 @@ strike-scalars s t e h = scalars-keep isKept struck-scalar t (subst Scalars (sym
 
 -- ---- an accepted call
 
+-- what the tests 1 to 4 let pass
+pub record Admitted (source : List ℕ) (choices : Choices) (scratch : ℕ) : Type 0 where
+  pub valid : validOptions choices ≡ true
+  pub reads : Readable formatScratch source scratch
+
+pub admitted : (source : List ℕ) (choices : Choices) (scratch : ℕ)
+    → tested (formatTests source (not (validOptions choices)) scratch) ≡ Verdict.Accepted → Admitted source choices scratch
+admitted source choices scratch e =
+    let r = tail-passed _ _ e in
+    record {
+      valid = not-false (validOptions choices) (option-good _ (head-passed _ _ r));
+      reads = readable formatScratch source scratch (head-passed _ _ e) (tail-passed _ _ r);
+    }
+
 -- r is the outcome of c, and no refusal
 pub record Accepted (c : Call) (r : Outcome) : Type 0 where
-  pub valid : validOptions c ≡ true
-  pub well : wellFormed (c .source) ≡ true
+  pub admits : Admitted (c .source) (c .choices) (c .scratch)
   pub fits : length (textOf c) ≤ c .output
   pub outcome : r ≡ Outcome.Formatted (length (textOf c)) (formatted c .importsSplit) (formatted c .blankNames)
 
-refused : (c : Call) (r : Refusal) → answerOf (Outcome.Refused r) .refusal ≡ 0 → Accepted c (Outcome.Refused r)
-refused c Refusal.SourceTooLong e = absurd (omega arith)
-refused c Refusal.BadOption e = absurd (omega arith)
-refused c (Refusal.ScratchShort n) e = absurd (omega arith)
-refused c (Refusal.NotUtf8 n) e = absurd (omega arith)
-refused c (Refusal.OutputShort n) e = absurd (omega arith)
-
 pub accepted : (c : Call) → answerOf (outcomeOf c) .refusal ≡ 0 → Accepted c (outcomeOf c)
-unfolding outcomeOf
-accepted c =
-    let P : Outcome → Type 0 = λ r. answerOf r .refusal ≡ 0 → Accepted c r in
-    choose-case P (λ t. refused c _)
-    (λ t. choose-case P (λ u. refused c _)
-    (λ u. choose-case P (λ v. refused c _)
-    (λ v. choose-case P (λ w. refused c _)
-    (λ w. choose-case P (λ x. refused c _)
-    (λ x e. record { valid = not-false (validOptions c) u; well = not-false (wellFormed (c .source)) w; fits = ltb-false (c .output) (length (textOf c)) x; outcome = refl })))))
+unfolding outcomeOf verdictOf
+accepted c = go (verdictOf c) refl
+  where
+    tests : List Verdict
+    tests = formatTests (c .source) (not (validOptions (c .choices))) (c .scratch)
 
-pub first-of-four : (a b c d : Bool) → (a && b && c && d) ≡ true → a ≡ true
+    last : List Verdict
+    last = shortOutput (length (textOf c)) (c .output) ∷ []
+
+    given : Verdict → Outcome
+    given v = outcomeAfter v (length (textOf c)) (formatted c .importsSplit) (formatted c .blankNames)
+
+    go : (v : Verdict) → tested (tests ++ last) ≡ v → answerOf (given v) .refusal ≡ 0 → Accepted c (given v)
+    go Verdict.Accepted e z =
+        record {
+          admits = admitted (c .source) (c .choices) (c .scratch) (front-passed tests last e);
+          fits = output-fits (length (textOf c)) (c .output) (head-passed _ _ (back-passed tests last e));
+          outcome = refl;
+        }
+    go (Verdict.Refused r) e z = absurd (numbered r z)
+
+first-of-four : (a b c d : Bool) → (a && b && c && d) ≡ true → a ≡ true
 first-of-four true b c d h = refl
 first-of-four false b c d h = h
 
+pub indent-valid : (c : Choices) → validOptions c ≡ true → validIndent (c .indent) ≡ true
+unfolding validOptions
+indent-valid c e = first-of-four (validIndent (c .indent)) _ _ _ e
+
 module _ (c : Call) (r : Outcome) (a : Accepted c r) where
-  indent-blank : allBlank (c .indent) ≡ true
-  unfolding validOptions validIndent
+  indent-blank : allBlank (c .choices .indent) ≡ true
+  unfolding validIndent
   indent-blank =
-      and-right (leb (length (c .indent)) maxIndent) (allBlank (c .indent))
-      (first-of-four (validIndent (c .indent)) (leb (c .widthSet) 1) (leb (c .lineEnding) 2) (leb (c .finalNewline) 1) (a .valid))
+      and-right (leb (length (c .choices .indent)) maxIndent) (allBlank (c .choices .indent))
+      (indent-valid (c .choices) (a .admits .valid))
 
   -- demand 3 of the text
-  pub text-kept : Kept (widthNamed (c .widthSet) (c .width)) (decode (c .source)) (formatted c .text) (formatted c .importsSplit) (formatted c .blankNames)
+  pub text-kept :
+      Kept (optionsOf (c .choices) .printWidth) (decode (c .source)) (formatted c .text) (formatted c .importsSplit)
+      (formatted c .blankNames)
   unfolding formatted optionsOf
-  text-kept = demand3 (optionsOf c) indent-blank (decode (c .source))
+  text-kept = demand3 (optionsOf (c .choices)) indent-blank (decode (c .source))
 
   pub text-scalars : Scalars (formatted c .text)
   text-scalars = strike-scalars (decode (c .source)) (formatted c .text) (text-kept .struck) (decode-scalars (c .source))
@@ -131,13 +157,18 @@ module _ (c : Call) (r : Outcome) (a : Accepted c r) where
   unfolding textOf
   text-back = decode-encode (formatted c .text) text-scalars
 
+  pub text-well : WellFormed (textOf c)
+  unfolding textOf
+  text-well = wf-encode (formatted c .text) text-scalars
+
 -- ---- what an accepted call delivers
 
 pub record Delivered (c : Call) (len imports blanks : ℕ) : Type 0 where
   pub long : len ≡ length (textOf c)
   pub bytes : take len (outputOf c) ≡ textOf c
   pub chars : decode (take len (outputOf c)) ≡ formatted c .text
-  pub kept : Kept (widthNamed (c .widthSet) (c .width)) (decode (c .source)) (decode (take len (outputOf c))) imports blanks
+  pub well : WellFormed (take len (outputOf c))
+  pub kept : Kept (optionsOf (c .choices) .printWidth) (decode (c .source)) (decode (take len (outputOf c))) imports blanks
 
 written : (c : Call) (r : Outcome) → Accepted c r → take (answerOf r .length) (outputFor r (c .output) (textOf c)) ≡ textOf c
 unfolding filled
@@ -154,10 +185,24 @@ delivered c r e z =
       long = ap (λ (q : Outcome). answerOf q .length) (a .outcome);
       bytes = b;
       chars = t;
+      well = subst WellFormed (sym b) (text-well c r a);
       kept = rw (t, a .outcome) (text-kept c r a);
     }
 
 -- the same of an answer and an output that are those of the call
-pub answer-kept : (c : Call) (a : Answer) (out : List ℕ) → a ≡ answerOf (outcomeOf c) → out ≡ outputOf c → a .refusal ≡ 0
-    → Kept (widthNamed (c .widthSet) (c .width)) (decode (c .source)) (decode (take (a .length) out)) (a .«imports_split») (a .«blank_names»)
-answer-kept c a out e f z = rw (f, e) (delivered c (outcomeOf c) refl (sym (ap (λ (b : Answer). b .refusal) e) ∙ z) .kept)
+module _
+    (c : Call) (a : Answer) (out : List ℕ) (e : a ≡ answerOf (outcomeOf c)) (f : out ≡ outputOf c) (z : a .refusal ≡ 0)
+  where
+    abbrev given : Answer
+    given = answerOf (outcomeOf c)
+
+    delivers : Delivered c (given .length) (given .«imports_split») (given .«blank_names»)
+    delivers = delivered c (outcomeOf c) refl (sym (ap (λ (b : Answer). b .refusal) e) ∙ z)
+
+    pub answer-well : WellFormed (take (a .length) out)
+    answer-well = rw (f, e) (delivers .well)
+
+    pub answer-kept :
+        Kept (optionsOf (c .choices) .printWidth) (decode (c .source)) (decode (take (a .length) out)) (a .«imports_split»)
+        (a .«blank_names»)
+    answer-kept = rw (f, e) (delivers .kept)

@@ -70,7 +70,7 @@ module _ (eol : List ℕ) (white : White eol) where
   like-finish : (o : Options) (source : List ℕ) (f : Formatter) → Like (finish o source eol f .text) (flattenBack (f .lines))
   unfolding finish
   like-finish o source f =
-      like-after (lastEnding (o .finalNewline) source eol) (joined eol (dropEmpty (f .lines))) (white-last (o .finalNewline) source)
+      like-after (lastEnding (o .insertFinalNewline) source eol) (joined eol (dropEmpty (f .lines))) (white-last (o .insertFinalNewline) source)
       then like-joined (dropEmpty (f .lines)) then like-eq (flattenBack-dropEmpty (f .lines))
 
 -- ---- the whole text

@@ -16,7 +16,12 @@ Case = Options × String × String × ℕ × ℕ
 
 abbrev pub atWidth : ℕ → Options
 atWidth n =
-    record { indent = defaults .indent; printWidth = PrintWidth.Columns n; endOfLine = defaults .endOfLine; finalNewline = defaults .finalNewline }
+    record {
+      indent = defaults .indent;
+      printWidth = PrintWidth.Columns n;
+      endOfLine = defaults .endOfLine;
+      insertFinalNewline = defaults .insertFinalNewline;
+    }
 
 abbrev noFinalNewline : Options
 noFinalNewline =
@@ -24,7 +29,7 @@ noFinalNewline =
       indent = defaults .indent;
       printWidth = defaults .printWidth;
       endOfLine = defaults .endOfLine;
-      finalNewline = FinalNewline.AsSource;
+      insertFinalNewline = FinalNewline.AsSource;
     }
 
 abbrev pub expected : Case → Formatted

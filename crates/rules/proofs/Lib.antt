@@ -19,6 +19,7 @@ pub mod SplitOperationLaws
 pub mod SplitImportLaws
 pub mod LineLaws
 pub mod Demand3
+pub mod RefusalLaws
 pub mod CallLaws
 -- the respaced line
 pub mod SpacedLine

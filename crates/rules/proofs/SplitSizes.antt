@@ -20,11 +20,12 @@ use Rattle.unicode.proofs.Tests.{and-left, and-right}
 use Rattle.unicode.proofs.Decode.{Ascii, encode-nil, encode-ascii, size-append}
 use Rattle.unicode.proofs.Trim.{end-split, trim-split}
 use Rattle.rules.specs.Basics.{choose, is, codes, isBlank, isEmpty, Pieces, pieces, atSep, splitOn}
-use Rattle.rules.specs.Options.{Options, allBlank, indentOf}
+use Rattle.rules.specs.Options.{Options, maxIndent, allBlank, indentOf}
 use Rattle.rules.specs.Scan.{Cell, charsOf, classify}
 use Rattle.rules.specs.SplitImport.{Laid, beforeCode, fromCode, consName, namesOf, blanksOf, withComma, addName, fillNames, importLines, importParts, closedImport, openedImport, splitImport}
 use Rattle.rules.specs.SplitOperation.{OpMark, topLevelOps, loosest, atMark, cutBefore, trimmed, breakAt, splitOnce, nextBreak, breakOn, breakFirst, layPieces, splitOperation}
 use Rattle.rules.specs.Assembly.{joined}
+use Rattle.rules.specs.Refusals.{maxSource}
 use Rattle.rules.specs.declared.Carry.{Carry}
 use Rattle.rules.proofs.Choose.{choose-case}
 use Rattle.rules.proofs.StartsBytes.{low-of, steady-blank, encode-some}
@@ -174,7 +175,7 @@ module _ (table : List ℕ) (o : Options) (max level : ℕ) where
   cost-first (suc n) p = cost-on (nextBreak table o max level (p .first)) p (breakFirst table o max level n) (cost-first n) (cheap-next (p .first))
 
 -- the lines of a split at a level, within the limits
-module _ (o : Options) (blank : allBlank (o .indent) ≡ true) (short : length (o .indent) ≤ 64) (level : ℕ) (flat : level ≤ 1048576) where
+module _ (o : Options) (blank : allBlank (o .indent) ≡ true) (short : length (o .indent) ≤ maxIndent) (level : ℕ) (flat : level ≤ maxSource) where
   room-rest : (ls : List (List ℕ)) → roomOf (map (λ (l : List ℕ). indentOf o (suc level) ++ l) ls) ≤ costs ls
   unfolding roomOf costs
   room-rest [] = omega arith
@@ -281,7 +282,7 @@ abbrev ImportedFits : List ℕ → ℕ → Option Laid → Type 0
 ImportedFits eol n none = Unit {0}
 ImportedFits eol n (some laid) = ImportFits eol n laid
 
-module _ (o : Options) (blank : allBlank (o .indent) ≡ true) (short : length (o .indent) ≤ 64) (level : ℕ) (flat : level ≤ 1048576) where
+module _ (o : Options) (blank : allBlank (o .indent) ≡ true) (short : length (o .indent) ≤ maxIndent) (level : ℕ) (flat : level ≤ maxSource) where
   module _ (eol : List ℕ) (end : size eol ≤ 2) (max : ℕ) where
     room-import : (head : List ℕ) (ns : List (List ℕ)) (tail : List ℕ)
         → roomOf (importLines o max level head ns tail) ≤ 134217734 + size head + nameCosts ns + size tail

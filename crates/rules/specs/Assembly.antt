@@ -2,9 +2,10 @@
 use Prim.Native.Nat.{ℕ}
 use mathlib.Core.Bool.{Bool, true, false}
 use mathlib.Core.List.{List, [], _∷_, _++_, foldl}
+use Rattle.unicode.specs.Unicode.{encode, decode}
 use Rattle.rules.specs.Basics.{choose}
 use Rattle.rules.specs.Lines.{asStr, linesOf, dominantIn, endsInLf}
-use Rattle.rules.specs.Options.{Options}
+use Rattle.rules.specs.Options.{Options, defaults, withIndent}
 use Rattle.rules.specs.Line.{Formatter, start, formatLine}
 use Rattle.rules.specs.declared.LineEnding.{LineEnding}
 use Rattle.rules.specs.declared.EndOfLine.{EndOfLine}
@@ -39,7 +40,7 @@ lastEnding FinalNewline.AsSource source eol = choose (endsInLf source) eol []
 unfoldable pub finish : Options → List ℕ → List ℕ → Formatter → Formatted
 finish o source eol f =
     record {
-      text = joined eol (dropEmpty (f .lines)) ++ lastEnding (o .finalNewline) source eol;
+      text = joined eol (dropEmpty (f .lines)) ++ lastEnding (o .insertFinalNewline) source eol;
       importsSplit = f .importsSplit;
       blankNames = f .blankNames;
     }
@@ -50,3 +51,11 @@ formatLines o raws f = foldl (formatLine o) f raws
 -- format_with, with both counts
 unfoldable pub formatWith : Options → List ℕ → Formatted
 formatWith o source = finish o source (asStr (endingOf (o .endOfLine) source)) (formatLines o (linesOf source) start)
+
+-- format_wirescript: format_with with the default options and a given indent
+abbrev pub formatWirescript : List ℕ → List ℕ → Formatted
+formatWirescript indent source = formatWith (withIndent defaults indent) source
+
+-- the text of a source, both as bytes, with the default options: what a program writes
+unfoldable pub defaultText : List ℕ → List ℕ
+defaultText source = encode (formatWith defaults (decode source) .text)

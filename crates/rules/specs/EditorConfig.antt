@@ -6,7 +6,7 @@ use mathlib.Core.Option.{Option, none, some}
 use lib.Dec.{ltb}
 use lib.ListN.{length}
 use Rattle.rules.specs.Basics.{choose, is, firstIs}
-use Rattle.rules.specs.Options.{Options, Changed, maxIndent, tab, spaces}
+use Rattle.rules.specs.Options.{Options, SettingStep, maxIndent, tab, spaces}
 use Rattle.rules.specs.declared.LineEnding.{LineEnding}
 use Rattle.rules.specs.declared.EndOfLine.{EndOfLine}
 use Rattle.rules.specs.declared.PrintWidth.{PrintWidth}
@@ -76,10 +76,10 @@ configured o r =
       indent = indentFrom (r .style) (sizeOf (r .size) (r .tab)) o;
       printWidth = widthFrom (r .max) (o .printWidth);
       endOfLine = endingFrom (r .ending) (o .endOfLine);
-      finalNewline = newlineFrom (r .newline) (o .finalNewline);
+      insertFinalNewline = newlineFrom (r .newline) (o .insertFinalNewline);
     }
 
-unfoldable pub withEditorConfig : Options → Resolved → Changed
+unfoldable pub withEditorConfig : Options → Resolved → SettingStep
 withEditorConfig o r =
     choose (tooLarge (sizeOf (r .size) (r .tab)))
     (record { refused = true; options = o })

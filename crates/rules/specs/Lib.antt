@@ -13,6 +13,8 @@ pub mod SplitImport
 pub mod SplitOperation
 pub mod OperatorBytes
 pub mod Assembly
+pub mod Refusals
+pub mod Choices
 pub mod Call
 pub mod TextKind
 pub mod EditorConfig

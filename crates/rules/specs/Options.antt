@@ -15,7 +15,7 @@ pub record Options : Type 0 where
   pub indent : List ℕ
   pub printWidth : PrintWidth
   pub endOfLine : EndOfLine
-  pub finalNewline : FinalNewline
+  pub insertFinalNewline : FinalNewline
 
 -- indent two spaces, width 100, ending kept, final newline true
 abbrev pub defaults : Options
@@ -24,7 +24,7 @@ defaults =
       indent = codes "  ";
       printWidth = PrintWidth.Columns 100;
       endOfLine = EndOfLine.Kept;
-      finalNewline = FinalNewline.Always;
+      insertFinalNewline = FinalNewline.Always;
     }
 
 -- an indent of at most 64 bytes, spaces and tabs only; an empty one is fine
@@ -40,10 +40,15 @@ validIndent indent = leb (length indent) maxIndent && allBlank indent
 
 abbrev pub withIndent : Options → List ℕ → Options
 withIndent o indent =
-    record { indent = indent; printWidth = o .printWidth; endOfLine = o .endOfLine; finalNewline = o .finalNewline }
+    record {
+      indent = indent;
+      printWidth = o .printWidth;
+      endOfLine = o .endOfLine;
+      insertFinalNewline = o .insertFinalNewline;
+    }
 
 -- What a setting step gives: the changed options, or with refusal 2 the options unchanged.
-pub record Changed : Type 0 where
+pub record SettingStep : Type 0 where
   pub refused : Bool
   pub options : Options
 
@@ -54,7 +59,7 @@ abbrev pub spaces : ℕ → List ℕ
 spaces n = times n (codes " ")
 
 -- indent_with: one tab, or `size` spaces; a size over 64 is refused, needed or not
-unfoldable pub indentWith : Options → Bool → ℕ → Changed
+unfoldable pub indentWith : Options → Bool → ℕ → SettingStep
 indentWith o tabs size =
     choose (ltb maxIndent size)
     (record { refused = true; options = o })

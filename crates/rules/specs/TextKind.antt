@@ -1,19 +1,18 @@
 -- text_kind_at: a place is a line and a character column, both from 0.
 use Prim.Native.Nat.{ℕ, zero, suc}
-use mathlib.Core.Bool.{Bool, true, false, not}
+use mathlib.Core.Bool.{Bool, true, false}
 use mathlib.Core.List.{List, [], _∷_}
-use lib.Dec.{ltb}
-use lib.ListN.{length, getD}
-use Rattle.unicode.specs.Unicode.{wellFormed, prefixLen, decode}
+use lib.ListN.{getD}
+use Rattle.unicode.specs.Unicode.{decode}
 use Rattle.rules.specs.Basics.{choose, pieces, splitOn}
 use Rattle.rules.specs.Lines.{dropCr}
 use Rattle.rules.specs.Scan.{next, begin, carryAfter}
-use Rattle.rules.specs.Call.{maxSource, scratchNeeded, numberOf, placeOf}
+use Rattle.rules.specs.Refusals.{scratchNeeded, numberOf, placeOf, tested, longSource, shortScratch, illFormed}
 use Rattle.rules.specs.declared.Class.{Class}
 use Rattle.rules.specs.declared.Carry.{Carry}
 use Rattle.rules.specs.declared.Mode.{Mode}
 use Rattle.rules.specs.declared.Mark.{Mark}
-use Rattle.rules.specs.declared.Refusal.{Refusal}
+use Rattle.rules.specs.declared.Verdict.{Verdict}
 use Rattle.rules.specs.declared.TextKind.{TextKind}
 use Rattle.rules.specs.declared.KindOutcome.{KindOutcome}
 use Rattle.rules.specs.declared.Kind.{Kind}
@@ -29,17 +28,17 @@ inInterpolation (Mode.Block d) = false
 inInterpolation Mode.Prefab = false
 
 -- prefabs and `${..}` are Code
-unfoldable pub kindOf : Class → Bool → TextKind
-kindOf Class.Code inside = TextKind.Code
-kindOf Class.Str inside = choose inside TextKind.Code TextKind.Str
-kindOf Class.LineComment inside = TextKind.Comment
-kindOf Class.BlockComment inside = TextKind.Comment
-kindOf Class.Prefab inside = TextKind.Code
+unfoldable pub classKind : Class → Bool → TextKind
+classKind Class.Code inside = TextKind.Code
+classKind Class.Str inside = choose inside TextKind.Code TextKind.Str
+classKind Class.LineComment inside = TextKind.Comment
+classKind Class.BlockComment inside = TextKind.Comment
+classKind Class.Prefab inside = TextKind.Code
 
 -- the kind of each character; t is the mark before it
 unfoldable pub kinds : Mark → List ℕ → List TextKind
 kinds t [] = []
-kinds t (c ∷ s) = kindOf (next t (c ∷ s) .class) (inInterpolation (t .mode)) ∷ kinds (next t (c ∷ s)) s
+kinds t (c ∷ s) = classKind (next t (c ∷ s) .class) (inInterpolation (t .mode)) ∷ kinds (next t (c ∷ s)) s
 
 -- Rust's `lines`: a CR goes only before an LF, and no line follows a last LF
 unfoldable pub rustLines : List (List ℕ) → List (List ℕ)
@@ -60,12 +59,19 @@ textKindAt source line col = kindIn Carry.Code (rustLines (pieces (splitOn "\n" 
 
 -- ---- the call on bytes: refusals 1, 3 and 4, then the kind
 
+-- 8 times the source's length, and 256
+abbrev pub kindScratch : ℕ
+kindScratch = 8
+
+abbrev pub kindTests : List ℕ → ℕ → List Verdict
+kindTests source scratch = longSource source ∷ shortScratch (scratchNeeded kindScratch source) scratch ∷ illFormed source ∷ []
+
+abbrev pub kindAfter : Verdict → TextKind → KindOutcome
+kindAfter Verdict.Accepted k = KindOutcome.Found k
+kindAfter (Verdict.Refused r) k = KindOutcome.Refused r
+
 unfoldable pub kindOutcomeOf : List ℕ → ℕ → ℕ → ℕ → KindOutcome
-kindOutcomeOf source line col scratch =
-    choose (ltb maxSource (length source)) (KindOutcome.Refused Refusal.SourceTooLong)
-    (choose (ltb scratch (scratchNeeded source)) (KindOutcome.Refused (Refusal.ScratchShort (scratchNeeded source)))
-    (choose (not (wellFormed source)) (KindOutcome.Refused (Refusal.NotUtf8 (prefixLen source)))
-    (KindOutcome.Found (textKindAt (decode source) line col))))
+kindOutcomeOf source line col scratch = kindAfter (tested (kindTests source scratch)) (textKindAt (decode source) line col)
 
 abbrev pub kindNumber : TextKind → ℕ
 kindNumber TextKind.Code = 0

@@ -72,19 +72,49 @@ pub enum PrintWidth {
     Columns(usize),
 }
 
+impl PrintWidth {
+    pub const DEFAULT: usize = 100;
+}
+
 // Whether the text ends in a line ending: if the source does, or always.
 pub enum FinalNewline {
     AsSource,
     Always,
 }
 
-// The refusals of document 01, with what their places need.
+// Options as a host gives them in numbers, beside the bytes of its indent. width_set: 0 no print width, 1 the width given.
+// line_ending: 0 kept, 1 LF, 2 CRLF. final_newline: 0 as the source, 1 always.
+pub struct OptionNumbers {
+    pub width_set: u64,
+    pub width: u64,
+    pub line_ending: u64,
+    pub final_newline: u64,
+}
+
+impl OptionNumbers {
+    pub const DEFAULTS: OptionNumbers = OptionNumbers {
+        width_set: 1,
+        width: PrintWidth::DEFAULT as u64,
+        line_ending: 0,
+        final_newline: 1,
+    };
+}
+
+// The refusals, with what their places need.
 pub enum Refusal {
     SourceTooLong,
     BadOption,
     ScratchShort(usize),
     NotUtf8(usize),
     OutputShort(usize),
+    PlacesUnordered,
+    KindsShort,
+}
+
+// What the tests of a call come to.
+pub enum Verdict {
+    Accepted,
+    Refused(Refusal),
 }
 
 // What a formatting call comes to: the text's length, imports split and blank names; or a refusal.

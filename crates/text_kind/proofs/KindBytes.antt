@@ -17,7 +17,7 @@ use Rattle.rules.specs.declared.Mark.{Mark}
 use Rattle.rules.specs.declared.TextKind.{TextKind}
 use Rattle.rules.specs.Basics.{choose, pieces, splitOn}
 use Rattle.rules.specs.Scan.{next, begin, carryAfter}
-use Rattle.rules.specs.TextKind.{inInterpolation, kindOf, kinds, rustLines, kindIn, textKindAt}
+use Rattle.rules.specs.TextKind.{inInterpolation, classKind, kinds, rustLines, kindIn, textKindAt}
 use Rattle.rules.proofs.Choose.{choose-case}
 use Rattle.rules.proofs.StartsBytes.{on-decode}
 use Rattle.rules.proofs.ScanBytes.{rest, mark-high, Fit, fit-one, next-fit, next-single, next-high, carry-encode}
@@ -26,7 +26,7 @@ use Rattle.text_kind.specs.Kind.{byteKinds, byteKindIn, kindFrom}
 
 -- ---- the clauses, one at a time
 
-kinds-cons : (t : Mark) (c : ℕ) (s : List ℕ) → kinds t (c ∷ s) ≡ kindOf (next t (c ∷ s) .class) (inInterpolation (t .mode)) ∷ kinds (next t (c ∷ s)) s
+kinds-cons : (t : Mark) (c : ℕ) (s : List ℕ) → kinds t (c ∷ s) ≡ classKind (next t (c ∷ s) .class) (inInterpolation (t .mode)) ∷ kinds (next t (c ∷ s)) s
 unfolding kinds
 kinds-cons t c s = refl
 
@@ -38,7 +38,7 @@ pub bytes-tail : (t : Mark) (b : ℕ) (s : List ℕ) → tail b ≡ true → byt
 unfolding byteKinds choose
 bytes-tail t b s e = rw e
 
-pub bytes-first : (t : Mark) (b : ℕ) (s : List ℕ) → tail b ≡ false → byteKinds t (b ∷ s) ≡ kindOf (next t (b ∷ s) .class) (inInterpolation (t .mode)) ∷ byteKinds (next t (b ∷ s)) s
+pub bytes-first : (t : Mark) (b : ℕ) (s : List ℕ) → tail b ≡ false → byteKinds t (b ∷ s) ≡ classKind (next t (b ∷ s) .class) (inInterpolation (t .mode)) ∷ byteKinds (next t (b ∷ s)) s
 unfolding byteKinds choose
 bytes-first t b s e = rw e
 

@@ -1,52 +1,54 @@
 -- What a call comes to, by the tests in their order; and what it leaves.
-use Prim.Native.Nat.{ℕ, _<_, _≤_}
+--     test-long, test-rest      the tests
+--     kind-refused, kind-found  the outcome; source-fits what the tests leave
+use Prim.Native.Nat.{ℕ, _≤_}
 use native.Mathlib.Omega.{arith}
-use mathlib.Core.List.{List}
+use mathlib.Core.List.{List, [], _∷_}
 use mathlib.Core.Path.{_≡_, sym, ap, _∙_}
-use borrow.Author.Tests.{lt-ltb, le-ltb}
 use lib.ListN.{length, replicate}
-use Rattle.unicode.specs.Unicode.{prefixLen, decode}
-use Rattle.unicode.proofs.Decode.{wf-whole, test-whole, test-part}
+use Rattle.unicode.specs.Unicode.{decode}
+use Rattle.unicode.proofs.Decode.{test-wf}
 use Rattle.rules.specs.declared.Refusal.{Refusal}
+use Rattle.rules.specs.declared.Verdict.{Verdict}
 use Rattle.rules.specs.declared.TextKind.{TextKind}
 use Rattle.rules.specs.declared.KindOutcome.{KindOutcome}
 use Rattle.rules.specs.declared.Kind.{Kind}
-use Rattle.rules.specs.Basics.{choose}
-use Rattle.rules.specs.Call.{maxSource, scratchNeeded}
-use Rattle.rules.specs.TextKind.{textKindAt, kindOutcomeOf, kindAnswer}
-use Rattle.text_kind.specs.Kind.{SourceFits, KindAnswered}
+use Rattle.rules.specs.Refusals.{maxSource, scratchNeeded, tested, longSource, shortScratch, illFormed}
+use Rattle.rules.specs.TextKind.{kindScratch, kindTests, textKindAt, kindOutcomeOf, kindAnswer}
+use Rattle.rules.proofs.RefusalLaws.{pass, stop, head-passed, tail-passed, source-short, Readable, readable}
+use Rattle.text_kind.specs.Kind.{SourceFits}
+use Rattle.text_kind.specs.KindAnswered.{KindAnswered}
 
-module _ (source : List ℕ) (line col scratch : ℕ) where
-  pub too-long : maxSource < length source → KindOutcome.Refused Refusal.SourceTooLong ≡ kindOutcomeOf source line col scratch
-  unfolding kindOutcomeOf choose
-  too-long h = rw (lt-ltb maxSource (length source) h)
+module _ (source : List ℕ) (scratch : ℕ) (v : Verdict) (e : v ≡ longSource source) where
+  pub test-long : (why : Refusal) → v ≡ Verdict.Refused why → Verdict.Refused why ≡ tested (kindTests source scratch)
+  test-long why p = sym (stop (longSource source) why _ (sym e ∙ p))
 
-  module _ (h : length source ≤ maxSource) where
-    pub scratch-short : scratch < scratchNeeded source → KindOutcome.Refused (Refusal.ScratchShort (scratchNeeded source)) ≡ kindOutcomeOf source line col scratch
-    unfolding kindOutcomeOf choose
-    scratch-short k = rw (le-ltb maxSource (length source) h, lt-ltb scratch (scratchNeeded source) k)
+  module _ (p : v ≡ Verdict.Accepted) where
+    pub length-passed : length source ≤ maxSource
+    length-passed = source-short source (sym e ∙ p)
 
-    module _ (k : scratchNeeded source ≤ scratch) (prefix : ℕ) (e : prefix ≡ prefixLen source) where
-      pub not-utf8 : (prefix ≡ length source → ⊥) → KindOutcome.Refused (Refusal.NotUtf8 prefix) ≡ kindOutcomeOf source line col scratch
-      unfolding kindOutcomeOf choose
-      not-utf8 n =
-          rw (
-            le-ltb maxSource (length source) h,
-            le-ltb scratch (scratchNeeded source) k,
-            test-part source (λ p. n (e ∙ p)),
-            e,
-          )
+    pub test-rest : (r : Verdict)
+        → r ≡ tested (shortScratch (scratchNeeded kindScratch source) scratch ∷ illFormed source ∷ [])
+        → r ≡ tested (kindTests source scratch)
+    test-rest r t = t ∙ sym (pass (longSource source) _ (sym e ∙ p))
 
-      pub found : (kind : TextKind) → prefix ≡ length source → kind ≡ textKindAt (decode source) line col → KindOutcome.Found kind ≡ kindOutcomeOf source line col scratch
-      unfolding kindOutcomeOf choose
-      found kind p q =
-          rw (le-ltb maxSource (length source) h, le-ltb scratch (scratchNeeded source) k, test-whole source (sym e ∙ p), q)
+module _ (source : List ℕ) (line col scratch : ℕ) (v : Verdict) (e : v ≡ tested (kindTests source scratch)) where
+  pub kind-refused : (why : Refusal) → v ≡ Verdict.Refused why → KindOutcome.Refused why ≡ kindOutcomeOf source line col scratch
+  unfolding kindOutcomeOf
+  kind-refused why p = rw (← e, p)
 
-pub ruleset outcomes = (too-long, scratch-short, not-utf8, found)
+  pub kind-found : (kind : TextKind) → v ≡ Verdict.Accepted → kind ≡ textKindAt (decode source) line col
+      → KindOutcome.Found kind ≡ kindOutcomeOf source line col scratch
+  unfolding kindOutcomeOf
+  kind-found kind p q = rw (← e, p, q)
 
-pub source-fits : (source scratch : List ℕ) (prefix : ℕ) → length source ≤ maxSource → scratchNeeded source ≤ length scratch → prefix ≡ prefixLen source → prefix ≡ length source
+pub source-fits : (source scratch : List ℕ) (v : Verdict) → v ≡ tested (kindTests source (length scratch)) → v ≡ Verdict.Accepted
     → SourceFits source scratch
-source-fits source scratch prefix h k e p = record { well = wf-whole source (sym e ∙ p); room = omega arith; short = omega arith }
+source-fits source scratch v e p =
+    let t : tested (kindTests source (length scratch)) ≡ Verdict.Accepted = sym e ∙ p in
+    let r : Readable kindScratch source (length scratch) =
+    readable kindScratch source (length scratch) (head-passed _ _ t) (tail-passed _ _ t) in
+    record { well = test-wf source (r .well); room = omega (arith, r .room); short = omega (arith, r .short) }
 
 pub answered : (source : List ℕ) (line col : ℕ) (before mid after : List ℕ) (r : Kind) → r ≡ kindAnswer (kindOutcomeOf source line col (length before))
     → length mid ≡ length before → after ≡ replicate (length mid) 0 → KindAnswered source line col before after r

@@ -14,7 +14,7 @@ use Rattle.rules.specs.declared.Carry.{Carry}
 use Rattle.rules.specs.declared.Mark.{Mark}
 use Rattle.rules.specs.declared.TextKind.{TextKind}
 use Rattle.rules.specs.Scan.{next, begin}
-use Rattle.rules.specs.TextKind.{inInterpolation, kindOf}
+use Rattle.rules.specs.TextKind.{inInterpolation, classKind}
 use Rattle.basics.specs.Depth.{depthOf}
 use Rattle.marks.proofs.NextLaws.{next-shallow}
 use Rattle.text_kind.specs.Kind.{byteKinds}
@@ -59,11 +59,11 @@ module _ {line : List ℕ} {t₀ t : Mark} {col left i : ℕ} (r : Counting line
           same = r .same ∙ rw (at-i, bytes-tail t _ (drop (i + 1) line) (sym f ∙ g), after);
         }
 
-    first : b ≡ false → byteKinds t (drop i line) ≡ kindOf (u .class) (inInterpolation (t .mode)) ∷ byteKinds u (drop (i + 1) line)
+    first : b ≡ false → byteKinds t (drop i line) ≡ classKind (u .class) (inInterpolation (t .mode)) ∷ byteKinds u (drop (i + 1) line)
     first g = rw (at-i, bytes-first t _ (drop (i + 1) line) (sym f ∙ g), after)
 
     -- it starts the character asked for
-    pub counting-found : (y : Carry) (x : Bool) (k : TextKind) → t₀ ≡ begin y → b ≡ false → left ≡ 0 → x ≡ inInterpolation (t .mode) → k ≡ kindOf (u .class) x
+    pub counting-found : (y : Carry) (x : Bool) (k : TextKind) → t₀ ≡ begin y → b ≡ false → left ≡ 0 → x ≡ inInterpolation (t .mode) → k ≡ classKind (u .class) x
         → k ≡ kindAt (begin y) line col
     counting-found y x k d g z p q = rw (q, p, ← d, r .same, first g, z)
 
@@ -74,7 +74,7 @@ module _ {line : List ℕ} {t₀ t : Mark} {col left i : ℕ} (r : Counting line
         record {
           within = omega arith;
           depth = deeper;
-          same = r .same ∙ rw (first g) (ap (λ (n : ℕ). getD (kindOf (u .class) (inInterpolation (t .mode)) ∷ byteKinds u (drop (i + 1) line)) n TextKind.Code) m);
+          same = r .same ∙ rw (first g) (ap (λ (n : ℕ). getD (classKind (u .class) (inInterpolation (t .mode)) ∷ byteKinds u (drop (i + 1) line)) n TextKind.Code) m);
         }
 
 pub counting-end : (line : List ℕ) (t₀ t : Mark) (col left i : ℕ) (y : Carry) → Counting line t₀ col t left i → length line ≤ i → t₀ ≡ begin y → TextKind.Code ≡ kindAt (begin y) line col

@@ -1,29 +1,23 @@
--- Text kinds, as the contracts say them: what a call leaves, and the kinds read off a line's bytes.
+-- Text kinds read off a line's bytes, and what their reading asks of a source.
 use Prim.Native.Nat.{ℕ, zero, suc, _+_, _≤_, _<_, _^_}
 use mathlib.Core.List.{List, [], _∷_}
 use mathlib.Core.Path.{_≡_}
-use lib.ListN.{length, getD, replicate}
+use lib.ListN.{length, getD}
 use Rattle.unicode.specs.Unicode.{tail, WellFormed}
 use Rattle.split.specs.Text.{firstOf}
 use Rattle.rules.specs.Basics.{choose, pieces, splitOn}
 use Rattle.rules.specs.Scan.{next, begin, carryAfter}
-use Rattle.rules.specs.TextKind.{inInterpolation, kindOf, rustLines, kindOutcomeOf, kindAnswer}
+use Rattle.rules.specs.TextKind.{inInterpolation, classKind, rustLines}
 use Rattle.rules.specs.declared.Carry.{Carry}
 use Rattle.rules.specs.declared.Mark.{Mark}
 use Rattle.rules.specs.declared.TextKind.{TextKind}
-use Rattle.rules.specs.declared.Kind.{Kind}
-
--- the answer, and the scratch: all zeros, whatever stood there
-pub record KindAnswered (source : List ℕ) (line col : ℕ) (before after : List ℕ) (r : Kind) : Type 0 where
-  pub answer : r ≡ kindAnswer (kindOutcomeOf source line col (length before))
-  pub scratch : after ≡ replicate (length before) 0
 
 -- `kinds`, on bytes: the kind of each byte that starts a character; t is the mark before them
 unfoldable pub byteKinds : Mark → List ℕ → List TextKind
 byteKinds t [] = []
 byteKinds t (b ∷ s) =
     let r = byteKinds (next t (b ∷ s)) s in
-    choose (tail b) r (kindOf (next t (b ∷ s) .class) (inInterpolation (t .mode)) ∷ r)
+    choose (tail b) r (classKind (next t (b ∷ s) .class) (inInterpolation (t .mode)) ∷ r)
 
 -- `kindIn`, on the bytes of the lines
 unfoldable pub byteKindIn : Carry → List (List ℕ) → ℕ → ℕ → TextKind

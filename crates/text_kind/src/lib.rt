@@ -4,11 +4,11 @@ ghost use Prim.Native.Nat.{_+_, _≤_, _<_, _^_};
 ghost use lib.ListN.{length, getD, drop};
 ghost use Rattle.unicode.specs.Unicode.{decode};
 ghost use Rattle.rules.specs.Scan.{begin};
-ghost use Rattle.rules.specs.TextKind.{inInterpolation, kindOf, textKindAt, kindOutcomeOf, kindNumber, kindAnswer};
+ghost use Rattle.rules.specs.Refusals.{tested};
+ghost use Rattle.rules.specs.TextKind.{kindTests, inInterpolation, classKind, textKindAt, kindOutcomeOf, kindNumber, kindAnswer};
 ghost use Rattle.basics.specs.Depth.{carryDepth};
 ghost use Rattle.line_ends.specs.LineEnds.{LineEnd};
 ghost use Rattle.text_kind.specs.Kind.{byteKinds, lineAt, SourceFits};
-use answer::MAX_SOURCE;
 use answer::number_of;
 use answer::place_of;
 use line_ends::line_end;
@@ -18,9 +18,12 @@ use rules::Class;
 use rules::Kind;
 use rules::KindOutcome;
 use rules::Mode;
-use rules::Refusal;
 use rules::TextKind;
+use rules::Verdict;
 use unicode::CharColumn;
+
+// The bytes of scratch for each of the source's, beside 256.
+pub const KIND_SCRATCH: usize = 8;
 
 // Whether a character before which the mode is m is inside `${..}`.
 pub fn in_interpolation(m: Mode) -> bool
@@ -37,8 +40,8 @@ pub fn in_interpolation(m: Mode) -> bool
     }
 }
 
-pub fn kind_of(class: Class, inside: bool) -> TextKind
-    ensures { λ r. ⌜ r ≡ kindOf class inside ⌝ }
+pub fn class_kind(class: Class, inside: bool) -> TextKind
+    ensures { λ r. ⌜ r ≡ classKind class inside ⌝ }
 {
     match class {
         Class::Code => TextKind::Code,
@@ -76,7 +79,7 @@ fn kind_in_line(line: &[u8], carry: Carry, column: CharColumn) -> TextKind
         }
         if left == 0 {
             let class = t.class;
-            return kind_of(class, in_interpolation(before));
+            return class_kind(class, in_interpolation(before));
         }
         left -= 1;
         i += 1;
@@ -116,23 +119,24 @@ pub fn text_kind_at(source: &[u8], line: usize, column: CharColumn, scratch: &mu
     kind_in_line(line_at(source, at, end), carry, column)
 }
 
+// Refusals 1, 3 and 4.
+pub fn test(source: &[u8], scratch: usize) -> Verdict
+    ensures { λ r. ⌜ r ≡ tested (kindTests (now (source .entry)) scratch) ⌝ }
+{
+    match answer::test_length(source) {
+        Verdict::Refused(why) => Verdict::Refused(why),
+        Verdict::Accepted => answer::test_bytes(source, KIND_SCRATCH, scratch),
+    }
+}
+
 // The kind, or the first refusal that applies.
 fn outcome_of(source: &[u8], line: usize, column: CharColumn, scratch: &mut [u8]) -> KindOutcome
     ensures { λ r. ⌜ r ≡ kindOutcomeOf (now (source .entry)) line (column .0) (length (now (scratch .entry))) ⌝ }
 {
-    let n = source.len();
-    if MAX_SOURCE < n {
-        return KindOutcome::Refused(Refusal::SourceTooLong);
+    match test(source, scratch.len()) {
+        Verdict::Refused(why) => KindOutcome::Refused(why),
+        Verdict::Accepted => KindOutcome::Found(text_kind_at(source, line, column, scratch)),
     }
-    let needed = 8 * n + 256;
-    if scratch.len() < needed {
-        return KindOutcome::Refused(Refusal::ScratchShort(needed));
-    }
-    let prefix = unicode::well_formed_prefix(source);
-    if prefix != n {
-        return KindOutcome::Refused(Refusal::NotUtf8(prefix));
-    }
-    KindOutcome::Found(text_kind_at(source, line, column, scratch))
 }
 
 fn kind_number(k: TextKind) -> u64

@@ -3,3 +3,4 @@ pub mod PlaceLaws
 pub mod FillLaws
 pub mod LineLaws
 pub mod ReadLaws
+pub mod KindsCall

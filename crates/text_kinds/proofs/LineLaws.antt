@@ -14,7 +14,7 @@ use Rattle.rules.specs.declared.Carry.{Carry}
 use Rattle.rules.specs.declared.Mark.{Mark}
 use Rattle.rules.specs.declared.TextKind.{TextKind}
 use Rattle.rules.specs.Scan.{next, final, begin, openAfter, carryAfter}
-use Rattle.rules.specs.TextKind.{inInterpolation, kindOf, kindNumber}
+use Rattle.rules.specs.TextKind.{inInterpolation, classKind, kindNumber}
 use Rattle.basics.specs.Depth.{depthOf, carryDepth}
 use Rattle.basics.proofs.ScanSteps.{final-more}
 use Rattle.marks.proofs.NextLaws.{next-shallow}
@@ -85,10 +85,10 @@ module _ {line : List ℕ} {t₀ : Mark} {number : ℕ} {list : List ℕ} {k : �
         }
 
     -- it starts a character: the kind at the column
-    first : b ≡ false → drop column (byteKinds t₀ line) ≡ kindOf (u .class) (inInterpolation (t .mode)) ∷ byteKinds u (drop (i + 1) line)
+    first : b ≡ false → drop column (byteKinds t₀ line) ≡ classKind (u .class) (inInterpolation (t .mode)) ∷ byteKinds u (drop (i + 1) line)
     first v = r .rest ∙ rw (at-i, bytes-first t _ (drop (i + 1) line) (sym g ∙ v), after)
 
-    kind-here : b ≡ false → getD (byteKinds t₀ line) column TextKind.Code ≡ kindOf (u .class) (inInterpolation (t .mode))
+    kind-here : b ≡ false → getD (byteKinds t₀ line) column TextKind.Code ≡ classKind (u .class) (inInterpolation (t .mode))
     kind-here v =
         let z : column + 0 ≡ column = omega arith in
         ap (λ (n : ℕ). getD (byteKinds t₀ line) n TextKind.Code) (sym z)
@@ -98,7 +98,7 @@ module _ {line : List ℕ} {t₀ : Mark} {number : ℕ} {list : List ℕ} {k : �
     one-on : b ≡ false → drop (column + 1) (byteKinds t₀ line) ≡ byteKinds u (drop (i + 1) line)
     one-on v = sym (drop-drop 1 column (byteKinds t₀ line)) ∙ ap (drop 1) (first v)
 
-    pub in-line-first : b ≡ false → (x : Bool) (kind : TextKind) (v to′ : ℕ) (kinds′ : List ℕ) → x ≡ inInterpolation (t .mode) → kind ≡ kindOf (u .class) x → v ≡ kindNumber kind
+    pub in-line-first : b ≡ false → (x : Bool) (kind : TextKind) (v to′ : ℕ) (kinds′ : List ℕ) → x ≡ inInterpolation (t .mode) → kind ≡ classKind (u .class) x → v ≡ kindNumber kind
         → Answered list number column v to kinds to′ kinds′
         → InLine line t₀ number list k kinds₀ u to′ (column + 1) (i + 1) kinds′
     in-line-first w x kind v to′ kinds′ p q s a =

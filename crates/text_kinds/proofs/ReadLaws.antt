@@ -26,7 +26,7 @@ use Rattle.line_ends.proofs.LineCuts.{Last, More, whole, part-of, cr-fits}
 use Rattle.text_kind.specs.Kind.{byteKinds, byteKindIn, kindFrom, lineAt, SourceFits}
 use Rattle.text_kind.proofs.KindBytes.{kind-bytes}
 use Rattle.text_kind.proofs.KindLines.{rust-none, line-last, line-more, kind-past, kind-more, kind-here, line-fits}
-use Rattle.text_kinds.specs.Places.{Place, placeOf, placesIn, ascending, kindOfPlace, linesAsked, linesClassified}
+use Rattle.text_kinds.specs.Places.{Place, placeOf, placesIn, ascending, kindOfPlace, linesAsked, linesClassified, kindsOf}
 use Rattle.text_kinds.specs.Reading.{lineOf, columnOf, placeCount, From, IsOn, Ahead, Filled, Listed, Shallow, LineAnswered, lineCount, Read, KindsFound}
 use Rattle.text_kinds.specs.declared.Progress.{Progress}
 use Rattle.text_kinds.proofs.PlaceLaws.{count-half, place-at, from-next, from-trans, from-line}
@@ -230,6 +230,11 @@ front-and-zeros f list kinds lines r =
     sym (take-append-drop (placeCount list) kinds)
     ∙ rw (r .front, r .back, whole, long)
 
+all-kinds : (source list kinds : List ℕ) (n lines : ℕ) → length kinds ≡ n → Filled (kindOfPlace (decode source)) list lines (placeCount list) kinds
+    → kinds ≡ filled n (kindsOf source list)
+unfolding kindsOf
+all-kinds source list kinds n lines s r = rw s at (front-and-zeros (kindOfPlace (decode source)) list kinds lines r)
+
 -- all places have their kinds
 pub read-all : (source list kinds scratch : List ℕ) (n : ℕ) (p : Progress) → SourceFits source scratch → Read source list kinds p → length kinds ≡ n → length list / 2 ≤ p .next
     → KindsFound source list n (p .lines) kinds
@@ -241,7 +246,7 @@ read-all source list kinds scratch n p f r s h =
     let d = line-count-decode source (f .well) in
     record {
       lines = omega (arith, r .asked, r .count);
-      answers = rw s at (front-and-zeros (kindOfPlace (decode source)) list kinds (p .lines) (rw e at (r .answers)));
+      answers = all-kinds source list kinds n (p .lines) s (rw e at (r .answers));
     }
 
 -- the source is read: a place that has no answer yet is past its end
@@ -277,5 +282,5 @@ module _ (source list kinds scratch : List ℕ) (n : ℕ) (p : Progress) (f : So
         let g = passed-all (placeCount list - p .next) (p .next) (omega (arith, r .answers .within)) (r .ahead) (more-lines (r .asked) (r .answers)) in
         record {
           lines = omega (arith, r .asked, r .count);
-          answers = rw s at (front-and-zeros (kindOfPlace (decode source)) list kinds (linesAsked (placesIn list)) g);
+          answers = all-kinds source list kinds n (linesAsked (placesIn list)) s g;
         }

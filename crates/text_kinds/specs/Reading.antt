@@ -9,13 +9,16 @@ use Rattle.rules.specs.declared.Carry.{Carry}
 use Rattle.rules.specs.declared.TextKind.{TextKind}
 use Rattle.rules.specs.Scan.{begin, carryAfter}
 use Rattle.rules.specs.Basics.{pieces, splitOn}
+use Rattle.rules.specs.Refusals.{numberOf, placeOf}
 use Rattle.rules.specs.Call.{filled}
+use Rattle.rules.specs.declared.Refusal.{Refusal}
 use Rattle.rules.specs.TextKind.{rustLines, textKindAt, kindNumber}
 use Rattle.basics.specs.Depth.{carryDepth}
 use Rattle.unicode.specs.Unicode.{decode}
 use Rattle.text_kind.specs.Kind.{byteKinds, kindFrom}
-use Rattle.text_kinds.specs.Places.{Place, placeOf, placesIn, ascending, kindOfPlace, linesAsked, linesClassified}
+use Rattle.text_kinds.specs.Places.{Place, placeOf, placesIn, ascending, kindOfPlace, linesAsked, linesClassified, kindsVerdict, kindsAnswer, kindsLeft, kindsOf}
 use Rattle.text_kinds.specs.declared.Progress.{Progress}
+use Rattle.text_kinds.specs.declared.Kinds.{Kinds}
 
 -- line and column of entry k, and how many whole entries a list has
 abbrev pub lineOf : List ℕ → ℕ → ℕ
@@ -107,4 +110,14 @@ pub record Read (source list kinds : List ℕ) (p : Progress) : Type 0 where
 -- the kinds of all places, then zeros, in n bytes; r is the number of lines classified
 pub record KindsFound (source list : List ℕ) (n r : ℕ) (kinds : List ℕ) : Type 0 where
   pub lines : r ≡ linesClassified (decode source) (placesIn list)
-  pub answers : kinds ≡ filled n (map (kindOfPlace (decode source)) (placesIn list))
+  pub answers : kinds ≡ filled n (kindsOf source list)
+
+-- a refusal: n answer bytes are cleared
+pub record RefusedKinds (why : Refusal) (n : ℕ) (r : Kinds) (kinds : List ℕ) : Type 0 where
+  pub answer : r ≡ record { refusal = numberOf why; place = placeOf why; «lines_classified» = 0 }
+  pub zeros : kinds ≡ replicate n 0
+
+-- the answer r, and the answer bytes
+pub record KindsGiven (source list : List ℕ) (room scratch : ℕ) (r : Kinds) (kinds : List ℕ) : Type 0 where
+  pub answer : r ≡ kindsAnswer (kindsVerdict source list room scratch) (linesClassified (decode source) (placesIn list))
+  pub answers : kinds ≡ kindsLeft (kindsVerdict source list room scratch) room (kindsOf source list)

@@ -5,16 +5,29 @@ ghost use Prim.Native.Nat.{_+_, _≤_, _<_, _^_};
 ghost use lib.ListN.{length, drop};
 ghost use Rattle.unicode.specs.Unicode.{decode};
 ghost use Rattle.rules.specs.TextKind.{kindNumber};
-ghost use Rattle.text_kinds.specs.Places.{placeOf, placesIn, notAfter, ascending};
-ghost use Rattle.text_kinds.specs.Reading.{IsPlace, IsOn, Listed, Answered, PassedOver, Ahead, Shallow, LineAnswered, placeCount, Read, KindsFound};
+ghost use Rattle.text_kinds.specs.Places.{placeOf, placesIn, notAfter, ascending, listTests, kindsVerdict};
+ghost use Rattle.text_kinds.specs.Reading.{IsPlace, IsOn, Listed, Answered, PassedOver, Ahead, Shallow, LineAnswered, placeCount, Read, KindsFound, RefusedKinds, KindsGiven};
+ghost use Rattle.rules.specs.Refusals.{tested};
 ghost use Rattle.text_kind.specs.Kind.{SourceFits};
+use answer::number_of;
+use answer::place_of;
 use line_ends::line_end;
 use marks::within::open_after;
 use rules::Carry;
+use rules::Refusal;
 use rules::TextKind;
+use rules::Verdict;
 use text_kind::in_interpolation;
-use text_kind::kind_of;
+use text_kind::class_kind;
 use text_kind::line_at;
+
+// What a host is told.
+#[repr(C)]
+pub struct Kinds {
+    pub refusal: u64,
+    pub place: u64,
+    pub lines_classified: u64,
+}
 
 // What a line leaves open, and the first entry of the list that is not on it or before it.
 pub struct LineRead {
@@ -154,7 +167,7 @@ fn kinds_in_line(
             continue;
         }
         let class = t.class;
-        let kind = kind_byte(kind_of(class, in_interpolation(before)));
+        let kind = kind_byte(class_kind(class, in_interpolation(before)));
         next = answer_place(places, next, number, column, kind, kinds);
         column += 1;
         i += 1;
@@ -226,4 +239,53 @@ pub fn text_kinds(source: &[u8], places: &[u64], kinds: &mut [u8], scratch: &mut
         p = read_line(source, places, kinds, scratch, p);
     }
     p.lines
+}
+
+// Refusals 9 and 10.
+fn test_list(places: &[u64], room: usize) -> Verdict
+    ensures { λ r. ⌜ r ≡ tested (listTests (now (places .entry)) room) ⌝ }
+{
+    if is_ascending(places) {
+        if room < places.len() / 2 {
+            return Verdict::Refused(Refusal::KindsShort);
+        }
+        return Verdict::Accepted;
+    }
+    Verdict::Refused(Refusal::PlacesUnordered)
+}
+
+// Refusals 1, 3 and 4, then 9 and 10.
+fn test(source: &[u8], places: &[u64], room: usize, scratch: usize) -> Verdict
+    ensures { λ r. ⌜ r ≡ kindsVerdict (now (source .entry)) (now (places .entry)) room scratch ⌝ }
+{
+    match text_kind::test(source, scratch) {
+        Verdict::Refused(why) => Verdict::Refused(why),
+        Verdict::Accepted => test_list(places, room),
+    }
+}
+
+// A refused call.
+fn refuse(kinds: &mut [u8], why: Refusal) -> Kinds
+    ensures { λ r. ⌜ RefusedKinds why (length (now (kinds .entry))) r (now (kinds .exit)) ⌝ }
+{
+    buffer::zero(kinds);
+    Kinds {
+        refusal: number_of(why),
+        place: place_of(why),
+        lines_classified: 0,
+    }
+}
+
+// The kinds of all places, or the first refusal that applies.
+pub fn answer(source: &[u8], places: &[u64], kinds: &mut [u8], scratch: &mut [u8]) -> Kinds
+    ensures { λ r. ⌜ KindsGiven (now (source .entry)) (now (places .entry)) (length (now (kinds .entry))) (length (now (scratch .entry))) r (now (kinds .exit)) ⌝ }
+{
+    match test(source, places, kinds.len(), scratch.len()) {
+        Verdict::Refused(why) => refuse(kinds, why),
+        Verdict::Accepted => Kinds {
+            refusal: 0,
+            place: 0,
+            lines_classified: text_kinds(source, places, kinds, scratch),
+        },
+    }
 }

@@ -1,7 +1,8 @@
--- The resolved values of .editorconfig as numbers. 0 is unset.
+-- The resolved values of .editorconfig as numbers. 0 is unset; a number names a value, or none.
 use Prim.Native.Nat.{ℕ, zero, suc}
 use mathlib.Core.Bool.{Bool, true, false, _&&_}
-use lib.Dec.{leb}
+use mathlib.Core.Option.{Option, none, some, Option·getD}
+use Rattle.rules.specs.Choices.{isNamed}
 use Rattle.rules.specs.declared.IndentStyle.{IndentStyle}
 use Rattle.rules.specs.declared.IndentSize.{IndentSize}
 use Rattle.rules.specs.declared.TabWidth.{TabWidth}
@@ -9,80 +10,68 @@ use Rattle.rules.specs.declared.MaxLineLen.{MaxLineLen}
 use Rattle.rules.specs.declared.ConfigEnding.{ConfigEnding}
 use Rattle.rules.specs.declared.InsertFinalNewline.{InsertFinalNewline}
 use Rattle.rules.specs.declared.Resolved.{Resolved}
+use Rattle.wirescript.specs.declared.config.ConfigNumbers.{ConfigNumbers}
 
-pub record Config : Type 0 where
-  pub style : ℕ
-  pub sizeKind : ℕ
-  pub size : ℕ
-  pub tabSet : ℕ
-  pub tab : ℕ
-  pub maxKind : ℕ
-  pub max : ℕ
-  pub ending : ℕ
-  pub newline : ℕ
+-- style, indent_style: 1 tabs, 2 spaces
+unfoldable pub indentStyleNamed : ℕ → Option IndentStyle
+indentStyleNamed zero = some IndentStyle.Unset
+indentStyleNamed (suc zero) = some IndentStyle.Tabs
+indentStyleNamed (suc (suc zero)) = some IndentStyle.Spaces
+indentStyleNamed (suc (suc (suc n))) = none
 
-abbrev pub config : ℕ → ℕ → ℕ → ℕ → ℕ → ℕ → ℕ → ℕ → ℕ → Config
-config style sizeKind size tabSet tab maxKind max ending newline =
-    record {
-      style = style;
-      sizeKind = sizeKind;
-      size = size;
-      tabSet = tabSet;
-      tab = tab;
-      maxKind = maxKind;
-      max = max;
-      ending = ending;
-      newline = newline;
-    }
+-- size_kind, indent_size: 1 the tab width, 2 the number
+unfoldable pub indentSizeNamed : ℕ → ℕ → Option IndentSize
+indentSizeNamed zero size = some IndentSize.Unset
+indentSizeNamed (suc zero) size = some IndentSize.UseTabWidth
+indentSizeNamed (suc (suc zero)) size = some (IndentSize.Value size)
+indentSizeNamed (suc (suc (suc n))) size = none
 
--- every number names a choice
-unfoldable pub validConfig : Config → Bool
+-- tab_set, tab_width: 1 the number
+unfoldable pub tabWidthNamed : ℕ → ℕ → Option TabWidth
+tabWidthNamed zero tab = some TabWidth.Unset
+tabWidthNamed (suc zero) tab = some (TabWidth.Value tab)
+tabWidthNamed (suc (suc n)) tab = none
+
+-- max_kind, max_line_length: 1 off, 2 the number
+unfoldable pub maxLineLenNamed : ℕ → ℕ → Option MaxLineLen
+maxLineLenNamed zero max = some MaxLineLen.Unset
+maxLineLenNamed (suc zero) max = some MaxLineLen.Off
+maxLineLenNamed (suc (suc zero)) max = some (MaxLineLen.Value max)
+maxLineLenNamed (suc (suc (suc n))) max = none
+
+-- ending, end_of_line: 1 LF, 2 CRLF, 3 CR
+unfoldable pub configEndingNamed : ℕ → Option ConfigEnding
+configEndingNamed zero = some ConfigEnding.Unset
+configEndingNamed (suc zero) = some ConfigEnding.Lf
+configEndingNamed (suc (suc zero)) = some ConfigEnding.CrLf
+configEndingNamed (suc (suc (suc zero))) = some ConfigEnding.Cr
+configEndingNamed (suc (suc (suc (suc n)))) = none
+
+-- newline, insert_final_newline: 1 false, 2 true
+unfoldable pub insertNewlineNamed : ℕ → Option InsertFinalNewline
+insertNewlineNamed zero = some InsertFinalNewline.Unset
+insertNewlineNamed (suc zero) = some (InsertFinalNewline.Value false)
+insertNewlineNamed (suc (suc zero)) = some (InsertFinalNewline.Value true)
+insertNewlineNamed (suc (suc (suc n))) = none
+
+-- every number names a value
+unfoldable pub validConfig : ConfigNumbers → Bool
 validConfig v =
-    leb (v .style) 2 && leb (v .sizeKind) 2 && leb (v .tabSet) 1 && leb (v .maxKind) 2 && leb (v .ending) 3 && leb (v .newline) 2
+    isNamed (indentStyleNamed (v .style))
+    && isNamed (indentSizeNamed (v .«size_kind») (v .size))
+    && isNamed (tabWidthNamed (v .«tab_set») (v .tab))
+    && isNamed (maxLineLenNamed (v .«max_kind») (v .max))
+    && isNamed (configEndingNamed (v .ending))
+    && isNamed (insertNewlineNamed (v .newline))
 
--- indent_style: 1 tabs, 2 spaces
-unfoldable pub styleNamed : ℕ → IndentStyle
-styleNamed zero = IndentStyle.Unset
-styleNamed (suc zero) = IndentStyle.Tabs
-styleNamed (suc (suc n)) = IndentStyle.Spaces
-
--- indent_size: 1 the tab width, 2 the number
-unfoldable pub sizeNamed : ℕ → ℕ → IndentSize
-sizeNamed zero size = IndentSize.Unset
-sizeNamed (suc zero) size = IndentSize.UseTabWidth
-sizeNamed (suc (suc n)) size = IndentSize.Value size
-
--- tab_width: 1 the number
-unfoldable pub tabNamed : ℕ → ℕ → TabWidth
-tabNamed zero tab = TabWidth.Unset
-tabNamed (suc n) tab = TabWidth.Value tab
-
--- max_line_length: 1 off, 2 the number
-unfoldable pub maxNamed : ℕ → ℕ → MaxLineLen
-maxNamed zero max = MaxLineLen.Unset
-maxNamed (suc zero) max = MaxLineLen.Off
-maxNamed (suc (suc n)) max = MaxLineLen.Value max
-
--- end_of_line: 1 LF, 2 CRLF, 3 CR
-unfoldable pub endingNamed : ℕ → ConfigEnding
-endingNamed zero = ConfigEnding.Unset
-endingNamed (suc zero) = ConfigEnding.Lf
-endingNamed (suc (suc zero)) = ConfigEnding.CrLf
-endingNamed (suc (suc (suc n))) = ConfigEnding.Cr
-
--- insert_final_newline: 1 false, 2 true
-unfoldable pub newlineNamed : ℕ → InsertFinalNewline
-newlineNamed zero = InsertFinalNewline.Unset
-newlineNamed (suc zero) = InsertFinalNewline.Value false
-newlineNamed (suc (suc n)) = InsertFinalNewline.Value true
-
-unfoldable pub resolvedOf : Config → Resolved
+-- the values that valid numbers name
+unfoldable pub resolvedOf : ConfigNumbers → Resolved
 resolvedOf v =
     record {
-      style = styleNamed (v .style);
-      size = sizeNamed (v .sizeKind) (v .size);
-      tab = tabNamed (v .tabSet) (v .tab);
-      max = maxNamed (v .maxKind) (v .max);
-      ending = endingNamed (v .ending);
-      newline = newlineNamed (v .newline);
+      style = Option·getD (indentStyleNamed (v .style)) IndentStyle.Unset;
+      size = Option·getD (indentSizeNamed (v .«size_kind») (v .size)) IndentSize.Unset;
+      tab = Option·getD (tabWidthNamed (v .«tab_set») (v .tab)) TabWidth.Unset;
+      max = Option·getD (maxLineLenNamed (v .«max_kind») (v .max)) MaxLineLen.Unset;
+      ending = Option·getD (configEndingNamed (v .ending)) ConfigEnding.Unset;
+      newline = Option·getD (insertNewlineNamed (v .newline)) InsertFinalNewline.Unset;
     }

@@ -1,3 +1,4 @@
 -- What the contracts cite.
 pub mod Config
 pub mod Settings
+pub mod SettingsAnswered

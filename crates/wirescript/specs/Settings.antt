@@ -1,78 +1,92 @@
--- A setting step over numbers and bytes: what a call comes to, and what it leaves.
-use Prim.Native.Nat.{ℕ}
-use mathlib.Core.Bool.{_&&_}
+-- A setting step over numbers and bytes: what a call comes to, its answer, and what it writes.
+use Prim.Native.Nat.{ℕ, zero, suc}
+use mathlib.Core.Bool.{Bool, true, false, not, _&&_}
 use mathlib.Core.List.{List}
-use mathlib.Core.Path.{_≡_}
-use lib.Dec.{eqb, leb, ltb}
+use mathlib.Core.Option.{Option, none, some, Option·getD}
 use lib.ListN.{length, replicate}
-use Rattle.rules.specs.Basics.{choose}
-use Rattle.rules.specs.Options.{Options, Changed, indentWith}
+use Rattle.rules.specs.Options.{Options, SettingStep, indentWith}
 use Rattle.rules.specs.EditorConfig.{withEditorConfig}
-use Rattle.rules.specs.Call.{Call, filled, validOptions, optionsOf, numberOf, placeOf}
+use Rattle.rules.specs.Refusals.{numberOf, placeOf, badOption, shortOutput}
+use Rattle.rules.specs.Choices.{Choices, isNamed, validOptions, optionsOf}
+use Rattle.rules.specs.Call.{filled}
 use Rattle.rules.specs.declared.LineEnding.{LineEnding}
 use Rattle.rules.specs.declared.EndOfLine.{EndOfLine}
 use Rattle.rules.specs.declared.PrintWidth.{PrintWidth}
 use Rattle.rules.specs.declared.FinalNewline.{FinalNewline}
 use Rattle.rules.specs.declared.Refusal.{Refusal}
-use Rattle.wirescript.specs.Config.{Config, validConfig, resolvedOf}
+use Rattle.rules.specs.declared.Verdict.{Verdict}
+use Rattle.wirescript.specs.Config.{validConfig, resolvedOf}
+use Rattle.wirescript.specs.declared.config.ConfigNumbers.{ConfigNumbers}
 use Rattle.wirescript.specs.declared.settings.Settings.{Settings}
 
 -- the changed options, or a refusal
-pub data Setting : Type 0 where
-  Set : Options → Setting
-  Refused : Refusal → Setting
+pub data SettingOutcome : Type 0 where
+  Given : Options → SettingOutcome
+  Refused : Refusal → SettingOutcome
 
 -- ---- the refusals, tested in number order: 2, and 5 where the lent output is shorter than the changed indent
 
-unfoldable pub fitted : Options → ℕ → Setting
-fitted o room = choose (ltb room (length (o .indent))) (Setting.Refused (Refusal.OutputShort (length (o .indent)))) (Setting.Set o)
+-- what comes after a test, if it lets the call pass
+abbrev pub settingAfter : Verdict → SettingOutcome → SettingOutcome
+settingAfter Verdict.Accepted s = s
+settingAfter (Verdict.Refused r) s = SettingOutcome.Refused r
 
-unfoldable pub settingOf : Changed → ℕ → Setting
-settingOf c room = choose (c .refused) (Setting.Refused Refusal.BadOption) (fitted (c .options) room)
+unfoldable pub givenIn : Options → ℕ → SettingOutcome
+givenIn o room = settingAfter (shortOutput (length (o .indent)) room) (SettingOutcome.Given o)
+
+unfoldable pub stepOutcome : SettingStep → ℕ → SettingOutcome
+stepOutcome s room = settingAfter (badOption (s .refused)) (givenIn (s .options) room)
 
 -- tabs: 0 spaces, 1 a tab
-unfoldable pub indentSetting : Call → ℕ → ℕ → ℕ → Setting
-indentSetting c tabs size room =
-    choose (validOptions c && leb tabs 1) (settingOf (indentWith (optionsOf c) (eqb tabs 1) size) room) (Setting.Refused Refusal.BadOption)
+unfoldable pub tabsNamed : ℕ → Option Bool
+tabsNamed zero = some false
+tabsNamed (suc zero) = some true
+tabsNamed (suc (suc n)) = none
 
-unfoldable pub configSetting : Call → Config → ℕ → Setting
-configSetting c v room =
-    choose (validOptions c && validConfig v) (settingOf (withEditorConfig (optionsOf c) (resolvedOf v)) room) (Setting.Refused Refusal.BadOption)
+unfoldable pub indentOutcome : Choices → ℕ → ℕ → ℕ → SettingOutcome
+indentOutcome c tabs size room =
+    settingAfter (badOption (not (validOptions c && isNamed (tabsNamed tabs))))
+    (stepOutcome (indentWith (optionsOf c) (Option·getD (tabsNamed tabs) false) size) room)
+
+unfoldable pub configOutcome : Choices → ConfigNumbers → ℕ → SettingOutcome
+configOutcome c v room =
+    settingAfter (badOption (not (validOptions c && validConfig v)))
+    (stepOutcome (withEditorConfig (optionsOf c) (resolvedOf v)) room)
 
 -- ---- the numbers of the options, as a call gives them; the width is 0 where there is none
 
-unfoldable pub widthSet : PrintWidth → ℕ
-widthSet PrintWidth.Off = 0
-widthSet (PrintWidth.Columns n) = 1
+unfoldable pub widthSetNumber : PrintWidth → ℕ
+widthSetNumber PrintWidth.Off = 0
+widthSetNumber (PrintWidth.Columns n) = 1
 
-unfoldable pub columns : PrintWidth → ℕ
-columns PrintWidth.Off = 0
-columns (PrintWidth.Columns n) = n
+unfoldable pub widthNumber : PrintWidth → ℕ
+widthNumber PrintWidth.Off = 0
+widthNumber (PrintWidth.Columns n) = n
 
-unfoldable pub lineEnding : EndOfLine → ℕ
-lineEnding EndOfLine.Kept = 0
-lineEnding (EndOfLine.Set LineEnding.Lf) = 1
-lineEnding (EndOfLine.Set LineEnding.Crlf) = 2
+unfoldable pub lineEndingNumber : EndOfLine → ℕ
+lineEndingNumber EndOfLine.Kept = 0
+lineEndingNumber (EndOfLine.Set LineEnding.Lf) = 1
+lineEndingNumber (EndOfLine.Set LineEnding.Crlf) = 2
 
-unfoldable pub finalNewline : FinalNewline → ℕ
-finalNewline FinalNewline.AsSource = 0
-finalNewline FinalNewline.Always = 1
+unfoldable pub finalNewlineNumber : FinalNewline → ℕ
+finalNewlineNumber FinalNewline.AsSource = 0
+finalNewlineNumber FinalNewline.Always = 1
 
 -- ---- what a call leaves
 
 -- a refused call gives number and place, other fields 0
-unfoldable pub settingsOf : Setting → Settings
-settingsOf (Setting.Set o) =
+unfoldable pub settingsAnswer : SettingOutcome → Settings
+settingsAnswer (SettingOutcome.Given o) =
     record {
       refusal = 0;
       place = 0;
       «indent_len» = length (o .indent);
-      «width_set» = widthSet (o .printWidth);
-      width = columns (o .printWidth);
-      «line_ending» = lineEnding (o .endOfLine);
-      «final_newline» = finalNewline (o .finalNewline);
+      «width_set» = widthSetNumber (o .printWidth);
+      width = widthNumber (o .printWidth);
+      «line_ending» = lineEndingNumber (o .endOfLine);
+      «final_newline» = finalNewlineNumber (o .insertFinalNewline);
     }
-settingsOf (Setting.Refused r) =
+settingsAnswer (SettingOutcome.Refused r) =
     record {
       refusal = numberOf r;
       place = placeOf r;
@@ -84,11 +98,6 @@ settingsOf (Setting.Refused r) =
     }
 
 -- the output is the changed indent, then zeros, or all zeros
-unfoldable pub outputOf : Setting → ℕ → List ℕ
-outputOf (Setting.Set o) room = filled room (o .indent)
-outputOf (Setting.Refused r) room = replicate room 0
-
--- A call that comes to `s` of the room in the lent output: its answer, and the output before and after it.
-pub record Settled (s : ℕ → Setting) (answer : Settings) (output output′ : List ℕ) : Type 0 where
-  pub gives : answer ≡ settingsOf (s (length output))
-  pub writes : output′ ≡ outputOf (s (length output)) (length output)
+unfoldable pub indentWritten : SettingOutcome → ℕ → List ℕ
+indentWritten (SettingOutcome.Given o) room = filled room (o .indent)
+indentWritten (SettingOutcome.Refused r) room = replicate room 0

@@ -1,12 +1,14 @@
 // What a host links.
 mod config;
 pub mod interface;
+pub mod kinds;
 mod number;
 pub mod settings;
 
 ghost use lib.ListN.{length};
-ghost use Rattle.call.specs.Answered.{callOf, FormatAnswered};
-ghost use Rattle.text_kind.specs.Kind.{KindAnswered};
+ghost use Rattle.call.specs.Ran.{callOf, numbersOf};
+ghost use Rattle.call.specs.FormatAnswered.{FormatAnswered};
+ghost use Rattle.text_kind.specs.KindAnswered.{KindAnswered};
 use rules::Answer;
 use rules::Kind;
 use unicode::CharColumn;
@@ -38,7 +40,7 @@ pub extern "C" fn wirescript_format(
     output: &mut [u8],
     scratch: &mut [u8],
 ) -> Answer
-    ensures { λ r. ⌜ FormatAnswered (callOf (now (source .entry)) (now (indent .entry)) «width_set» width «line_ending» «final_newline» (length (now (output .entry))) (length (now (scratch .entry)))) r (now (output .exit)) (now (scratch .exit)) ⌝ }
+    ensures { λ r. ⌜ FormatAnswered (callOf (now (source .entry)) (now (indent .entry)) (numbersOf «width_set» width «line_ending» «final_newline») (length (now (output .entry))) (length (now (scratch .entry)))) r (now (output .exit)) (now (scratch .exit)) ⌝ }
 {
     call::format_call(
         source,

@@ -1,13 +1,13 @@
 // The numbers of options.
 ghost use mathlib.Core.Path.{_≡_};
-ghost use Rattle.wirescript.specs.Settings.{widthSet, columns, lineEnding, finalNewline};
+ghost use Rattle.wirescript.specs.Settings.{widthSetNumber, widthNumber, lineEndingNumber, finalNewlineNumber};
 use rules::EndOfLine;
 use rules::FinalNewline;
 use rules::LineEnding;
 use rules::PrintWidth;
 
 pub fn width_set(width: PrintWidth) -> u64
-    ensures { λ r. ⌜ r ≡ widthSet width ⌝ }
+    ensures { λ r. ⌜ r ≡ widthSetNumber width ⌝ }
 {
     match width {
         PrintWidth::Off => 0,
@@ -15,8 +15,8 @@ pub fn width_set(width: PrintWidth) -> u64
     }
 }
 
-pub fn columns(width: PrintWidth) -> u64
-    ensures { λ r. ⌜ r ≡ columns width ⌝ }
+pub fn width(width: PrintWidth) -> u64
+    ensures { λ r. ⌜ r ≡ widthNumber width ⌝ }
 {
     match width {
         PrintWidth::Off => 0,
@@ -25,7 +25,7 @@ pub fn columns(width: PrintWidth) -> u64
 }
 
 pub fn line_ending(ending: EndOfLine) -> u64
-    ensures { λ r. ⌜ r ≡ lineEnding ending ⌝ }
+    ensures { λ r. ⌜ r ≡ lineEndingNumber ending ⌝ }
 {
     match ending {
         EndOfLine::Kept => 0,
@@ -37,7 +37,7 @@ pub fn line_ending(ending: EndOfLine) -> u64
 }
 
 pub fn final_newline(newline: FinalNewline) -> u64
-    ensures { λ r. ⌜ r ≡ finalNewline newline ⌝ }
+    ensures { λ r. ⌜ r ≡ finalNewlineNumber newline ⌝ }
 {
     match newline {
         FinalNewline::AsSource => 0,

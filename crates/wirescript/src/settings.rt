@@ -1,17 +1,18 @@
 // The setting steps over numbers and bytes, for a host.
 ghost use mathlib.Core.Path.{_≡_};
-ghost use Rattle.rules.specs.Call.{Call};
-ghost use Rattle.options.specs.Held.{optionsIn, held, changeIn, heldNamed, numbers};
-ghost use Rattle.wirescript.specs.Config.{Config, config, validConfig, resolvedOf};
-ghost use Rattle.wirescript.specs.Settings.{Setting, Settled, fitted, settingOf, indentSetting, configSetting};
+ghost use Rattle.call.specs.Ran.{numbersOf};
+ghost use Rattle.options.specs.Held.{optionsIn, held, changeIn};
+ghost use Rattle.wirescript.specs.Settings.{SettingOutcome, givenIn, stepOutcome, indentOutcome, configOutcome};
+ghost use Rattle.wirescript.specs.SettingsAnswered.{SettingsAnswered};
 use crate::config;
+use crate::config::ConfigNumbers;
 use crate::number;
 use answer::number_of;
 use answer::place_of;
 use options::Changed;
 use options::FormatOptions;
+use rules::OptionNumbers;
 use rules::Refusal;
-use rules::Resolved;
 
 // What a setting step gives: refusal 0 and the changed options, their indent's bytes in the lent output; or a refusal with its
 // place, the other numbers 0 and the output all zeros.
@@ -27,7 +28,7 @@ pub struct Settings {
 }
 
 fn refuse(refusal: Refusal, output: &mut [u8]) -> Settings
-    ensures { λ r. ⌜ Settled (λ _. Setting.Refused refusal) r (now (output .entry)) (now (output .exit)) ⌝ }
+    ensures { λ r. ⌜ SettingsAnswered (λ _. SettingOutcome.Refused refusal) r (now (output .entry)) (now (output .exit)) ⌝ }
 {
     buffer::zero(output);
     Settings {
@@ -42,9 +43,9 @@ fn refuse(refusal: Refusal, output: &mut [u8]) -> Settings
 }
 
 // The options as numbers, and their indent in the output.
-fn give(options: FormatOptions, output: &mut [u8]) -> Settings
+fn answer_options(options: FormatOptions, output: &mut [u8]) -> Settings
     requires { ⌜ options ≡ held (optionsIn options) ⌝ }
-    ensures { λ r. ⌜ Settled (fitted (optionsIn options)) r (now (output .entry)) (now (output .exit)) ⌝ }
+    ensures { λ r. ⌜ SettingsAnswered (givenIn (optionsIn options)) r (now (output .entry)) (now (output .exit)) ⌝ }
 {
     let used = options.used;
     if output.len() < used {
@@ -53,30 +54,30 @@ fn give(options: FormatOptions, output: &mut [u8]) -> Settings
     let bytes = options.indent;
     buffer::put_line(output, &bytes[..used]);
     buffer::finish(output, used);
-    let width = options.width;
-    let ending = options.ending;
-    let newline = options.newline;
+    let width = options.print_width;
+    let ending = options.end_of_line;
+    let newline = options.insert_final_newline;
     Settings {
         refusal: 0,
         place: 0,
         indent_len: used as u64,
         width_set: number::width_set(width),
-        width: number::columns(width),
+        width: number::width(width),
         line_ending: number::line_ending(ending),
         final_newline: number::final_newline(newline),
     }
 }
 
 // What a step hands back.
-fn settle(changed: Changed, output: &mut [u8]) -> Settings
+fn answer_step(changed: Changed, output: &mut [u8]) -> Settings
     requires { ⌜ changed .options ≡ held (optionsIn (changed .options)) ⌝ }
-    ensures { λ r. ⌜ Settled (settingOf (changeIn changed)) r (now (output .entry)) (now (output .exit)) ⌝ }
+    ensures { λ r. ⌜ SettingsAnswered (stepOutcome (changeIn changed)) r (now (output .entry)) (now (output .exit)) ⌝ }
 {
     let options = changed.options;
     if changed.refused {
         return refuse(Refusal::BadOption, output);
     }
-    give(options, output)
+    answer_options(options, output)
 }
 
 // indent_with: tabs 0 spaces, 1 a tab.
@@ -91,9 +92,15 @@ pub extern "C" fn wirescript_indent_with(
     size: u64,
     output: &mut [u8],
 ) -> Settings
-    ensures { λ r. ⌜ Settled (indentSetting (numbers (now (indent .entry)) «width_set» width «line_ending» «final_newline») tabs size) r (now (output .entry)) (now (output .exit)) ⌝ }
+    ensures { λ r. ⌜ SettingsAnswered (indentOutcome (record { indent = now (indent .entry); numbers = numbersOf «width_set» width «line_ending» «final_newline» }) tabs size) r (now (output .entry)) (now (output .exit)) ⌝ }
 {
-    let old = FormatOptions::from_numbers(indent, width_set, width, line_ending, final_newline);
+    let numbers = OptionNumbers {
+        width_set,
+        width,
+        line_ending,
+        final_newline,
+    };
+    let old = FormatOptions::from_numbers(indent, numbers);
     let options = old.options;
     if old.refused {
         return refuse(Refusal::BadOption, output);
@@ -102,27 +109,31 @@ pub extern "C" fn wirescript_indent_with(
         return refuse(Refusal::BadOption, output);
     }
     let changed = options.indent_with(tabs == 1, size as usize);
-    settle(changed, output)
+    answer_step(changed, output)
 }
 
-// The EditorConfig step, with what the numbers name.
-fn configure(old: Changed, valid: bool, r: Resolved, output: &mut [u8]) -> Settings
-    requires { ⌜ old .options ≡ held (optionsIn (old .options)) ⌝ }
-    ensures { λ s. ⌜ ((c : Call) (v : Config) → old ≡ heldNamed c → valid ≡ validConfig v → r ≡ resolvedOf v → Settled (configSetting c v) s (now (output .entry)) (now (output .exit))) ⌝ }
+// The EditorConfig step on the options and the values that the numbers name.
+fn configure(
+    indent: &[u8],
+    numbers: OptionNumbers,
+    values: ConfigNumbers,
+    output: &mut [u8],
+) -> Settings
+    ensures { λ r. ⌜ SettingsAnswered (configOutcome (record { indent = now (indent .entry); numbers = numbers }) values) r (now (output .entry)) (now (output .exit)) ⌝ }
 {
+    let old = FormatOptions::from_numbers(indent, numbers);
     let options = old.options;
     if old.refused {
         return refuse(Refusal::BadOption, output);
     }
-    if valid {
-        let changed = options.with_editorconfig(r);
-        return settle(changed, output);
+    if config::valid(values) {
+        let changed = options.with_editorconfig(config::named(values));
+        return answer_step(changed, output);
     }
     refuse(Refusal::BadOption, output)
 }
 
-// The EditorConfig step. style: 0 unset, 1 tabs, 2 spaces. size_kind: 0 unset, 1 the tab width, 2 size. tab_set: 0 unset, 1 tab.
-// max_kind: 0 unset, 1 off, 2 max. ending: 0 unset, 1 LF, 2 CRLF, 3 CR. newline: 0 unset, 1 false, 2 true.
+// The EditorConfig step; `ConfigNumbers` says what its numbers name.
 #[no_mangle]
 pub extern "C" fn wirescript_editorconfig(
     indent: &[u8],
@@ -141,11 +152,15 @@ pub extern "C" fn wirescript_editorconfig(
     newline: u64,
     output: &mut [u8],
 ) -> Settings
-    ensures { λ r. ⌜ Settled (configSetting (numbers (now (indent .entry)) «width_set» width «line_ending» «final_newline») (config style «size_kind» size «tab_set» tab «max_kind» max ending newline)) r (now (output .entry)) (now (output .exit)) ⌝ }
+    ensures { λ r. ⌜ SettingsAnswered (configOutcome (record { indent = now (indent .entry); numbers = numbersOf «width_set» width «line_ending» «final_newline» }) (record { style = style; «size_kind» = «size_kind»; size = size; «tab_set» = «tab_set»; tab = tab; «max_kind» = «max_kind»; max = max; ending = ending; newline = newline })) r (now (output .entry)) (now (output .exit)) ⌝ }
 {
-    let old = FormatOptions::from_numbers(indent, width_set, width, line_ending, final_newline);
-    let valid = config::valid(style, size_kind, tab_set, max_kind, ending, newline);
-    let r = config::named(
+    let numbers = OptionNumbers {
+        width_set,
+        width,
+        line_ending,
+        final_newline,
+    };
+    let values = ConfigNumbers {
         style,
         size_kind,
         size,
@@ -155,6 +170,6 @@ pub extern "C" fn wirescript_editorconfig(
         max,
         ending,
         newline,
-    );
-    configure(old, valid, r, output)
+    };
+    configure(indent, numbers, values, output)
 }

@@ -55,8 +55,8 @@ loop-again c = search (needs, counting-tail)
 in-interpolation-requires : tie.Need-in-interpolation-requires Inv-loop μ-loop
 in-interpolation-requires c κs = search needs
 
-kind-of-requires : tie.Need-kind-of-requires Inv-loop μ-loop
-kind-of-requires c κs = search needs
+class-kind-requires : tie.Need-class-kind-requires Inv-loop μ-loop
+class-kind-requires c κs = search needs
 
 returns-2 : tie.Need-returns-2 Inv-loop μ-loop
 returns-2 c = search (needs, counting-found)
@@ -95,7 +95,7 @@ kind-in-line-spec =
     loop-less
     loop-again
     in-interpolation-requires
-    kind-of-requires
+    class-kind-requires
     returns-2
     sub-left
     add-i-2

@@ -75,8 +75,8 @@ in-interpolation-requires : tie.Need-in-interpolation-requires Inv-loop μ-loop
 in-interpolation-requires c κs = search needs
 
 -- src/lib.rt:147:30
-kind-of-requires : tie.Need-kind-of-requires Inv-loop μ-loop
-kind-of-requires c κs = search needs
+class-kind-requires : tie.Need-class-kind-requires Inv-loop μ-loop
+class-kind-requires c κs = search needs
 
 -- src/lib.rt:147:13
 kind-byte-requires : tie.Need-kind-byte-requires Inv-loop μ-loop
@@ -136,7 +136,7 @@ kinds-in-line-spec =
     loop-less
     loop-again
     in-interpolation-requires
-    kind-of-requires
+    class-kind-requires
     kind-byte-requires
     answer-place-requires
     add-column

@@ -3,6 +3,10 @@ use Rattle.format.proofs.MarkerLaws.{marker-no, slashes-long, slashes-w
 use Rattle.format.proofs.marker.is_marker.Statement.{statement}
 use Rattle.format.proofs.marker.is_marker.Tie as tie
 
+-- first, so that a wrong word is refused for what it gives before it is refused for where it starts
+returns : tie.Need-returns
+returns c = search (needs, marker-rest)
+
 slice-aggregate-starts-with : tie.Need-slice-aggregate-starts-with
 slice-aggregate-starts-with c = search needs
 
@@ -20,9 +24,6 @@ part-is-marker-word-end c = search needs
 
 is-marker-word-requires : tie.Need-is-marker-word-requires
 is-marker-word-requires c κs = search (needs, slashes-well)
-
-returns : tie.Need-returns
-returns c = search (needs, marker-rest)
 
 returns-2 : tie.Need-returns-2
 returns-2 c = search (needs, marker-no)

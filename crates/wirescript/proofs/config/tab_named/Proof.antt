@@ -1,15 +1,14 @@
-use Rattle.wirescript.specs.Config.{tabNamed}
-use Rattle.options.proofs.NumbersLaws.{past-zero}
+use Rattle.wirescript.specs.Config.{tabWidthNamed}
+use Rattle.wirescript.proofs.ConfigLaws.{tab-unset}
 use Rattle.wirescript.proofs.config.tab_named.Statement.{statement}
 use Rattle.wirescript.proofs.config.tab_named.Tie as tie
 
 returns : tie.Need-returns
-unfolding tabNamed
+unfolding tabWidthNamed
 returns c = rw (c .if1 .taken)
 
 returns-2 : tie.Need-returns-2
-unfolding tabNamed
-returns-2 c = rw (past-zero _ (c .if1 .left))
+returns-2 c = tab-unset _ _ (c .if1 .left)
 
 pub tab-named-spec : {M : Type 1} → statement M
 tab-named-spec = tie.close (tie.spec returns returns-2)

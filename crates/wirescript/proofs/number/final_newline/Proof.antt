@@ -1,5 +1,5 @@
 use borrow.Author.Needs.{needs}
-use Rattle.wirescript.specs.Settings.{finalNewline}
+use Rattle.wirescript.specs.Settings.{finalNewlineNumber}
 use Rattle.wirescript.proofs.number.final_newline.Statement.{statement}
 use Rattle.wirescript.proofs.number.final_newline.Tie as tie
 
@@ -10,11 +10,11 @@ enum-told-2 : tie.Need-enum-told-2
 enum-told-2 c = search needs
 
 returns : tie.Need-returns
-unfolding finalNewline
+unfolding finalNewlineNumber
 returns c = rw (c .enum-told .given .1)
 
 returns-2 : tie.Need-returns-2
-unfolding finalNewline
+unfolding finalNewlineNumber
 returns-2 c = rw (c .enum-told2 .given .1)
 
 pub final-newline-spec : {M : Type 1} → statement M

@@ -1,5 +1,5 @@
 use borrow.Author.Needs.{needs}
-use Rattle.wirescript.specs.Settings.{widthSet}
+use Rattle.wirescript.specs.Settings.{widthSetNumber}
 use Rattle.wirescript.proofs.number.width_set.Statement.{statement}
 use Rattle.wirescript.proofs.number.width_set.Tie as tie
 
@@ -10,11 +10,11 @@ enum-told-2 : tie.Need-enum-told-2
 enum-told-2 c = search needs
 
 returns : tie.Need-returns
-unfolding widthSet
+unfolding widthSetNumber
 returns c = rw (c .enum-told .given .1)
 
 returns-2 : tie.Need-returns-2
-unfolding widthSet
+unfolding widthSetNumber
 returns-2 c = search needs
 
 pub width-set-spec : {M : Type 1} → statement M

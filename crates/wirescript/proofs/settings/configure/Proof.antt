@@ -1,8 +1,12 @@
 use borrow.Author.Needs.{needs}
 use Rattle.options.proofs.HeldLaws.{change-held}
-use Rattle.wirescript.proofs.SettingLaws.{config-invalid, config-values, config-settled}
+use Rattle.options.proofs.NumbersLaws.{named-held}
+use Rattle.wirescript.proofs.SettingLaws.{config-invalid, config-values, config-answered}
 use Rattle.wirescript.proofs.settings.configure.Statement.{statement}
 use Rattle.wirescript.proofs.settings.configure.Tie as tie
+
+from-numbers-requires : tie.Need-from-numbers-requires
+from-numbers-requires c κs = search needs
 
 refuse-requires : tie.Need-refuse-requires
 refuse-requires c κs = search needs
@@ -11,19 +15,25 @@ same-length : tie.Need-same-length
 same-length c = search needs
 
 returns : tie.Need-returns
-returns c = λ o v e p q. search (needs, config-invalid)
+returns c = search (needs, config-invalid)
+
+valid-requires : tie.Need-valid-requires
+valid-requires c κs = search needs
+
+named-requires : tie.Need-named-requires
+named-requires c κs = search needs
 
 with-editorconfig-requires : tie.Need-with-editorconfig-requires
-with-editorconfig-requires c κs = search needs
+with-editorconfig-requires c κs = search (needs, named-held)
 
-settle-requires : tie.Need-settle-requires
-settle-requires c κs = search (needs, change-held)
+answer-step-requires : tie.Need-answer-step-requires
+answer-step-requires c κs = search (needs, change-held, named-held)
 
 same-length-2 : tie.Need-same-length-2
 same-length-2 c = search needs
 
 returns-2 : tie.Need-returns-2
-returns-2 c = λ o v e p q. search (needs, config-settled)
+returns-2 c = search (needs, config-answered)
 
 refuse-requires-2 : tie.Need-refuse-requires-2
 refuse-requires-2 c κs = search needs
@@ -32,17 +42,20 @@ same-length-3 : tie.Need-same-length-3
 same-length-3 c = search needs
 
 returns-3 : tie.Need-returns-3
-returns-3 c = λ o v e p q. search (needs, config-values)
+returns-3 c = search (needs, config-values)
 
 pub configure-spec : {M : Type 1} → statement M
 configure-spec =
     tie.close
     (tie.spec
+    from-numbers-requires
     refuse-requires
     same-length
     returns
+    valid-requires
+    named-requires
     with-editorconfig-requires
-    settle-requires
+    answer-step-requires
     same-length-2
     returns-2
     refuse-requires-2

@@ -1,5 +1,5 @@
 use borrow.Author.Needs.{needs}
-use Rattle.wirescript.proofs.SettingLaws.{settled-refused}
+use Rattle.wirescript.proofs.SettingLaws.{answered-refused}
 use Rattle.wirescript.proofs.settings.refuse.Statement.{statement}
 use Rattle.wirescript.proofs.settings.refuse.Tie as tie
 
@@ -16,7 +16,7 @@ same-length : tie.Need-same-length
 same-length c = search needs
 
 returns : tie.Need-returns
-returns c = settled-refused _ _ _ _ _ (c .before .number-of .ensures) (c .place-of .ensures) (c .before .before .before .before .zero .ensures)
+returns c = answered-refused _ _ _ _ _ (c .before .number-of .ensures) (c .place-of .ensures) (c .before .before .before .before .zero .ensures)
 
 pub refuse-spec : {M : Type 1} → statement M
 refuse-spec =

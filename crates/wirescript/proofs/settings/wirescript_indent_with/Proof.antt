@@ -1,7 +1,7 @@
 use borrow.Author.Needs.{needs}
 use Rattle.options.proofs.HeldLaws.{change-held}
 use Rattle.options.proofs.NumbersLaws.{named-held}
-use Rattle.wirescript.proofs.SettingLaws.{indent-invalid, indent-tabs, indent-settled}
+use Rattle.wirescript.proofs.SettingLaws.{indent-invalid, indent-tabs, indent-answered}
 use Rattle.wirescript.proofs.settings.wirescript_indent_with.Statement.{statement}
 use Rattle.wirescript.proofs.settings.wirescript_indent_with.Tie as tie
 
@@ -29,14 +29,14 @@ returns-2 c = search (needs, indent-tabs)
 indent-with-requires : tie.Need-indent-with-requires
 indent-with-requires c κs = search needs
 
-settle-requires : tie.Need-settle-requires
-settle-requires c κs = search (needs, change-held, named-held)
+answer-step-requires : tie.Need-answer-step-requires
+answer-step-requires c κs = search (needs, change-held, named-held)
 
 same-length-3 : tie.Need-same-length-3
 same-length-3 c = search needs
 
 returns-3 : tie.Need-returns-3
-returns-3 c = search (needs, indent-settled)
+returns-3 c = search (needs, indent-answered)
 
 pub wirescript-indent-with-spec : {M : Type 1} → statement M
 wirescript-indent-with-spec =
@@ -50,6 +50,6 @@ wirescript-indent-with-spec =
     same-length-2
     returns-2
     indent-with-requires
-    settle-requires
+    answer-step-requires
     same-length-3
     returns-3)

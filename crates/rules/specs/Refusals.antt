@@ -1,0 +1,77 @@
+-- Who can get a call turned away: the refusals' numbers and places, how they are tested, and the tests that several calls share.
+use Prim.Native.Nat.{ℕ, _+_, _*_}
+use mathlib.Core.Bool.{Bool, not}
+use mathlib.Core.List.{List, [], _∷_}
+use lib.Dec.{ltb}
+use lib.ListN.{length}
+use Rattle.unicode.specs.Unicode.{wellFormed, prefixLen}
+use Rattle.rules.specs.Basics.{choose}
+use Rattle.rules.specs.declared.Refusal.{Refusal}
+use Rattle.rules.specs.declared.Verdict.{Verdict}
+
+-- the longest source, in bytes
+abbrev pub maxSource : ℕ
+maxSource = 1048576
+
+-- the scratch that a source needs: so many bytes for each of its own, and 256
+abbrev pub scratchNeeded : ℕ → List ℕ → ℕ
+scratchNeeded each source = each * length source + 256
+
+-- a refusal's number and its place; a place that isn't named is 0
+abbrev pub numberOf : Refusal → ℕ
+numberOf Refusal.SourceTooLong = 1
+numberOf Refusal.BadOption = 2
+numberOf (Refusal.ScratchShort needed) = 3
+numberOf (Refusal.NotUtf8 prefix) = 4
+numberOf (Refusal.OutputShort needed) = 5
+numberOf Refusal.PlacesUnordered = 9
+numberOf Refusal.KindsShort = 10
+
+abbrev pub placeOf : Refusal → ℕ
+placeOf Refusal.SourceTooLong = maxSource
+placeOf Refusal.BadOption = 0
+placeOf (Refusal.ScratchShort needed) = needed
+placeOf (Refusal.NotUtf8 prefix) = prefix
+placeOf (Refusal.OutputShort needed) = needed
+placeOf Refusal.PlacesUnordered = 0
+placeOf Refusal.KindsShort = 0
+
+-- a test refuses if it applies
+unfoldable pub refuseIf : Bool → Refusal → Verdict
+refuseIf applies r = choose applies (Verdict.Refused r) Verdict.Accepted
+
+-- the first test that applies is given; a call to which none applies is accepted
+unfoldable pub tested : List Verdict → Verdict
+tested [] = Verdict.Accepted
+tested (Verdict.Accepted ∷ ts) = tested ts
+tested (Verdict.Refused r ∷ ts) = Verdict.Refused r
+
+-- ---- the tests, each of which lets pass what is exactly at its limit
+
+-- 1
+unfoldable pub longSource : List ℕ → Verdict
+longSource source = refuseIf (ltb maxSource (length source)) Refusal.SourceTooLong
+
+-- 2
+unfoldable pub badOption : Bool → Verdict
+badOption bad = refuseIf bad Refusal.BadOption
+
+-- 3
+unfoldable pub shortScratch : ℕ → ℕ → Verdict
+shortScratch needed scratch = refuseIf (ltb scratch needed) (Refusal.ScratchShort needed)
+
+-- 4
+unfoldable pub illFormed : List ℕ → Verdict
+illFormed source = refuseIf (not (wellFormed source)) (Refusal.NotUtf8 (prefixLen source))
+
+-- 5
+unfoldable pub shortOutput : ℕ → ℕ → Verdict
+shortOutput needed output = refuseIf (ltb output needed) (Refusal.OutputShort needed)
+
+-- 9
+unfoldable pub unordered : Bool → Verdict
+unordered inOrder = refuseIf (not inOrder) Refusal.PlacesUnordered
+
+-- 10
+unfoldable pub shortKinds : ℕ → ℕ → Verdict
+shortKinds needed kinds = refuseIf (ltb kinds needed) Refusal.KindsShort

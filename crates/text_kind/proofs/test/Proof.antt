@@ -1,0 +1,27 @@
+use borrow.Author.Needs.{needs}
+use Rattle.text_kind.proofs.KindCall.{test-long, length-passed, test-rest}
+use Rattle.text_kind.proofs.test.Statement.{statement}
+use Rattle.text_kind.proofs.test.Tie as tie
+
+test-length-requires : tie.Need-test-length-requires
+test-length-requires c κs = search needs
+
+enum-known-why : tie.Need-enum-known-why
+enum-known-why c = search needs
+
+enum-told : tie.Need-enum-told
+enum-told c = search needs
+
+test-bytes-requires : tie.Need-test-bytes-requires
+test-bytes-requires c κs = (search (needs, length-passed), search needs)
+
+returns : tie.Need-returns
+returns c = search (needs, test-long)
+
+returns-2 : tie.Need-returns-2
+returns-2 c = search (needs, test-rest)
+
+pub test-spec : {M : Type 1} → statement M
+test-spec =
+    tie.close
+    (tie.spec test-length-requires enum-known-why enum-told test-bytes-requires returns returns-2)

@@ -1,4 +1,0 @@
-// wsfmt, run on an empty input.
-fn main() {
-    wsfmt_run::run();
-}

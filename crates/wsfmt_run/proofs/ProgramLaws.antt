@@ -1,0 +1,146 @@
+-- From the call and the written refusal to what the program writes.
+--     refusal-put                 the five pieces of a refusal
+--     printed-refusal, too-long   a refusal written over zeros; when it is the one for longer input
+--     called                      a call with the default options
+use Prim.Native.Nat.{ℕ, zero, suc, _+_, _-_, _^_, _≤_, _<_}
+use native.Mathlib.Omega.{arith}
+use native.Mathlib.Nat.{not-suc-le-zero, le-of-suc-le-suc}
+use mathlib.Core.Bool.{true, not}
+use mathlib.Core.List.{List, [], _∷_, _++_}
+use mathlib.Core.Path.{_≡_, sym, ap, _∙_}
+use borrow.Author.Tests.{lt-ltb, le-ltb}
+use lib.Dec.{ltb}
+use lib.ListN.{length, replicate, length-append}
+use Rattle.unicode.specs.Unicode.{wellFormed, prefixLen}
+use Rattle.unicode.proofs.Tests.{by-test}
+use Rattle.buffer.specs.Buffer.{over, Wrote, Appended}
+use Rattle.buffer.proofs.OverLaws.{over-nil}
+use Rattle.buffer.proofs.WriteLaws.{appended-append}
+use Rattle.decimal.specs.Decimal.{digits, DecimalPut}
+use Rattle.decimal.proofs.DigitLaws.{digits-short}
+use Rattle.rules.specs.Basics.{choose, codes}
+use Rattle.rules.specs.Options.{defaults}
+use Rattle.rules.specs.Refusals.{maxSource, scratchNeeded, numberOf, placeOf, refuseIf, tested, longSource, badOption, shortScratch, illFormed, shortOutput}
+use Rattle.rules.specs.Choices.{validOptions, optionsOf}
+use Rattle.rules.specs.Call.{Call, formatScratch, formatted, textOf, verdictOf, outcomeOf, answerOf, filled, outputOf}
+use Rattle.rules.proofs.RefusalLaws.{numbered}
+use Rattle.rules.specs.declared.Refusal.{Refusal}
+use Rattle.rules.specs.declared.Outcome.{Outcome}
+use Rattle.rules.specs.declared.Answer.{Answer}
+use Rattle.call.specs.FormatAnswered.{FormatAnswered}
+use Rattle.rules.specs.Assembly.{defaultText}
+use Rattle.wsfmt_run.specs.Program.{maxInput, maxText, refusal, written, Printed}
+use Rattle.wsfmt_run.specs.Steps.{Called}
+
+-- ---- a refusal is written
+
+module _ (number place : ℕ) (h : number < 2 ^ 64) (k : place < 2 ^ 64) where
+  refusal-short : length (refusal number place) ≤ 53
+  unfolding refusal
+  refusal-short =
+      omega (
+        arith,
+        digits-short number h,
+        digits-short place k,
+        length-append (codes "refused ") (digits number),
+        length-append (codes "refused " ++ digits number) (codes " at "),
+        length-append (codes "refused " ++ digits number ++ codes " at ") (digits place),
+        length-append (codes "refused " ++ digits number ++ codes " at " ++ digits place) (codes "\n"),
+      )
+
+pub refusal-put : (number place : ℕ) {x a b c d e : List ℕ} {i j k l m : ℕ} → Appended x a 0 (codes "refused ") i → DecimalPut a b i number j
+    → Appended b c j (codes " at ") k → DecimalPut c d k place l → Appended d e l (codes "\n") m → Wrote x e (refusal number place) m
+unfolding refusal
+refusal-put number place {x} {e = e} {m = m} p q r s t =
+    let w : Appended x e 0 (refusal number place) m = appended-append (appended-append (appended-append (appended-append p (q .appended)) r) (s .appended)) t in
+    record { size = omega (arith, w .next); is = w .is }
+
+-- what is written fits
+fits-in : (n : ℕ) (out w : List ℕ) → out ≡ filled n w → length w ≤ length out
+unfolding filled
+fits-in n out w e = omega (arith, ap length e, length-append w (replicate (n - length w) 0))
+
+-- over zeros
+over-zeros : (n : ℕ) (l : List ℕ) → length l ≤ n → over (replicate n 0) l ≡ filled n l
+unfolding over filled
+over-zeros n [] h =
+    let e : n ≡ n - 0 = omega arith in
+    over-nil (replicate n 0) ∙ ap (λ (k : ℕ). replicate k 0) e
+over-zeros zero (a ∷ l) h = absurd (not-suc-le-zero h)
+over-zeros (suc n) (a ∷ l) h =
+    let e : suc n - suc (length l) ≡ n - length l = omega arith in
+    rw e (ap (λ (t : List ℕ). a ∷ t) (over-zeros n l (le-of-suc-le-suc h)))
+
+pub printed-refusal : (source x y : List ℕ) (number place r n : ℕ) → x ≡ replicate n 0 → Wrote x y (refusal number place) r
+    → written source ≡ refusal number place → n ≡ maxText → number < 2 ^ 64 → place < 2 ^ 64 → Printed source y r
+printed-refusal source x y number place r n z w e size h k =
+    let s : length (refusal number place) ≤ n = omega (arith, refusal-short number place h k) in
+    let p : over x (refusal number place) ≡ filled n (refusal number place) = rw z (over-zeros n (refusal number place) s) in
+    let q : filled n (refusal number place) ≡ filled maxText (written source) = rw (size, e) in
+    let i : y ≡ filled maxText (written source) = w .is ∙ p ∙ q in
+    let j : r ≡ length (written source) = w .size ∙ sym (ap length e) in
+    record { size = j; fits = omega (arith, fits-in maxText y (written source) i); is = i }
+
+pub too-long : (source : List ℕ) → maxInput < length source → written source ≡ refusal 1 maxInput
+unfolding written choose
+too-long source h = rw (lt-ltb maxInput (length source) h)
+
+-- ---- the call
+
+-- a call with the default options, whose scratch is enough
+module _
+    (c : Call) (a : Answer) (out work : List ℕ) (f : FormatAnswered c a out work) (o : optionsOf (c .choices) ≡ defaults) (v : validOptions (c .choices) ≡ true)
+    (short : length (c .source) ≤ maxInput) (room : scratchNeeded formatScratch (c .source) ≤ c .scratch) (size : c .output ≡ maxText)
+  where
+    abbrev source : List ℕ
+    source = c .source
+
+    text-is : textOf c ≡ defaultText source
+    unfolding textOf formatted defaultText
+    text-is = rw o
+
+    -- the outcome: refusals 4 and 5, and the text
+    outcome-is : outcomeOf c ≡ choose (not (wellFormed source)) (Outcome.Refused (Refusal.NotUtf8 (prefixLen source)))
+        (choose (ltb maxText (length (defaultText source))) (Outcome.Refused (Refusal.OutputShort (length (defaultText source))))
+        (Outcome.Formatted (length (defaultText source)) (formatted c .importsSplit) (formatted c .blankNames)))
+    unfolding outcomeOf verdictOf tested refuseIf longSource badOption shortScratch illFormed shortOutput choose
+    outcome-is =
+        rw (le-ltb maxSource (length source) (omega arith), v, le-ltb (c .scratch) (scratchNeeded formatScratch source) room, text-is, size)
+        (by-test (wellFormed source)
+        (λ t. by-test (ltb maxText (length (defaultText source))) (λ u. rw (t, u)) (λ u. rw (t, u)))
+        (λ t. rw t))
+
+    written-is : written source ≡ choose (not (wellFormed source)) (refusal 4 (prefixLen source))
+        (choose (ltb maxText (length (defaultText source))) (refusal 5 (length (defaultText source))) (defaultText source))
+    unfolding written choose
+    written-is = rw (le-ltb maxInput (length source) short)
+
+    called-refused : (r : Refusal) → outcomeOf c ≡ Outcome.Refused r → written source ≡ refusal (numberOf r) (placeOf r) → Called source out (c .output) a
+    unfolding outputOf
+    called-refused r e w =
+        let i : a ≡ answerOf (Outcome.Refused r) = f .answer ∙ ap answerOf e in
+        record {
+          accepted = λ z. absurd (numbered r (sym (ap (λ (b : Answer). b .refusal) i) ∙ z));
+          refused = λ z. record { told = w ∙ sym (rw i); room = size; zeros = f .output ∙ rw e };
+        }
+
+    called-text : (imports blanks : ℕ) → outcomeOf c ≡ Outcome.Formatted (length (defaultText source)) imports blanks
+        → written source ≡ defaultText source → Called source out (c .output) a
+    unfolding outputOf
+    called-text imports blanks e w =
+        let i : a ≡ answerOf (Outcome.Formatted (length (defaultText source)) imports blanks) = f .answer ∙ ap answerOf e in
+        let l : a .length ≡ length (written source) = ap (λ (b : Answer). b .length) i ∙ sym (ap length w) in
+        let g : out ≡ filled maxText (written source) = f .output ∙ rw (e, text-is, size, w) in
+        record {
+          accepted = λ z. record { size = l; fits = omega (arith, fits-in maxText out (written source) g); is = g };
+          refused = λ z. absurd (z (ap (λ (b : Answer). b .refusal) i));
+        }
+
+    pub called : Called source out (c .output) a
+    unfolding choose
+    called =
+        by-test (wellFormed source)
+        (λ t. by-test (ltb maxText (length (defaultText source)))
+        (λ u. called-refused (Refusal.OutputShort (length (defaultText source))) (outcome-is ∙ rw (t, u)) (written-is ∙ rw (t, u)))
+        (λ u. called-text (formatted c .importsSplit) (formatted c .blankNames) (outcome-is ∙ rw (t, u)) (written-is ∙ rw (t, u))))
+        (λ t. called-refused (Refusal.NotUtf8 (prefixLen source)) (outcome-is ∙ rw t) (written-is ∙ rw t))

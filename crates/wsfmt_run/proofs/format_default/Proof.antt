@@ -1,0 +1,29 @@
+use borrow.Author.Needs.{needs}
+use mathlib.Core.Path.{refl}
+use Rattle.rules.specs.Options.{validIndent, allBlank}
+use Rattle.rules.specs.Choices.{printWidthNamed, endOfLineNamed, finalNewlineNamed, isNamed, validOptions, optionsOf}
+use Rattle.wsfmt_run.proofs.ProgramLaws.{called}
+use Rattle.wsfmt_run.proofs.format_default.Statement.{statement}
+use Rattle.wsfmt_run.proofs.format_default.Tie as tie
+
+slice-aggregate-format-call : tie.Need-slice-aggregate-format-call
+slice-aggregate-format-call c = search needs
+
+slice-aggregate-format-call-2 : tie.Need-slice-aggregate-format-call-2
+slice-aggregate-format-call-2 c = search needs
+
+format-call-requires : tie.Need-format-call-requires
+format-call-requires c κs = search needs
+
+returns : tie.Need-returns
+unfolding optionsOf printWidthNamed endOfLineNamed finalNewlineNamed isNamed validOptions validIndent allBlank
+returns c = called _ _ _ _ (c .before .format-call .ensures) refl refl (search needs) (search needs) (search needs)
+
+pub format-default-spec : {M : Type 1} → statement M
+format-default-spec =
+    tie.close
+    (tie.spec
+    slice-aggregate-format-call
+    slice-aggregate-format-call-2
+    format-call-requires
+    returns)

@@ -20,7 +20,8 @@ use Rattle.rules.proofs.Choose.{choose-case, choose-true, choose-false}
 use Rattle.rules.proofs.CellsLaws.{drop-cells, cells-at, cells-end}
 use Rattle.basics.specs.Region.{Only}
 use Rattle.basics.specs.Closers.{Closers}
-use Rattle.brackets.specs.Stack.{entryOf, stacked, Tallies, mayTurn, Among, Levels, StackRoom, Turned, StackFits, BracketsDone}
+use Rattle.brackets.specs.Stack.{entryOf, stacked, Nested, Popped, Tallies, mayTurn, StackRoom, Turned, StackFits, BracketsDone}
+use Rattle.brackets.specs.declared.Nesting.{Nesting}
 use Rattle.brackets.specs.declared.Tally.{Tally}
 use Rattle.basics.proofs.OnlyLaws.{only-same, only-set, only-wider, only-then, only-past, read-now}
 use Rattle.buffer.proofs.RegionLaws.{length-part}
@@ -97,95 +98,164 @@ unfolding stacked
 stacked-past w base zero h = refl
 stacked-past w base (suc n) h = rw (only-past w (base + n) (omega arith), stacked-past w base n h)
 
+pub nested-past : {x y : List ℕ} {a e : ℕ} {base : ℕ} {b : Nesting} → Only x y a e → e ≤ base → Nested x base b → Nested y base b
+nested-past {base = base} {b = b} w h n =
+    record { fits = omega (arith, n .fits, w .long); runs = n .runs ∙ ap levels (sym (stacked-past w base (b .depth) h)) }
+
+-- ---- the levels of the stack
+
+levels-cons : (x : Entry) (s : List Entry) → levels (x ∷ s) ≡ choose x 1 0 + levels s
+unfolding levels
+levels-cons x s = refl
+
+pub levels-most : (buf : List ℕ) (base n : ℕ) → levels (stacked buf base n) ≤ n
+unfolding stacked levels
+levels-most buf base zero = zero-le
+levels-most buf base (suc n) =
+    let r = levels-most buf base n in
+    choose-case (λ (m : ℕ). m + levels (stacked buf base n) ≤ suc n) (λ e. omega arith) (λ e. omega arith)
+
+levels-top : (buf : List ℕ) (base n : ℕ) → (n ≡ 0 → ⊥)
+    → levels (stacked buf base n) ≡ choose (entryOf (getD buf (base + (n - 1)) 0)) 1 0 + levels (stacked buf base (n - 1))
+levels-top buf base n h = ap levels (stacked-top buf base n h) ∙ levels-cons _ _
+
+levels-push : (buf : List ℕ) (base n v : ℕ) → base + n < length buf
+    → levels (stacked (set buf (base + n) v) base (n + 1)) ≡ choose (entryOf v) 1 0 + levels (stacked buf base n)
+levels-push buf base n v h = ap levels (stacked-push buf base n v h) ∙ levels-cons _ _
+
+-- the loop of `pop_closers`: `end` brackets are left at its end
+pub record Popping (buf : List ℕ) (base end depth levels₁ : ℕ) : Type 0 where
+  pub from : end ≤ depth
+  pub fits : base + depth ≤ length buf
+  pub runs : levels₁ ≡ levels (stacked buf base depth)
+
+pub popping-start : (buf : List ℕ) (base : ℕ) (b : Nesting) (n end : ℕ) → Nested buf base b → end ≡ b .depth - n → Popping buf base end (b .depth) (b .levels)
+popping-start buf base b n end w e = record { from = omega (arith, e); fits = w .fits; runs = w .runs }
+
+module _ (buf : List ℕ) (base end depth levels₁ : ℕ) (w : Popping buf base end depth levels₁) where
+  module _ (h : end < depth) (r : ℕ) (e : r ≡ choose (entryOf (getD buf (base + (depth - 1)) 0)) 1 0) where
+    top : levels₁ ≡ r + levels (stacked buf base (depth - 1))
+    top = w .runs ∙ levels-top buf base depth (λ z. absurd (omega arith)) ∙ ap (λ (k : ℕ). k + levels (stacked buf base (depth - 1))) (sym e)
+
+    pub popping-less : r ≤ levels₁
+    popping-less = omega (arith, top)
+
+    pub popping-more : Popping buf base end (depth - 1) (levels₁ - r)
+    popping-more = record { from = omega arith; fits = omega (arith, w .fits); runs = omega (arith, top) }
+
+  pub popping-end : (b : Nesting) (n : ℕ) → end ≡ b .depth - n → depth ≤ end → Popped buf base b n (record { depth = depth; levels = levels₁ })
+  popping-end b n e h = record { depth = omega (arith, w .from); nested = record { fits = w .fits; runs = w .runs } }
+
 -- ---- one bracket
 
+flat-entry : (v : ℕ) → v ≡ 0 → _≡_ {A = ℕ} (choose (entryOf v) 1 0) 0
+unfolding choose
+flat-entry v e = rw e
+
+level-entry : (v : ℕ) → (v ≡ 0 → ⊥) → _≡_ {A = ℕ} (choose (entryOf v) 1 0) 1
+unfolding choose
+level-entry v e = rw (ne-eqb v 0 e)
+
 module _ (buf : List ℕ) (base : ℕ) (t : Tally) (w : StackRoom buf base t) where
-  pub push-flat : t .room ≡ 0 → Turned push buf base t (set buf (base + t .depth) 0) (record { depth = t .depth + 1; room = t .room; esc = false })
+  pub push-flat : t .from < t .levels
+      → Turned push buf base t (set buf (base + t .depth) 0) (record { depth = t .depth + 1; levels = t .levels; from = t .from; esc = false })
   unfolding push choose
   push-flat e =
       record {
         is = λ o h.
             (let z : leb (o .added) (o .popped) ≡ false = lt-leb (o .added) (o .popped) (omega (arith, h .net)) in
             record { stack = rw (stacked-push buf base (t .depth) 0 (w .place), h .stack, z); net = rw z (omega (arith, h .net)); esc = refl });
+        runs = omega (arith, w .runs, levels-push buf base (t .depth) 0 (w .place));
         depth = omega arith;
-        room = omega arith;
         only = only-set buf (base + t .depth) 0 base (base + t .depth + 1) (omega arith) (omega arith);
       }
 
-  pub push-level : (t .room ≡ 0 → ⊥) → Turned push buf base t (set buf (base + t .depth) 1) (record { depth = t .depth + 1; room = t .room - 1; esc = false })
+  pub push-level : t .levels ≤ t .from
+      → Turned push buf base t (set buf (base + t .depth) 1) (record { depth = t .depth + 1; levels = t .levels + 1; from = t .from; esc = false })
   unfolding push choose
   push-level e =
       record {
         is = λ o h.
             (let z : leb (o .added) (o .popped) ≡ true = le-leb (o .added) (o .popped) (omega (arith, h .net)) in
             record { stack = rw (stacked-push buf base (t .depth) 1 (w .place), h .stack, z); net = rw z (omega (arith, h .net)); esc = refl });
+        runs = omega (arith, w .runs, levels-push buf base (t .depth) 1 (w .place));
         depth = omega arith;
-        room = omega arith;
         only = only-set buf (base + t .depth) 1 base (base + t .depth + 1) (omega arith) (omega arith);
       }
 
-module _ (buf : List ℕ) (base : ℕ) (t : Tally) where
-  pub pop-none : t .depth ≡ 0 → Turned pop buf base t buf (record { depth = t .depth; room = t .room; esc = false })
+  pub pop-none : t .depth ≡ 0 → Turned pop buf base t buf (record { depth = t .depth; levels = t .levels; from = t .from; esc = false })
   unfolding popFrom stacked
   pop-none e =
       record {
         is = λ o h. (let s : o .stack ≡ [] = sym (h .stack) ∙ rw e in rw s (record { stack = rw e; net = h .net; esc = refl }));
+        runs = w .runs;
         depth = omega arith;
-        room = omega arith;
         only = only-same buf _ _;
       }
 
   module _ (h : t .depth ≡ 0 → ⊥) where
-    popped : (v r : ℕ) (o : Open) → Tallies buf base t o → getD buf (base + (t .depth - 1)) 0 ≡ v → r ≡ t .room + choose (entryOf v) 1 0
-        → Tallies buf base (record { depth = t .depth - 1; room = r; esc = false }) (pop o)
+    top-level : t .levels ≡ choose (entryOf (getD buf (base + (t .depth - 1)) 0)) 1 0 + levels (stacked buf base (t .depth - 1))
+    top-level = w .runs ∙ levels-top buf base (t .depth) h
+
+    popped : (v left : ℕ) (o : Open) → Tallies buf base t o → getD buf (base + (t .depth - 1)) 0 ≡ v → t .levels ≡ choose (entryOf v) 1 0 + left
+        → Tallies buf base (record { depth = t .depth - 1; levels = left; from = t .from; esc = false }) (pop o)
     unfolding popFrom
-    popped v r o k e n =
+    popped v left o k e n =
         let s : o .stack ≡ entryOf v ∷ stacked buf base (t .depth - 1) = sym (k .stack) ∙ rw (stacked-top buf base (t .depth) h, e) in
         rw s (record { stack = refl; net = omega (arith, k .net, n); esc = refl })
 
-    pub pop-flat : getD buf (base + (t .depth - 1)) 0 ≡ 0 → Turned pop buf base t buf (record { depth = t .depth - 1; room = t .room; esc = false })
-    unfolding choose
+    pub pop-flat : getD buf (base + (t .depth - 1)) 0 ≡ 0
+        → Turned pop buf base t buf (record { depth = t .depth - 1; levels = t .levels; from = t .from; esc = false })
     pop-flat e =
-        record { is = λ o k. popped 0 (t .room) o k e (omega arith); depth = omega arith; room = omega arith; only = only-same buf _ _ }
-
-    pub pop-level : (getD buf (base + (t .depth - 1)) 0 ≡ 0 → ⊥)
-        → Turned pop buf base t buf (record { depth = t .depth - 1; room = t .room + 1; esc = false })
-    unfolding choose
-    pop-level e =
+        let z = flat-entry (getD buf (base + (t .depth - 1)) 0) e in
         record {
-          is = λ o k. popped (getD buf (base + (t .depth - 1)) 0) (t .room + 1) o k refl (rw (ne-eqb _ _ e));
+          is = λ o k. popped (getD buf (base + (t .depth - 1)) 0) (t .levels) o k refl (omega (arith, z));
+          runs = omega (arith, top-level, z);
           depth = omega arith;
-          room = omega arith;
           only = only-same buf _ _;
         }
 
+    module _ (e : getD buf (base + (t .depth - 1)) 0 ≡ 0 → ⊥) where
+      pub pop-less : 1 ≤ t .levels
+      pop-less = omega (arith, top-level, level-entry (getD buf (base + (t .depth - 1)) 0) e)
+
+      pub pop-level : Turned pop buf base t buf (record { depth = t .depth - 1; levels = t .levels - 1; from = t .from; esc = false })
+      pop-level =
+          let z = level-entry (getD buf (base + (t .depth - 1)) 0) e in
+          record {
+            is = λ o k. popped (getD buf (base + (t .depth - 1)) 0) (t .levels - 1) o k refl (omega (arith, top-level, z));
+            runs = omega (arith, top-level, z);
+            depth = omega arith;
+            only = only-same buf _ _;
+          }
+
 -- ---- one character
 
-module _ (buf : List ℕ) (base : ℕ) (t : Tally) where
+module _ (buf : List ℕ) (base : ℕ) (t : Tally) (r : t .levels ≡ levels (stacked buf base (t .depth))) where
   -- it changes nothing
   pub turn-same : Turned (λ o. o) buf base t buf t
-  turn-same = record { is = λ o h. h; depth = omega arith; room = omega arith; only = only-same buf _ _ }
+  turn-same = record { is = λ o h. h; runs = r; depth = omega arith; only = only-same buf _ _ }
 
   -- it is escaped, or escapes the next
-  pub turn-escaped : (b : Bool) → Turned (escaped b) buf base t buf (record { depth = t .depth; room = t .room; esc = b })
+  pub turn-escaped : (b : Bool) → Turned (escaped b) buf base t buf (record { depth = t .depth; levels = t .levels; from = t .from; esc = b })
   turn-escaped b =
       record {
         is = λ o h. record { stack = h .stack; net = h .net; esc = refl };
+        runs = r;
         depth = omega arith;
-        room = omega arith;
         only = only-same buf _ _;
       }
 
-  -- what was done is what is asked
-  pub turn-by : {g f : Open → Open} {after : List ℕ} {u : Tally} → Turned g buf base t after u → ((o : Open) → Tallies buf base t o → g o ≡ f o)
-      → Turned f buf base t after u
-  turn-by {after = after} {u = u} w e =
-      record {
-        is = λ o h. subst (Tallies after base u) (e o h) (w .is o h);
-        depth = w .depth;
-        room = w .room;
-        only = w .only;
-      }
+-- what was done is what is asked
+pub turn-by : (buf : List ℕ) (base : ℕ) (t : Tally) {g f : Open → Open} {after : List ℕ} {u : Tally} → Turned g buf base t after u
+    → ((o : Open) → Tallies buf base t o → g o ≡ f o) → Turned f buf base t after u
+turn-by buf base t {after = after} {u = u} w e =
+    record {
+      is = λ o h. subst (Tallies after base u) (e o h) (w .is o h);
+      runs = w .runs;
+      depth = w .depth;
+      only = w .only;
+    }
 
 -- a byte that is no bracket and no backslash
 
@@ -214,132 +284,107 @@ turn-idle x o r e q =
 
 -- ---- the loop over a line's cells
 
-pub record Scanning (line ks : List ℕ) (n : ℕ) (buf₀ : List ℕ) (base depth skip : ℕ) (buf : List ℕ) (t : Tally) (i : ℕ) : Type 0 where
+-- the nesting of a tally
+abbrev pub nestingOf : Tally → Nesting
+nestingOf t = record { depth = t .depth; levels = t .levels }
+
+pub record Scanning (line ks : List ℕ) (n : ℕ) (buf₀ : List ℕ) (base : ℕ) (b : Nesting) (skip : ℕ) (buf : List ℕ) (t : Tally) (i : ℕ) : Type 0 where
   pub o : Open
   pub now : Tallies buf base t o
-  pub same : scanBrackets (drop skip (cellsOf line ks)) (stacked buf₀ base depth) ≡ foldl bracketStep o (cellsOf (drop i line) (drop i ks)) .stack
-  pub high : t .depth + skip ≤ depth + i
-  pub room : t .room + skip ≤ 1 + i
+  pub same : scanBrackets (drop skip (cellsOf line ks)) (stacked buf₀ base (b .depth)) ≡ foldl bracketStep o (cellsOf (drop i line) (drop i ks)) .stack
+  pub runs : t .levels ≡ levels (stacked buf base (t .depth))
+  pub high : t .depth + skip ≤ b .depth + i
   pub from : skip ≤ i
   pub upto : i ≤ skip + n
-  pub only : Only buf₀ buf base (base + depth + n)
+  pub only : Only buf₀ buf base (base + b .depth + n)
 
-pub scanning-start : (line ks : List ℕ) (n : ℕ) (buf : List ℕ) (base depth skip : ℕ)
-    → Scanning line ks n buf base depth skip buf (record { depth = depth; room = 1; esc = false }) skip
+pub scanning-start : (line ks : List ℕ) (n : ℕ) (buf : List ℕ) (base : ℕ) (b : Nesting) (skip : ℕ)
+    → b .levels ≡ levels (stacked buf base (b .depth))
+    → Scanning line ks n buf base b skip buf (record { depth = b .depth; levels = b .levels; from = b .levels; esc = false }) skip
 unfolding scanBrackets
-scanning-start line ks n buf base depth skip =
+scanning-start line ks n buf base b skip r =
     record {
-      o = opened 0 0 false (stacked buf base depth);
+      o = opened 0 0 false (stacked buf base (b .depth));
       now = record { stack = refl; net = refl; esc = refl };
       same = rw (drop-cells skip line ks);
+      runs = r;
       high = omega arith;
-      room = omega arith;
       from = omega arith;
       upto = omega arith;
       only = only-same buf _ _;
     }
 
-module _ {line ks : List ℕ} {n : ℕ} {buf₀ : List ℕ} {base depth skip : ℕ} {buf : List ℕ} {t : Tally} {i : ℕ}
-    (w : Scanning line ks n buf₀ base depth skip buf t i) where
+module _ {line ks : List ℕ} {n : ℕ} {buf₀ : List ℕ} {base : ℕ} {b : Nesting} {skip : ℕ} {buf : List ℕ} {t : Tally} {i : ℕ}
+    (w : Scanning line ks n buf₀ base b skip buf t i) where
   scanning-on : {buf′ : List ℕ} {u : Tally} (c k : ℕ) → i < n → n ≡ length line → n ≡ length ks → getD line i 0 ≡ c → getD ks i 0 ≡ k
-      → Turned (λ o. bracketStep o (cell c (classOf k))) buf base t buf′ u → Scanning line ks n buf₀ base depth skip buf′ u (i + 1)
+      → Turned (λ o. bracketStep o (cell c (classOf k))) buf base t buf′ u → Scanning line ks n buf₀ base b skip buf′ u (i + 1)
   scanning-on {buf′} {u} c k h m l p q v =
       record {
         o = bracketStep (w .o) (cell c (classOf k));
         now = v .is (w .o) (w .now);
         same = w .same ∙ rw (cells-at line ks i (omega arith) (omega arith), p, q);
+        runs = v .runs;
         high = omega (arith, w .high, v .depth);
-        room = omega (arith, w .room, v .room);
         from = omega (arith, w .from);
         upto = omega arith;
-        only = only-then (w .only) (only-wider base (base + depth + n) (v .only) (omega arith) (omega (arith, w .high, w .from)));
+        only = only-then (w .only) (only-wider base (base + b .depth + n) (v .only) (omega arith) (omega (arith, w .high, w .from)));
       }
 
-  scanning-end : length line ≤ i → BracketsDone buf₀ buf base depth n (scanBrackets (drop skip (cellsOf line ks)) (stacked buf₀ base depth)) (t .depth)
-  scanning-end h = record { is = w .now .stack ∙ sym (w .same ∙ rw (cells-end line ks i h)); most = omega (arith, w .high, w .upto); only = w .only }
+  scanning-end : length line ≤ i
+      → BracketsDone buf₀ buf base b n (scanBrackets (drop skip (cellsOf line ks)) (stacked buf₀ base (b .depth))) (record { depth = t .depth; levels = t .levels })
+  scanning-end h =
+      record {
+        is = w .now .stack ∙ sym (w .same ∙ rw (cells-end line ks i h));
+        runs = w .runs;
+        most = omega (arith, w .high, w .upto);
+        only = w .only;
+      }
+
+  -- there is room for one more
+  pub scanning-room : base + b .depth + n ≤ length buf₀ → i < n → StackRoom buf base t
+  scanning-room f h = record { place = omega (arith, w .high, w .from, w .only .long); runs = w .runs }
 
 -- a line apart from scratch
-module _ (line buf₀ : List ℕ) (class base depth skip : ℕ) (buf : List ℕ) (t : Tally) (i : ℕ) (f : StackFits buf₀ class (length line) base depth)
-    (w : Scanning line (part buf₀ class (class + length line)) (length line) buf₀ base depth skip buf t i) where
+module _ (line buf₀ : List ℕ) (class base : ℕ) (b : Nesting) (skip : ℕ) (buf : List ℕ) (t : Tally) (i : ℕ) (f : StackFits buf₀ class (length line) base b)
+    (w : Scanning line (part buf₀ class (class + length line)) (length line) buf₀ base b skip buf t i) where
   pub scan-more : (buf′ : List ℕ) (u : Tally) → i < length line
       → Turned (λ o. bracketStep o (cell (getD line i 0) (classOf (getD buf (class + i) 0)))) buf base t buf′ u
-      → Scanning line (part buf₀ class (class + length line)) (length line) buf₀ base depth skip buf′ u (i + 1)
+      → Scanning line (part buf₀ class (class + length line)) (length line) buf₀ base b skip buf′ u (i + 1)
   scan-more buf′ u h v =
       scanning-on w _ _ h refl (sym (length-part buf₀ class (length line) (omega arith))) refl (read-now class (length line) i (w .only) (f .classes) h) v
 
   pub scan-skip : (r : Bool) → i < length line → r ≡ not (t .esc || mayTurn (getD line i 0)) → r ≡ true
-      → Scanning line (part buf₀ class (class + length line)) (length line) buf₀ base depth skip buf t (i + 1)
+      → Scanning line (part buf₀ class (class + length line)) (length line) buf₀ base b skip buf t (i + 1)
   scan-skip r h e q =
-      scan-more buf t h (turn-by buf base t (turn-same buf base t) (λ o k. turn-idle (cell (getD line i 0) (classOf (getD buf (class + i) 0))) o r (rw (← k .esc) e) q))
+      scan-more buf t h (turn-by buf base t (turn-same buf base t (w .runs)) (λ o k. turn-idle (cell (getD line i 0) (classOf (getD buf (class + i) 0))) o r (rw (← k .esc) e) q))
+
+  pub scan-room : i < length line → StackRoom buf base t
+  scan-room h = scanning-room w (f .stack) h
 
   pub scan-end : length line ≤ i
-      → BracketsDone buf₀ buf base depth (length line) (scanBrackets (drop skip (cellsOf line (part buf₀ class (class + length line)))) (stacked buf₀ base depth)) (t .depth)
+      → BracketsDone buf₀ buf base b (length line) (scanBrackets (drop skip (cellsOf line (part buf₀ class (class + length line)))) (stacked buf₀ base (b .depth)))
+      (record { depth = t .depth; levels = t .levels })
   scan-end h = scanning-end w h
 
 -- a line in scratch
-module _ (buf₀ : List ℕ) (at n class base depth skip : ℕ) (buf : List ℕ) (t : Tally) (i : ℕ) (f : (StackFits buf₀ class n base depth) × (at + n ≤ base))
-    (w : Scanning (part buf₀ at (at + n)) (part buf₀ class (class + n)) n buf₀ base depth skip buf t i) where
+module _ (buf₀ : List ℕ) (at n class base : ℕ) (b : Nesting) (skip : ℕ) (buf : List ℕ) (t : Tally) (i : ℕ) (f : (StackFits buf₀ class n base b) × (at + n ≤ base))
+    (w : Scanning (part buf₀ at (at + n)) (part buf₀ class (class + n)) n buf₀ base b skip buf t i) where
   pub scan-at-more : (buf′ : List ℕ) (u : Tally) → i < n
       → Turned (λ o. bracketStep o (cell (getD buf (at + i) 0) (classOf (getD buf (class + i) 0)))) buf base t buf′ u
-      → Scanning (part buf₀ at (at + n)) (part buf₀ class (class + n)) n buf₀ base depth skip buf′ u (i + 1)
+      → Scanning (part buf₀ at (at + n)) (part buf₀ class (class + n)) n buf₀ base b skip buf′ u (i + 1)
   scan-at-more buf′ u h v =
       scanning-on w _ _ h (sym (length-part buf₀ at n (omega arith))) (sym (length-part buf₀ class n (omega arith)))
       (read-now at n i (w .only) (f .1) h) (read-now class n i (w .only) (f .0 .classes) h) v
 
   pub scan-at-skip : (r : Bool) → i < n → r ≡ not (t .esc || mayTurn (getD buf (at + i) 0)) → r ≡ true
-      → Scanning (part buf₀ at (at + n)) (part buf₀ class (class + n)) n buf₀ base depth skip buf t (i + 1)
+      → Scanning (part buf₀ at (at + n)) (part buf₀ class (class + n)) n buf₀ base b skip buf t (i + 1)
   scan-at-skip r h e q =
-      scan-at-more buf t h (turn-by buf base t (turn-same buf base t) (λ o k. turn-idle (cell (getD buf (at + i) 0) (classOf (getD buf (class + i) 0))) o r (rw (← k .esc) e) q))
+      scan-at-more buf t h (turn-by buf base t (turn-same buf base t (w .runs)) (λ o k. turn-idle (cell (getD buf (at + i) 0) (classOf (getD buf (class + i) 0))) o r (rw (← k .esc) e) q))
+
+  pub scan-at-room : i < n → StackRoom buf base t
+  scan-at-room h = scanning-room w (f .0 .stack) h
 
   pub scan-at-end : n ≤ i
-      → BracketsDone buf₀ buf base depth n (scanBrackets (drop skip (cellsOf (part buf₀ at (at + n)) (part buf₀ class (class + n)))) (stacked buf₀ base depth)) (t .depth)
+      → BracketsDone buf₀ buf base b n (scanBrackets (drop skip (cellsOf (part buf₀ at (at + n)) (part buf₀ class (class + n)))) (stacked buf₀ base (b .depth)))
+      (record { depth = t .depth; levels = t .levels })
   scan-at-end h = scanning-end w (omega (arith, length-part buf₀ at n (omega arith)))
-
--- ---- the loops of `levels_of`, from the oldest entry on
-
-levels-next : (buf : List ℕ) (base i : ℕ) → levels (stacked buf base (i + 1)) ≡ choose (entryOf (getD buf (base + i) 0)) 1 0 + levels (stacked buf base i)
-unfolding stacked levels
-levels-next buf base i = rw (add-one i)
-
--- of n entries from the i-th on, the first k
-pub record Summing (buf : List ℕ) (base i n sum k : ℕ) : Type 0 where
-  pub within : k ≤ n
-  pub is : levels (stacked buf base (i + k)) ≡ sum + levels (stacked buf base i)
-  pub most : sum ≤ k
-
-pub summing-start : (buf : List ℕ) (base i n : ℕ) → Summing buf base i n 0 0
-summing-start buf base i n =
-    let e : i + 0 ≡ i = omega arith in
-    record { within = zero-le; is = rw e (sym (zero-add (levels (stacked buf base i)))); most = zero-le }
-
-module _ (buf : List ℕ) (base i n sum k : ℕ) (w : Summing buf base i n sum k) where
-  pub summing-more : (r : ℕ) → k < n → (r ≡ choose (entryOf (getD buf (base + i + k) 0)) 1 0) × (r ≤ 1) → Summing buf base i n (sum + r) (k + 1)
-  summing-more r h e =
-      let a : base + (i + k) ≡ base + i + k = omega arith in
-      let b : i + (k + 1) ≡ i + k + 1 = omega arith in
-      let l : levels (stacked buf base (i + k + 1)) ≡ r + levels (stacked buf base (i + k)) = levels-next buf base (i + k) ∙ rw (a, ← e .0) in
-      record { within = omega arith; is = rw b (omega (arith, w .is)); most = omega (arith, w .most, e .1) }
-
-  pub summing-end : n ≤ k → Among buf base i n sum
-  summing-end h =
-      let e : k ≡ n = omega (arith, w .within) in
-      record { is = rw e at (w .is); most = omega (arith, w .most) }
-
-pub record Counting (buf : List ℕ) (base depth n i : ℕ) : Type 0 where
-  pub within : i ≤ depth
-  pub is : n ≡ levels (stacked buf base i)
-  pub most : n ≤ i
-
-pub counting-start : (buf : List ℕ) (base depth : ℕ) → Counting buf base depth 0 0
-unfolding stacked levels
-counting-start buf base depth = record { within = zero-le; is = refl; most = zero-le }
-
-module _ (buf : List ℕ) (base depth n i r : ℕ) (w : Counting buf base depth n i) where
-  pub counting-more : (k : ℕ) → i + k ≤ depth → Among buf base i k r → Counting buf base depth (n + r) (i + k)
-  counting-more k h v = record { within = h; is = omega (arith, w .is, v .is); most = omega (arith, w .most, v .most) }
-
-  pub counting-end : Among buf base i (depth - i) r → Levels buf base depth (n + r)
-  counting-end v =
-      let e : i + (depth - i) ≡ depth = omega (arith, w .within) in
-      let l : levels (stacked buf base depth) ≡ r + levels (stacked buf base i) = rw e at (v .is) in
-      record { is = omega (arith, w .is); most = omega (arith, w .most, w .within, v .most) }

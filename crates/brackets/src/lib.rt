@@ -9,14 +9,21 @@ ghost use Rattle.rules.specs.Scan.{cell};
 ghost use Rattle.rules.specs.ClassBytes.{classOf, cellsOf};
 ghost use Rattle.rules.specs.Brackets.{push, pop, bracketStep, scanBrackets};
 ghost use Rattle.basics.specs.Closers.{Closers};
-ghost use Rattle.brackets.specs.Stack.{entryOf, stacked, StackRoom, Turned, StackFits, BracketsDone, Among, Levels, mayTurn};
+ghost use Rattle.brackets.specs.Stack.{entryOf, stacked, Nested, Popped, StackRoom, Turned, StackFits, BracketsDone, mayTurn};
 use basics::is_closer;
 use basics::is_opener;
 
-// The stack within a line: how many brackets are open, 1 less the line's net added count, and whether the next character is escaped.
+// How many brackets are open, and how many of them added a level. The stack itself lies in scratch.
+pub struct Nesting {
+    pub depth: usize,
+    pub levels: usize,
+}
+
+// The same within a line. Its net added count is levels less from; esc tells whether the next character is escaped.
 pub struct Tally {
     pub depth: usize,
-    pub room: usize,
+    pub levels: usize,
+    pub from: usize,
     pub esc: bool,
 }
 
@@ -36,83 +43,74 @@ pub fn leading_closers(line: &[u8]) -> usize
 }
 
 // The depth after n closers.
-pub fn pop_closers(depth: usize, n: usize) -> usize
+fn depth_after(depth: usize, n: usize) -> usize
     ensures { λ r. ⌜ r ≡ depth - n ⌝ }
 {
     if n < depth { depth - n } else { 0 }
 }
 
 // 1 for an entry that added a level, else 0.
-fn level_of(entry: u8) -> u8
-    ensures { λ r. ⌜ (r ≡ choose (entryOf entry) 1 0) × (r ≤ 1) ⌝ }
+fn level_of(entry: u8) -> usize
+    ensures { λ r. ⌜ r ≡ choose (entryOf entry) 1 0 ⌝ }
 {
     if entry == 0 { 0 } else { 1 }
 }
 
-// How many of n open brackets added a level, the first i being left out. So few are counted that a byte holds the sum: many are added at once.
-fn levels_among(scratch: &[u8], base: usize, i: usize, n: usize) -> u8
-    requires { ⌜ (base + i + n ≤ length (now scratch)) × (n ≤ 192) ⌝ }
-    ensures { λ r. ⌜ Among (now (scratch .entry)) base i n r ⌝ }
+// The n leading closers of a line: each pops any opener, with the level that it added, and on an empty stack does nothing.
+pub fn pop_closers(scratch: &[u8], base: usize, b: Nesting, n: usize) -> Nesting
+    requires { ⌜ Nested (now scratch) base b ⌝ }
+    ensures { λ r. ⌜ Popped (now (scratch .entry)) base b n r ⌝ }
 {
-    let at = base + i;
-    let mut sum: u8 = 0;
-    let mut k: usize = 0;
-    while k < n {
-        sum += level_of(scratch[at + k]);
-        k += 1;
+    let end = depth_after(b.depth, n);
+    let mut depth = b.depth;
+    let mut levels = b.levels;
+    while end < depth {
+        depth -= 1;
+        levels -= level_of(scratch[base + depth]);
     }
-    sum
+    Nesting { depth, levels }
 }
 
-// How many of the open brackets added a level.
-pub fn levels_of(scratch: &[u8], base: usize, depth: usize) -> usize
-    requires { ⌜ base + depth ≤ length (now scratch) ⌝ }
-    ensures { λ r. ⌜ Levels (now (scratch .entry)) base depth r ⌝ }
-{
-    let mut n = 0;
-    let mut i = 0;
-    while depth - i > 192 {
-        n += levels_among(scratch, base, i, 192) as usize;
-        i += 192;
-    }
-    n + levels_among(scratch, base, i, depth - i) as usize
-}
-
-// An opener: it adds a level while there is room.
+// An opener: it adds a level only while the net added count is at most 0.
 fn push(scratch: &mut [u8], base: usize, t: Tally) -> Tally
     requires { ⌜ StackRoom (now scratch) base t ⌝ }
     ensures { λ r. ⌜ Turned push (now (scratch .entry)) base t (now (scratch .exit)) r ⌝ }
 {
     let n = t.depth;
-    let room = t.room;
+    let levels = t.levels;
+    let from = t.from;
     let p = base + n;
-    if room == 0 {
+    if from < levels {
         scratch[p] = 0;
         return Tally {
             depth: n + 1,
-            room,
+            levels,
+            from,
             esc: false,
         };
     }
     scratch[p] = 1;
     Tally {
         depth: n + 1,
-        room: room - 1,
+        levels: levels + 1,
+        from,
         esc: false,
     }
 }
 
-// A closer: it takes any opener, and on an empty stack does nothing.
+// A closer: it takes any opener, with the level that it added, and on an empty stack does nothing.
 fn pop(scratch: &[u8], base: usize, t: Tally) -> Tally
     requires { ⌜ StackRoom (now scratch) base t ⌝ }
     ensures { λ r. ⌜ Turned pop (now (scratch .entry)) base t (now (scratch .entry)) r ⌝ }
 {
     let n = t.depth;
-    let room = t.room;
+    let levels = t.levels;
+    let from = t.from;
     if n == 0 {
         return Tally {
             depth: n,
-            room,
+            levels,
+            from,
             esc: false,
         };
     }
@@ -120,13 +118,15 @@ fn pop(scratch: &[u8], base: usize, t: Tally) -> Tally
     if scratch[base + m] == 0 {
         return Tally {
             depth: m,
-            room,
+            levels,
+            from,
             esc: false,
         };
     }
     Tally {
         depth: m,
-        room: room + 1,
+        levels: levels - 1,
+        from,
         esc: false,
     }
 }
@@ -165,22 +165,22 @@ fn bracket_step(c: u8, k: u8, scratch: &mut [u8], base: usize, t: Tally) -> Tall
     t
 }
 
-// The brackets of a line, without its first `skip` bytes, whose class bytes stand in scratch from class_at on. The stack has depth entries
-// from base on, and the new depth is given.
+// The brackets of a line, without its first `skip` bytes, whose class bytes stand in scratch from class_at on. The stack lies from base on.
 pub fn scan_brackets(
     line: &[u8],
     scratch: &mut [u8],
     class_at: usize,
     base: usize,
-    depth: usize,
+    b: Nesting,
     skip: usize,
-) -> usize
-    requires { ⌜ StackFits (now scratch) «class_at» (length (now line)) base depth ⌝ }
-    ensures { λ r. ⌜ BracketsDone (now (scratch .entry)) (now (scratch .exit)) base depth (length (now (line .entry))) (scanBrackets (drop skip (cellsOf (now (line .entry)) (part (now (scratch .entry)) «class_at» («class_at» + length (now (line .entry)))))) (stacked (now (scratch .entry)) base depth)) r ⌝ }
+) -> Nesting
+    requires { ⌜ StackFits (now scratch) «class_at» (length (now line)) base b ⌝ }
+    ensures { λ r. ⌜ BracketsDone (now (scratch .entry)) (now (scratch .exit)) base b (length (now (line .entry))) (scanBrackets (drop skip (cellsOf (now (line .entry)) (part (now (scratch .entry)) «class_at» («class_at» + length (now (line .entry)))))) (stacked (now (scratch .entry)) base (b .depth))) r ⌝ }
 {
     let mut t = Tally {
-        depth,
-        room: 1,
+        depth: b.depth,
+        levels: b.levels,
+        from: b.levels,
         esc: false,
     };
     let mut i = skip;
@@ -193,7 +193,10 @@ pub fn scan_brackets(
         t = bracket_step(c, scratch[class_at + i], scratch, base, t);
         i += 1;
     }
-    t.depth
+    Nesting {
+        depth: t.depth,
+        levels: t.levels,
+    }
 }
 
 // The same of a line that stands in scratch itself, n bytes from line_at on.
@@ -203,15 +206,16 @@ pub fn scan_brackets_at(
     n: usize,
     class_at: usize,
     base: usize,
-    depth: usize,
+    b: Nesting,
     skip: usize,
-) -> usize
-    requires { ⌜ (StackFits (now scratch) «class_at» n base depth) × («line_at» + n ≤ base) ⌝ }
-    ensures { λ r. ⌜ BracketsDone (now (scratch .entry)) (now (scratch .exit)) base depth n (scanBrackets (drop skip (cellsOf (part (now (scratch .entry)) «line_at» («line_at» + n)) (part (now (scratch .entry)) «class_at» («class_at» + n)))) (stacked (now (scratch .entry)) base depth)) r ⌝ }
+) -> Nesting
+    requires { ⌜ (StackFits (now scratch) «class_at» n base b) × («line_at» + n ≤ base) ⌝ }
+    ensures { λ r. ⌜ BracketsDone (now (scratch .entry)) (now (scratch .exit)) base b n (scanBrackets (drop skip (cellsOf (part (now (scratch .entry)) «line_at» («line_at» + n)) (part (now (scratch .entry)) «class_at» («class_at» + n)))) (stacked (now (scratch .entry)) base (b .depth))) r ⌝ }
 {
     let mut t = Tally {
-        depth,
-        room: 1,
+        depth: b.depth,
+        levels: b.levels,
+        from: b.levels,
         esc: false,
     };
     let mut i = skip;
@@ -224,5 +228,8 @@ pub fn scan_brackets_at(
         t = bracket_step(c, scratch[class_at + i], scratch, base, t);
         i += 1;
     }
-    t.depth
+    Nesting {
+        depth: t.depth,
+        levels: t.levels,
+    }
 }

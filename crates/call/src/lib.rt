@@ -4,7 +4,7 @@ ghost use lib.ListN.{length};
 ghost use Rattle.rules.specs.Refusals.{tested};
 ghost use Rattle.rules.specs.Call.{formatTests};
 ghost use Rattle.call.specs.Formatted.{RefusedCall};
-ghost use Rattle.call.specs.Ran.{callOf, numbersOf, Ran};
+ghost use Rattle.call.specs.Ran.{callOf, Ran};
 ghost use Rattle.call.specs.FormatAnswered.{FormatAnswered};
 use options::FormatOptions;
 use rules::Answer;
@@ -64,21 +64,12 @@ fn run_call(
 pub fn format_call(
     source: &[u8],
     indent: &[u8],
-    width_set: u64,
-    width: u64,
-    line_ending: u64,
-    final_newline: u64,
+    numbers: OptionNumbers,
     output: &mut [u8],
     scratch: &mut [u8],
 ) -> Answer
-    ensures { λ r. ⌜ FormatAnswered (callOf (now (source .entry)) (now (indent .entry)) (numbersOf «width_set» width «line_ending» «final_newline») (length (now (output .entry))) (length (now (scratch .entry)))) r (now (output .exit)) (now (scratch .exit)) ⌝ }
+    ensures { λ r. ⌜ FormatAnswered (callOf (now (source .entry)) (now (indent .entry)) numbers (length (now (output .entry))) (length (now (scratch .entry)))) r (now (output .exit)) (now (scratch .exit)) ⌝ }
 {
-    let numbers = OptionNumbers {
-        width_set,
-        width,
-        line_ending,
-        final_newline,
-    };
     let outcome = run_call(source, indent, numbers, output, scratch);
     answer::answer_of(outcome)
 }

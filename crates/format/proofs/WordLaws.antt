@@ -1,24 +1,26 @@
 -- What a line starts with: white space, operators, words and declarations, found on bytes.
 use Prim.Native.Nat.{ℕ, _+_, _-_, _≤_, _<_}
-use mathlib.Core.Bool.{Bool, true, false, not, _&&_, _||_, and-false, and-true, and-self, or-false, or-true, or-assoc, true≢false, false≢true}
+use mathlib.Core.Bool.{Bool, true, false, not, _&&_, _||_, and-false, or-false, or-true, or-assoc, false≢true}
 use mathlib.Core.List.{List, [], _∷_}
 use mathlib.Core.Path.{_≡_, refl, sym, _∙_}
 use native.Mathlib.Omega.{arith}
-use borrow.Author.Tests.{eq-eqb, ne-eqb, eqb-true, ltb-true, ltb-false}
+use borrow.Author.Tests.{eq-eqb, ne-eqb, eqb-true, eqb-false, ltb-true}
 use lib.Dec.{eqb, ltb}
 use lib.ListN.{length, getD, take, drop, drop-of-length-le}
 use Rattle.unicode.specs.Unicode.{encode, chars, decode, WellFormed, isWhite, firstIsWhite}
 use Rattle.unicode.proofs.Tests.{by-test, and-left, and-right}
 use Rattle.unicode.proofs.Scan.{ascii-step}
 use Rattle.buffer.proofs.RegionLaws.{part-from}
-use Rattle.rules.specs.Basics.{choose, is, codes, at, isEmpty, startsWith, firstIs, startsThen}
+use Rattle.rules.specs.Basics.{choose, is, codes, at, isEmpty, same, oneOf, startsWith, firstIs, startsThen}
 use Rattle.rules.specs.Brackets.{leadingClosers}
-use Rattle.rules.specs.Words.{startsWithWord, operators, whiteOrParen, startsWithOneOf, startsWithBinaryOp, sameDeclaration}
+use Rattle.rules.specs.Operators.{operators}
+use Rattle.rules.specs.Words.{startsWithWord, whiteOrParen, startsWithOneOf, startsWithBinaryOp, sameDeclaration}
 use Rattle.rules.specs.Line.{continues}
 use Rattle.rules.proofs.StartsBytes.{on-decode, allAscii, not-ascii, starts-encode, starts-column, first-encode, closers-encode}
 use Rattle.rules.proofs.WordsBytes.{word-encode}
+use Rattle.rules.proofs.OperatorsBytes.{operator-ascii}
 use Rattle.basics.specs.Closers.{Closers}
-use Rattle.format.specs.Words.{whiteOr, ones, pairs, follows, Continues, declarationOf, sameOf}
+use Rattle.format.specs.Words.{whiteOr, follows, Continues, declarationOf, sameOf}
 use Rattle.format.specs.declared.words.Declaration.{Declaration}
 
 -- ---- white space or a byte
@@ -66,66 +68,34 @@ module _ (s : List ℕ) (c : ℕ) (pre : WellFormed s × (c < 0x80)) where
 
 -- ---- operators
 
-pub one-operator : (c : ℕ) → ones operators c ≡ (is "|" c || is "^" c || is "&" c || is "<" c || is ">" c || (is "+" c || is "-" c || is "*" c || is "/" c || is "%" c))
-unfolding ones
-one-operator c = simp (or-assoc, or-false)
+-- the bytes of an operator of one or two bytes are below 80 hex
+one-low : (c : ℕ) → oneOf operators (c ∷ []) ≡ true → c < 0x80
+one-low c e = ltb-true c 0x80 (and-left (ltb c 0x80) true (operator-ascii (c ∷ []) e))
 
--- two tests of one byte
-apart : (c a b : ℕ) → eqb a b ≡ false → (eqb c a && eqb c b) ≡ false
-apart c a b e = by-test (eqb c a) (λ q. rw (q, eqb-true c a q) e) (λ q. rw q)
-
-pub pair-doubled : (c d : ℕ) → c ≡ d
-    → pairs operators c d ≡ (is "|" c || is "^" c || is "&" c || is "=" c || is "<" c || is ">" c || is "." c || is "*" c)
-unfolding pairs
-pair-doubled c d e = rw (← e) (simp (and-self, apart c 33 61 refl, apart c 60 61 refl, apart c 62 61 refl, or-assoc, or-false))
-
-pub pair-compared : (c d : ℕ) → (c ≡ d → ⊥) → d ≡ 61 → pairs operators c d ≡ (is "!" c || is "<" c || is ">" c)
-unfolding pairs
-pair-compared c d n e = rw e (simp (ne-eqb c 61 (λ q. n (q ∙ sym e)), and-false, and-true, or-assoc, or-false))
-
--- one test of two bytes
-unlike : (c d a : ℕ) → (c ≡ d → ⊥) → (eqb c a && eqb d a) ≡ false
-unlike c d a n = by-test (eqb c a) (λ q. rw q (ne-eqb d a (λ z. n (eqb-true c a q ∙ sym z)))) (λ q. rw q)
-
-pub pair-none : (c d : ℕ) → (c ≡ d → ⊥) → (d ≡ 61 → ⊥) → false ≡ pairs operators c d
-unfolding pairs
-pair-none c d n m = sym (simp (unlike c d 124 n, unlike c d 94 n, unlike c d 38 n, unlike c d 60 n, unlike c d 62 n, unlike c d 46 n, unlike c d 42 n, ne-eqb d 61 m, and-false))
-
--- an operator's bytes are below 80 hex
-one-low : (c : ℕ) → ones operators c ≡ true → c < 0x80
-unfolding ones
-one-low c e =
-    by-test (ltb c 0x80) (ltb-true c 0x80)
-    (λ q. let h = ltb-false c 0x80 q in let z : true ≡ false = sym e ∙ simp (not-ascii c) in absurd (true≢false z))
-
-pair-low : (c d : ℕ) → pairs operators c d ≡ true → (c < 0x80) × (d < 0x80)
-unfolding pairs
-pair-low c d e = (
-  by-test (ltb c 0x80) (ltb-true c 0x80)
-      (λ q. let h = ltb-false c 0x80 q in let z : true ≡ false = sym e ∙ simp (not-ascii c) in absurd (true≢false z)),
-  by-test (ltb d 0x80) (ltb-true d 0x80)
-      (λ q. let h = ltb-false d 0x80 q in let z : true ≡ false = sym e ∙ simp (not-ascii d, and-false) in absurd (true≢false z)),
-)
+pair-low : (c d : ℕ) → oneOf operators (c ∷ d ∷ []) ≡ true → (c < 0x80) × (d < 0x80)
+pair-low c d e =
+    let a = operator-ascii (c ∷ d ∷ []) e in
+    (ltb-true c 0x80 (and-left (ltb c 0x80) (ltb d 0x80 && true) a), ltb-true d 0x80 (and-left (ltb d 0x80) true (and-right (ltb c 0x80) (ltb d 0x80 && true) a)))
 
 module _ (s : List ℕ) (pre : WellFormed s × (1 < length s)) where
   -- what follows the operator is well-formed
-  pub after-one : (r : Bool) → r ≡ ones operators (getD s 0 0) → r ≡ true → WellFormed (take (length s - 1) (drop 1 s))
+  pub after-one : (r : Bool) → r ≡ oneOf operators (getD s 0 0 ∷ []) → r ≡ true → WellFormed (take (length s - 1) (drop 1 s))
   after-one r e q = rw part-from (ascii-step s 0 (omega (arith, pre .1)) (one-low (getD s 0 0) (sym e ∙ q)) .well (pre .0))
 
-  pub after-pair : (r : Bool) → r ≡ pairs operators (getD s 0 0) (getD s 1 0) → r ≡ true → WellFormed (take (length s - 2) (drop 2 s))
+  pub after-pair : (r : Bool) → r ≡ oneOf operators (getD s 0 0 ∷ getD s 1 0 ∷ []) → r ≡ true → WellFormed (take (length s - 2) (drop 2 s))
   after-pair r e q =
       let k = pair-low (getD s 0 0) (getD s 1 0) (sym e ∙ q) in
       let w : WellFormed (drop 1 s) = ascii-step s 0 (omega (arith, pre .1)) (k .0) .well (pre .0) in
       rw part-from (ascii-step s 1 (pre .1) (k .1) .well w)
 
   -- the answers of the two functions
-  pub one-follows : (r f : Bool) → r ≡ ones operators (getD s 0 0) → r ≡ true → f ≡ firstIs (whiteOr 40) (decode (take (length s - 1) (drop 1 s)))
-      → f ≡ (ones operators (getD s 0 0) && follows s 1)
+  pub one-follows : (r f : Bool) → r ≡ oneOf operators (getD s 0 0 ∷ []) → r ≡ true → f ≡ firstIs (whiteOr 40) (decode (take (length s - 1) (drop 1 s)))
+      → f ≡ (oneOf operators (getD s 0 0 ∷ []) && follows s 1)
   unfolding follows whiteOrParen whiteOr
   one-follows r f e q g = rw (← e, q) (g ∙ rw part-from)
 
-  pub pair-follows : (r f : Bool) → r ≡ pairs operators (getD s 0 0) (getD s 1 0) → r ≡ true → f ≡ firstIs (whiteOr 40) (decode (take (length s - 2) (drop 2 s)))
-      → f ≡ (pairs operators (getD s 0 0) (getD s 1 0) && follows s 2)
+  pub pair-follows : (r f : Bool) → r ≡ oneOf operators (getD s 0 0 ∷ getD s 1 0 ∷ []) → r ≡ true → f ≡ firstIs (whiteOr 40) (decode (take (length s - 2) (drop 2 s)))
+      → f ≡ (oneOf operators (getD s 0 0 ∷ getD s 1 0 ∷ []) && follows s 2)
   unfolding follows whiteOrParen whiteOr
   pair-follows r f e q g = rw (← e, q) (g ∙ rw part-from)
 
@@ -150,34 +120,38 @@ abbrev allShort : List (List ℕ) → Bool
 allShort [] = true
 allShort (op ∷ ops) = short op && allShort ops
 
-one-more : (x y w z : Bool) → (x && true && w || (y && w || z)) ≡ ((x || y) && w || z)
+one-more : (x y w z : Bool) → (x && true && w || (y && w || z)) ≡ ((x && true || y) && w || z)
 one-more true y true z = refl
 one-more true true false z = refl
 one-more true false false z = refl
 one-more false y w z = refl
 
-pair-more : (x d y w z : Bool) → (x && (d && true) && w || (z || y && w)) ≡ (z || (x && d || y) && w)
+pair-more : (x d y w z : Bool) → (x && (d && true) && w || (z || y && w)) ≡ (z || (x && (d && true) || y) && w)
 pair-more true true y true z = sym (or-true z)
 pair-more true true true false z = refl
 pair-more true true false false z = refl
 pair-more true false y w z = refl
 pair-more false d y w z = refl
 
+eqb-flip : (m n : ℕ) → eqb m n ≡ eqb n m
+eqb-flip m n = by-test (eqb m n) (λ e. e ∙ sym (eq-eqb n m (sym (eqb-true m n e)))) (λ e. e ∙ sym (ne-eqb n m (λ q. eqb-false m n e (sym q))))
+
 module _ (c d : ℕ) (t : List ℕ) (w : WellFormed (c ∷ d ∷ t)) where
   abbrev line : List ℕ
   line = c ∷ d ∷ t
 
   some-operator : (ops : List (List ℕ)) → allShort ops ≡ true
-      → startsWithOneOf ops (decode line) ≡ (ones ops c && follows line 1 || pairs ops c d && follows line 2)
-  unfolding startsWithOneOf ones pairs startsWith
+      → startsWithOneOf ops (decode line) ≡ (oneOf ops (c ∷ []) && follows line 1 || oneOf ops (c ∷ d ∷ []) && follows line 2)
+  unfolding startsWithOneOf oneOf same startsWith
   some-operator [] a = refl
   some-operator ([] ∷ ops) a = absurd (false≢true a)
   some-operator ((x ∷ []) ∷ ops) a =
       let e = then-operator line (x ∷ []) w (and-left (allAscii (x ∷ [])) (allShort ops) a) in
-      rw (e, some-operator ops (and-right (allAscii (x ∷ [])) (allShort ops) a)) (one-more (eqb c x) (ones ops c) (follows line 1) (pairs ops c d && follows line 2))
+      rw (e, some-operator ops (and-right (allAscii (x ∷ [])) (allShort ops) a), eqb-flip x c, and-false) (one-more (eqb c x) (oneOf ops (c ∷ [])) (follows line 1) (oneOf ops (c ∷ d ∷ []) && follows line 2))
   some-operator ((x ∷ y ∷ []) ∷ ops) a =
       let e = then-operator line (x ∷ y ∷ []) w (and-left (allAscii (x ∷ y ∷ [])) (allShort ops) a) in
-      rw (e, some-operator ops (and-right (allAscii (x ∷ y ∷ [])) (allShort ops) a)) (pair-more (eqb c x) (eqb d y) (pairs ops c d) (follows line 2) (ones ops c && follows line 1))
+      rw (e, some-operator ops (and-right (allAscii (x ∷ y ∷ [])) (allShort ops) a), eqb-flip x c, eqb-flip y d, and-false)
+      (pair-more (eqb c x) (eqb d y) (oneOf ops (c ∷ d ∷ [])) (follows line 2) (oneOf ops (c ∷ []) && follows line 1))
   some-operator ((x ∷ y ∷ z ∷ v) ∷ ops) a = absurd (false≢true a)
 
 -- nothing follows
@@ -198,7 +172,7 @@ no-operator s w h ((x ∷ y ∷ []) ∷ ops) a =
 no-operator s w h ((x ∷ y ∷ z ∷ v) ∷ ops) a = absurd (false≢true a)
 
 binary : (s : List ℕ) → WellFormed s → 1 < length s
-    → startsWithBinaryOp (decode s) ≡ (ones operators (getD s 0 0) && follows s 1 || pairs operators (getD s 0 0) (getD s 1 0) && follows s 2)
+    → startsWithBinaryOp (decode s) ≡ (oneOf operators (getD s 0 0 ∷ []) && follows s 1 || oneOf operators (getD s 0 0 ∷ getD s 1 0 ∷ []) && follows s 2)
 unfolding startsWithBinaryOp
 binary [] w h = absurd (omega arith)
 binary (c ∷ []) w h = absurd (omega arith)
@@ -209,11 +183,11 @@ module _ (s : List ℕ) (w : WellFormed s) where
   unfolding startsWithBinaryOp
   binary-short h = sym (no-operator s w h operators refl)
 
-  pub binary-one : (r : Bool) → 1 < length s → r ≡ (ones operators (getD s 0 0) && follows s 1) → r ≡ true → true ≡ startsWithBinaryOp (decode s)
+  pub binary-one : (r : Bool) → 1 < length s → r ≡ (oneOf operators (getD s 0 0 ∷ []) && follows s 1) → r ≡ true → true ≡ startsWithBinaryOp (decode s)
   binary-one r h e q = sym (binary s w h ∙ rw (← e, q))
 
-  pub binary-pair : (r q : Bool) → 1 < length s → r ≡ (ones operators (getD s 0 0) && follows s 1) → r ≡ false
-      → q ≡ (pairs operators (getD s 0 0) (getD s 1 0) && follows s 2) → q ≡ startsWithBinaryOp (decode s)
+  pub binary-pair : (r q : Bool) → 1 < length s → r ≡ (oneOf operators (getD s 0 0 ∷ []) && follows s 1) → r ≡ false
+      → q ≡ (oneOf operators (getD s 0 0 ∷ getD s 1 0 ∷ []) && follows s 2) → q ≡ startsWithBinaryOp (decode s)
   binary-pair r q h e z f = f ∙ sym (binary s w h ∙ rw (← e, z))
 
 -- ---- continues

@@ -1,7 +1,7 @@
 -- What a line starts with, as the code finds it.
 use Prim.Native.Nat.{ℕ}
-use mathlib.Core.Bool.{Bool, true, false, _&&_, _||_}
-use mathlib.Core.List.{List, [], _∷_}
+use mathlib.Core.Bool.{Bool, true, false, _||_}
+use mathlib.Core.List.{List}
 use mathlib.Core.Path.{_≡_}
 use lib.Dec.{eqb}
 use lib.ListN.{drop}
@@ -14,21 +14,6 @@ use Rattle.format.specs.declared.words.Declaration.{Declaration}
 -- white space, or c
 unfoldable pub whiteOr : ℕ → ℕ → Bool
 whiteOr c x = isWhite x || eqb x c
-
--- c is one of the operators
-unfoldable pub ones : List (List ℕ) → ℕ → Bool
-ones [] c = false
-ones ([] ∷ ops) c = ones ops c
-ones ((a ∷ []) ∷ ops) c = eqb c a || ones ops c
-ones ((a ∷ b ∷ w) ∷ ops) c = ones ops c
-
--- c and d are one of the operators
-unfoldable pub pairs : List (List ℕ) → ℕ → ℕ → Bool
-pairs [] c d = false
-pairs ([] ∷ ops) c d = pairs ops c d
-pairs ((a ∷ []) ∷ ops) c d = pairs ops c d
-pairs ((a ∷ b ∷ []) ∷ ops) c d = (eqb c a && eqb d b) || pairs ops c d
-pairs ((a ∷ b ∷ x ∷ w) ∷ ops) c d = pairs ops c d
 
 -- white space or `(` stands after n bytes
 unfoldable pub follows : List ℕ → ℕ → Bool

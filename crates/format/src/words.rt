@@ -1,15 +1,19 @@
 // Words: what a line starts with. Fixed byte strings are compared.
 ghost use mathlib.Core.Path.{_≡_};
-ghost use mathlib.Core.Bool.{not, _&&_, _||_};
+ghost use mathlib.Core.Bool.{not, _&&_};
+ghost use mathlib.Core.List.{[], _∷_};
 ghost use Prim.Native.Nat.{_<_};
 ghost use lib.ListN.{length, getD};
 ghost use Rattle.unicode.specs.Unicode.{decode, WellFormed};
-ghost use Rattle.rules.specs.Basics.{codes, is, at, firstIs};
-ghost use Rattle.rules.specs.Words.{startsWithWord, operators, startsWithBinaryOp};
+ghost use Rattle.rules.specs.Basics.{codes, at, oneOf, firstIs};
+ghost use Rattle.rules.specs.Operators.{operators};
+ghost use Rattle.rules.specs.Words.{startsWithWord, startsWithBinaryOp};
 ghost use Rattle.basics.specs.Closers.{Closers};
-ghost use Rattle.format.specs.Words.{whiteOr, ones, pairs, follows, declarationOf, sameOf, Continues};
+ghost use Rattle.format.specs.Words.{whiteOr, follows, declarationOf, sameOf, Continues};
 use basics::is_blank;
 use basics::starts_with;
+use operators::is_one;
+use operators::is_two;
 
 // A space, a tab or nothing follows the word.
 pub fn starts_with_word(line: &[u8], word: &[u8]) -> bool
@@ -39,112 +43,12 @@ pub fn starts_white_or(rest: &[u8], c: u8) -> bool
     unicode::first_is_white(rest)
 }
 
-fn is_logical(c: u8) -> bool
-    ensures { λ r. ⌜ r ≡ (is "|" c || is "^" c || is "&" c || is "<" c || is ">" c) ⌝ }
-{
-    if c == b'|' {
-        return true;
-    }
-    if c == b'^' {
-        return true;
-    }
-    if c == b'&' {
-        return true;
-    }
-    if c == b'<' {
-        return true;
-    }
-    c == b'>'
-}
-
-fn is_arithmetic(c: u8) -> bool
-    ensures { λ r. ⌜ r ≡ (is "+" c || is "-" c || is "*" c || is "/" c || is "%" c) ⌝ }
-{
-    if c == b'+' {
-        return true;
-    }
-    if c == b'-' {
-        return true;
-    }
-    if c == b'*' {
-        return true;
-    }
-    if c == b'/' {
-        return true;
-    }
-    c == b'%'
-}
-
-// An operator of one byte.
-fn is_operator(c: u8) -> bool
-    ensures { λ r. ⌜ r ≡ ones operators c ⌝ }
-{
-    if is_logical(c) {
-        return true;
-    }
-    is_arithmetic(c)
-}
-
-// A byte that is an operator when it stands twice.
-fn is_doubled(c: u8) -> bool
-    ensures { λ r. ⌜ r ≡ (is "|" c || is "^" c || is "&" c || is "=" c || is "<" c || is ">" c || is "." c || is "*" c) ⌝ }
-{
-    if c == b'|' {
-        return true;
-    }
-    if c == b'^' {
-        return true;
-    }
-    if c == b'&' {
-        return true;
-    }
-    if c == b'=' {
-        return true;
-    }
-    if c == b'<' {
-        return true;
-    }
-    if c == b'>' {
-        return true;
-    }
-    if c == b'.' {
-        return true;
-    }
-    c == b'*'
-}
-
-// A byte that is an operator when `=` follows.
-fn is_compared(c: u8) -> bool
-    ensures { λ r. ⌜ r ≡ (is "!" c || is "<" c || is ">" c) ⌝ }
-{
-    if c == b'!' {
-        return true;
-    }
-    if c == b'<' {
-        return true;
-    }
-    c == b'>'
-}
-
-// An operator of two bytes.
-fn is_operator_pair(c: u8, d: u8) -> bool
-    ensures { λ r. ⌜ r ≡ pairs operators c d ⌝ }
-{
-    if c == d {
-        return is_doubled(c);
-    }
-    if d == b'=' {
-        return is_compared(c);
-    }
-    false
-}
-
 // The line starts with an operator of one byte, before white space or `(`.
 fn starts_with_operator(line: &[u8]) -> bool
     requires { ⌜ WellFormed (now line) × (1 < length (now line)) ⌝ }
-    ensures { λ r. ⌜ r ≡ (ones operators (getD (now (line .entry)) 0 0) && follows (now (line .entry)) 1) ⌝ }
+    ensures { λ r. ⌜ r ≡ (oneOf operators (getD (now (line .entry)) 0 0 ∷ []) && follows (now (line .entry)) 1) ⌝ }
 {
-    if is_operator(line[0]) {
+    if is_one(line[0]) {
         return starts_white_or(&line[1..], b'(');
     }
     false
@@ -153,9 +57,9 @@ fn starts_with_operator(line: &[u8]) -> bool
 // The same of two bytes.
 fn starts_with_operator_pair(line: &[u8]) -> bool
     requires { ⌜ WellFormed (now line) × (1 < length (now line)) ⌝ }
-    ensures { λ r. ⌜ r ≡ (pairs operators (getD (now (line .entry)) 0 0) (getD (now (line .entry)) 1 0) && follows (now (line .entry)) 2) ⌝ }
+    ensures { λ r. ⌜ r ≡ (oneOf operators (getD (now (line .entry)) 0 0 ∷ getD (now (line .entry)) 1 0 ∷ []) && follows (now (line .entry)) 2) ⌝ }
 {
-    if is_operator_pair(line[0], line[1]) {
+    if is_two(line[0], line[1]) {
         return starts_white_or(&line[2..], b'(');
     }
     false

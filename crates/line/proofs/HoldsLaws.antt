@@ -1,12 +1,12 @@
 -- What every kind of line uses.
---     initial-holds, initial-small            before the first line
+--     initial-holds, initial-runs, initial-small            before the first line
 --     first-line, takes-join              what the kind of the newest line says of the lines
 --     declaration-bytes, brace-bytes, carry-bytes     facts of a line, found on its bytes
 --     stack-scanned, stack-counted        the stack after `scan_brackets` on a line's bytes is the definition's on its characters
 --     cells-decoded                       the cells of a line and its class bytes are those of its characters
 --     classes-front, front-only           the class bytes that `classify` wrote to the front of scratch; the rest is as it was
 --     start-within, trimmed-line          a line trimmed at its end and then at its start
---     line-room, front-size, classify-room, stack-room, push-room     there is room for a line that is to come
+--     line-room, front-size, classify-room, stack-room, stack-nested, push-room     there is room for a line that is to come
 --     line-told, line-none, indent-none   what `push_line` is told of a line
 use Prim.Native.Nat.{ℕ, zero, suc, _+_, _-_, _*_, _^_, _≤_, _<_}
 use native.Mathlib.Omega.{arith}
@@ -25,7 +25,7 @@ use Rattle.buffer.proofs.RepeatLaws.{times-nil}
 use Rattle.rules.specs.Basics.{choose, is, isEmpty, startsWith, lastIs}
 use Rattle.rules.specs.Scan.{classify, carryAfter}
 use Rattle.rules.specs.ClassBytes.{classBytes, cellsOf}
-use Rattle.rules.specs.Brackets.{Entry, leadingClosers, scanBrackets, countBrackets}
+use Rattle.rules.specs.Brackets.{Entry, leadingClosers, scanBrackets, countBrackets, levels}
 use Rattle.rules.specs.Options.{allBlank}
 use Rattle.rules.specs.Else.{joinable, canJoin}
 use Rattle.rules.specs.Line.{Formatter, start}
@@ -38,7 +38,8 @@ use Rattle.basics.specs.Depth.{carryDepth}
 use Rattle.scan.specs.Classified.{Classified}
 use Rattle.basics.specs.Region.{Only}
 use Rattle.basics.specs.Closers.{Closers}
-use Rattle.brackets.specs.Stack.{stacked, StackFits, BracketsDone}
+use Rattle.brackets.specs.Stack.{stacked, Nested, Popped, StackFits, BracketsDone}
+use Rattle.brackets.specs.declared.Nesting.{Nesting}
 use Rattle.format.specs.Words.{declarationOf}
 use Rattle.format.specs.Else.{Facts}
 use Rattle.format.specs.declared.else_line.LineFacts.{LineFacts}
@@ -47,16 +48,18 @@ use Rattle.text.specs.Text.{isFirst, isJoinable, Line}
 use Rattle.text.proofs.LinesLaws.{kind-first, kind-joinable}
 use Rattle.text.proofs.StepLaws.{text-nothing, nothing-ordered}
 use Rattle.line.specs.declared.state.State.{State}
-use Rattle.line.specs.Holds.{initial, Holds, Small, Ready, TrimmedLine, Classes}
+use Rattle.line.specs.Holds.{initial, Holds, Runs, Small, Ready, TrimmedLine, Classes}
+use Rattle.line.specs.Scratch.{stackAt}
 
 -- ---- before the first line
 
 pub initial-holds : (eol : List ℕ) (unit : ℕ) (out scratch : List ℕ) → Holds eol unit start initial out scratch
-unfolding stacked declarationOf startsWith choose lastIs
+unfolding stacked levels declarationOf startsWith choose lastIs
 initial-holds eol unit out scratch =
     record {
       text = text-nothing eol out;
       stack = refl;
+      running = refl;
       blank = refl;
       decl = refl;
       brace = refl;
@@ -65,6 +68,10 @@ initial-holds eol unit out scratch =
       imports = refl;
       blanks = refl;
     }
+
+pub initial-runs : (unit : ℕ) (scratch : List ℕ) → Runs unit initial scratch
+unfolding stacked levels
+initial-runs unit scratch = record { is = refl }
 
 pub initial-small : Small initial
 initial-small = record { ordered = nothing-ordered; at = omega arith }
@@ -105,20 +112,21 @@ module _
     cells-decoded = ap (cellsOf line) (classes .bytes) ∙ cells-bytes y line well
 
     -- a line none of whose closers pop first
-    pub stack-scanned : {scratch′ : List ℕ} {base depth n deep : ℕ} {s : List Entry}
-        → BracketsDone scratch scratch′ base depth n (scanBrackets (drop 0 (cellsOf line (part scratch at (at + length line)))) (stacked scratch base depth)) deep
-        → stacked scratch base depth ≡ s → stacked scratch′ base deep ≡ scanBrackets (classify y (decode line)) s
+    pub stack-scanned : {scratch′ : List ℕ} {base n : ℕ} {b deep : Nesting} {s : List Entry}
+        → BracketsDone scratch scratch′ base b n (scanBrackets (drop 0 (cellsOf line (part scratch at (at + length line)))) (stacked scratch base (b .depth))) deep
+        → stacked scratch base (b .depth) ≡ s → stacked scratch′ base (deep .depth) ≡ scanBrackets (classify y (decode line)) s
     stack-scanned w e = w .is ∙ rw (cells-decoded, e) (brackets-encode (classify y (decode line)) _)
 
     -- a line whose leading closers pop first
-    pub stack-counted : {scratch′ : List ℕ} {base left n deep closers : ℕ} {s : List Entry} (depth : ℕ) → Closers line closers → left ≡ depth - closers
-        → BracketsDone scratch scratch′ base left n (scanBrackets (drop closers (cellsOf line (part scratch at (at + length line)))) (stacked scratch base left)) deep
-        → stacked scratch base depth ≡ s → stacked scratch′ base deep ≡ countBrackets (leadingClosers (decode line)) (classify y (decode line)) s
+    pub stack-counted : {scratch′ : List ℕ} {base n closers : ℕ} {b left deep : Nesting} {s : List Entry} → Closers line closers
+        → Popped scratch base b closers left
+        → BracketsDone scratch scratch′ base left n (scanBrackets (drop closers (cellsOf line (part scratch at (at + length line)))) (stacked scratch base (left .depth))) deep
+        → stacked scratch base (b .depth) ≡ s → stacked scratch′ base (deep .depth) ≡ countBrackets (leadingClosers (decode line)) (classify y (decode line)) s
     unfolding countBrackets
-    stack-counted {base = base} {closers = closers} {s = s} depth k l w e =
+    stack-counted {base = base} {closers = closers} {b = b} {s = s} k l w e =
         let n : closers ≡ leadingClosers (decode line) = k .is ∙ on-decode leadingClosers leadingClosers closers-encode line well in
-        let p : stacked scratch base (depth - closers) ≡ drop closers s = sym (stacked-drop scratch base depth closers) ∙ ap (drop closers) e in
-        w .is ∙ rw (l, p, cells-here, n) (ap (λ (r : List ℕ). countBrackets (leadingClosers (decode line)) (classify y r) s) (sym well) ∙ count-closers y (decode line) s)
+        let p : stacked scratch base (b .depth - closers) ≡ drop closers s = sym (stacked-drop scratch base (b .depth) closers) ∙ ap (drop closers) e in
+        w .is ∙ rw (l .depth, p, cells-here, n) (ap (λ (r : List ℕ). countBrackets (leadingClosers (decode line)) (classify y r) s) (sym well) ∙ count-closers y (decode line) s)
 
 -- ---- classes
 
@@ -162,8 +170,13 @@ module _ {st : State} {scratch : List ℕ} {unit n : ℕ} (ready : Ready st scra
       → (length line ≤ length (take (length line) scratch)) × (carryDepth y + length line + 1 < 2 ^ 32)
   classify-room y line h k = (omega (arith, front-size line h), omega (arith, ready .carry, ready .limit))
 
-  pub stack-room : (buf : List ℕ) (class m left : ℕ) → length buf ≡ length scratch → class + m ≤ 5 * unit → m ≤ 2 * n → left ≤ st .depth → StackFits buf class m (5 * unit) left
-  stack-room buf class m left e h k l = record { classes = h; stack = omega (arith, ready .depth, ready .room) }
+  pub stack-room : (buf : List ℕ) (class m : ℕ) (left : Nesting) → length buf ≡ length scratch → class + m ≤ stackAt unit → m ≤ 2 * n → left .depth ≤ st .nesting .depth
+      → left .levels ≡ levels (stacked buf (stackAt unit) (left .depth)) → StackFits buf class m (stackAt unit) left
+  stack-room buf class m left e h k l r = record { classes = h; stack = omega (arith, ready .depth, ready .room); runs = r }
+
+  -- the stack as it is before the line; also after scratch was used before it
+  pub stack-nested : Nested scratch (stackAt unit) (st .nesting)
+  stack-nested = record { fits = omega (arith, ready .depth, ready .room); runs = ready .runs .is }
 
   pub push-room : (m : ℕ) → m ≤ n → st .text .at .0 + 2 + (length (times 0 []) + m) < 2 ^ 64
   push-room m h = omega (arith, ap length (times-nil 0), ready .small .at, ready .depth, ready .limit)

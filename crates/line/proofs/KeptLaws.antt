@@ -6,22 +6,23 @@ use mathlib.Core.List.{List, [], _++_}
 use mathlib.Core.Path.{_≡_, refl, sym, ap, _∙_}
 use lib.ListN.{length, take, drop}
 use lib.Seq.{take-length, length-take-le}
-use Rattle.unicode.specs.Unicode.{encode, chars, decode, WellFormed}
+use Rattle.unicode.specs.Unicode.{encode, chars, decode, trim, WellFormed}
 use Rattle.unicode.specs.Places.{TrimmedStart, TrimmedEnd}
 use Rattle.unicode.proofs.Trim.{trim-twice}
 use Rattle.buffer.specs.Buffer.{part}
 use Rattle.buffer.specs.Repeat.{times}
 use Rattle.rules.specs.Basics.{choose, is, lastIs, isEmpty}
-use Rattle.rules.specs.Scan.{carryAfter}
+use Rattle.rules.specs.Scan.{classify, carryAfter}
 use Rattle.rules.specs.ClassBytes.{cellsOf}
-use Rattle.rules.specs.Brackets.{scanBrackets, countBrackets}
+use Rattle.rules.specs.Brackets.{leadingClosers, scanBrackets, countBrackets, levels}
 use Rattle.rules.specs.Line.{Formatter, keptLine, asWritten, blankLine}
 use Rattle.rules.specs.declared.Carry.{Carry}
 use Rattle.rules.specs.declared.Ignore.{Ignore}
 use Rattle.rules.proofs.Choose.{choose-true}
 use Rattle.scan.specs.Classified.{Classified}
 use Rattle.basics.specs.Closers.{Closers}
-use Rattle.brackets.specs.Stack.{stacked, BracketsDone}
+use Rattle.brackets.specs.Stack.{stacked, Popped, BracketsDone}
+use Rattle.brackets.specs.declared.Nesting.{Nesting}
 use Rattle.format.specs.Words.{declarationOf}
 use Rattle.brackets.proofs.StackLaws.{stacked-past}
 use Rattle.format.specs.declared.words.Declaration.{Declaration}
@@ -30,6 +31,7 @@ use Rattle.text.specs.declared.Written.{Written}
 use Rattle.text.proofs.StepLaws.{grown-ordered}
 use Rattle.line.specs.declared.state.State.{State}
 use Rattle.line.specs.Holds.{Holds, Small, Ready, Stepped, Blanked, TrimmedLine, Classes, keptLen, insideOf, protectedOf}
+use Rattle.line.specs.Scratch.{stackAt}
 use Rattle.line.proofs.HoldsLaws.{first-line, declaration-bytes, brace-bytes, carry-bytes, stack-scanned, stack-counted, classes-front, front-only, trimmed-line}
 
 -- ---- a blank line
@@ -44,6 +46,7 @@ blank-same eol st out s e =
         holds = λ f h. rw (choose-true (f .prevBlank || isEmpty (f .lines)) f _ (e unit scratch f h)) h;
         ordered = s .ordered;
         at = omega arith;
+        runs = λ q. q;
         depth = omega arith;
         carry = omega arith;
         imports = omega arith;
@@ -63,7 +66,7 @@ module _ (eol : List ℕ) (st : State) (out : List ℕ) (r : Bool) (s : Small st
 
   pub blank-new : (out′ : List ℕ) (u : Written) → r ≡ false → Adds eol false (times 0 [] ++ decode []) out (st .text) out′ u
       → Blanked eol st out
-      (record { text = u; depth = st .depth; blank = true; decl = st .decl; brace = st .brace; ignore = st .ignore; carry = st .carry; imports = st .imports; blanks = st .blanks })
+      (record { text = u; nesting = st .nesting; blank = true; decl = st .decl; brace = st .brace; ignore = st .ignore; carry = st .carry; imports = st .imports; blanks = st .blanks })
       out′
   unfolding blankLine times choose chars encode
   blank-new out′ u t w =
@@ -73,6 +76,7 @@ module _ (eol : List ℕ) (st : State) (out : List ℕ) (r : Bool) (s : Small st
               (record {
                 text = w .text (f .lines) (h .text);
                 stack = h .stack;
+                running = h .running;
                 blank = refl;
                 decl = h .decl;
                 brace = h .brace;
@@ -83,6 +87,7 @@ module _ (eol : List ℕ) (st : State) (out : List ℕ) (r : Bool) (s : Small st
               });
           ordered = grown-ordered (w .grown);
           at = omega (arith, w .grown .at);
+          runs = λ q. record { is = q .is };
           depth = omega arith;
           carry = omega arith;
           imports = omega arith;
@@ -92,22 +97,24 @@ module _ (eol : List ℕ) (st : State) (out : List ℕ) (r : Bool) (s : Small st
 
 -- ---- a protected line
 
-pub protected-step : (raw line out out′ scratch scratch′ eol : List ℕ) (unit : ℕ) (st : State) (u : Written) (closers left deep : ℕ) (decl : Declaration) (brace : Bool) (after : Carry)
+pub protected-step : (raw line out out′ scratch scratch′ eol : List ℕ) (unit : ℕ) (st : State) (u : Written) (closers : ℕ) (left deep : Nesting) (decl : Declaration) (brace : Bool)
+    (after : Carry)
     → st .carry ≡ Carry.Code → WellFormed raw → TrimmedLine raw line → Classes Carry.Code line scratch 0 after
     → Adds eol false (times 0 [] ++ decode raw) out (st .text) out′ u
-    → Closers line closers → left ≡ st .depth - closers
-    → BracketsDone scratch scratch′ (5 * unit) left (length line)
-    (scanBrackets (drop closers (cellsOf line (part scratch 0 (0 + length line)))) (stacked scratch (5 * unit) left)) deep
+    → Closers line closers → Popped scratch (stackAt unit) (st .nesting) closers left
+    → BracketsDone scratch scratch′ (stackAt unit) left (length line)
+    (scanBrackets (drop closers (cellsOf line (part scratch 0 (0 + length line)))) (stacked scratch (stackAt unit) (left .depth))) deep
     → decl ≡ declarationOf line → brace ≡ lastIs (is "}") line
     → Stepped (protectedOf (decode raw)) (length raw) unit eol st out scratch
-    (record { text = u; depth = deep; blank = false; decl = decl; brace = brace; ignore = Ignore.Nothing; carry = after; imports = st .imports; blanks = st .blanks })
+    (record { text = u; nesting = deep; blank = false; decl = decl; brace = brace; ignore = Ignore.Nothing; carry = after; imports = st .imports; blanks = st .blanks })
     out′ scratch′
 unfolding keptLine times choose
 protected-step raw line out out′ scratch scratch′ eol unit st u closers left deep decl brace after code well t classes w k l v ed eb =
     record {
       holds = λ f h. record {
         text = w .text (f .lines) (h .text);
-        stack = rw (t .text, in-code f h) at (stack-counted (t .well) classes (st .depth) k l v (h .stack));
+        stack = stack-after f h;
+        running = v .runs ∙ ap levels (stack-after f h);
         blank = refl;
         decl = ed ∙ declaration-bytes line (t .well) ∙ ap declarationOf (t .text ∙ sym (trim-twice (decode raw)));
         brace = eb ∙ brace-bytes line (t .well) ∙ ap (lastIs (is "}")) (t .text ∙ sym (trim-twice (decode raw)));
@@ -118,7 +125,8 @@ protected-step raw line out out′ scratch scratch′ eol unit st u closers left
       };
       ordered = grown-ordered (w .grown);
       at = omega (arith, w .grown .at, ap length well);
-      depth = omega (arith, v .most, t .short);
+      runs = λ q. record { is = v .runs };
+      depth = omega (arith, v .most, l .depth, t .short);
       carry = omega (arith, classes .depth, t .short);
       imports = omega arith;
       blanks = omega arith;
@@ -126,6 +134,11 @@ protected-step raw line out out′ scratch scratch′ eol unit st u closers left
   where
     in-code : (f : Formatter) → Holds eol unit f st out scratch → Carry.Code ≡ f .carry
     in-code f h = sym code ∙ h .carry
+
+    stack-after : (f : Formatter) → Holds eol unit f st out scratch
+        → stacked scratch′ (stackAt unit) (deep .depth)
+        ≡ countBrackets (leadingClosers (trim (decode raw))) (classify (f .carry) (trim (decode raw))) (f .stack)
+    stack-after f h = rw (t .text, in-code f h) at (stack-counted (t .well) classes k l v (h .stack))
 
 -- ---- a line that starts inside a comment or a prefab
 
@@ -149,27 +162,31 @@ shown-by Carry.Prefab raw tail well e = shown-whole Carry.Prefab raw well refl
 pub shown : (y : Carry) (raw : List ℕ) (tail kept : ℕ) → WellFormed raw → TrimmedEnd raw tail → kept ≡ keptLen y tail (length raw) → Shown y raw kept
 shown y raw tail kept well e k = rw k (shown-by y raw tail well e)
 
-pub inside-step : (raw out out′ scratch w scratch′ eol : List ℕ) (unit : ℕ) (st : State) (u : Written) (tail start kept deep : ℕ) (decl : Declaration) (brace : Bool) (after : Carry)
+pub inside-step : (raw out out′ scratch w scratch′ eol : List ℕ) (unit : ℕ) (st : State) (u : Written) (tail start kept : ℕ) (deep : Nesting) (decl : Declaration) (brace : Bool)
+    (after : Carry)
     → Ready st scratch unit (length raw) → WellFormed raw → Classified (st .carry) raw (take (length raw) scratch) w after
     → TrimmedEnd raw tail → TrimmedStart (take tail raw) start → kept ≡ keptLen (st .carry) tail (length raw)
     → Adds eol false (times 0 [] ++ decode (take kept raw)) out (st .text) out′ u
-    → BracketsDone (w ++ drop (length raw) scratch) scratch′ (5 * unit) (st .depth) (length raw)
-    (scanBrackets (drop 0 (cellsOf raw (part (w ++ drop (length raw) scratch) 0 (0 + length raw)))) (stacked (w ++ drop (length raw) scratch) (5 * unit) (st .depth))) deep
+    → BracketsDone (w ++ drop (length raw) scratch) scratch′ (stackAt unit) (st .nesting) (length raw)
+    (scanBrackets (drop 0 (cellsOf raw (part (w ++ drop (length raw) scratch) 0 (0 + length raw)))) (stacked (w ++ drop (length raw) scratch) (stackAt unit) (st .nesting .depth))) deep
     → decl ≡ declarationOf (take (tail - start) (drop start raw)) → brace ≡ lastIs (is "}") (take (tail - start) (drop start raw))
     → Stepped (insideOf (decode raw)) (length raw) unit eol st out scratch
-    (record { text = u; depth = deep; blank = false; decl = decl; brace = brace; ignore = st .ignore; carry = after; imports = st .imports; blanks = st .blanks })
+    (record { text = u; nesting = deep; blank = false; decl = decl; brace = brace; ignore = st .ignore; carry = after; imports = st .imports; blanks = st .blanks })
     out′ scratch′
 unfolding keptLine countBrackets times choose
 inside-step raw out out′ scratch w scratch′ eol unit st u tail start kept deep decl brace after ready well classified e s k a v ed eb =
     let room : length raw ≤ length scratch = omega (arith, ready .depth, ready .room) in
     let t : TrimmedLine raw (take (tail - start) (drop start raw)) = trimmed-line raw tail start e s in
     let x : Shown (st .carry) raw kept = shown (st .carry) raw tail kept well e k in
-    let low : stacked (w ++ drop (length raw) scratch) (5 * unit) (st .depth) ≡ stacked scratch (5 * unit) (st .depth) =
-    stacked-past (front-only raw scratch w room classified) (5 * unit) (st .depth) (omega (arith, ready .depth)) in
+    let low : stacked (w ++ drop (length raw) scratch) (stackAt unit) (st .nesting .depth) ≡ stacked scratch (stackAt unit) (st .nesting .depth) =
+    stacked-past (front-only raw scratch w room classified) (stackAt unit) (st .nesting .depth) (omega (arith, ready .depth)) in
+    let after-it : (f : Formatter) → Holds eol unit f st out scratch → stacked scratch′ (stackAt unit) (deep .depth) ≡ scanBrackets (classify (f .carry) (decode raw)) (f .stack) =
+    λ f h. rw (h .carry) at (stack-scanned well (classes-front raw scratch w room classified) v (low ∙ h .stack)) in
     record {
       holds = λ f h. record {
         text = rw (x .text, h .carry) at (a .text (f .lines) (h .text));
-        stack = rw (h .carry) at (stack-scanned well (classes-front raw scratch w room classified) v (low ∙ h .stack));
+        stack = after-it f h;
+        running = v .runs ∙ ap levels (after-it f h);
         blank = refl;
         decl = ed ∙ declaration-bytes (take (tail - start) (drop start raw)) (t .well) ∙ ap declarationOf (t .text);
         brace = eb ∙ brace-bytes (take (tail - start) (drop start raw)) (t .well) ∙ ap (lastIs (is "}")) (t .text);
@@ -180,6 +197,7 @@ inside-step raw out out′ scratch w scratch′ eol unit st u tail start kept de
       };
       ordered = grown-ordered (a .grown);
       at = omega (arith, a .grown .at, ap length (x .well), x .short);
+      runs = λ q. record { is = v .runs };
       depth = omega (arith, v .most);
       carry = omega (arith, classified .depth);
       imports = omega arith;

@@ -10,7 +10,8 @@ use Rattle.rules.specs.Basics.{is, lastIs}
 use Rattle.rules.specs.Scan.{classify, carryAfter}
 use Rattle.rules.specs.ClassBytes.{classBytes}
 use Rattle.rules.specs.Options.{Options, maxIndent, allBlank}
-use Rattle.rules.specs.Call.{maxSource}
+use Rattle.rules.specs.Refusals.{maxSource}
+use Rattle.rules.specs.Brackets.{levels}
 use Rattle.rules.specs.Line.{Formatter, insideLine, blankLine, protectedLine}
 use Rattle.rules.specs.declared.Carry.{Carry}
 use Rattle.rules.specs.declared.Ignore.{Ignore}
@@ -21,13 +22,14 @@ use Rattle.format.specs.Words.{declarationOf}
 use Rattle.format.specs.declared.words.Declaration.{Declaration}
 use Rattle.text.specs.Text.{Text, Ordered, nothing, farPlace}
 use Rattle.line.specs.declared.state.State.{State}
+use Rattle.line.specs.Scratch.{stackAt, scratchUsed}
 
 -- before the first line
 abbrev pub initial : State
 initial =
     record {
       text = nothing;
-      depth = 0;
+      nesting = record { depth = 0; levels = 0 };
       blank = false;
       decl = Declaration.Nothing;
       brace = false;
@@ -37,21 +39,11 @@ initial =
       blanks = 0;
     }
 
--- Scratch, for a source of `unit` bytes: the classes of the line from 0 on, the respaced line from unit on, its classes from 3 × unit on, the stack from
--- 5 × unit on.
-abbrev pub respacedAt : ℕ → ℕ
-respacedAt unit = unit
-
-abbrev pub reclassedAt : ℕ → ℕ
-reclassedAt unit = 3 * unit
-
-abbrev pub stackAt : ℕ → ℕ
-stackAt unit = 5 * unit
-
 -- The code's state st, the output and the scratch hold the definition's record f.
 pub record Holds (eol : List ℕ) (unit : ℕ) (f : Formatter) (st : State) (out scratch : List ℕ) : Type 0 where
   pub text : Text eol (f .lines) (st .text) out
-  pub stack : stacked scratch (stackAt unit) (st .depth) ≡ f .stack
+  pub stack : stacked scratch (stackAt unit) (st .nesting .depth) ≡ f .stack
+  pub running : st .nesting .levels ≡ levels (f .stack)
   pub blank : st .blank ≡ f .prevBlank
   pub decl : st .decl ≡ declarationOf (f .prev)
   pub brace : st .brace ≡ lastIs (is "}") (f .prev)
@@ -59,6 +51,10 @@ pub record Holds (eol : List ℕ) (unit : ℕ) (f : Formatter) (st : State) (out
   pub carry : st .carry ≡ f .carry
   pub imports : st .imports ≡ f .importsSplit
   pub blanks : st .blanks ≡ f .blankNames
+
+-- the running value is the count over the stack
+pub record Runs (unit : ℕ) (st : State) (scratch : List ℕ) : Type 0 where
+  pub is : st .nesting .levels ≡ levels (stacked scratch (stackAt unit) (st .nesting .depth))
 
 -- the lengths are in order and far below 2 ^ 64
 pub record Small (st : State) : Type 0 where
@@ -68,12 +64,13 @@ pub record Small (st : State) : Type 0 where
 -- what a step asks: a line of n bytes is to come, which respaced has at most 2 × n
 pub record Ready (st : State) (scratch : List ℕ) (unit n : ℕ) : Type 0 where
   pub small : Small st
-  pub depth : st .depth + n ≤ unit
+  pub depth : st .nesting .depth + n ≤ unit
+  pub runs : Runs unit st scratch
   pub carry : carryDepth (st .carry) + 2 * n ≤ 2 * unit
   pub imports : st .imports ≤ unit
   pub blanks : st .blanks + 2 * n ≤ 2 * unit
   pub limit : unit ≤ maxSource
-  pub room : 7 * unit ≤ length scratch
+  pub room : scratchUsed unit ≤ length scratch
 
 -- a line of n bytes adds at most (n + 1) × growth bytes to the text
 abbrev pub growth : ℕ
@@ -84,7 +81,8 @@ pub record Stepped (g : Formatter → Formatter) (n unit : ℕ) (eol : List ℕ)
   pub holds : (f : Formatter) → Holds eol unit f st out scratch → Holds eol unit (g f) st′ out′ scratch′
   pub ordered : Ordered (st′ .text)
   pub at : st′ .text .at .0 ≤ st .text .at .0 + (n + 1) * growth
-  pub depth : st′ .depth ≤ st .depth + n
+  pub runs : Runs unit st scratch → Runs unit st′ scratch′
+  pub depth : st′ .nesting .depth ≤ st .nesting .depth + n
   pub carry : carryDepth (st′ .carry) ≤ carryDepth (st .carry) + 2 * n
   pub imports : st′ .imports ≤ st .imports + 1
   pub blanks : st′ .blanks ≤ st .blanks + 2 * n

@@ -5,6 +5,7 @@ ghost use lib.ListN.{length};
 ghost use Rattle.unicode.specs.Unicode.{decode, WellFormed};
 ghost use Rattle.rules.specs.Lines.{asStr};
 ghost use Rattle.line.specs.Holds.{Small, Ready, Stepped, Blanked, TrimmedLine, Classes, keptLen, insideOf, protectedOf};
+use crate::scratch::STACK;
 use crate::state::State;
 use format::else_line::LineFacts;
 use rules::Carry;
@@ -46,6 +47,7 @@ pub fn inside_line(
     ensures { λ r. ⌜ Stepped (insideOf (decode (now (raw .entry)))) (length (now (raw .entry))) unit (asStr ending) st (now (out .entry)) (now (scratch .entry)) r (now (out .exit)) (now (scratch .exit)) ⌝ }
 {
     let t = st.text;
+    let nesting = st.nesting;
     let ignore = st.ignore;
     let carry = st.carry;
     let n = raw.len();
@@ -58,11 +60,12 @@ pub fn inside_line(
     let facts = format::else_line::line_facts(shown);
     let joins = takes_else(facts);
     let next = text::push_line(out, t, ending, false, b"", 0, shown, facts.trimmed, joins);
-    let deep = brackets::scan_brackets(raw, scratch, 0, 5 * unit, st.depth, 0);
+    let base = STACK * unit;
+    let deep = brackets::scan_brackets(raw, scratch, 0, base, nesting, 0);
     let decl = format::words::declaration_of(line);
     State {
         text: next,
-        depth: deep,
+        nesting: deep,
         blank: false,
         decl,
         brace: format::else_line::ends_in_brace(line),
@@ -86,13 +89,14 @@ pub fn blank_line(out: &mut [u8], ending: LineEnding, st: State) -> State
     if text::is_first(last) {
         return st;
     }
+    let nesting = st.nesting;
     let decl = st.decl;
     let pending = st.ignore;
     let carry = st.carry;
     let next = text::push_line(out, t, ending, false, b"", 0, b"", 0, false);
     State {
         text: next,
-        depth: st.depth,
+        nesting,
         blank: true,
         decl,
         brace: st.brace,
@@ -122,17 +126,18 @@ pub fn protected_line(
     ensures { λ r. ⌜ Stepped (protectedOf (decode (now (raw .entry)))) (length (now (raw .entry))) unit (asStr ending) st (now (out .entry)) (now (scratch .entry)) r (now (out .exit)) (now (scratch .exit)) ⌝ }
 {
     let t = st.text;
-    let depth = st.depth;
+    let nesting = st.nesting;
     let facts = format::else_line::line_facts(raw);
     let joins = takes_else(facts);
     let next = text::push_line(out, t, ending, false, b"", 0, raw, facts.trimmed, joins);
     let closers = brackets::leading_closers(line);
-    let left = brackets::pop_closers(depth, closers);
-    let deep = brackets::scan_brackets(line, scratch, 0, 5 * unit, left, closers);
+    let base = STACK * unit;
+    let left = brackets::pop_closers(scratch, base, nesting, closers);
+    let deep = brackets::scan_brackets(line, scratch, 0, base, left, closers);
     let decl = format::words::declaration_of(line);
     State {
         text: next,
-        depth: deep,
+        nesting: deep,
         blank: false,
         decl,
         brace: format::else_line::ends_in_brace(line),

@@ -20,8 +20,8 @@ use Rattle.rules.specs.declared.PrintWidth.{PrintWidth}
 use Rattle.basics.specs.Depth.{carryDepth}
 use Rattle.split.specs.Text.{AllWell}
 use Rattle.text.specs.Text.{Ordered}
-use Rattle.line.specs.Holds.{Holds, Ready, Stepped, Uses, initial, growth}
-use Rattle.line.proofs.HoldsLaws.{initial-holds}
+use Rattle.line.specs.Holds.{Holds, Runs, Ready, Stepped, Uses, initial, growth}
+use Rattle.line.proofs.HoldsLaws.{initial-holds, initial-runs}
 use Rattle.line.specs.declared.state.State.{State}
 use Rattle.line_ends.specs.LineEnds.{LineEnd}
 use Rattle.lines.specs.Lines.{Passed, LinesDone}
@@ -86,7 +86,8 @@ pub record Reached (source indent : List ℕ) (width : PrintWidth) (ending : Lin
   pub run : (o : Options) → Uses o indent width → Running o source (asStr ending) left st out scratch
   pub ordered : Ordered (st .text)
   pub place : st .text .at .0 ≤ at * growth
-  pub depth : st .depth ≤ at
+  pub runs : Runs (length source) st scratch
+  pub depth : st .nesting .depth ≤ at
   pub carry : carryDepth (st .carry) ≤ 2 * at
   pub imports : st .imports ≤ at
   pub blanks : st .blanks ≤ 2 * at
@@ -110,6 +111,7 @@ reached-start source indent width ending out scratch st p e =
       };
       ordered = record { cut = omega arith; full = omega arith; below = omega arith };
       place = zero-le;
+      runs = initial-runs (length source) scratch;
       depth = zero-le;
       carry = zero-le;
       imports = zero-le;
@@ -131,6 +133,7 @@ module _
         record {
           small = record { ordered = r .ordered; at = omega (arith, r .place, p .limit) };
           depth = omega (arith, r .depth, raw-long, q .from, q .fits);
+          runs = r .runs;
           carry = omega (arith, r .carry, raw-long, q .from, q .fits);
           imports = omega (arith, r .imports);
           blanks = omega (arith, r .blanks, raw-long, q .from, q .fits);
@@ -173,6 +176,7 @@ module _
               run = run-on n;
               ordered = s .ordered;
               place = omega (arith, s .at, r .place, raw-long, q .from);
+              runs = s .runs (r .runs);
               depth = omega (arith, s .depth, r .depth, raw-long, q .from);
               carry = omega (arith, s .carry, r .carry, raw-long, q .from);
               imports = omega (arith, s .imports, r .imports, q .from);

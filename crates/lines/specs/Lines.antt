@@ -1,14 +1,15 @@
 -- What the loop over the lines gives.
-use Prim.Native.Nat.{ℕ, _*_, _≤_}
+use Prim.Native.Nat.{ℕ, _≤_}
 use mathlib.Core.List.{List}
 use lib.ListN.{length}
 use Rattle.unicode.specs.Unicode.{decode, WellFormed}
 use Rattle.rules.specs.Lines.{linesOf}
 use Rattle.rules.specs.Options.{Options}
-use Rattle.rules.specs.Call.{maxSource}
+use Rattle.rules.specs.Refusals.{maxSource}
 use Rattle.rules.specs.Line.{start}
 use Rattle.rules.specs.Assembly.{formatLines}
 use Rattle.rules.specs.declared.PrintWidth.{PrintWidth}
+use Rattle.line.specs.Scratch.{scratchUsed}
 use Rattle.line.specs.Holds.{Holds, Small, Uses, ValidIndent}
 use Rattle.line.specs.declared.state.State.{State}
 
@@ -17,7 +18,7 @@ pub record Passed (source indent scratch : List ℕ) : Type 0 where
   pub limit : length source ≤ maxSource
   pub well : WellFormed source
   pub indents : ValidIndent indent
-  pub room : 7 * length source ≤ length scratch
+  pub room : scratchUsed (length source) ≤ length scratch
 
 -- all lines of the source are formatted: the state and the output hold the definition's record
 pub record LinesDone (source indent : List ℕ) (width : PrintWidth) (eol : List ℕ) (st : State) (out scratch : List ℕ) : Type 0 where

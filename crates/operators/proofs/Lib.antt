@@ -1,3 +1,4 @@
 -- The laws that this crate's proofs and the crates above share.
 pub mod OperatorLaws
 pub mod FirstLaws
+pub mod EveryByte

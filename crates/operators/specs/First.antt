@@ -1,15 +1,10 @@
--- The bytes that operators start with.
+-- Lines without a byte that operators start with.
 use Prim.Native.Nat.{ℕ, _≤_}
 use mathlib.Core.Bool.{Bool, false, _||_}
 use mathlib.Core.List.{List, [], _∷_}
 use mathlib.Core.Path.{_≡_}
-use lib.Dec.{eqb}
 use lib.ListN.{length, getD, drop}
-use Rattle.unicode.specs.Unicode.{within}
-
--- the first characters of `operators`, in ranges
-unfoldable pub startsOperator : ℕ → Bool
-startsOperator c = eqb c 33 || within 37 38 c || within 42 43 c || within 45 47 c || within 60 62 c || eqb c 94 || eqb c 124
+use Rattle.rules.specs.Operators.{startsOperator}
 
 abbrev pub operatorStartsAt : List ℕ → ℕ → Bool
 operatorStartsAt s i = startsOperator (getD s i 0)

@@ -1,3 +1,2 @@
--- What the contracts cite.
-pub mod Operators
+-- What the contracts cite besides the rules.
 pub mod First

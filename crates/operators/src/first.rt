@@ -3,9 +3,11 @@ ghost use mathlib.Core.Path.{_≡_};
 ghost use Prim.Native.Nat.{_+_, _≤_};
 ghost use lib.ListN.{length};
 ghost use Rattle.unicode.specs.Places.{NoneAmong};
-ghost use Rattle.operators.specs.First.{startsOperator, operatorStartsAt, anyStarts, NoneBefore};
+ghost use Rattle.operators.specs.First.{operatorStartsAt, anyStarts, NoneBefore};
+ghost use Rattle.rules.specs.Operators.{startsOperator};
 
-fn starts_operator(c: u8) -> bool
+// The first bytes of the operators, in ranges, without a branch.
+pub fn starts_operator(c: u8) -> bool
     ensures { λ r. ⌜ r ≡ startsOperator c ⌝ }
 {
     (c == b'!')

@@ -4,7 +4,7 @@ ghost use mathlib.Core.Bool.{true, false};
 ghost use Prim.Native.Nat.{_≤_};
 ghost use lib.ListN.{length};
 ghost use Rattle.buffer.specs.Repeat.{times};
-ghost use Rattle.rules.specs.Options.{defaults, withIndent, indentWith};
+ghost use Rattle.rules.specs.Options.{maxIndent, defaults, withIndent, indentWith};
 ghost use Rattle.rules.specs.EditorConfig.{tabSize, startsWithTab, spacesFor, resized, indentFrom, tooLarge, withEditorConfig};
 ghost use Rattle.rules.specs.Call.{filled};
 ghost use Rattle.options.specs.Held.{optionsIn, held, heldChange, valued, heldNamed};
@@ -25,7 +25,7 @@ pub mod numbers;
 
 // The options of a call. One level of indentation is the first `used` bytes of `indent`; the rest are zeros.
 pub struct FormatOptions {
-    pub indent: [u8; 64],
+    pub indent: [u8; FormatOptions::MAX_INDENT],
     pub used: usize,
     pub print_width: PrintWidth,
     pub end_of_line: EndOfLine,
@@ -102,7 +102,7 @@ impl FormatOptions {
 
     // The options with an indent of n times unit.
     fn indented(mut self, unit: &[u8], n: usize) -> Self
-        requires { ⌜ length (times n (now unit)) ≤ 64 ⌝ }
+        requires { ⌜ length (times n (now unit)) ≤ maxIndent ⌝ }
         ensures { λ r. ⌜ r ≡ held (withIndent (optionsIn self) (times n (now (unit .entry)))) ⌝ }
     {
         let indent = repeated(unit, n);
@@ -244,11 +244,11 @@ impl FormatOptions {
 }
 
 // The indent n times over, then zeros.
-fn repeated(indent: &[u8], n: usize) -> [u8; 64]
-    requires { ⌜ length (times n (now indent)) ≤ 64 ⌝ }
-    ensures { λ r. ⌜ r ≡ filled 64 (times n (now (indent .entry))) ⌝ }
+fn repeated(indent: &[u8], n: usize) -> [u8; FormatOptions::MAX_INDENT]
+    requires { ⌜ length (times n (now indent)) ≤ maxIndent ⌝ }
+    ensures { λ r. ⌜ r ≡ filled maxIndent (times n (now (indent .entry))) ⌝ }
 {
-    let mut bytes = [0u8; 64];
+    let mut bytes = [0u8; FormatOptions::MAX_INDENT];
     buffer::put_indent(&mut bytes, indent, n);
     bytes
 }

@@ -13,7 +13,8 @@ use Rattle.rules.specs.Lines.{asStr}
 use Rattle.rules.specs.Scan.{classify, allCodeOrStr}
 use Rattle.rules.specs.Options.{Options, allBlank}
 use Rattle.rules.specs.SplitImport.{Laid, splitImport}
-use Rattle.rules.specs.SplitOperation.{strengths, splitOperation}
+use Rattle.rules.specs.Operators.{strengths}
+use Rattle.rules.specs.SplitOperation.{splitOperation}
 use Rattle.rules.specs.Assembly.{joined}
 use Rattle.rules.specs.Else.{joinable}
 use Rattle.rules.specs.Line.{dropBlank, orOperation, broken}
@@ -26,7 +27,7 @@ use Rattle.split_import.specs.Import.{Given, ImportFits}
 use Rattle.split_import.specs.declared.ImportSplit.{ImportSplit}
 use Rattle.split_operation.specs.Operation.{Broken, OperationFits}
 use Rattle.split_operation.specs.declared.OperationSplit.{OperationSplit}
-use Rattle.rules.specs.Call.{maxSource}
+use Rattle.rules.specs.Refusals.{maxSource}
 use Rattle.text.specs.Text.{Text, Continued, afterLines, farPlace}
 use Rattle.text.specs.declared.Written.{Written}
 use Rattle.text.proofs.PadLaws.{some-size}

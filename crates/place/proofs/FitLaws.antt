@@ -11,7 +11,7 @@ use Rattle.rules.specs.Basics.{choose}
 use Rattle.rules.specs.Scan.{classify, allCodeOrStr}
 use Rattle.rules.specs.ClassBytes.{cellsOf}
 use Rattle.rules.specs.Options.{Options, indentOf, measure, overWide}
-use Rattle.rules.specs.Call.{maxSource}
+use Rattle.rules.specs.Refusals.{maxSource}
 use Rattle.rules.specs.SplitImport.{Laid}
 use Rattle.rules.specs.Line.{dropBlank, orOperation, broken, oneLine, splitWide}
 use Rattle.rules.specs.declared.Carry.{Carry}

@@ -20,10 +20,8 @@ use Rattle.rules.specs.declared.PrintWidth.{PrintWidth}
 use Rattle.rules.proofs.Choose.{choose-true, choose-false}
 use Rattle.rules.proofs.StartsBytes.{on-decode, closers-encode}
 use Rattle.basics.specs.Closers.{Closers}
-use Rattle.brackets.specs.Stack.{stacked}
 use Rattle.format.specs.Words.{Continues, declarationOf}
 use Rattle.format.specs.declared.words.Declaration.{Declaration}
-use Rattle.brackets.proofs.StackLaws.{stacked-drop}
 use Rattle.format.proofs.WordLaws.{same-declaration-by}
 use Rattle.text.specs.Text.{Text, Joins, isJoinable}
 use Rattle.text.specs.declared.Written.{Written}
@@ -33,7 +31,7 @@ use Rattle.place.specs.declared.Before.{Before}
 use Rattle.place.specs.declared.Placed.{Placed}
 use Rattle.line.specs.Holds.{Uses}
 use Rattle.line.proofs.HoldsLaws.{declaration-bytes}
-use Rattle.place.specs.Placing.{GoesOn, Knows, Puts, Level, Lays, spacedBy, placedBy, dropsBlank, breakWidth, aloneIn}
+use Rattle.place.specs.Placing.{GoesOn, Knows, Puts, Lays, spacedBy, placedBy, dropsBlank, breakWidth, aloneIn}
 
 -- ---- tests in another order
 
@@ -63,39 +61,32 @@ unfolding choose
 and-choose true b = refl
 and-choose false b = refl
 
--- ---- what is found on bytes
-
-stacked-empty : (scratch : List ℕ) (base depth : ℕ) → isEmpty (stacked scratch base depth) ≡ eqb depth 0
-unfolding stacked
-stacked-empty scratch base zero = refl
-stacked-empty scratch base (suc depth) = sym (ne-eqb (suc depth) 0 (λ e. absurd (omega arith)))
-
 -- ---- a line placed
 
 module _
-    (marker : Bool) (indent : List ℕ) (width : PrintWidth) (line class eol out out′ scratch : List ℕ) (b : Before) (closers left : ℕ) (continued : Bool) (level : ℕ)
-    (d : Declaration) (drops : Bool) (max : PrintWidth) (p : Placed) (g : GoesOn line class) (wc : Closers line closers) (el : left ≡ b .depth - closers)
-    (wk : Continues line (b .brace) continued) (wl : Level scratch (b .base) left continued level) (ed : d ≡ declarationOf line)
-    (er : drops ≡ dropsBlank (b .depth) d (b .decl)) (em : max ≡ breakWidth width marker continued closers)
+    (marker : Bool) (indent : List ℕ) (width : PrintWidth) (line class eol out out′ : List ℕ) (b : Before) (continued : Bool) (level : ℕ)
+    (d : Declaration) (drops : Bool) (max : PrintWidth) (p : Placed) (g : GoesOn line class) (wc : Closers line (b .closers))
+    (wk : Continues line (b .brace) continued) (wl : level ≡ b .levels + choose continued 1 0) (ed : d ≡ declarationOf line)
+    (er : drops ≡ dropsBlank (b .depth) d (b .decl)) (em : max ≡ breakWidth width marker continued (b .closers))
     (w : Lays (choose (allCodeOrStr (classify Carry.Code (decode line))) max PrintWidth.Off) indent (decode line) level eol drops (length line) out (b .text) p out′)
   where
-    closers-same : closers ≡ leadingClosers (decode line)
+    closers-same : b .closers ≡ leadingClosers (decode line)
     closers-same = wc .is ∙ on-decode leadingClosers leadingClosers closers-encode line (g .well)
 
-    module _ (o : Options) (f : Formatter) (u : Uses o indent width) (k : Knows eol f b out scratch) where
+    module _ (o : Options) (f : Formatter) (u : Uses o indent width) (k : Knows eol f b out) where
       continued-same : continued ≡ continues (f .prev) (decode line)
       continued-same = wk .is (f .prev) (sym (k .brace))
 
       level-same : levelOf f (decode line) ≡ level
       unfolding levelOf
       level-same =
-          sym (wl .is ∙ rw (el, ← stacked-drop scratch (b .base) (b .depth) closers, k .stack, closers-same, continued-same) refl)
+          sym (wl ∙ rw (k .running, closers-same, continued-same) refl)
 
       fits-same : choose (maySplit f marker (decode line)) (o .printWidth) PrintWidth.Off
           ≡ choose (allCodeOrStr (classify Carry.Code (decode line))) max PrintWidth.Off
       unfolding maySplit
       fits-same =
-          rw (em, ← continued-same, ← closers-same, u .breaks) (width-same continued (eqb closers 0) marker (allCodeOrStr (classify Carry.Code (decode line))) width)
+          rw (em, ← continued-same, ← closers-same, u .breaks) (width-same continued (eqb (b .closers) 0) marker (allCodeOrStr (classify Carry.Code (decode line))) width)
 
       laid-same : laid o f marker (decode line) ≡ splitWide (choose (allCodeOrStr (classify Carry.Code (decode line))) max PrintWidth.Off) o level (decode line)
       unfolding laid
@@ -103,7 +94,7 @@ module _
 
       drops-same : (isEmpty (f .stack) && sameDeclaration (decode line) (f .prev)) ≡ drops
       drops-same =
-          sym (er ∙ rw (ed, k .decl, declaration-bytes line (g .well), ← same-declaration-by, ← stacked-empty scratch (b .base) (b .depth), k .stack) (sym (and-choose _ _)))
+          sym (er ∙ rw (ed, k .decl, declaration-bytes line (g .well), ← same-declaration-by, ← k .empty) (sym (and-choose _ _)))
 
       lines-same : linesBefore f (decode line) ≡ choose drops (dropBlank (f .lines)) (f .lines)
       unfolding linesBefore
@@ -121,26 +112,26 @@ module _
       unfolding placedLine
       lay-blanks = rw (laid-same, w .blanks o (u .indents)) refl
 
-    pub lay-done : Puts (placedBy marker (decode line)) indent width eol (length line) b out scratch p out′
+    pub lay-done : Puts (placedBy marker (decode line)) indent width eol (length line) b out p out′
     lay-done =
         record { text = lay-text; imports = lay-imports; blanks = lay-blanks; ordered = w .ordered; at = w .at; few = w .few; fewer = w .fewer }
 
 -- ---- a line that goes on: a plain else is joined where the newest line can take it
 
 module _
-    (marker : Bool) (indent : List ℕ) (width : PrintWidth) (line eol out out′ scratch : List ℕ) (b : Before) (e : Bool) (else : e ≡ isPlainElse (decode line))
+    (marker : Bool) (indent : List ℕ) (width : PrintWidth) (line eol out out′ : List ℕ) (b : Before) (e : Bool) (else : e ≡ isPlainElse (decode line))
   where
     -- the newest line's kind says whether it can
-    takes : (j : Bool) → j ≡ isJoinable (b .text .last) → (f : Formatter) → Knows eol f b out scratch → j ≡ canJoin (f .lines)
+    takes : (j : Bool) → j ≡ isJoinable (b .text .last) → (f : Formatter) → Knows eol f b out → j ≡ canJoin (f .lines)
     takes j q f k = q ∙ ap isJoinable (k .text .last) ∙ kind-joinable (f .lines)
 
     module _ (class : List ℕ) (u : Written) (p : Placed) (g : GoesOn line class) (w : Joins (decode line) out (b .text) out′ u) (is : p ≡ aloneIn u) (yes : e ≡ true) (j : Bool)
         (last : j ≡ isJoinable (b .text .last)) (can : j ≡ true) where
-      joined-same : (o : Options) (f : Formatter) → Knows eol f b out scratch → spacedLine o f marker (decode line) ≡ elseLine f (decode line)
+      joined-same : (o : Options) (f : Formatter) → Knows eol f b out → spacedLine o f marker (decode line) ≡ elseLine f (decode line)
       unfolding spacedLine
       joined-same o f k = choose-true _ _ _ (rw (← else, yes, ← takes j last f k, can) refl)
 
-      join-alone : Puts (spacedBy marker (decode line)) indent width eol (length line) b out scratch (aloneIn u) out′
+      join-alone : Puts (spacedBy marker (decode line)) indent width eol (length line) b out (aloneIn u) out′
       unfolding elseLine
       join-alone =
           record {
@@ -153,12 +144,12 @@ module _
             fewer = omega arith;
           }
 
-      pub join-put : Puts (spacedBy marker (decode line)) indent width eol (length line) b out scratch p out′
-      join-put = subst (λ (x : Placed). Puts (spacedBy marker (decode line)) indent width eol (length line) b out scratch x out′) (sym is) join-alone
+      pub join-put : Puts (spacedBy marker (decode line)) indent width eol (length line) b out p out′
+      join-put = subst (λ (x : Placed). Puts (spacedBy marker (decode line)) indent width eol (length line) b out x out′) (sym is) join-alone
 
-    module _ (p : Placed) (w : Puts (placedBy marker (decode line)) indent width eol (length line) b out scratch p out′) where
-      placed-as : ((f : Formatter) → Knows eol f b out scratch → (isPlainElse (decode line) && canJoin (f .lines)) ≡ false)
-          → Puts (spacedBy marker (decode line)) indent width eol (length line) b out scratch p out′
+    module _ (p : Placed) (w : Puts (placedBy marker (decode line)) indent width eol (length line) b out p out′) where
+      placed-as : ((f : Formatter) → Knows eol f b out → (isPlainElse (decode line) && canJoin (f .lines)) ≡ false)
+          → Puts (spacedBy marker (decode line)) indent width eol (length line) b out p out′
       placed-as h =
           record {
             text = λ o f i k. rw (same o f k) (w .text o f i k);
@@ -170,11 +161,11 @@ module _
             fewer = w .fewer;
           }
         where
-          same : (o : Options) (f : Formatter) → Knows eol f b out scratch → spacedLine o f marker (decode line) ≡ placedLine o f marker (decode line)
+          same : (o : Options) (f : Formatter) → Knows eol f b out → spacedLine o f marker (decode line) ≡ placedLine o f marker (decode line)
           same o f k = unfold spacedLine in (choose-false _ _ _ (h f k))
 
-      pub not-else : e ≡ false → Puts (spacedBy marker (decode line)) indent width eol (length line) b out scratch p out′
+      pub not-else : e ≡ false → Puts (spacedBy marker (decode line)) indent width eol (length line) b out p out′
       not-else q = placed-as (λ f k. rw (← else, q) refl)
 
-      pub not-joinable : (j : Bool) → j ≡ isJoinable (b .text .last) → j ≡ false → Puts (spacedBy marker (decode line)) indent width eol (length line) b out scratch p out′
+      pub not-joinable : (j : Bool) → j ≡ isJoinable (b .text .last) → j ≡ false → Puts (spacedBy marker (decode line)) indent width eol (length line) b out p out′
       not-joinable j last q = placed-as (λ f k. rw (← takes j last f k, q) (and-false (isPlainElse (decode line))))

@@ -1,6 +1,6 @@
 -- Laws of putting a line into the text.
 use Prim.Native.Nat.{ℕ, _+_, _*_, _≤_, _<_}
-use mathlib.Core.Bool.{Bool, true, false}
+use mathlib.Core.Bool.{Bool, false}
 use mathlib.Core.List.{List, [], _∷_, _++_}
 use mathlib.Core.Path.{_≡_, refl, sym, ap, _∙_}
 use native.Mathlib.Omega.{arith}
@@ -16,26 +16,15 @@ use Rattle.unicode.proofs.Bytewise.{width-nil, width-cons, width-append}
 use Rattle.buffer.specs.Repeat.{times}
 use Rattle.buffer.proofs.RepeatLaws.{times-within}
 use Rattle.rules.specs.Basics.{choose, is, lastIs}
+use Rattle.rules.proofs.Choose.{choose-case}
 use Rattle.rules.specs.Else.{joinable}
-use Rattle.rules.specs.Call.{maxSource}
+use Rattle.rules.specs.Refusals.{maxSource}
 use Rattle.rules.specs.Options.{maxIndent, defaults, withIndent, indentOf, measure, overWide}
-use Rattle.brackets.specs.Stack.{Levels}
 use Rattle.text.specs.Text.{Line, ElseLine}
 use Rattle.split.specs.Measure.{Measured, IndentMeasured}
 use Rattle.line.specs.Holds.{ValidIndent}
 use Rattle.line.proofs.HoldsLaws.{brace-bytes}
-use Rattle.place.specs.Placing.{GoesOn, Level, Wide}
-
--- ---- the level
-
-module _ (scratch : List ℕ) (base left : ℕ) (continued : Bool) (n : ℕ) (w : Levels scratch base left n) where
-  pub level-more : continued ≡ true → Level scratch base left continued (n + 1)
-  unfolding choose
-  level-more e = record { is = rw e (omega (arith, w .is)); small = omega (arith, w .most) }
-
-  pub level-same : continued ≡ false → Level scratch base left continued n
-  unfolding choose
-  level-same e = record { is = rw e (omega (arith, w .is)); small = omega (arith, w .most) }
+use Rattle.place.specs.Placing.{GoesOn, Wide}
 
 -- ---- the width of an indented line
 
@@ -98,3 +87,7 @@ pub trimmed-told : (line : List ℕ) (joins : Bool) → WellFormed line → trim
 trimmed-told line joins w t e =
     let k : take (length line) line ≡ line = take-all (length line) line (le-refl (length line)) in
     record { well = w; trims = record { fits = le-refl (length line); well = rw k w; text = ap decode k ∙ sym t }; takes = e }
+
+-- the level of a line
+pub level-small : (level levels : ℕ) (continued : Bool) → level ≡ levels + choose continued 1 0 → levels < maxSource → level ≤ maxSource
+level-small level levels continued e h = rw e (choose-case (λ (n : ℕ). levels + n ≤ maxSource) (λ t. omega arith) (λ t. omega arith))

@@ -4,20 +4,19 @@ use mathlib.Core.Bool.{Bool, false}
 use mathlib.Core.List.{List, _++_, reverseAux}
 use mathlib.Core.Path.{_≡_}
 use lib.Dec.{eqb}
-use lib.ListN.{length}
+use lib.ListN.{length, drop}
 use Rattle.unicode.specs.Unicode.{decode, trimEnd, WellFormed}
 use Rattle.buffer.specs.Repeat.{times}
-use Rattle.rules.specs.Basics.{choose, is, lastIs}
+use Rattle.rules.specs.Basics.{choose, is, isEmpty, lastIs}
 use Rattle.rules.specs.Scan.{classify}
 use Rattle.rules.specs.ClassBytes.{classBytes}
 use Rattle.rules.specs.Options.{Options, overWide}
-use Rattle.rules.specs.Call.{maxSource}
+use Rattle.rules.specs.Refusals.{maxSource}
 use Rattle.rules.specs.Brackets.{levels}
 use Rattle.rules.specs.Line.{Formatter, dropBlank, broken, splitWide, spacedLine, placedLine}
 use Rattle.rules.specs.declared.Carry.{Carry}
 use Rattle.rules.specs.declared.PrintWidth.{PrintWidth}
 use Rattle.basics.specs.Closers.{Closers}
-use Rattle.brackets.specs.Stack.{stacked}
 use Rattle.format.specs.Words.{declarationOf, sameOf}
 use Rattle.format.specs.declared.words.Declaration.{Declaration}
 use Rattle.text.specs.Text.{Text, Ordered, farPlace}
@@ -34,10 +33,11 @@ pub record GoesOn (line class : List ℕ) : Type 0 where
   pub trimmed : trimEnd (decode line) ≡ decode line
   pub classes : class ≡ classBytes (classify Carry.Code line)
 
--- what the code knows before the line: the text, the open brackets in scratch, the previous line's two facts
-pub record Knows (eol : List ℕ) (f : Formatter) (b : Before) (out scratch : List ℕ) : Type 0 where
+-- what the code knows before the line: the text, whether a bracket is open, the levels left after the leading closers, the previous line's two facts
+pub record Knows (eol : List ℕ) (f : Formatter) (b : Before) (out : List ℕ) : Type 0 where
   pub text : Text eol (f .lines) (b .text) out
-  pub stack : stacked scratch (b .base) (b .depth) ≡ f .stack
+  pub empty : isEmpty (f .stack) ≡ eqb (b .depth) 0
+  pub running : b .levels ≡ levels (drop (b .closers) (f .stack))
   pub decl : b .decl ≡ declarationOf (f .prev)
   pub brace : b .brace ≡ lastIs (is "}") (f .prev)
 
@@ -47,21 +47,20 @@ pub record Heads (line : List ℕ) (b : Before) : Type 0 where
   pub declares : b .declares ≡ declarationOf line
 
 -- what it asks
-pub record Asks (b : Before) (scratch : List ℕ) : Type 0 where
+pub record Asks (b : Before) : Type 0 where
   pub ordered : Ordered (b .text)
   pub small : b .text .at .0 ≤ farPlace
-  pub depth : b .depth < maxSource
-  pub fits : b .base + b .depth ≤ length scratch
+  pub few : b .levels < maxSource
 
 -- a line that goes on, of n bytes, adds at most (n + 1) × respacedGrowth bytes to the text; respaced it may have twice the bytes of the source's
 abbrev pub respacedGrowth : ℕ
 respacedGrowth = 2 ^ 28
 
 -- the line of characters l was put into the text, as the step g says
-pub record Puts (g : Options → Formatter → Formatter) (indent : List ℕ) (width : PrintWidth) (eol : List ℕ) (n : ℕ) (b : Before) (out scratch : List ℕ) (r : Placed) (out′ : List ℕ) : Type 0 where
-  pub text : (o : Options) (f : Formatter) → Uses o indent width → Knows eol f b out scratch → Text eol (g o f .lines) (r .text) out′
-  pub imports : (o : Options) (f : Formatter) → Uses o indent width → Knows eol f b out scratch → g o f .importsSplit ≡ f .importsSplit + r .imports
-  pub blanks : (o : Options) (f : Formatter) → Uses o indent width → Knows eol f b out scratch → g o f .blankNames ≡ f .blankNames + r .blanks
+pub record Puts (g : Options → Formatter → Formatter) (indent : List ℕ) (width : PrintWidth) (eol : List ℕ) (n : ℕ) (b : Before) (out : List ℕ) (r : Placed) (out′ : List ℕ) : Type 0 where
+  pub text : (o : Options) (f : Formatter) → Uses o indent width → Knows eol f b out → Text eol (g o f .lines) (r .text) out′
+  pub imports : (o : Options) (f : Formatter) → Uses o indent width → Knows eol f b out → g o f .importsSplit ≡ f .importsSplit + r .imports
+  pub blanks : (o : Options) (f : Formatter) → Uses o indent width → Knows eol f b out → g o f .blankNames ≡ f .blankNames + r .blanks
   pub ordered : Ordered (r .text)
   pub at : r .text .at .0 ≤ b .text .at .0 + (n + 1) * respacedGrowth
   pub few : r .imports ≤ 1
@@ -72,11 +71,6 @@ spacedBy marker line o f = spacedLine o f marker line
 
 abbrev pub placedBy : Bool → List ℕ → Options → Formatter → Formatter
 placedBy marker line o f = placedLine o f marker line
-
--- the indent's level
-pub record Level (scratch : List ℕ) (base left : ℕ) (continued : Bool) (r : ℕ) : Type 0 where
-  pub is : r ≡ levels (stacked scratch base left) + choose continued 1 0
-  pub small : r ≤ left + 1
 
 -- whether a blank between goes
 abbrev pub dropsBlank : ℕ → Declaration → Declaration → Bool

@@ -9,23 +9,23 @@ ghost use Rattle.buffer.specs.Repeat.{times};
 ghost use Rattle.rules.specs.Lines.{asStr};
 ghost use mathlib.Core.List.{_++_};
 ghost use Rattle.text.specs.Text.{Adds, Joins, Ordered, farPlace};
-ghost use Rattle.rules.specs.Call.{maxSource};
+ghost use Rattle.rules.specs.Refusals.{maxSource};
 ghost use Rattle.rules.specs.Scan.{classify, allCodeOrStr};
 ghost use Rattle.rules.specs.declared.Carry.{Carry};
 ghost use Rattle.rules.specs.declared.PrintWidth.{PrintWidth};
 ghost use Rattle.line.specs.Holds.{ValidIndent};
-ghost use Rattle.place.specs.Placing.{GoesOn, Heads, Asks, Puts, spacedBy, placedBy, Level, dropsBlank, Wide, aloneIn, breakWidth, Lays, Breaks};
+ghost use Rattle.place.specs.Placing.{GoesOn, Heads, Asks, Puts, spacedBy, placedBy, dropsBlank, Wide, aloneIn, breakWidth, Lays, Breaks};
 use format::words::Declaration;
 use rules::LineEnding;
 use rules::PrintWidth;
 use text::Written;
 
-// What is known before the line is put: the text so far, the stack of open brackets, which lies in scratch from base on, of the previous line which
-// declaration it is and whether it ends in `}`, and of this line its leading closers and which declaration it is.
+// What is known before the line is put: the text so far, how many brackets are open, how many levels are left after the line's leading closers popped, of
+// the previous line which declaration it is and whether it ends in `}`, and of this line its leading closers and which declaration it is.
 pub struct Before {
     pub text: Written,
-    pub base: usize,
     pub depth: usize,
+    pub levels: usize,
     pub decl: Declaration,
     pub brace: bool,
     pub closers: usize,
@@ -40,16 +40,14 @@ pub struct Placed {
 }
 
 // The levels left after the leading closers, and one more if the line continues the one before.
-fn level_of(scratch: &[u8], base: usize, left: usize, continued: bool) -> usize
-    requires { ⌜ base + left ≤ length (now scratch) ⌝ }
-    requires { ⌜ left < maxSource ⌝ }
-    ensures { λ r. ⌜ Level (now (scratch .entry)) base left continued r ⌝ }
+fn level_of(levels: usize, continued: bool) -> usize
+    requires { ⌜ levels < maxSource ⌝ }
+    ensures { λ r. ⌜ r ≡ levels + choose continued 1 0 ⌝ }
 {
-    let n = brackets::levels_of(scratch, base, left);
     if continued {
-        return n + 1;
+        return levels + 1;
     }
-    n
+    levels
 }
 
 // Whether a blank between this line and the one before goes: no bracket is open, and both declare the same.
@@ -179,24 +177,21 @@ fn lay_line(
     width: PrintWidth,
     ending: LineEnding,
     out: &mut [u8],
-    scratch: &[u8],
     b: Before,
 ) -> Placed
     requires { ⌜ ValidIndent (now indent) ⌝ }
     requires { ⌜ GoesOn (now line) (now class) ⌝ }
     requires { ⌜ Heads (now line) b ⌝ }
-    requires { ⌜ Asks b (now scratch) ⌝ }
-    ensures { λ r. ⌜ Puts (placedBy marker (decode (now (line .entry)))) (now (indent .entry)) width (asStr ending) (length (now (line .entry))) b (now (out .entry)) (now (scratch .entry)) r (now (out .exit)) ⌝ }
+    requires { ⌜ Asks b ⌝ }
+    ensures { λ r. ⌜ Puts (placedBy marker (decode (now (line .entry)))) (now (indent .entry)) width (asStr ending) (length (now (line .entry))) b (now (out .entry)) r (now (out .exit)) ⌝ }
 {
     let t = b.text;
-    let base = b.base;
     let depth = b.depth;
     let before = b.decl;
     let closers = b.closers;
     let d = b.declares;
-    let left = brackets::pop_closers(depth, closers);
     let continued = format::words::continues(line, closers, b.brace);
-    let level = level_of(scratch, base, left, continued);
+    let level = level_of(b.levels, continued);
     let drops = drops_blank(depth, d, before);
     let max = break_width(width, marker, continued, closers);
     fit_line(line, class, indent, level, max, ending, drops, out, t)
@@ -211,14 +206,13 @@ pub fn place_line(
     width: PrintWidth,
     ending: LineEnding,
     out: &mut [u8],
-    scratch: &[u8],
     b: Before,
 ) -> Placed
     requires { ⌜ ValidIndent (now indent) ⌝ }
     requires { ⌜ GoesOn (now line) (now class) ⌝ }
     requires { ⌜ Heads (now line) b ⌝ }
-    requires { ⌜ Asks b (now scratch) ⌝ }
-    ensures { λ r. ⌜ Puts (spacedBy marker (decode (now (line .entry)))) (now (indent .entry)) width (asStr ending) (length (now (line .entry))) b (now (out .entry)) (now (scratch .entry)) r (now (out .exit)) ⌝ }
+    requires { ⌜ Asks b ⌝ }
+    ensures { λ r. ⌜ Puts (spacedBy marker (decode (now (line .entry)))) (now (indent .entry)) width (asStr ending) (length (now (line .entry))) b (now (out .entry)) r (now (out .exit)) ⌝ }
 {
     let t = b.text;
     let last = t.last;
@@ -226,9 +220,9 @@ pub fn place_line(
         if text::is_joinable(last) {
             return alone(join_one(line, class, out, t));
         }
-        return lay_line(line, class, marker, indent, width, ending, out, scratch, b);
+        return lay_line(line, class, marker, indent, width, ending, out, b);
     }
-    lay_line(line, class, marker, indent, width, ending, out, scratch, b)
+    lay_line(line, class, marker, indent, width, ending, out, b)
 }
 
 // The line, all of it code and strings, broken: an import first, otherwise at its operators.

@@ -21,7 +21,7 @@ use Rattle.rules.proofs.CallLaws.{Delivered, delivered}
 use Rattle.call.specs.FormatAnswered.{FormatAnswered}
 use Rattle.line_ends.specs.LineEnds.{LineEnd}
 use Rattle.replay_run.specs.Stored.{caseAt, CaseRead, answerAt, endOf}
-use Rattle.replay_run.specs.Replay.{callIn, agrees, agreed, differed, caseSize, counted, stepped, replayed, begin, Counts, StepReady, Stepped}
+use Rattle.replay_run.specs.Replay.{callIn, agrees, agreed, differed, caseSize, counted, stepped, replayed, fromStart, CountsFit, StepReady, Advanced}
 use Rattle.replay_run.specs.declared.list.Case.{Case}
 use Rattle.replay_run.specs.declared.Progress.{Progress}
 
@@ -72,7 +72,7 @@ module _ (list : List ℕ) (c : Case) (n m : ℕ) (a : Answer) (out work : List 
 -- ---- one step
 
 module _ (list : List ℕ) (n m : ℕ) (p : Progress) (s : StepReady list p) where
-  pub step-comment : (e : ℕ) → getD list (p .at) 0 ≡ 35 → LineEnd list (p .at) e → Stepped list n m p (record { at = e + 1; sources = p .sources; differ = p .differ })
+  pub step-comment : (e : ℕ) → getD list (p .at) 0 ≡ 35 → LineEnd list (p .at) e → Advanced list n m p (record { at = e + 1; sources = p .sources; differ = p .differ })
   unfolding stepped choose
   step-comment e h l =
       record {
@@ -85,7 +85,7 @@ module _ (list : List ℕ) (n m : ℕ) (p : Progress) (s : StepReady list p) whe
     abbrev next : ℕ
     next = c .from + caseSize c + 1
 
-    pub step-cut : length list - c .from ≤ caseSize c → r ≡ differed p (length list) → Stepped list n m p r
+    pub step-cut : length list - c .from ≤ caseSize c → r ≡ differed p (length list) → Advanced list n m p r
     unfolding stepped counted choose
     step-cut l e =
         rw e
@@ -96,7 +96,7 @@ module _ (list : List ℕ) (n m : ℕ) (p : Progress) (s : StepReady list p) whe
         })
 
     module _ (l : caseSize c < length list - c .from) (b : Bool) (t : b ≡ agrees list c n m) where
-      pub step-agreed : b ≡ true → r ≡ agreed p next → Stepped list n m p r
+      pub step-agreed : b ≡ true → r ≡ agreed p next → Advanced list n m p r
       unfolding stepped counted choose
       step-agreed g e =
           rw e
@@ -106,7 +106,7 @@ module _ (list : List ℕ) (n m : ℕ) (p : Progress) (s : StepReady list p) whe
             counts = record { differ = omega (arith, s .counts .differ); sources = omega (arith, s .counts .sources, k .from); small = omega (arith, s .limit, k .fits) };
           })
 
-      pub step-differed : b ≡ false → r ≡ differed p next → Stepped list n m p r
+      pub step-differed : b ≡ false → r ≡ differed p next → Advanced list n m p r
       unfolding stepped counted choose
       step-differed g e =
           rw e
@@ -121,12 +121,12 @@ module _ (list : List ℕ) (n m : ℕ) (p : Progress) (s : StepReady list p) whe
 pub record Replaying (list out₀ scratch₀ out scratch : List ℕ) (p : Progress) : Type 0 where
   pub left : ℕ
   pub enough : length list ≤ left + p .at
-  pub same : replayed (length list) list (length out₀) (length scratch₀) begin ≡ replayed left list (length out₀) (length scratch₀) p
-  pub counts : Counts p
+  pub same : replayed (length list) list (length out₀) (length scratch₀) fromStart ≡ replayed left list (length out₀) (length scratch₀) p
+  pub counts : CountsFit p
   pub as-long : length out ≡ length out₀
   pub as-wide : length scratch ≡ length scratch₀
 
-pub replaying-start : (list out scratch : List ℕ) → Replaying list out scratch out scratch begin
+pub replaying-start : (list out scratch : List ℕ) → Replaying list out scratch out scratch fromStart
 replaying-start list out scratch =
     record {
       left = length list;
@@ -141,9 +141,9 @@ module _ {list out₀ scratch₀ out scratch : List ℕ} {p : Progress} (r : Rep
   pub replaying-ready : length list ≤ 4294967296 → p .at < length list → StepReady list p
   replaying-ready l h = record { limit = l; here = h; counts = r .counts }
 
-  module _ (h : p .at < length list) (q : Progress) (s : Stepped list (length out) (length scratch) p q) where
+  module _ (h : p .at < length list) (q : Progress) (s : Advanced list (length out) (length scratch) p q) where
     go : (k : ℕ) → length list ≤ k + p .at → (out′ scratch′ : List ℕ) → length out′ ≡ length out → length scratch′ ≡ length scratch
-        → replayed (length list) list (length out₀) (length scratch₀) begin ≡ replayed k list (length out₀) (length scratch₀) p → Replaying list out₀ scratch₀ out′ scratch′ q
+        → replayed (length list) list (length out₀) (length scratch₀) fromStart ≡ replayed k list (length out₀) (length scratch₀) p → Replaying list out₀ scratch₀ out′ scratch′ q
     unfolding replayed choose
     go zero l out′ scratch′ eo es e = absurd (omega arith)
     go (suc k) l out′ scratch′ eo es e =
@@ -159,7 +159,7 @@ module _ {list out₀ scratch₀ out scratch : List ℕ} {p : Progress} (r : Rep
     pub replaying-more : (out′ scratch′ : List ℕ) → length out′ ≡ length out → length scratch′ ≡ length scratch → Replaying list out₀ scratch₀ out′ scratch′ q
     replaying-more out′ scratch′ eo es = go (r .left) (r .enough) out′ scratch′ eo es (r .same)
 
-  pub replaying-end : length list ≤ p .at → p ≡ replayed (length list) list (length out₀) (length scratch₀) begin
+  pub replaying-end : length list ≤ p .at → p ≡ replayed (length list) list (length out₀) (length scratch₀) fromStart
   unfolding replayed choose
   replaying-end h = sym (r .same ∙ done (r .left))
     where

@@ -9,14 +9,14 @@ use Rattle.buffer.specs.Buffer.{part}
 use Rattle.rules.specs.Basics.{choose, same, splitOn}
 use Rattle.rules.specs.Call.{Call, formatCall, textOf}
 use Rattle.call.specs.Ran.{callOf, numbersOf}
-use Rattle.replay_run.specs.Stored.{caseAt, indentOf, answerAt, endOf}
+use Rattle.replay_run.specs.Stored.{caseAt, indentAt, answerAt, endOf}
 use Rattle.replay_run.specs.declared.list.Case.{Case}
 use Rattle.replay_run.specs.declared.Progress.{Progress}
 
 -- a case's call, with an output of n bytes and a scratch of m
 abbrev pub callIn : List ℕ → Case → ℕ → ℕ → Call
 callIn list c n m =
-    callOf (part list (c .from) (indentOf c)) (part list (indentOf c) (answerAt c))
+    callOf (part list (c .from) (indentAt c)) (part list (indentAt c) (answerAt c))
     (numbersOf (c .«width_set») (c .width) (c .«line_ending») (c .«final_newline»)) n m
 
 -- the call is accepted, and its text is the stored answer
@@ -56,11 +56,11 @@ unfoldable pub replayed : ℕ → List ℕ → ℕ → ℕ → Progress → Prog
 replayed zero list n m p = p
 replayed (suc k) list n m p = choose (ltb (p .at) (length list)) (replayed k list n m (stepped list n m p)) p
 
-abbrev pub begin : Progress
-begin = record { at = 0; sources = 0; differ = 0 }
+abbrev pub fromStart : Progress
+fromStart = record { at = 0; sources = 0; differ = 0 }
 
 -- the counts are at most the place, and a list's place is small
-pub record Counts (p : Progress) : Type 0 where
+pub record CountsFit (p : Progress) : Type 0 where
   pub differ : p .differ ≤ p .sources
   pub sources : p .sources ≤ p .at
   pub small : p .at ≤ 4294967297
@@ -68,9 +68,9 @@ pub record Counts (p : Progress) : Type 0 where
 pub record StepReady (list : List ℕ) (p : Progress) : Type 0 where
   pub limit : length list ≤ 4294967296
   pub here : p .at < length list
-  pub counts : Counts p
+  pub counts : CountsFit p
 
-pub record Stepped (list : List ℕ) (n m : ℕ) (p r : Progress) : Type 0 where
+pub record Advanced (list : List ℕ) (n m : ℕ) (p r : Progress) : Type 0 where
   pub is : r ≡ stepped list n m p
   pub on : p .at < r .at
-  pub counts : Counts r
+  pub counts : CountsFit r

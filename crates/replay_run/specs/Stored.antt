@@ -61,11 +61,11 @@ pub record CaseRead (list : List ℕ) (at : ℕ) (r : Case) : Type 0 where
   pub answer : r .answer < 1000000000
 
 -- where a case's indent, its answer and its end stand
-abbrev pub indentOf : Case → ℕ
-indentOf c = c .from + c .source
+abbrev pub indentAt : Case → ℕ
+indentAt c = c .from + c .source
 
 abbrev pub answerAt : Case → ℕ
-answerAt c = indentOf c + c .indent
+answerAt c = indentAt c + c .indent
 
 abbrev pub endOf : Case → ℕ
 endOf c = answerAt c + c .answer

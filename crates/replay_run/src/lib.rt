@@ -3,10 +3,11 @@ ghost use mathlib.Core.Path.{_≡_};
 ghost use Prim.Native.Nat.{_+_, _≤_, _<_};
 ghost use lib.ListN.{length};
 ghost use Rattle.replay_run.specs.Stored.{CaseIn};
-ghost use Rattle.replay_run.specs.Replay.{agrees as agreesWith, agreed, differed, Counts, StepReady, Stepped, begin, replayed};
+ghost use Rattle.replay_run.specs.Replay.{agrees as agreesWith, agreed, differed, CountsFit, StepReady, Advanced, fromStart, replayed};
 use crate::list::Case;
 use crate::list::case_at;
 use libc::STDOUT_FILENO;
+use rules::OptionNumbers;
 
 mod list;
 
@@ -19,7 +20,7 @@ pub struct Progress {
 
 impl Progress {
     fn agreed(self, next: usize) -> Self
-        requires { ⌜ Counts self ⌝ }
+        requires { ⌜ CountsFit self ⌝ }
         ensures { λ r. ⌜ r ≡ agreed self next ⌝ }
     {
         Progress {
@@ -31,7 +32,7 @@ impl Progress {
 
     // The first ten that differ are named by their number.
     fn differed(self, next: usize) -> Self
-        requires { ⌜ Counts self ⌝ }
+        requires { ⌜ CountsFit self ⌝ }
         ensures { λ r. ⌜ r ≡ differed self next ⌝ }
     {
         let number = self.sources + 1;
@@ -57,13 +58,16 @@ fn agrees(list: &[u8], c: Case, output: &mut [u8], scratch: &mut [u8]) -> bool
     let indent = source + c.source;
     let stored = indent + c.indent;
     let end = stored + c.answer;
+    let numbers = OptionNumbers {
+        width_set: c.width_set as u64,
+        width: c.width as u64,
+        line_ending: c.line_ending as u64,
+        final_newline: c.final_newline as u64,
+    };
     let answer = call::format_call(
         &list[source..indent],
         &list[indent..stored],
-        c.width_set as u64,
-        c.width as u64,
-        c.line_ending as u64,
-        c.final_newline as u64,
+        numbers,
         output,
         scratch,
     );
@@ -77,7 +81,7 @@ fn agrees(list: &[u8], c: Case, output: &mut [u8], scratch: &mut [u8]) -> bool
 // One comment, or one case. A case that the list's end cuts off differs.
 fn step(list: &[u8], p: Progress, output: &mut [u8], scratch: &mut [u8]) -> Progress
     requires { ⌜ StepReady (now list) p ⌝ }
-    ensures { λ r. ⌜ Stepped (now (list .entry)) (length (now (output .entry))) (length (now (scratch .entry))) p r ⌝ }
+    ensures { λ r. ⌜ Advanced (now (list .entry)) (length (now (output .entry))) (length (now (scratch .entry))) p r ⌝ }
 {
     let at = p.at;
     if list[at] == b'#' {
@@ -102,7 +106,7 @@ fn step(list: &[u8], p: Progress, output: &mut [u8], scratch: &mut [u8]) -> Prog
 
 pub fn replay(list: &[u8], output: &mut [u8], scratch: &mut [u8]) -> Progress
     requires { ⌜ length (now list) ≤ 4294967296 ⌝ }
-    ensures { λ r. ⌜ r ≡ replayed (length (now (list .entry))) (now (list .entry)) (length (now (output .entry))) (length (now (scratch .entry))) begin ⌝ }
+    ensures { λ r. ⌜ r ≡ replayed (length (now (list .entry))) (now (list .entry)) (length (now (output .entry))) (length (now (scratch .entry))) fromStart ⌝ }
 {
     let mut p = Progress {
         at: 0,

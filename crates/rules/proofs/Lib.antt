@@ -1,5 +1,6 @@
 -- Laws of the definitions.
 pub mod Choose
+pub mod TestLaws
 pub mod Computing
 pub mod Examples
 -- on the bytes of a text as on the text
@@ -26,7 +27,7 @@ pub mod SpacedLine
 -- the rounds of a break
 pub mod Rounds
 pub mod Prefix
-pub mod Twelve
+pub mod StrengthRounds
 -- the lines of a split
 pub mod SplitLines
 pub mod SplitSizes

@@ -3,11 +3,10 @@ use mathlib.Core.List.{List, map, _++_}
 use mathlib.Core.Path.{_≡_, refl}
 use Prim.Native.Nat.{ℕ}
 use Prim.Native.String.{String}
-use lib.ListN.{length}
 use Rattle.rules.specs.Basics.{codes}
 use Rattle.rules.specs.Scan.{classify}
-use Rattle.rules.specs.Words.{operators}
-use Rattle.rules.specs.SplitOperation.{strengths, topLevelOps, loosest}
+use Rattle.rules.specs.Operators.{operators, strengths}
+use Rattle.rules.specs.SplitOperation.{topLevelOps, loosest}
 use Rattle.rules.specs.Assembly.{formatWith}
 use Rattle.rules.specs.declared.Carry.{Carry}
 use Rattle.rules.proofs.Computing.{computing}
@@ -15,10 +14,6 @@ use Rattle.rules.proofs.Examples.{atWidth}
 
 abbrev between : String → String → List ℕ → List ℕ
 between a b op = codes a ++ (op ++ codes b)
-
--- a strength for each
-pub lengths : length strengths ≡ length operators
-lengths = refl
 
 -- between two operands it has its own strength
 pub own-strengths : map (λ op. loosest (topLevelOps strengths (classify Carry.Code (between "a" "b" op)))) operators ≡ strengths

@@ -18,7 +18,7 @@ use Rattle.unicode.proofs.Table.{Shape, one, two, three, four, shape, tail-make
 use Rattle.rules.specs.declared.Class.{Class}
 use Rattle.rules.specs.Basics.{choose, is, codes, at, same, oneOf, leading, startsWith, firstIs, Pieces}
 use Rattle.rules.specs.Scan.{Cell, cell, charsOf, isStr}
-use Rattle.rules.specs.Words.{operators}
+use Rattle.rules.specs.Operators.{operators}
 use Rattle.rules.specs.SplitOperation.{endsOperand, atomChar, atomLen, startsPair, Ops, OpStep, token, operator, escape, bracket, oneCharStep, twoCharStep, codeStep, freshStep, opStepAt, opStep, OpMark, opMark, marksFrom, noOps, topLevelOps, looser, loosest, atMark, cutBefore}
 use Rattle.rules.specs.OperatorBytes.{byteStep, byteMarks}
 use Rattle.rules.proofs.Choose.{choose-case}
@@ -90,7 +90,7 @@ unfolding oneOf allTexts
 one-ascii [] w a h = cc
 one-ascii (v ∷ vs) w a h = by-test (same v w) (λ e. same-ascii v w (and-left (allAscii v) (allTexts vs) a) e) (λ e. one-ascii vs w (and-right (allAscii v) (allTexts vs) a) (rw e at h))
 
-operator-ascii : (w : List ℕ) → oneOf operators w ≡ true → allAscii w ≡ true
+pub operator-ascii : (w : List ℕ) → oneOf operators w ≡ true → allAscii w ≡ true
 unfolding allTexts
 operator-ascii w h = one-ascii operators w refl h
 

@@ -24,8 +24,8 @@ use Rattle.rules.specs.declared.Mode.{Mode}
 use Rattle.rules.specs.declared.Mark.{Mark}
 use Rattle.rules.specs.Basics.{choose, is, codes, at, isIdent, same, oneOf, leading, startsWith, firstIs, isBlank}
 use Rattle.rules.specs.Scan.{one, inCode, inQuoted, inInterp, inInner, inBlock, inPrefab, markAt, nextOf, next, Cell, cell, charsOf, scan, begin, isCodeOrStr, allCodeOrStr}
-use Rattle.rules.specs.Words.{operators}
-use Rattle.rules.specs.SplitOperation.{lookup, precedence, endsOperand, atomLen, Ops, OpStep, token, operator, escape, bracket, oneCharStep, twoCharStep, codeStep, freshStep, opStepAt, opStep, OpMark, opMark, marksFrom, noOps, topLevelOps, looser, loosest, atMark, cutBefore}
+use Rattle.rules.specs.Operators.{AtMost, operators, indexIn}
+use Rattle.rules.specs.SplitOperation.{precedence, endsOperand, atomLen, Ops, OpStep, token, operator, escape, bracket, oneCharStep, twoCharStep, codeStep, freshStep, opStepAt, opStep, OpMark, opMark, marksFrom, noOps, topLevelOps, looser, loosest, atMark, cutBefore}
 use Rattle.rules.proofs.Choose.{choose-case}
 use Rattle.rules.proofs.StartsBytes.{choose-both}
 use Rattle.rules.proofs.ScanBytes.{label, chars-append}
@@ -65,11 +65,6 @@ unfoldable pub allSolid : List ℕ → Bool
 allSolid [] = true
 allSolid (c ∷ cs) = not (isWhite c) && allSolid cs
 
--- no strength is over k
-abbrev pub AtMost : ℕ → List ℕ → Type 0
-AtMost k [] = Unit {0}
-AtMost k (n ∷ ns) = (n ≤ k) × AtMost k ns
-
 pub operator-leads : (w : List ℕ) → oneOf operators w ≡ true → leads w ≡ true
 unfolding allOf leads isWhite
 operator-leads w h = one-of leads operators w refl h
@@ -78,13 +73,10 @@ operator-solid : (w : List ℕ) → oneOf operators w ≡ true → allSolid w �
 unfolding allOf allSolid isWhite
 operator-solid w h = one-of allSolid operators w refl h
 
-lookup-known : (ks : List (List ℕ)) (table op : List ℕ) (k : ℕ) → AtMost k table → lookup ks table op ≤ k
-unfolding lookup
-lookup-known [] table op k a = omega arith
-lookup-known (w ∷ ws) [] op k a = omega arith
-lookup-known (w ∷ ws) (n ∷ ns) op k a =
-    let r = lookup-known ws ns op k (a .1) in
-    choose-case (λ (m : ℕ). m ≤ k) (λ h. a .0) (λ h. r)
+known-at : (table : List ℕ) (i k : ℕ) → AtMost k table → getD table i 0 ≤ k
+known-at [] i k a = omega arith
+known-at (n ∷ ns) zero k a = a .0
+known-at (n ∷ ns) (suc i) k a = known-at ns i k (a .1)
 
 -- ---- what a step finds at c, with cs after it
 
@@ -119,7 +111,7 @@ module _ (table : List ℕ) (c : ℕ) (cs : List ℕ) where
   found-operator s op n h a =
       record {
         leads = λ k. h;
-        known = λ k b. let r = lookup-known operators table op k b in choose-case (λ (m : ℕ). m ≤ k) (λ t. r) (λ t. omega arith);
+        known = λ k b. let r = known-at table (indexIn operators op) k b in choose-case (λ (m : ℕ). m ≤ k) (λ t. r) (λ t. omega arith);
         solid = a;
       }
 

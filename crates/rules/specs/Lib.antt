@@ -5,6 +5,7 @@ pub mod Lines
 pub mod Scan
 pub mod ClassBytes
 pub mod Line
+pub mod Operators
 pub mod Words
 pub mod Spacing
 pub mod Else

@@ -14,7 +14,8 @@ use Rattle.rules.specs.Brackets.{Entry, leadingClosers, scanBrackets, co
 use Rattle.rules.specs.Words.{startsWithWord, startsWithBinaryOp, sameDeclaration, isMarker, hasCode}
 use Rattle.rules.specs.Else.{isPlainElse, canJoin, joinElse}
 use Rattle.rules.specs.SplitImport.{Laid, splitImport}
-use Rattle.rules.specs.SplitOperation.{strengths, splitOperation}
+use Rattle.rules.specs.Operators.{strengths}
+use Rattle.rules.specs.SplitOperation.{splitOperation}
 use Rattle.rules.specs.declared.Carry.{Carry}
 use Rattle.rules.specs.declared.Ignore.{Ignore}
 use Rattle.rules.specs.declared.PrintWidth.{PrintWidth}

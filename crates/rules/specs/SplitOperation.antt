@@ -8,21 +8,13 @@ use lib.ListN.{length, drop, take, getD}
 use Rattle.unicode.specs.Unicode.{trim}
 use Rattle.rules.specs.Basics.{choose, is, codes, at, same, oneOf, leading, firstIs, Pieces, isBlank, isOpener, isCloser, isIdent}
 use Rattle.rules.specs.Scan.{Cell, charsOf, isCode, isStr, classify}
-use Rattle.rules.specs.Words.{operators}
+use Rattle.rules.specs.Operators.{operators, indexIn}
 use Rattle.rules.specs.Options.{Options, indentOf, overWide}
 use Rattle.rules.specs.declared.Carry.{Carry}
 
--- Tightness: a strength for each of `operators`, in their order; 0 means never break there.
-abbrev pub strengths : List ℕ
-strengths = 1 ∷ 1 ∷ 2 ∷ 3 ∷ 4 ∷ 5 ∷ 6 ∷ 6 ∷ 7 ∷ 7 ∷ 7 ∷ 7 ∷ 8 ∷ 8 ∷ 9 ∷ 10 ∷ 10 ∷ 11 ∷ 11 ∷ 11 ∷ 12 ∷ []
-
-unfoldable pub lookup : List (List ℕ) → List ℕ → List ℕ → ℕ
-lookup [] table op = 0
-lookup (k ∷ ks) [] op = 0
-lookup (k ∷ ks) (n ∷ ns) op = choose (same k op) n (lookup ks ns op)
-
+-- A table has a strength for each of the operators, in their order; 0 means never break there. The rules take it as given.
 unfoldable pub precedence : List ℕ → List ℕ → ℕ
-precedence table op = lookup operators table op
+precedence table op = getD table (indexIn operators op) 0
 
 -- ---- top_level_ops
 

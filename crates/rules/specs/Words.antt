@@ -5,18 +5,12 @@ use mathlib.Core.List.{List, [], _∷_}
 use lib.ListN.{drop}
 use Rattle.unicode.specs.Unicode.{isWhite, trim, trimStart}
 use Rattle.rules.specs.Basics.{is, codes, at, same, leading, startsThen, isEmpty, isBlank}
+use Rattle.rules.specs.Operators.{operators}
 use Rattle.rules.specs.Scan.{Cell, charsOf, codePart, commentPart}
 
 -- a space, a tab or nothing follows the word
 unfoldable pub startsWithWord : List ℕ → List ℕ → Bool
 startsWithWord line word = startsThen word isBlank true line
-
--- the 21 binary operators, in the order of 01's tightness list
-abbrev pub operators : List (List ℕ)
-operators =
-    codes "||" ∷ codes "^^" ∷ codes "&&" ∷ codes "|" ∷ codes "^" ∷ codes "&" ∷ codes "==" ∷ codes "!=" ∷ codes "<" ∷ codes ">"
-    ∷ codes "<=" ∷ codes ">=" ∷ codes "<<" ∷ codes ">>" ∷ codes ".." ∷ codes "+" ∷ codes "-" ∷ codes "*" ∷ codes "/" ∷ codes "%"
-    ∷ codes "**" ∷ []
 
 unfoldable pub whiteOrParen : ℕ → Bool
 whiteOrParen c = isWhite c || is "(" c

@@ -16,18 +16,18 @@ use Rattle.unicode.proofs.Decode.{Ascii, decode-ascii, wf-ascii, wf-test}
 use Rattle.buffer.specs.Buffer.{Appended}
 use Rattle.buffer.proofs.WriteLaws.{appended-append}
 use Rattle.decimal.specs.Decimal.{digits, DecimalPut}
-use Rattle.rules.specs.Basics.{codes}
+use Rattle.rules.specs.Basics.{choose, codes}
 use Rattle.rules.specs.Options.{Options, defaults, validIndent, allBlank}
 use Rattle.rules.specs.Assembly.{formatWith, defaultText}
 use Rattle.rules.specs.Refusals.{maxSource, scratchNeeded, refuseIf, tested, longSource, badOption, shortScratch, illFormed, shortOutput}
-use Rattle.rules.specs.Choices.{printWidthNamed, endOfLineNamed, finalNewlineNamed, isNamed, validOptions, optionsOf}
+use Rattle.rules.specs.Choices.{defaultNumbers, printWidthNamed, endOfLineNamed, finalNewlineNamed, isNamed, validOptions, optionsOf}
 use Rattle.rules.specs.Call.{Call, formatScratch, formatted, textOf, verdictOf, outcomeOf, answerOf}
 use Rattle.rules.specs.declared.Outcome.{Outcome}
 use Rattle.rules.specs.declared.Answer.{Answer}
 use Rattle.rules.proofs.Choose.{choose-false}
 use Rattle.rules.proofs.StartsBytes.{allAscii}
 use Rattle.rules.proofs.CallLaws.{delivered}
-use Rattle.call.specs.Ran.{callOf, numbersOf}
+use Rattle.call.specs.Ran.{callOf}
 use Rattle.call.specs.FormatAnswered.{FormatAnswered}
 use Rattle.short_texts.specs.Texts.{letters, AllLetters, Short}
 use Rattle.short_sources.specs.Printed.{printed, TextIn, Added}
@@ -53,7 +53,7 @@ short-ascii (c ∷ t) h =
 
 -- the call, with an output of n bytes
 abbrev shortCall : List ℕ → ℕ → Call
-shortCall source n = callOf source (codes "  ") (numbersOf 1 100 0 1) n 512
+shortCall source n = callOf source (codes "  ") defaultNumbers n 512
 
 module _ (source : List ℕ) (n : ℕ) where
   options-default : optionsOf (shortCall source n .choices) ≡ defaults

@@ -4,6 +4,7 @@ ghost use Prim.Native.Nat.{_+_, _≤_};
 ghost use lib.ListN.{length};
 ghost use Rattle.short_texts.specs.Texts.{Short};
 ghost use Rattle.short_sources.specs.Printed.{digitIn, greatestIn, TextIn, Added, Paged};
+use rules::OptionNumbers;
 use short_texts::Place;
 
 // More than a source adds: 20 digits, LF and a text of at most 456 bytes.
@@ -52,7 +53,7 @@ fn format_short(source: &[u8], output: &mut [u8]) -> usize
     ensures { λ r. ⌜ TextIn (now (source .entry)) (now (output .exit)) r ⌝ }
 {
     let mut scratch = [0u8; 512];
-    let answer = call::format_call(source, b"  ", 1, 100, 0, 1, output, &mut scratch);
+    let answer = call::format_call(source, b"  ", OptionNumbers::DEFAULTS, output, &mut scratch);
     answer.length as usize
 }
 

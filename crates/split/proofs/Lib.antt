@@ -1,4 +1,3 @@
 -- The laws that this crate's proofs and the crates above share.
-pub mod TestLaws
 pub mod MeasureLaws
 pub mod TextLaws

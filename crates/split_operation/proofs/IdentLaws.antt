@@ -14,13 +14,13 @@ use Rattle.rules.specs.declared.Class.{Class}
 use Rattle.rules.specs.Basics.{choose, same, oneOf, startsWith, isIdent, isOpener, isCloser}
 use Rattle.rules.specs.Scan.{cell, isCode}
 use Rattle.rules.specs.ClassBytes.{classOf, cellAt}
-use Rattle.rules.specs.Words.{operators}
+use Rattle.rules.specs.Operators.{operators}
 use Rattle.rules.specs.SplitOperation.{Ops, endsOperand, token, oneCharStep, codeStep, freshStep, opStepAt, inWord}
 use Rattle.rules.proofs.Choose.{choose-false}
 use Rattle.rules.proofs.StartsBytes.{low-of, steady-ident}
 use Rattle.rules.specs.OperatorBytes.{byteStep}
-use Rattle.operators.specs.declared.OpState.{OpState}
-use Rattle.operators.specs.Operators.{opsOf, stepOf}
+use Rattle.top_level_ops.specs.declared.OpState.{OpState}
+use Rattle.top_level_ops.specs.Steps.{opsOf, stepOf}
 use Rattle.split_operation.specs.Pass.{Breakable, NonePending, PlainTest, IdentRun, PlainRun, pastIdent, Balances, Seeking, Pass, Passing}
 use Rattle.split_operation.proofs.PassLaws.{ReadAt, read-step, looser-zero, eqb-swap, balance-fell, balance-plain, word-on, passing-more, seek-read, ops-left}
 

@@ -20,17 +20,18 @@ use Rattle.rules.specs.Basics.{choose, isEmpty, Pieces}
 use Rattle.rules.specs.Scan.{Cell, charsOf, classify, allCodeOrStr}
 use Rattle.rules.specs.ClassBytes.{cellsOf}
 use Rattle.rules.specs.Options.{Options, indentOf, measure, overWide}
-use Rattle.rules.specs.SplitOperation.{strengths, Ops, OpMark, opStep, noOps, marksFrom, topLevelOps, hasWord, isBalanced, keywords, loosest, atMark, cutBefore, trimmed, breakAt, splitOnce, nextBreak, breakOn, breakFirst, layPieces, splitOperation}
+use Rattle.rules.specs.Operators.{strengths, maxStrength}
+use Rattle.rules.specs.SplitOperation.{Ops, OpMark, opStep, noOps, marksFrom, topLevelOps, hasWord, isBalanced, keywords, loosest, atMark, cutBefore, trimmed, breakAt, splitOnce, nextBreak, breakOn, breakFirst, layPieces, splitOperation}
 use Rattle.rules.proofs.Choose.{choose-true, choose-false, choose-case}
 use Rattle.rules.proofs.ScanBytes.{encodeCells, classify-encode, chars-classify, all-encode}
 use Rattle.rules.proofs.CellsLaws.{cells-bytes, chars-cells}
-use Rattle.rules.proofs.Twelve.{twelve-lines}
+use Rattle.rules.proofs.StrengthRounds.{known-lines, strengths-known}
 use Rattle.rules.proofs.WordsBytes.{encodePieces, balanced-encode, keywords-encode}
 use Rattle.rules.proofs.Prefix.{markedChars, marks-chars}
 use Rattle.rules.specs.OperatorBytes.{byteMarks}
 use Rattle.rules.proofs.OperatorsBytes.{encodeMarks, marks-encode, loosest-encode, cut-encode}
 use Rattle.operators.specs.First.{anyStarts}
-use Rattle.operators.proofs.FirstLaws.{loosest-none}
+use Rattle.top_level_ops.proofs.NoOperator.{loosest-none}
 use Rattle.split_operation.specs.declared.pass.Cut.{Cut}
 use Rattle.split_operation.specs.declared.pass.Break.{Break}
 use Rattle.split.specs.declared.Part.{Part}
@@ -516,15 +517,15 @@ several f l [] = refl
 several f l (m ∷ ms) = sym (lt-ltb 1 (length (l ∷ f m ∷ map f ms)) (omega arith))
 
 pub all-broken : {line class indent : List ℕ} {level : ℕ} {eol : List ℕ} {max at : ℕ} {out out′ : List ℕ} {r : OperationSplit} → OperationFits line class indent level eol at
-    → FirstBroken strengths line indent level eol max 12 out out′ at r → (o : Options) → o .indent ≡ indent → Broken eol (splitOperation strengths o max level (decode line)) out out′ at r
+    → FirstBroken strengths line indent level eol max maxStrength out out′ at r → (o : Options) → o .indent ≡ indent → Broken eol (splitOperation strengths o max level (decode line)) out out′ at r
 unfolding layPieces
 all-broken {line} {class} {indent} {level} {eol} {max} {at} {out} {out′} {r} asks f o e =
     let pre : Fits line indent level eol at = asks .fits in
-    let p : Pieces = brokenIn strengths indent level max 12 line in
+    let p : Pieces = brokenIn strengths indent level max maxStrength line in
     let k : allCodeOrStr (classify Carry.Code (decode line)) ≡ true = sym (all-encode (classify Carry.Code (decode line))) ∙ ap allCodeOrStr (sym (classify-encode Carry.Code (decode line)) ∙ ap (classify Carry.Code) (pre .well)) ∙ asks .classed .plain in
-    let b : breakFirst strengths o max level 12 (record { first = decode line; rest = [] }) ≡ p = same-break strengths o indent e max level 12 (record { first = decode line; rest = [] }) in
+    let b : breakFirst strengths o max level maxStrength (record { first = decode line; rest = [] }) ≡ p = same-break strengths o indent e max level maxStrength (record { first = decode line; rest = [] }) in
     let d : Indent indent (suc level) = rw add-one at (deeper-fits pre) in
-    subst (λ (ls : List (List ℕ)). Broken eol ls out out′ at r) (sym (twelve-lines o max level (decode line) k ∙ ap (layPieces o level) b))
+    subst (λ (ls : List (List ℕ)). Broken eol ls out out′ at r) (sym (known-lines strengths strengths-known o max level (decode line) k ∙ ap (layPieces o level) b))
     (record {
       written = written-lines eol (indentOf o level ++ p .first) (map (λ (l : List ℕ). indentOf o (suc level) ++ l) (p .rest)) (firstLine indent level p) (otherLines indent level p)
           (pre .ascii) (lay-encode o indent level (p .first) e (level-fits pre)) (lay-all o indent (suc level) e d (p .rest)) (f .pieces .text) (f .pieces .last);

@@ -23,12 +23,12 @@ use Rattle.rules.specs.SplitOperation.{Ops, OpStep, OpMark, opMark, noOps, toke
 use Rattle.rules.proofs.Choose.{choose-true, choose-false}
 use Rattle.rules.proofs.CellsLaws.{cells-at, cells-end, chars-cells, code-byte}
 use Rattle.rules.specs.OperatorBytes.{byteStep, byteMarks}
-use Rattle.operators.specs.declared.OpState.{OpState}
-use Rattle.operators.specs.declared.OpFound.{OpFound}
-use Rattle.operators.specs.declared.PlainStep.{PlainStep}
-use Rattle.operators.specs.declared.Token.{Token}
-use Rattle.operators.specs.Operators.{opsOf, stepOf, stepWith, stepOr, byteOr, tokenStep, FewBrackets}
-use Rattle.operators.proofs.OperatorLaws.{byte-or}
+use Rattle.top_level_ops.specs.declared.OpState.{OpState}
+use Rattle.top_level_ops.specs.declared.OpFound.{OpFound}
+use Rattle.top_level_ops.specs.declared.PlainStep.{PlainStep}
+use Rattle.top_level_ops.specs.declared.Token.{Token}
+use Rattle.top_level_ops.specs.Steps.{opsOf, stepOf, stepWith, stepOr, byteOr, tokenStep, FewBrackets}
+use Rattle.top_level_ops.proofs.StepLaws.{byte-or}
 use Rattle.split_operation.specs.declared.pass.Span.{Span}
 use Rattle.split_operation.specs.declared.pass.Word.{Word}
 use Rattle.split_operation.specs.declared.pass.Break.{Break}

@@ -12,9 +12,9 @@ use Rattle.rules.specs.Scan.{Cell}
 use Rattle.rules.specs.ClassBytes.{cellsOf, cellAt}
 use Rattle.rules.specs.SplitOperation.{OpMark, noOps, balanceStep, isZero, isBalanced, inWord, wordOn, hasWordFrom, hasWord, keywords, looser, loosest, cutBefore}
 use Rattle.rules.specs.OperatorBytes.{byteMarks}
-use Rattle.operators.specs.Operators.{opsOf}
-use Rattle.operators.specs.declared.OpFound.{OpFound}
-use Rattle.operators.specs.declared.OpState.{OpState}
+use Rattle.top_level_ops.specs.Steps.{opsOf}
+use Rattle.top_level_ops.specs.declared.OpFound.{OpFound}
+use Rattle.top_level_ops.specs.declared.OpState.{OpState}
 use Rattle.split_operation.specs.declared.pass.Span.{Span}
 use Rattle.split_operation.specs.declared.pass.Word.{Word}
 use Rattle.split_operation.specs.declared.pass.Break.{Break}

@@ -4,8 +4,11 @@ mod pass;
 ghost use mathlib.Core.Path.{_≡_};
 ghost use Rattle.unicode.specs.Unicode.{decode};
 ghost use Rattle.rules.specs.Options.{Options};
-ghost use Rattle.rules.specs.SplitOperation.{strengths, splitOperation};
+ghost use Rattle.rules.specs.Operators.{strengths};
+ghost use Rattle.rules.specs.SplitOperation.{splitOperation};
 ghost use Rattle.split_operation.specs.Operation.{LineFits, Broken, RestFits, RestWritten, RoundBreak, FirstBroken, OperationFits};
+use operators::MAX_STRENGTH;
+use operators::STRENGTHS;
 use operators::first::has_operator;
 use pass::Break;
 use pass::find_break;
@@ -15,31 +18,6 @@ use split::indent_column;
 use split::measure_from;
 use split::trim_part;
 use split::write_line;
-
-// Tightness: a strength for each of the operators, in their order.
-pub const STRENGTHS: [u8; 21] = [
-    1,
-    1,
-    2,
-    3,
-    4,
-    5,
-    6,
-    6,
-    7,
-    7,
-    7,
-    7,
-    8,
-    8,
-    9,
-    10,
-    10,
-    11,
-    11,
-    11,
-    12,
-];
 
 // The next place, the place where the last line starts, and whether there is more than one.
 pub struct OperationSplit {
@@ -168,7 +146,7 @@ pub fn split_operation(
         level,
         eol,
         max,
-        12,
+        MAX_STRENGTH,
         out,
         at,
     )

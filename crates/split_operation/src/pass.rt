@@ -11,11 +11,11 @@ use basics::is_closer;
 use basics::is_ident;
 use basics::is_opener;
 use basics::starts_with;
-use operators::OpFound;
-use operators::OpState;
-use operators::found;
-use operators::plain_step;
-use operators::token_at;
+use top_level_ops::OpFound;
+use top_level_ops::OpState;
+use top_level_ops::found;
+use top_level_ops::plain_step;
+use top_level_ops::token_at;
 
 // Before a line's first byte.
 fn begin() -> OpState

@@ -2,29 +2,34 @@
 use Prim.Native.Nat.{ℕ, zero, suc, _+_, _-_, _*_, _≤_}
 use native.Mathlib.Omega.{arith}
 use mathlib.Core.Bool.{Bool, true, false}
-use mathlib.Core.List.{List}
+use mathlib.Core.List.{List, [], _∷_}
 use mathlib.Core.Path.{_≡_, refl, sym, ap, _∙_, subst}
 use lib.ListN.{length, take, drop}
 use lib.Seq.{length-take-le}
 use Rattle.unicode.specs.Unicode.{encode, decode, WellFormed}
 use Rattle.buffer.specs.Buffer.{part}
-use Rattle.rules.specs.Basics.{choose}
-use Rattle.rules.specs.Scan.{classify, carryAfter}
+use Rattle.rules.specs.Basics.{choose, count, isOpener}
+use Rattle.rules.specs.Scan.{Cell, charsOf, classify, carryAfter}
 use Rattle.rules.specs.ClassBytes.{classBytes, cellsOf}
 use Rattle.rules.specs.Spacing.{normalizeSpacing, respaced}
-use Rattle.rules.specs.Brackets.{leadingClosers, scanBrackets, countBrackets}
+use Rattle.rules.specs.Brackets.{Entry, leadingClosers, scanBrackets}
 use Rattle.rules.specs.declared.Carry.{Carry}
 use Rattle.rules.proofs.Choose.{choose-true, choose-false}
-use Rattle.rules.proofs.SpacedLine.{spaced-bytes, height-spaced, length-size}
+use Rattle.rules.proofs.StartsBytes.{on-decode, allAscii, closers-encode, closers-ascii}
+use Rattle.rules.proofs.ScanBytes.{chars-classify}
+use Rattle.rules.proofs.BracketsBytes.{brackets-encode, drop-encode}
+use Rattle.rules.proofs.SpacedLine.{spaced-bytes, brackets-height, openers-spaced, count-length, length-size}
 use Rattle.marks.specs.Within.{ClassifiedAt}
 use Rattle.basics.specs.Region.{Only}
 use Rattle.basics.specs.Closers.{Closers}
 use Rattle.spacing.specs.Respaced.{Normalized, Unchanged}
-use Rattle.brackets.specs.Stack.{stacked, StackFits, BracketsDone}
+use Rattle.brackets.specs.Stack.{stacked, Nested, StackFits, BracketsDone}
+use Rattle.brackets.specs.declared.Nesting.{Nesting}
 use Rattle.basics.proofs.OnlyLaws.{only-same, only-wider, only-then, only-part-before}
 use Rattle.buffer.proofs.RegionLaws.{length-part}
 use Rattle.line.specs.Holds.{Classes}
-use Rattle.line.proofs.HoldsLaws.{stack-counted}
+use Rattle.line.specs.Scratch.{reclassedAt, stackAt}
+use Rattle.line.proofs.HoldsLaws.{cells-decoded}
 use Rattle.step.specs.declared.Going.{Going}
 use Rattle.step.specs.Going.{LineRoom, goingLine, Goes, Went, BracketsCounted}
 
@@ -57,12 +62,12 @@ module _ (line scratch : List ℕ) (unit : ℕ) (after : Carry) (well : WellForm
       }
 
   pub goes-spaced : (mid last : List ℕ) (len : ℕ) (carry : Carry)
-      → Normalized (cellsOf line (part scratch 0 (0 + length line))) scratch mid unit (length line) len → ClassifiedAt mid unit len (3 * unit) last carry
-      → Went line scratch last unit (record { own = false; len = len; «class_at» = 3 * unit; carry = carry })
+      → Normalized (cellsOf line (part scratch 0 (0 + length line))) scratch mid unit (length line) len → ClassifiedAt mid unit len (reclassedAt unit) last carry
+      → Went line scratch last unit (record { own = false; len = len; «class_at» = reclassedAt unit; carry = carry })
   unfolding choose
   goes-spaced mid last len carry n c =
       let s = spaced-bytes line well in
-      let o : Only mid last (3 * unit) (3 * unit + len) = record { long = c .long; front = c .front; back = c .back } in
+      let o : Only mid last (reclassedAt unit) (reclassedAt unit + len) = record { long = c .long; front = c .front; back = c .back } in
       let p : part last unit (unit + len) ≡ part mid unit (unit + len) = only-part-before o unit (unit + len) (omega arith) (omega (arith, n .most, room .short)) in
       let k : part last unit (unit + len) ≡ encode (respaced (decode line)) =
       p ∙ n .is ∙ ap (λ (ks : List ℕ). normalizeSpacing (cellsOf line ks)) (classes .bytes) ∙ s .bytes in
@@ -77,7 +82,7 @@ module _ (line scratch : List ℕ) (unit : ℕ) (after : Carry) (well : WellForm
           most = n .most;
           fits = omega (arith, n .most, room .short);
         };
-        only = only-then (only-wider 0 (5 * unit) (n .only) (omega arith) (omega (arith, room .short))) (only-wider 0 (5 * unit) o (omega arith) (omega (arith, n .most, room .short)));
+        only = only-then (only-wider 0 (stackAt unit) (n .only) (omega arith) (omega (arith, room .short))) (only-wider 0 (stackAt unit) o (omega arith) (omega (arith, n .most, room .short)));
       }
 
 -- the class bytes are lent to `is_spaced`
@@ -94,12 +99,39 @@ unfolding stacked
 length-stacked buf base zero = refl
 length-stacked buf base (suc n) = ap suc (length-stacked buf base n)
 
-module _ (line scratch scratch′ : List ℕ) (unit : ℕ) (g : Going) (depth closers left deep : ℕ) (well : WellFormed line) (goes : Goes line scratch unit g) (l : left ≡ depth - closers)
+-- the stack after a line whose leading closers popped before
+module _ {y after : Carry} {line scratch : List ℕ} {at : ℕ} (well : WellFormed line) (classes : Classes y line scratch at after) where
+  stack-dropped : {scratch′ : List ℕ} {base n closers : ℕ} {left deep : Nesting} → Closers line closers
+      → BracketsDone scratch scratch′ base left n (scanBrackets (drop closers (cellsOf line (part scratch at (at + length line)))) (stacked scratch base (left .depth))) deep
+      → stacked scratch′ base (deep .depth) ≡ scanBrackets (drop (leadingClosers (decode line)) (classify y (decode line))) (stacked scratch base (left .depth))
+  stack-dropped {base = base} {left = left} k w =
+      let n = k .is ∙ on-decode leadingClosers leadingClosers closers-encode line well in
+      let low : allAscii (take (leadingClosers (decode line)) (charsOf (classify y (decode line)))) ≡ true =
+      ap (λ (s : List ℕ). allAscii (take (leadingClosers (decode line)) s)) (chars-classify y (decode line)) ∙ closers-ascii (decode line) in
+      w .is
+      ∙ rw (cells-decoded well classes, n, drop-encode (leadingClosers (decode line)) (classify y (decode line)) low)
+      (brackets-encode (drop (leadingClosers (decode line)) (classify y (decode line))) (stacked scratch base (left .depth)))
+
+-- each bracket that is left open has an opener in the line
+count-drop : (p : ℕ → Bool) (n : ℕ) (cells : List Cell) → count p (charsOf (drop n cells)) ≤ count p (charsOf cells)
+unfolding count charsOf
+count-drop p zero cells = omega arith
+count-drop p (suc n) [] = omega arith
+count-drop p (suc n) (x ∷ xs) = omega (arith, count-drop p n xs)
+
+height-dropped : (l : List ℕ) (n : ℕ) (stack : List Entry) → length (scanBrackets (drop n (classify Carry.Code (respaced l))) stack) ≤ length stack + length l
+height-dropped l n stack =
+    let e : count isOpener (charsOf (classify Carry.Code (respaced l))) ≡ count isOpener l =
+    ap (count isOpener) (chars-classify Carry.Code (respaced l)) ∙ openers-spaced (classify Carry.Code l) ∙ ap (count isOpener) (chars-classify Carry.Code l) in
+    let cells = classify Carry.Code (respaced l) in
+    omega (arith, e, brackets-height (drop n cells) stack, count-drop isOpener n cells, count-length isOpener l)
+
+module _ (line scratch scratch′ : List ℕ) (unit : ℕ) (g : Going) (closers : ℕ) (left deep : Nesting) (well : WellFormed line) (goes : Goes line scratch unit g)
     (k : Closers (encode (respaced (decode line))) closers) where
   counts : (L : List ℕ) → goingLine line scratch unit g ≡ L
-      → BracketsDone scratch scratch′ (5 * unit) left (length L)
-      (scanBrackets (drop closers (cellsOf L (part scratch (g .«class_at») (g .«class_at» + length L)))) (stacked scratch (5 * unit) left)) deep
-      → BracketsCounted (respaced (decode line)) scratch scratch′ (5 * unit) depth (length line) deep
+      → BracketsDone scratch scratch′ (stackAt unit) left (length L)
+      (scanBrackets (drop closers (cellsOf L (part scratch (g .«class_at») (g .«class_at» + length L)))) (stacked scratch (stackAt unit) (left .depth))) deep
+      → BracketsCounted (respaced (decode line)) scratch scratch′ (stackAt unit) left (length line) deep
   counts L e w =
       let n : g .len ≡ length L = sym (goes .long) ∙ ap length e in
       let classes : Classes Carry.Code L scratch (g .«class_at») (g .carry) =
@@ -111,35 +143,48 @@ module _ (line scratch scratch′ : List ℕ) (unit : ℕ) (g : Going) (depth cl
       let t : decode L ≡ respaced (decode line) = ap decode (sym e) ∙ goes .text in
       let well′ : WellFormed L = subst WellFormed e (goes .well) in
       let k′ : Closers L closers = subst (λ (s : List ℕ). Closers s closers) (sym (sym well′ ∙ ap encode t)) k in
-      let s : stacked scratch′ (5 * unit) deep ≡ countBrackets (leadingClosers (respaced (decode line))) (classify Carry.Code (respaced (decode line))) (stacked scratch (5 * unit) depth) =
-      rw t at (stack-counted well′ classes depth k′ l w refl) in
+      let s : stacked scratch′ (stackAt unit) (deep .depth)
+      ≡ scanBrackets (drop (leadingClosers (respaced (decode line))) (classify Carry.Code (respaced (decode line)))) (stacked scratch (stackAt unit) (left .depth)) =
+      rw t at (stack-dropped well′ classes k′ w) in
       record {
         stack = s;
-        most = omega (arith, length-stacked scratch′ (5 * unit) deep, ap length s, length-stacked scratch (5 * unit) depth, height-spaced (decode line) (leadingClosers (respaced (decode line))) (stacked scratch (5 * unit) depth), length-size (decode line), ap length well);
+        runs = w .runs;
+        most =
+            omega (
+              arith,
+              length-stacked scratch′ (stackAt unit) (deep .depth),
+              ap length s,
+              length-stacked scratch (stackAt unit) (left .depth),
+              height-dropped (decode line) (leadingClosers (respaced (decode line))) (stacked scratch (stackAt unit) (left .depth)),
+              length-size (decode line),
+              ap length well,
+            );
         long = w .only .long;
       }
 
   pub counts-own : g .own ≡ true
-      → BracketsDone scratch scratch′ (5 * unit) left (length line)
-      (scanBrackets (drop closers (cellsOf line (part scratch (g .«class_at») (g .«class_at» + length line)))) (stacked scratch (5 * unit) left)) deep
-      → BracketsCounted (respaced (decode line)) scratch scratch′ (5 * unit) depth (length line) deep
+      → BracketsDone scratch scratch′ (stackAt unit) left (length line)
+      (scanBrackets (drop closers (cellsOf line (part scratch (g .«class_at») (g .«class_at» + length line)))) (stacked scratch (stackAt unit) (left .depth))) deep
+      → BracketsCounted (respaced (decode line)) scratch scratch′ (stackAt unit) left (length line) deep
   counts-own e w = counts line (choose-true (g .own) line _ e) w
 
   pub counts-spaced : g .own ≡ false
-      → BracketsDone scratch scratch′ (5 * unit) left (g .len)
-      (scanBrackets (drop closers (cellsOf (part scratch unit (unit + g .len)) (part scratch (g .«class_at») (g .«class_at» + g .len)))) (stacked scratch (5 * unit) left)) deep
-      → BracketsCounted (respaced (decode line)) scratch scratch′ (5 * unit) depth (length line) deep
+      → BracketsDone scratch scratch′ (stackAt unit) left (g .len)
+      (scanBrackets (drop closers (cellsOf (part scratch unit (unit + g .len)) (part scratch (g .«class_at») (g .«class_at» + g .len)))) (stacked scratch (stackAt unit) (left .depth)))
+      deep
+      → BracketsCounted (respaced (decode line)) scratch scratch′ (stackAt unit) left (length line) deep
   counts-spaced e w =
       let p : goingLine line scratch unit g ≡ part scratch unit (unit + g .len) = choose-false (g .own) line _ e in
       let n : length (part scratch unit (unit + g .len)) ≡ g .len = ap length (sym p) ∙ goes .long in
       counts (part scratch unit (unit + g .len)) p
-      (subst (λ (m : ℕ). BracketsDone scratch scratch′ (5 * unit) left m
-      (scanBrackets (drop closers (cellsOf (part scratch unit (unit + g .len)) (part scratch (g .«class_at») (g .«class_at» + m)))) (stacked scratch (5 * unit) left)) deep) (sym n) w)
+      (subst (λ (m : ℕ). BracketsDone scratch scratch′ (stackAt unit) left m
+      (scanBrackets (drop closers (cellsOf (part scratch unit (unit + g .len)) (part scratch (g .«class_at») (g .«class_at» + m)))) (stacked scratch (stackAt unit) (left .depth))) deep)
+      (sym n) w)
 
 -- there is room for the stack
-pub count-room : (line scratch : List ℕ) (unit : ℕ) (g : Going) (depth left n : ℕ) → LineRoom scratch unit (length line) → Goes line scratch unit g
-    → depth + length line ≤ unit → left ≤ depth → n ≡ g .len → StackFits scratch (g .«class_at») n (5 * unit) left
-count-room line scratch unit g depth left n r w h k e = record { classes = omega (arith, w .fits); stack = omega (arith, w .most, r .room, r .short) }
+pub count-room : (line scratch : List ℕ) (unit : ℕ) (g : Going) (left : Nesting) (n : ℕ) → LineRoom scratch unit (length line) → Goes line scratch unit g
+    → left .depth + length line ≤ unit → Nested scratch (stackAt unit) left → n ≡ g .len → StackFits scratch (g .«class_at») n (stackAt unit) left
+count-room line scratch unit g left n r w h k e = record { classes = omega (arith, w .fits); stack = omega (arith, w .most, r .room, r .short); runs = k .runs }
 
 pub own-length : (line scratch : List ℕ) (unit : ℕ) (g : Going) → Goes line scratch unit g → g .own ≡ true → length line ≡ g .len
 own-length line scratch unit g w e = ap length (sym (choose-true (g .own) line (part scratch unit (unit + g .len)) e)) ∙ w .long

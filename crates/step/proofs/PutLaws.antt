@@ -1,21 +1,28 @@
 -- The line that goes on, put into the text.
-use Prim.Native.Nat.{ℕ, _+_, _*_, _≤_}
+use Prim.Native.Nat.{ℕ, zero, suc, _+_, _*_, _≤_}
 use native.Mathlib.Omega.{arith}
 use mathlib.Core.Bool.{Bool, false}
 use mathlib.Core.List.{List, [], _∷_}
-use mathlib.Core.Path.{_≡_, sym, ap, _∙_, subst}
-use lib.ListN.{length}
+use mathlib.Core.Path.{_≡_, refl, sym, ap, _∙_, subst}
+use borrow.Author.Tests.{ne-eqb}
+use lib.Dec.{eqb}
+use lib.ListN.{length, drop}
 use Rattle.unicode.specs.Unicode.{encode, decode, WellFormed, trimEnd}
 use Rattle.buffer.specs.Buffer.{part}
 use Rattle.rules.specs.Basics.{is, isEmpty, lastIs}
 use Rattle.rules.specs.Scan.{classify}
 use Rattle.rules.specs.ClassBytes.{classBytes}
+use Rattle.rules.specs.Brackets.{levels}
 use Rattle.rules.specs.Line.{Formatter}
 use Rattle.rules.specs.Spacing.{respaced}
 use Rattle.rules.specs.declared.Carry.{Carry}
 use Rattle.rules.specs.declared.PrintWidth.{PrintWidth}
 use Rattle.rules.proofs.SpacedLine.{spaced-trimmed, length-size}
 use Rattle.basics.specs.Closers.{Closers}
+use Rattle.brackets.specs.Stack.{stacked, Popped}
+use Rattle.brackets.specs.declared.Nesting.{Nesting}
+use Rattle.brackets.proofs.StackLaws.{stacked-drop, levels-most}
+use Rattle.line.specs.Scratch.{stackAt}
 use Rattle.format.specs.Words.{declarationOf}
 use Rattle.format.specs.declared.words.Declaration.{Declaration}
 use Rattle.place.specs.Placing.{GoesOn, Heads, Knows, Asks, Puts, spacedBy}
@@ -27,9 +34,23 @@ use Rattle.line.proofs.HoldsLaws.{declaration-bytes, brace-bytes}
 use Rattle.step.specs.declared.Going.{Going}
 use Rattle.step.specs.Going.{SolidLine, goingLine, Goes, beforeOf, PutOn}
 
-knows : {eol : List ℕ} {unit closers : ℕ} {declares : Declaration} {f : Formatter} {st : State} {out scratch : List ℕ} → Holds eol unit f st out scratch
-    → Knows eol f (beforeOf st unit closers declares) out scratch
-knows h = record { text = h .text; stack = h .stack; decl = h .decl; brace = h .brace }
+stacked-empty : (scratch : List ℕ) (base depth : ℕ) → isEmpty (stacked scratch base depth) ≡ eqb depth 0
+unfolding stacked
+stacked-empty scratch base zero = refl
+stacked-empty scratch base (suc depth) = sym (ne-eqb (suc depth) 0 (λ e. absurd (omega arith)))
+
+knows : {eol : List ℕ} {unit closers : ℕ} {left : Nesting} {declares : Declaration} {f : Formatter} {st : State} {out scratch : List ℕ} → Holds eol unit f st out scratch
+    → Popped scratch (stackAt unit) (st .nesting) closers left → Knows eol f (beforeOf st (left .levels) closers declares) out
+knows {unit = unit} {closers = closers} {st = st} {scratch = scratch} h l =
+    record {
+      text = h .text;
+      empty = ap isEmpty (sym (h .stack)) ∙ stacked-empty scratch (stackAt unit) (st .nesting .depth);
+      running =
+          l .nested .runs
+          ∙ rw (l .depth) (ap levels (sym (stacked-drop scratch (stackAt unit) (st .nesting .depth) closers) ∙ ap (drop closers) (h .stack)));
+      decl = h .decl;
+      brace = h .brace;
+    }
 
 some-length : (l : List ℕ) → isEmpty l ≡ false → 1 ≤ length l
 some-length [] e = let z : _≡_ {A = ℕ} 0 1 = cc in absurd (omega arith)
@@ -40,15 +61,15 @@ pub some-bytes : (line : List ℕ) → WellFormed line → isEmpty (decode line)
 some-bytes line w e = omega (arith, some-length (decode line) e, length-size (decode line), ap length w)
 
 module _ (line scratch : List ℕ) (unit : ℕ) (st : State) (ready : Ready st scratch unit (length line)) (solid : SolidLine line) where
-  pub asks : (b : Before) (closers : ℕ) (declares : Declaration) → b ≡ beforeOf st unit closers declares → Asks b scratch
-  asks b closers declares e =
+  pub asks : (b : Before) (closers : ℕ) (left : Nesting) (declares : Declaration) → b ≡ beforeOf st (left .levels) closers declares
+      → Popped scratch (stackAt unit) (st .nesting) closers left → Asks b
+  asks b closers left declares e l =
       let n = some-bytes line (solid .well) (solid .some) in
-      subst (λ (x : Before). Asks x scratch) (sym e)
+      subst Asks (sym e)
       (record {
         ordered = ready .small .ordered;
         small = ready .small .at;
-        depth = omega (arith, ready .depth, ready .limit);
-        fits = omega (arith, ready .depth, ready .room);
+        few = omega (arith, l .nested .runs, levels-most scratch (stackAt unit) (left .depth), l .depth, ready .depth, ready .limit);
       })
 
   module _ (g : Going) (goes : Goes line scratch unit g) (L : List ℕ) (e : L ≡ goingLine line scratch unit g) where
@@ -72,24 +93,25 @@ module _ (line scratch : List ℕ) (unit : ℕ) (st : State) (ready : Ready st s
           classes = goes .classes ∙ ap (λ (s : List ℕ). classBytes (classify Carry.Code s)) (sym e);
         }
 
-    pub heads : (b : Before) (closers : ℕ) (declares : Declaration) → b ≡ beforeOf st unit closers declares → Closers L closers → declares ≡ declarationOf L → Heads L b
-    heads b closers declares e′ k d = subst (Heads L) (sym e′) (record { closers = k; declares = d })
+    pub heads : (b : Before) (left closers : ℕ) (declares : Declaration) → b ≡ beforeOf st left closers declares → Closers L closers → declares ≡ declarationOf L → Heads L b
+    heads b left closers declares e′ k d = subst (Heads L) (sym e′) (record { closers = k; declares = d })
 
-    pub put-on : (marker : Bool) (indent : List ℕ) (width : PrintWidth) (eol out out′ : List ℕ) (p : Placed) (closers : ℕ) (decl : Declaration) (brace : Bool) (b : Before)
-        → b ≡ beforeOf st unit closers decl → Puts (spacedBy marker (decode L)) indent width eol (length L) b out scratch p out′
-        → Closers L closers → decl ≡ declarationOf L → brace ≡ lastIs (is "}") L
+    pub put-on : (marker : Bool) (indent : List ℕ) (width : PrintWidth) (eol out out′ : List ℕ) (p : Placed) (closers : ℕ) (left : Nesting) (decl : Declaration) (brace : Bool) (b : Before)
+        → b ≡ beforeOf st (left .levels) closers decl → Puts (spacedBy marker (decode L)) indent width eol (length L) b out p out′
+        → Closers L closers → Popped scratch (stackAt unit) (st .nesting) closers left → decl ≡ declarationOf L → brace ≡ lastIs (is "}") L
         → PutOn marker (respaced (decode line)) indent width eol (length line) unit st out scratch
-        (record { text = p .text; imports = p .imports; blanks = p .blanks; closers = closers; decl = decl; brace = brace }) out′
-    put-on marker indent width eol out out′ p closers decl brace b e′ w ek ed eb =
-        let x : Puts (spacedBy marker (decode L)) indent width eol (length L) (beforeOf st unit closers decl) out scratch p out′ =
-        subst (λ (y : Before). Puts (spacedBy marker (decode L)) indent width eol (length L) y out scratch p out′) e′ w in
-        let v : Puts (spacedBy marker (respaced (decode line))) indent width eol (length L) (beforeOf st unit closers decl) out scratch p out′ =
-        subst (λ (l : List ℕ). Puts (spacedBy marker l) indent width eol (length L) (beforeOf st unit closers decl) out scratch p out′) going-text x in
+        (record { text = p .text; imports = p .imports; blanks = p .blanks; closers = closers; left = left; decl = decl; brace = brace }) out′
+    put-on marker indent width eol out out′ p closers left decl brace b e′ w ek el ed eb =
+        let x : Puts (spacedBy marker (decode L)) indent width eol (length L) (beforeOf st (left .levels) closers decl) out p out′ =
+        subst (λ (y : Before). Puts (spacedBy marker (decode L)) indent width eol (length L) y out p out′) e′ w in
+        let v : Puts (spacedBy marker (respaced (decode line))) indent width eol (length L) (beforeOf st (left .levels) closers decl) out p out′ =
+        subst (λ (l : List ℕ). Puts (spacedBy marker l) indent width eol (length L) (beforeOf st (left .levels) closers decl) out p out′) going-text x in
         record {
-          text = λ o f u h. v .text o f u (knows h);
-          imports = λ o f u h. v .imports o f u (knows h);
-          blanks = λ o f u h. v .blanks o f u (knows h);
+          text = λ o f u h. v .text o f u (knows h el);
+          imports = λ o f u h. v .imports o f u (knows h el);
+          blanks = λ o f u h. v .blanks o f u (knows h el);
           closers = subst (λ (s : List ℕ). Closers s closers) (sym going-well ∙ ap encode going-text) ek;
+          left = el;
           decl = ed ∙ declaration-bytes L going-well ∙ ap declarationOf going-text;
           brace = eb ∙ brace-bytes L going-well ∙ ap (lastIs (is "}")) going-text;
           ordered = v .ordered;

@@ -13,7 +13,7 @@ use Rattle.unicode.proofs.Trim.{trim-trimEnd}
 use Rattle.rules.specs.Basics.{choose, is, isEmpty, lastIs}
 use Rattle.rules.specs.Scan.{classify, carryAfter}
 use Rattle.rules.specs.ClassBytes.{classBytes}
-use Rattle.rules.specs.Brackets.{leadingClosers, countBrackets}
+use Rattle.rules.specs.Brackets.{leadingClosers, countBrackets, levels}
 use Rattle.rules.specs.Words.{isMarker, hasCode}
 use Rattle.rules.specs.Else.{isPlainElse, canJoin}
 use Rattle.rules.specs.Options.{Options}
@@ -27,9 +27,13 @@ use Rattle.scan.specs.Classified.{Classified}
 use Rattle.basics.specs.Region.{Only}
 use Rattle.format.specs.Words.{declarationOf}
 use Rattle.basics.proofs.OnlyLaws.{only-same}
-use Rattle.brackets.proofs.StackLaws.{stacked-past}
+use Rattle.brackets.specs.Stack.{stacked}
+use Rattle.brackets.specs.declared.Nesting.{Nesting}
+use Rattle.brackets.proofs.StackLaws.{stacked-past, stacked-drop}
+use Rattle.rules.proofs.StartsBytes.{closers-encode}
+use Rattle.line.specs.Scratch.{stackAt}
 use Rattle.format.proofs.ElseLaws.{decode-some}
-use Rattle.line.specs.Holds.{Holds, Ready, Stepped, TrimmedLine, Classes, Uses, insideOf, protectedOf}
+use Rattle.line.specs.Holds.{Holds, Runs, Ready, Stepped, TrimmedLine, Classes, Uses, insideOf, protectedOf}
 use Rattle.line.specs.declared.state.State.{State}
 use Rattle.line.proofs.HoldsLaws.{carry-bytes, classes-front, front-only, line-room, trimmed-line, start-within}
 use Rattle.place.specs.Placing.{spacedBy}
@@ -42,16 +46,21 @@ use Rattle.step.proofs.GoingLaws.{front-part}
 
 -- ---- what is ready for a line is ready for a shorter one, in a scratch as long
 
-pub ready-as : {st : State} {scratch : List ℕ} {unit n : ℕ} (scratch′ : List ℕ) (m : ℕ) → Ready st scratch unit n → length scratch′ ≡ length scratch → m ≤ n → Ready st scratch′ unit m
-ready-as scratch′ m r e h =
+runs-past : {unit : ℕ} {st : State} {s₀ s₁ : List ℕ} {m : ℕ} → Only s₀ s₁ 0 m → m ≤ stackAt unit → Runs unit st s₀ → Runs unit st s₁
+runs-past {unit = unit} {st = st} o k r = record { is = r .is ∙ ap levels (sym (stacked-past o (stackAt unit) (st .nesting .depth) k)) }
+
+pub ready-as : {st : State} {scratch : List ℕ} {unit n : ℕ} (scratch′ : List ℕ) (m e : ℕ) → Ready st scratch unit n → Only scratch scratch′ 0 e → e ≤ stackAt unit → m ≤ n
+    → Ready st scratch′ unit m
+ready-as scratch′ m e r o k h =
     record {
       small = r .small;
       depth = omega (arith, r .depth);
+      runs = runs-past o k (r .runs);
       carry = omega (arith, r .carry);
       imports = r .imports;
       blanks = omega (arith, r .blanks);
       limit = r .limit;
-      room = omega (arith, r .room);
+      room = omega (arith, r .room, o .long);
     }
 
 pub ready-room : {st : State} {scratch : List ℕ} {unit n : ℕ} (scratch′ : List ℕ) → Ready st scratch unit n → length scratch′ ≡ length scratch → LineRoom scratch′ unit n
@@ -59,12 +68,13 @@ ready-room scratch′ r e = record { short = omega (arith, r .depth); limit = r 
 
 -- ---- a step that starts after scratch was used before the stack
 
-holds-past : {eol : List ℕ} {unit : ℕ} {f : Formatter} {st : State} {out s₀ s₁ : List ℕ} {m : ℕ} → Only s₀ s₁ 0 m → m ≤ 5 * unit
+holds-past : {eol : List ℕ} {unit : ℕ} {f : Formatter} {st : State} {out s₀ s₁ : List ℕ} {m : ℕ} → Only s₀ s₁ 0 m → m ≤ stackAt unit
     → Holds eol unit f st out s₀ → Holds eol unit f st out s₁
 holds-past {unit = unit} {st = st} o k h =
     record {
       text = h .text;
-      stack = stacked-past o (5 * unit) (st .depth) k ∙ h .stack;
+      stack = stacked-past o (stackAt unit) (st .nesting .depth) k ∙ h .stack;
+      running = h .running;
       blank = h .blank;
       decl = h .decl;
       brace = h .brace;
@@ -75,13 +85,14 @@ holds-past {unit = unit} {st = st} o k h =
     }
 
 stepped-as : {g : Formatter → Formatter} {n unit : ℕ} {eol : List ℕ} {st st′ : State} {out s₁ out′ s₂ : List ℕ} (g′ : Formatter → Formatter) (n′ : ℕ) (s₀ : List ℕ) {m : ℕ}
-    → Only s₀ s₁ 0 m → m ≤ 5 * unit → n ≤ n′ → ((f : Formatter) → Holds eol unit f st out s₀ → g f ≡ g′ f)
+    → Only s₀ s₁ 0 m → m ≤ stackAt unit → n ≤ n′ → ((f : Formatter) → Holds eol unit f st out s₀ → g f ≡ g′ f)
     → Stepped g n unit eol st out s₁ st′ out′ s₂ → Stepped g′ n′ unit eol st out s₀ st′ out′ s₂
 stepped-as {g} {n} {unit} {eol} {st} {st′} {out} {s₁} {out′} {s₂} g′ n′ s₀ o k h e w =
     record {
       holds = λ f x. subst (λ (y : Formatter). Holds eol unit y st′ out′ s₂) (e f x) (w .holds f (holds-past o k x));
       ordered = w .ordered;
       at = omega (arith, w .at);
+      runs = λ x. w .runs (runs-past o k x);
       depth = omega (arith, w .depth);
       carry = omega (arith, w .carry);
       imports = w .imports;
@@ -108,12 +119,13 @@ leaves o f marker l n = choose-case (Leaves marker l f) (λ h. joined marker n h
         let y : _≡_ {A = ℕ} 0 1 = cc in absurd (omega arith)
     joined false n h = record { stack = rw (else-closers l (and-left (isPlainElse l) (canJoin (f .lines)) h)); blank = refl; prev = refl; ignore = refl; carry = refl }
 
-pub spaced-step : (line eol out out′ s₀ s₁ s₂ indent : List ℕ) (width : PrintWidth) (unit : ℕ) (marker : Bool) (st : State) (g : Going) (p : Put) (deep : ℕ) (ignore : Ignore) (r : State)
+pub spaced-step : (line eol out out′ s₀ s₁ s₂ indent : List ℕ) (width : PrintWidth) (unit : ℕ) (marker : Bool) (st : State) (g : Going) (p : Put) (deep : Nesting) (ignore : Ignore) (r : State)
     → Marks marker line → Went line s₀ s₁ unit g
     → PutOn marker (respaced (decode line)) indent width eol (length line) unit st out s₁ p out′
-    → BracketsCounted (respaced (decode line)) s₁ s₂ (5 * unit) (st .depth) (length line) deep → ignore ≡ ignoreOf marker → r ≡ afterLine st p deep ignore (g .carry)
+    → BracketsCounted (respaced (decode line)) s₁ s₂ (stackAt unit) (p .left) (length line) deep → ignore ≡ ignoreOf marker → r ≡ afterLine st p deep ignore (g .carry)
     → (o : Options) → Uses o indent width
     → Stepped (spacedBy marker (respaced (decode line)) o) (length line) unit eol st out s₀ r out′ s₂
+unfolding countBrackets
 spaced-step line eol out out′ s₀ s₁ s₂ indent width unit marker st g p deep ignore r n w q v i e o u =
     subst (λ (x : State). Stepped (spacedBy marker (respaced (decode line)) o) (length line) unit eol st out s₀ x out′ s₂) (sym e)
     (record {
@@ -122,7 +134,8 @@ spaced-step line eol out out′ s₀ s₁ s₂ indent width unit marker st g p d
           let k = leaves o f marker (respaced (decode line)) (n .other) in
           record {
             text = q .text o f u h;
-            stack = v .stack ∙ ap (countBrackets (leadingClosers (respaced (decode line))) (classify Carry.Code (respaced (decode line)))) (h .stack) ∙ sym (k .stack);
+            stack = stack-after f h ∙ sym (k .stack);
+            running = v .runs ∙ ap levels (stack-after f h ∙ sym (k .stack));
             blank = sym (k .blank);
             decl = q .decl ∙ ap declarationOf (sym (k .prev));
             brace = q .brace ∙ ap (lastIs (is "}")) (sym (k .prev));
@@ -133,11 +146,21 @@ spaced-step line eol out out′ s₀ s₁ s₂ indent width unit marker st g p d
           });
       ordered = q .ordered;
       at = omega (arith, q .at);
-      depth = v .most;
+      runs = λ x. record { is = v .runs };
+      depth = omega (arith, v .most, q .left .depth);
       carry = omega (arith, w .goes .depth, w .goes .most);
       imports = omega (arith, q .few);
       blanks = omega (arith, q .fewer);
     })
+  where
+    stack-after : (f : Formatter) → Holds eol unit f st out s₁
+        → stacked s₂ (stackAt unit) (deep .depth)
+        ≡ countBrackets (leadingClosers (respaced (decode line))) (classify Carry.Code (respaced (decode line))) (f .stack)
+    stack-after f h =
+        let c : p .closers ≡ leadingClosers (respaced (decode line)) = q .closers .is ∙ closers-encode (respaced (decode line)) in
+        let l : stacked s₁ (stackAt unit) (p .left .depth) ≡ drop (p .closers) (f .stack) =
+        rw (q .left .depth) (sym (stacked-drop s₁ (stackAt unit) (st .nesting .depth) (p .closers)) ∙ ap (drop (p .closers)) (h .stack)) in
+        v .stack ∙ rw (l, c)
 
 -- ---- a line in code that is not blank
 
@@ -190,14 +213,14 @@ module _
     pub code-long : length (w ++ drop (length line) s₀) ≡ length s₀
     code-long = only .long
 
+    within : length line ≤ stackAt unit
+    within = omega (arith, t .short, ready .depth)
+
     pub code-ready : Ready st (w ++ drop (length line) s₀) unit (length raw)
-    code-ready = ready-as _ _ ready code-long (omega arith)
+    code-ready = ready-as _ _ _ ready only within (omega arith)
 
     pub line-ready : Ready st (w ++ drop (length line) s₀) unit (length line)
-    line-ready = ready-as _ _ ready code-long (t .short)
-
-    within : length line ≤ 5 * unit
-    within = omega (arith, t .short, ready .depth)
+    line-ready = ready-as _ _ _ ready only within (t .short)
 
     module _ {eol out out′ s₂ : List ℕ} {r : State} where
       -- kept as written

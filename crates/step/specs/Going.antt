@@ -3,18 +3,18 @@ use Prim.Native.Nat.{ℕ, _+_, _*_, _≤_}
 use mathlib.Core.Bool.{Bool, true, false}
 use mathlib.Core.List.{List}
 use mathlib.Core.Path.{_≡_}
-use lib.ListN.{length}
+use lib.ListN.{length, drop}
 use Rattle.unicode.specs.Unicode.{encode, decode, trimEnd, WellFormed}
 use Rattle.buffer.specs.Buffer.{part}
 use Rattle.rules.specs.Basics.{choose, is, isEmpty, lastIs}
 use Rattle.rules.specs.Scan.{classify, carryAfter}
 use Rattle.rules.specs.ClassBytes.{classBytes}
 use Rattle.rules.specs.Spacing.{respaced}
-use Rattle.rules.specs.Brackets.{leadingClosers, countBrackets}
+use Rattle.rules.specs.Brackets.{leadingClosers, scanBrackets, levels}
 use Rattle.rules.specs.Words.{isMarker, hasCode}
 use Rattle.rules.specs.Else.{isPlainElse}
 use Rattle.rules.specs.Options.{Options}
-use Rattle.rules.specs.Call.{maxSource}
+use Rattle.rules.specs.Refusals.{maxSource}
 use Rattle.rules.specs.Line.{Formatter, protects, codeLine, formatLine}
 use Rattle.rules.specs.declared.Carry.{Carry}
 use Rattle.rules.specs.declared.Ignore.{Ignore}
@@ -22,12 +22,14 @@ use Rattle.rules.specs.declared.PrintWidth.{PrintWidth}
 use Rattle.basics.specs.Depth.{carryDepth}
 use Rattle.basics.specs.Region.{Only}
 use Rattle.basics.specs.Closers.{Closers}
-use Rattle.brackets.specs.Stack.{stacked}
+use Rattle.brackets.specs.Stack.{stacked, Popped}
+use Rattle.brackets.specs.declared.Nesting.{Nesting}
 use Rattle.format.specs.Words.{declarationOf}
 use Rattle.format.specs.declared.words.Declaration.{Declaration}
 use Rattle.text.specs.Text.{Text, Ordered}
 use Rattle.place.specs.Placing.{spacedBy, respacedGrowth}
 use Rattle.place.specs.declared.Before.{Before}
+use Rattle.line.specs.Scratch.{stackAt, scratchUsed}
 use Rattle.line.specs.Holds.{Holds, Uses}
 use Rattle.line.specs.declared.state.State.{State}
 use Rattle.step.specs.declared.Going.{Going}
@@ -67,7 +69,7 @@ pub record Marks (marker : Bool) (line : List ℕ) : Type 0 where
 pub record LineRoom (scratch : List ℕ) (unit n : ℕ) : Type 0 where
   pub short : n ≤ unit
   pub limit : unit ≤ maxSource
-  pub room : 7 * unit ≤ length scratch
+  pub room : scratchUsed unit ≤ length scratch
 
 -- the bytes of the line that goes on
 abbrev pub goingLine : List ℕ → List ℕ → ℕ → Going → List ℕ
@@ -82,17 +84,18 @@ pub record Goes (line scratch : List ℕ) (unit : ℕ) (g : Going) : Type 0 wher
   pub leaves : g .carry ≡ carryAfter Carry.Code (goingLine line scratch unit g)
   pub depth : carryDepth (g .carry) ≤ g .len
   pub most : g .len ≤ 2 * length line
-  pub fits : g .«class_at» + g .len ≤ 5 * unit
+  pub fits : g .«class_at» + g .len ≤ stackAt unit
 
 -- and the stack is as it was
 pub record Went (line before after : List ℕ) (unit : ℕ) (g : Going) : Type 0 where
   pub goes : Goes line after unit g
-  pub only : Only before after 0 (5 * unit)
+  pub only : Only before after 0 (stackAt unit)
 
--- the brackets of a line of n bytes, which goes on as the characters l, were counted: r are open
-pub record BracketsCounted (l before after : List ℕ) (base depth n r : ℕ) : Type 0 where
-  pub stack : stacked after base r ≡ countBrackets (leadingClosers l) (classify Carry.Code l) (stacked before base depth)
-  pub most : r ≤ depth + n
+-- the brackets of a line of n bytes, which goes on as the characters l, were counted after its leading closers popped
+pub record BracketsCounted (l before after : List ℕ) (base : ℕ) (left : Nesting) (n : ℕ) (r : Nesting) : Type 0 where
+  pub stack : stacked after base (r .depth) ≡ scanBrackets (drop (leadingClosers l) (classify Carry.Code l)) (stacked before base (left .depth))
+  pub runs : r .levels ≡ levels (stacked after base (r .depth))
+  pub most : r .depth ≤ left .depth + n
   pub long : length after ≡ length before
 
 -- the step of a line
@@ -108,11 +111,11 @@ ignoreOf marker = choose marker Ignore.NextLine Ignore.Nothing
 
 -- what is known before the line is put
 abbrev pub beforeOf : State → ℕ → ℕ → Declaration → Before
-beforeOf st unit closers declares =
+beforeOf st left closers declares =
     record {
       text = st .text;
-      base = 5 * unit;
-      depth = st .depth;
+      depth = st .nesting .depth;
+      levels = left;
       decl = st .decl;
       brace = st .brace;
       closers = closers;
@@ -120,11 +123,11 @@ beforeOf st unit closers declares =
     }
 
 -- the record after the line
-abbrev pub afterLine : State → Put → ℕ → Ignore → Carry → State
+abbrev pub afterLine : State → Put → Nesting → Ignore → Carry → State
 afterLine st p deep ignore carry =
     record {
       text = p .text;
-      depth = deep;
+      nesting = deep;
       blank = false;
       decl = p .decl;
       brace = p .brace;
@@ -140,6 +143,7 @@ pub record PutOn (marker : Bool) (l indent : List ℕ) (width : PrintWidth) (eol
   pub imports : (o : Options) (f : Formatter) → Uses o indent width → Holds eol unit f st out scratch → spacedBy marker l o f .importsSplit ≡ f .importsSplit + r .imports
   pub blanks : (o : Options) (f : Formatter) → Uses o indent width → Holds eol unit f st out scratch → spacedBy marker l o f .blankNames ≡ f .blankNames + r .blanks
   pub closers : Closers (encode l) (r .closers)
+  pub left : Popped scratch (stackAt unit) (st .nesting) (r .closers) (r .left)
   pub decl : r .decl ≡ declarationOf l
   pub brace : r .brace ≡ lastIs (is "}") l
   pub ordered : Ordered (r .text)

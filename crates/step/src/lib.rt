@@ -8,16 +8,20 @@ ghost use Rattle.rules.specs.Basics.{isEmpty};
 ghost use Rattle.rules.specs.Lines.{asStr};
 ghost use Rattle.rules.specs.Line.{protects, inCodeNow};
 ghost use Rattle.rules.specs.Options.{Options};
-ghost use Rattle.rules.specs.Call.{maxSource};
 ghost use Rattle.rules.specs.Scan.{classify};
 ghost use Rattle.rules.specs.Spacing.{respaced};
 ghost use Rattle.rules.specs.ClassBytes.{classBytes};
 ghost use Rattle.rules.specs.declared.Carry.{Carry};
 ghost use Rattle.basics.specs.Closers.{Closers};
+ghost use Rattle.brackets.specs.Stack.{Nested};
+ghost use Rattle.line.specs.Scratch.{stackAt};
 ghost use Rattle.line.specs.Holds.{Classes, Ready, Stepped, TrimmedLine, Uses, ValidIndent};
 ghost use Rattle.place.specs.Placing.{spacedBy};
 ghost use Rattle.step.specs.Going.{markerIn, isKept, isAlone, SolidLine, Marks, LineRoom, Goes, Went, BracketsCounted, beforeOf, PutOn, afterLine, codeLineBy, formatLineBy, ignoreOf};
+use brackets::Nesting;
 use format::words::Declaration;
+use line::scratch::RECLASSED;
+use line::scratch::STACK;
 use line::state::State;
 use place::Before;
 use rules::Carry;
@@ -41,12 +45,13 @@ pub struct Going {
     pub carry: Carry,
 }
 
-// The text after the line, what the line adds to the counts, its leading closers, and what the next line asks of it.
+// The text after the line, what the line adds to the counts, its leading closers, what is open after these popped, and what the next line asks of it.
 pub struct Put {
     pub text: Written,
     pub imports: usize,
     pub blanks: usize,
     pub closers: usize,
+    pub left: Nesting,
     pub decl: Declaration,
     pub brace: bool,
 }
@@ -68,7 +73,7 @@ fn go_on(line: &[u8], scratch: &mut [u8], unit: usize, after: Carry) -> Going
         };
     }
     let len = spacing::normalize_spacing(line, scratch, 0, unit);
-    let class_at = 3 * unit;
+    let class_at = RECLASSED * unit;
     let carry = marks::within::classify_at(scratch, unit, len, class_at);
     Going {
         own: false,
@@ -78,26 +83,26 @@ fn go_on(line: &[u8], scratch: &mut [u8], unit: usize, after: Carry) -> Going
     }
 }
 
-// Its brackets, the leading closers popped first.
+// Its brackets after its leading closers, which popped already.
 fn count_going(
     line: &[u8],
     scratch: &mut [u8],
     unit: usize,
     g: Going,
     closers: usize,
-    depth: usize,
-) -> usize
+    left: Nesting,
+) -> Nesting
     requires { ⌜ WellFormed (now line) ⌝ }
     requires { ⌜ LineRoom (now scratch) unit (length (now line)) ⌝ }
     requires { ⌜ Goes (now line) (now scratch) unit g ⌝ }
     requires { ⌜ Closers (encode (respaced (decode (now line)))) closers ⌝ }
-    requires { ⌜ depth + length (now line) ≤ unit ⌝ }
-    ensures { λ r. ⌜ BracketsCounted (respaced (decode (now (line .entry)))) (now (scratch .entry)) (now (scratch .exit)) (5 * unit) depth (length (now (line .entry))) r ⌝ }
+    requires { ⌜ left .depth + length (now line) ≤ unit ⌝ }
+    requires { ⌜ Nested (now scratch) (stackAt unit) left ⌝ }
+    ensures { λ r. ⌜ BracketsCounted (respaced (decode (now (line .entry)))) (now (scratch .entry)) (now (scratch .exit)) (stackAt unit) left (length (now (line .entry))) r ⌝ }
 {
     let len = g.len;
     let class_at = g.class_at;
-    let base = 5 * unit;
-    let left = brackets::pop_closers(depth, closers);
+    let base = STACK * unit;
     if g.own {
         return brackets::scan_brackets(line, scratch, class_at, base, left, closers);
     }
@@ -105,16 +110,16 @@ fn count_going(
 }
 
 // What is known before the line is put.
-fn before_of(st: State, unit: usize, closers: usize, declares: Declaration) -> Before
-    requires { ⌜ unit ≤ maxSource ⌝ }
-    ensures { λ r. ⌜ r ≡ beforeOf st unit closers declares ⌝ }
+fn before_of(st: State, levels: usize, closers: usize, declares: Declaration) -> Before
+    ensures { λ r. ⌜ r ≡ beforeOf st levels closers declares ⌝ }
 {
     let text = st.text;
+    let nesting = st.nesting;
     let decl = st.decl;
     Before {
         text,
-        base: 5 * unit,
-        depth: st.depth,
+        depth: nesting.depth,
+        levels,
         decl,
         brace: st.brace,
         closers,
@@ -148,15 +153,19 @@ fn put_going<'a>(
     let l = spacing::line_that_goes_on(line, scratch, own, unit, len);
     let class = &scratch[class_at..end];
     let closers = brackets::leading_closers(l);
+    let nesting = st.nesting;
+    let base = STACK * unit;
+    let left = brackets::pop_closers(scratch, base, nesting, closers);
     let decl = format::words::declaration_of(l);
-    let b = before_of(st, unit, closers, decl);
-    let p = place::place_line(l, class, marker, indent, width, ending, out, scratch, b);
+    let b = before_of(st, left.levels, closers, decl);
+    let p = place::place_line(l, class, marker, indent, width, ending, out, b);
     let text = p.text;
     Put {
         text,
         imports: p.imports,
         blanks: p.blanks,
         closers,
+        left,
         decl,
         brace: format::else_line::ends_in_brace(l),
     }
@@ -172,8 +181,8 @@ fn ignore_of(marker: bool) -> Ignore
     Ignore::Nothing
 }
 
-// The record after a line that was put into the text, with `deep` brackets open, that protects `ignore` and leaves `carry` open.
-fn after_line(st: State, p: Put, deep: usize, ignore: Ignore, carry: Carry) -> State
+// The record after a line that was put into the text, with the brackets `deep` open, that protects `ignore` and leaves `carry` open.
+fn after_line(st: State, p: Put, deep: Nesting, ignore: Ignore, carry: Carry) -> State
     requires { ⌜ st .imports + p .imports < 2 ^ 64 ⌝ }
     requires { ⌜ st .blanks + p .blanks < 2 ^ 64 ⌝ }
     ensures { λ r. ⌜ r ≡ afterLine st p deep ignore carry ⌝ }
@@ -182,7 +191,7 @@ fn after_line(st: State, p: Put, deep: usize, ignore: Ignore, carry: Carry) -> S
     let decl = p.decl;
     State {
         text,
-        depth: deep,
+        nesting: deep,
         blank: false,
         decl,
         brace: p.brace,
@@ -226,8 +235,8 @@ fn spaced_line(
         out,
         st,
     );
-    let depth = st.depth;
-    let deep = count_going(line, scratch, unit, g, p.closers, depth);
+    let left = p.left;
+    let deep = count_going(line, scratch, unit, g, p.closers, left);
     let carry = g.carry;
     after_line(st, p, deep, ignore_of(marker), carry)
 }

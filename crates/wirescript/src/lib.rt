@@ -11,6 +11,7 @@ ghost use Rattle.call.specs.FormatAnswered.{FormatAnswered};
 ghost use Rattle.text_kind.specs.KindAnswered.{KindAnswered};
 use rules::Answer;
 use rules::Kind;
+use rules::OptionNumbers;
 use unicode::CharColumn;
 
 // What the character at a line and a column, both from 0, is part of: 0 code, 1 a string, 2 a comment.
@@ -42,14 +43,11 @@ pub extern "C" fn wirescript_format(
 ) -> Answer
     ensures { λ r. ⌜ FormatAnswered (callOf (now (source .entry)) (now (indent .entry)) (numbersOf «width_set» width «line_ending» «final_newline») (length (now (output .entry))) (length (now (scratch .entry)))) r (now (output .exit)) (now (scratch .exit)) ⌝ }
 {
-    call::format_call(
-        source,
-        indent,
+    let numbers = OptionNumbers {
         width_set,
         width,
         line_ending,
         final_newline,
-        output,
-        scratch,
-    )
+    };
+    call::format_call(source, indent, numbers, output, scratch)
 }

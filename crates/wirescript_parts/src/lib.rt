@@ -1,7 +1,12 @@
 // Inner functions for the runs beside the Rust's own: no part of what a host links. Each checks what the function asks, and answers zeros
 // where it does not hold.
-ghost use Prim.Native.Nat.{_≤_};
+ghost use mathlib.Core.Path.{_≡_};
+ghost use Prim.Native.Nat.{_+_, _≤_};
+ghost use lib.ListN.{length};
+ghost use Rattle.rules.specs.Brackets.{levels};
+ghost use Rattle.brackets.specs.Stack.{stacked};
 ghost use Rattle.basics.specs.Depth.{carryDepth};
+use brackets::Nesting;
 use rules::Carry;
 
 // What is open: 0 code, 1 a block comment of this depth, 2 a prefab.
@@ -77,6 +82,24 @@ pub extern "C" fn wirescript_test_is_spaced(line: &[u8], classes: &[u8]) -> bool
     spacing::is_spaced(line, classes)
 }
 
+// How many of the stack's entries added a level: a call of the formatter has this as a running value.
+fn levels_in(scratch: &[u8], base: usize, depth: usize) -> usize
+    requires { ⌜ base + depth ≤ length (now scratch) ⌝ }
+    ensures { λ r. ⌜ r ≡ levels (stacked (now (scratch .entry)) base depth) ⌝ }
+{
+    let mut levels = 0;
+    let mut i = 0;
+    while i < depth {
+        if scratch[base + i] == 0 {
+            i += 1;
+            continue;
+        }
+        levels += 1;
+        i += 1;
+    }
+    levels
+}
+
 // The brackets of the line: scratch holds its n class bytes, and after them the stack of `depth` entries; the new depth is given.
 #[no_mangle]
 pub extern "C" fn wirescript_test_scan_brackets(
@@ -95,5 +118,8 @@ pub extern "C" fn wirescript_test_scan_brackets(
     if scratch.len() < 2 * n + d {
         return 0;
     }
-    brackets::scan_brackets(line, scratch, 0, n, d, 0) as u64
+    let levels = levels_in(scratch, n, d);
+    let b = Nesting { depth: d, levels };
+    let r = brackets::scan_brackets(line, scratch, 0, n, b, 0);
+    r.depth as u64
 }

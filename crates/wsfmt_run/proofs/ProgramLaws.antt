@@ -5,7 +5,7 @@
 use Prim.Native.Nat.{ℕ, zero, suc, _+_, _-_, _^_, _≤_, _<_}
 use native.Mathlib.Omega.{arith}
 use native.Mathlib.Nat.{not-suc-le-zero, le-of-suc-le-suc}
-use mathlib.Core.Bool.{true, not}
+use mathlib.Core.Bool.{true, false, not}
 use mathlib.Core.List.{List, [], _∷_, _++_}
 use mathlib.Core.Path.{_≡_, sym, ap, _∙_}
 use borrow.Author.Tests.{lt-ltb, le-ltb}
@@ -20,15 +20,16 @@ use Rattle.decimal.specs.Decimal.{digits, DecimalPut}
 use Rattle.decimal.proofs.DigitLaws.{digits-short}
 use Rattle.rules.specs.Basics.{choose, codes}
 use Rattle.rules.specs.Options.{defaults}
-use Rattle.rules.specs.Refusals.{maxSource, scratchNeeded, numberOf, placeOf, refuseIf, tested, longSource, badOption, shortScratch, illFormed, shortOutput}
+use Rattle.rules.specs.Refusals.{maxSource, scratchNeeded, numberOf, placeOf, tested, longSource, badOption, shortScratch, illFormed, shortOutput}
 use Rattle.rules.specs.Choices.{validOptions, optionsOf}
-use Rattle.rules.specs.Call.{Call, formatScratch, formatted, textOf, verdictOf, outcomeOf, answerOf, filled, outputOf}
-use Rattle.rules.proofs.RefusalLaws.{numbered}
+use Rattle.rules.specs.Call.{Call, formatted, textOf, formatScratch, verdictOf, outcomeAfter, outcomeOf, answerOf, filled, outputOf}
 use Rattle.rules.specs.declared.Refusal.{Refusal}
+use Rattle.rules.specs.declared.Verdict.{Verdict}
 use Rattle.rules.specs.declared.Outcome.{Outcome}
 use Rattle.rules.specs.declared.Answer.{Answer}
-use Rattle.call.specs.FormatAnswered.{FormatAnswered}
+use Rattle.rules.proofs.RefusalLaws.{numbered, test-on, test-off, pass, stop, one-test}
 use Rattle.rules.specs.Assembly.{defaultText}
+use Rattle.call.specs.FormatAnswered.{FormatAnswered}
 use Rattle.wsfmt_run.specs.Program.{maxInput, maxText, refusal, written, Printed}
 use Rattle.wsfmt_run.specs.Steps.{Called}
 
@@ -89,8 +90,9 @@ too-long source h = rw (lt-ltb maxInput (length source) h)
 
 -- a call with the default options, whose scratch is enough
 module _
-    (c : Call) (a : Answer) (out work : List ℕ) (f : FormatAnswered c a out work) (o : optionsOf (c .choices) ≡ defaults) (v : validOptions (c .choices) ≡ true)
-    (short : length (c .source) ≤ maxInput) (room : scratchNeeded formatScratch (c .source) ≤ c .scratch) (size : c .output ≡ maxText)
+    (c : Call) (a : Answer) (out work : List ℕ) (f : FormatAnswered c a out work) (o : optionsOf (c .choices) ≡ defaults)
+    (v : validOptions (c .choices) ≡ true) (short : length (c .source) ≤ maxInput)
+    (room : scratchNeeded formatScratch (c .source) ≤ c .scratch) (size : c .output ≡ maxText)
   where
     abbrev source : List ℕ
     source = c .source
@@ -99,16 +101,26 @@ module _
     unfolding textOf formatted defaultText
     text-is = rw o
 
-    -- the outcome: refusals 4 and 5, and the text
-    outcome-is : outcomeOf c ≡ choose (not (wellFormed source)) (Outcome.Refused (Refusal.NotUtf8 (prefixLen source)))
-        (choose (ltb maxText (length (defaultText source))) (Outcome.Refused (Refusal.OutputShort (length (defaultText source))))
-        (Outcome.Formatted (length (defaultText source)) (formatted c .importsSplit) (formatted c .blankNames)))
-    unfolding outcomeOf verdictOf tested refuseIf longSource badOption shortScratch illFormed shortOutput choose
-    outcome-is =
-        rw (le-ltb maxSource (length source) (omega arith), v, le-ltb (c .scratch) (scratchNeeded formatScratch source) room, text-is, size)
-        (by-test (wellFormed source)
-        (λ t. by-test (ltb maxText (length (defaultText source))) (λ u. rw (t, u)) (λ u. rw (t, u)))
-        (λ t. rw t))
+    -- the tests: 1 to 3 let the call pass, 4 and 5 are left
+    tests-left : verdictOf c ≡ tested (illFormed source ∷ shortOutput (length (textOf c)) (c .output) ∷ [])
+    unfolding verdictOf longSource badOption shortScratch
+    tests-left =
+        pass _ _ (test-off _ _ (le-ltb maxSource (length source) (omega arith)))
+        ∙ pass _ _ (test-off _ _ (rw v))
+        ∙ pass _ _ (test-off _ _ (le-ltb (c .scratch) (scratchNeeded formatScratch source) room))
+
+    not-utf8 : wellFormed source ≡ false → verdictOf c ≡ Verdict.Refused (Refusal.NotUtf8 (prefixLen source))
+    unfolding illFormed
+    not-utf8 t = tests-left ∙ stop _ _ _ (test-on _ _ (rw t))
+
+    last-test : wellFormed source ≡ true → verdictOf c ≡ shortOutput (length (defaultText source)) maxText
+    unfolding illFormed
+    last-test t = tests-left ∙ pass _ _ (test-off _ _ (rw t)) ∙ one-test _ ∙ rw (text-is, size)
+
+    outcome-is : (u : Verdict) → verdictOf c ≡ u
+        → outcomeOf c ≡ outcomeAfter u (length (defaultText source)) (formatted c .importsSplit) (formatted c .blankNames)
+    unfolding outcomeOf
+    outcome-is u e = rw (e, text-is)
 
     written-is : written source ≡ choose (not (wellFormed source)) (refusal 4 (prefixLen source))
         (choose (ltb maxText (length (defaultText source))) (refusal 5 (length (defaultText source))) (defaultText source))
@@ -137,10 +149,10 @@ module _
         }
 
     pub called : Called source out (c .output) a
-    unfolding choose
+    unfolding choose shortOutput
     called =
         by-test (wellFormed source)
         (λ t. by-test (ltb maxText (length (defaultText source)))
-        (λ u. called-refused (Refusal.OutputShort (length (defaultText source))) (outcome-is ∙ rw (t, u)) (written-is ∙ rw (t, u)))
-        (λ u. called-text (formatted c .importsSplit) (formatted c .blankNames) (outcome-is ∙ rw (t, u)) (written-is ∙ rw (t, u))))
-        (λ t. called-refused (Refusal.NotUtf8 (prefixLen source)) (outcome-is ∙ rw t) (written-is ∙ rw t))
+        (λ u. called-refused (Refusal.OutputShort (length (defaultText source))) (outcome-is _ (last-test t ∙ test-on _ _ u)) (written-is ∙ rw (t, u)))
+        (λ u. called-text (formatted c .importsSplit) (formatted c .blankNames) (outcome-is _ (last-test t ∙ test-off _ _ u)) (written-is ∙ rw (t, u))))
+        (λ t. called-refused (Refusal.NotUtf8 (prefixLen source)) (outcome-is _ (not-utf8 t)) (written-is ∙ rw t))

@@ -5,6 +5,7 @@ ghost use Rattle.buffer.specs.Buffer.{Wrote};
 ghost use Rattle.wsfmt_run.specs.Program.{maxInput, refusal, Printed};
 ghost use Rattle.wsfmt_run.specs.Steps.{Called};
 use rules::Answer;
+use rules::OptionNumbers;
 
 // The bytes that the program takes, and those that it has for the text.
 pub const MAX_INPUT: usize = 4096;
@@ -27,8 +28,8 @@ fn format_default(source: &[u8], output: &mut [u8; MAX_TEXT]) -> Answer
     requires { ⌜ length (now source) ≤ maxInput ⌝ }
     ensures { λ r. ⌜ Called (now (source .entry)) (now (output .exit)) (length (now (output .entry))) r ⌝ }
 {
-    let mut scratch = [0u8; 8 * MAX_INPUT + 256];
-    call::format_call(source, b"  ", 1, 100, 0, 1, output, &mut scratch)
+    let mut scratch = [0u8; call::FORMAT_SCRATCH * MAX_INPUT + 256];
+    call::format_call(source, b"  ", OptionNumbers::DEFAULTS, output, &mut scratch)
 }
 
 // Writes the text of the source, or its refusal, over the front of output and zeros after it, and gives its length.

@@ -9,15 +9,15 @@ use Rattle.brackets.proofs.bracket_step.Tie as tie
 
 returns : tie.Need-returns
 unfolding bracketStep
-returns c = turn-by _ _ _ (turn-same _ _ _) (λ o h. search (picks, class-picks) depth 20)
+returns c = turn-by _ _ _ (turn-same _ _ _ (c .before .before .pre .runs)) (λ o h. search (picks, class-picks) depth 20)
 
 returns-2 : tie.Need-returns-2
 unfolding bracketStep
-returns-2 c = turn-by _ _ _ (turn-escaped _ _ _ false) (λ o h. search (picks, class-picks) depth 20)
+returns-2 c = turn-by _ _ _ (turn-escaped _ _ _ (c .before .before .before .pre .runs) false) (λ o h. search (picks, class-picks) depth 20)
 
 returns-3 : tie.Need-returns-3
 unfolding bracketStep
-returns-3 c = turn-by _ _ _ (turn-escaped _ _ _ true) (λ o h. search (picks, class-picks) depth 20)
+returns-3 c = turn-by _ _ _ (turn-escaped _ _ _ (c .before .before .before .before .pre .runs) true) (λ o h. search (picks, class-picks) depth 20)
 
 is-opener-requires : tie.Need-is-opener-requires
 is-opener-requires c κs = search needs
@@ -47,7 +47,7 @@ returns-5 c = turn-by _ _ _ (c .pop .ensures) (λ o h. search (picks, class-pick
 
 returns-6 : tie.Need-returns-6
 unfolding bracketStep
-returns-6 c = turn-by _ _ _ (turn-same _ _ _) (λ o h. search (picks, class-picks) depth 20)
+returns-6 c = turn-by _ _ _ (turn-same _ _ _ (c .before .before .before .before .before .before .before .before .pre .runs)) (λ o h. search (picks, class-picks) depth 20)
 
 pub bracket-step-spec : {M : Type 1} → statement M
 bracket-step-spec =

@@ -1,5 +1,5 @@
+use Rattle.brackets.proofs.StackLaws.{pop-none, pop-flat, pop-less, pop-level}
 use borrow.Author.Needs.{needs}
-use Rattle.brackets.proofs.StackLaws.{pop-none, pop-flat, pop-level}
 use Rattle.brackets.proofs.pop.Statement.{statement}
 use Rattle.brackets.proofs.pop.Tie as tie
 
@@ -18,12 +18,12 @@ shared-slice-read-if2 c = search needs
 returns-2 : tie.Need-returns-2
 returns-2 c = search (needs, pop-flat)
 
-add-t8 : tie.Need-add-t8
-add-t8 c = search needs
+sub-t9 : tie.Need-sub-t9
+sub-t9 c = search (needs, pop-less)
 
 returns-3 : tie.Need-returns-3
 returns-3 c = search (needs, pop-level)
 
 pub pop-spec : {M : Type 1} → statement M
 pop-spec =
-    tie.close (tie.spec returns sub-m add-if2 shared-slice-read-if2 returns-2 add-t8 returns-3)
+    tie.close (tie.spec returns sub-m add-if2 shared-slice-read-if2 returns-2 sub-t9 returns-3)

@@ -2,18 +2,19 @@ use borrow.Author.Needs.{needs}
 use Prim.Native.Nat.{_+_, _-_}
 use lib.ListN.{length}
 use Rattle.buffer.specs.Buffer.{part}
-use Rattle.brackets.proofs.StackLaws.{Scanning, scanning-start, scan-skip, scan-more, scan-end}
+use Rattle.brackets.proofs.StackLaws.{nestingOf, Scanning, scanning-start, scan-skip, scan-more, scan-room, scan-end}
 use Rattle.brackets.proofs.scan_brackets.Statement.{statement}
 use Rattle.brackets.proofs.scan_brackets.Tie as tie
 
 abbrev Inv-loop : tie.InvT-loop
-Inv-loop line scratch₀ class-at base depth skip t₀ i₀ scratch t i = Scanning line (part scratch₀ class-at (class-at + length line)) (length line) scratch₀ base depth skip scratch t i
+Inv-loop line scratch₀ class-at base skip t₀ i₀ scratch t i =
+    Scanning line (part scratch₀ class-at (class-at + length line)) (length line) scratch₀ base (nestingOf t₀) skip scratch t i
 
 abbrev μ-loop : tie.MeasureT-loop
-μ-loop line scratch₀ class-at base depth skip t₀ i₀ scratch t i = length line - i
+μ-loop line scratch₀ class-at base skip t₀ i₀ scratch t i = length line - i
 
 loop-holds : tie.Need-loop-holds Inv-loop μ-loop
-loop-holds c = search (needs, scanning-start)
+loop-holds c = scanning-start _ _ _ _ _ _ _ (c .before .before .pre .runs)
 
 shared-slice-read-c : tie.Need-shared-slice-read-c Inv-loop μ-loop
 shared-slice-read-c c = search needs
@@ -37,7 +38,7 @@ slice-read-bracket-step : tie.Need-slice-read-bracket-step Inv-loop μ-loop
 slice-read-bracket-step c = search needs
 
 bracket-step-requires : tie.Need-bracket-step-requires Inv-loop μ-loop
-bracket-step-requires c κs = search needs
+bracket-step-requires c κs = search (needs, scan-room)
 
 add-i-2 : tie.Need-add-i-2 Inv-loop μ-loop
 add-i-2 c = search needs

@@ -1,18 +1,19 @@
 use borrow.Author.Needs.{needs}
 use Prim.Native.Nat.{_+_, _-_}
 use Rattle.buffer.specs.Buffer.{part}
-use Rattle.brackets.proofs.StackLaws.{Scanning, scanning-start, scan-at-skip, scan-at-more, scan-at-end}
+use Rattle.brackets.proofs.StackLaws.{nestingOf, Scanning, scanning-start, scan-at-skip, scan-at-more, scan-at-room, scan-at-end}
 use Rattle.brackets.proofs.scan_brackets_at.Statement.{statement}
 use Rattle.brackets.proofs.scan_brackets_at.Tie as tie
 
 abbrev Inv-loop : tie.InvT-loop
-Inv-loop scratch₀ line-at n class-at base depth skip t₀ i₀ scratch t i = Scanning (part scratch₀ line-at (line-at + n)) (part scratch₀ class-at (class-at + n)) n scratch₀ base depth skip scratch t i
+Inv-loop scratch₀ line-at n class-at base skip t₀ i₀ scratch t i =
+    Scanning (part scratch₀ line-at (line-at + n)) (part scratch₀ class-at (class-at + n)) n scratch₀ base (nestingOf t₀) skip scratch t i
 
 abbrev μ-loop : tie.MeasureT-loop
-μ-loop scratch₀ line-at n class-at base depth skip t₀ i₀ scratch t i = n - i
+μ-loop scratch₀ line-at n class-at base skip t₀ i₀ scratch t i = n - i
 
 loop-holds : tie.Need-loop-holds Inv-loop μ-loop
-loop-holds c = search (needs, scanning-start)
+loop-holds c = scanning-start _ _ _ _ _ _ _ (c .before .pre .0 .runs)
 
 add-c : tie.Need-add-c Inv-loop μ-loop
 add-c c = search needs
@@ -39,7 +40,7 @@ slice-read-bracket-step : tie.Need-slice-read-bracket-step Inv-loop μ-loop
 slice-read-bracket-step c = search needs
 
 bracket-step-requires : tie.Need-bracket-step-requires Inv-loop μ-loop
-bracket-step-requires c κs = search needs
+bracket-step-requires c κs = search (needs, scan-at-room)
 
 add-i-2 : tie.Need-add-i-2 Inv-loop μ-loop
 add-i-2 c = search needs

@@ -1,6 +1,6 @@
 use borrow.Author.Needs.{needs}
 use Rattle.rules.specs.Basics.{choose, same}
-use Rattle.operators.specs.Operators.{indexIn}
+use Rattle.rules.specs.Operators.{indexIn}
 use Rattle.operators.proofs.OperatorLaws.{double-none}
 use Rattle.operators.proofs.double_index.Statement.{statement}
 use Rattle.operators.proofs.double_index.Tie as tie

@@ -1,4 +1,4 @@
-use Rattle.split.proofs.TestLaws.{bools}
+use Rattle.rules.proofs.TestLaws.{bools}
 use Rattle.rules.specs.SplitOperation.{isSign}
 use Rattle.operators.proofs.is_sign.Statement.{statement}
 use Rattle.operators.proofs.is_sign.Tie as tie

@@ -1,6 +1,6 @@
 use borrow.Author.Needs.{needs}
 use Rattle.rules.specs.Basics.{choose, same}
-use Rattle.operators.specs.Operators.{indexIn}
+use Rattle.rules.specs.Operators.{indexIn}
 use Rattle.operators.proofs.OperatorLaws.{one-none}
 use Rattle.operators.proofs.one_index.Statement.{statement}
 use Rattle.operators.proofs.one_index.Tie as tie

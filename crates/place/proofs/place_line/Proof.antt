@@ -20,11 +20,14 @@ same-length c = search needs
 
 returns : tie.Need-returns
 returns c =
-    let j = c .before .before .before .before .before in
-    let e = j .before .before .before in
-    let s = e .before .before .before .before .before .before .before in
-    join-put _ _ _ _ _ _ _ _ _ _ (e .is-plain-else .ensures) _ _ _ (s .pre .1 .0) (c .before .before .before .join-one .ensures) (c .alone .ensures)
-    (j .before .before .if1 .taken) _ (j .before .is-joinable .ensures) (j .if2 .taken)
+    let a = c .before .before .before in
+    let b = a .before .before in
+    let d = b .before in
+    let e = d .before in
+    let g = e .before in
+    let s = g .before .before .before .before .before .before in
+    join-put _ _ _ _ _ _ _ _ _ (g .is-plain-else .ensures) _ _ _ (s .pre .1 .0) (a .join-one .ensures) (c .alone .ensures)
+    (e .if1 .taken) _ (d .is-joinable .ensures) (b .if2 .taken)
 
 lay-line-requires : tie.Need-lay-line-requires
 lay-line-requires c κs = search needs
@@ -34,8 +37,11 @@ same-length-2 c = search needs
 
 returns-2 : tie.Need-returns-2
 returns-2 c =
-    let j = c .before .before .before .before in
-    not-joinable _ _ _ _ _ _ _ _ _ _ (j .before .before .before .is-plain-else .ensures) _ (c .before .before .lay-line .ensures) _ (j .before .is-joinable .ensures) (j .if2 .left)
+    let a = c .before .before in
+    let b = a .before .before in
+    let d = b .before in
+    let e = d .before .before in
+    not-joinable _ _ _ _ _ _ _ _ _ (e .is-plain-else .ensures) _ (a .lay-line .ensures) _ (d .is-joinable .ensures) (b .if2 .left)
 
 lay-line-requires-2 : tie.Need-lay-line-requires-2
 lay-line-requires-2 c κs = search needs
@@ -45,8 +51,10 @@ same-length-3 c = search needs
 
 returns-3 : tie.Need-returns-3
 returns-3 c =
-    let e = c .before .before .before .before in
-    not-else _ _ _ _ _ _ _ _ _ _ (e .before .is-plain-else .ensures) _ (c .before .before .lay-line2 .ensures) (e .if1 .left)
+    let a = c .before .before in
+    let b = a .before .before in
+    let d = b .before in
+    not-else _ _ _ _ _ _ _ _ _ (d .is-plain-else .ensures) _ (a .lay-line2 .ensures) (b .if1 .left)
 
 pub place-line-spec : {M : Type 1} → statement M
 place-line-spec =

@@ -1,3 +1,5 @@
+use native.Mathlib.Omega.{arith}
+use Rattle.line.proofs.HoldsLaws.{stack-nested}
 use Rattle.step.proofs.PutLaws.{asks, goes-on, heads, put-on}
 use borrow.Author.Needs.{needs}
 use Rattle.step.proofs.put_going.Statement.{statement}
@@ -21,6 +23,16 @@ part-class-end c = search needs
 leading-closers-requires : tie.Need-leading-closers-requires
 leading-closers-requires c κs = search needs
 
+mul-base : tie.Need-mul-base
+mul-base c =
+    let s = c .before .before .before .before .before .before .before .before in
+    record { fits = omega (arith, s .pre .0 .limit) }
+
+pop-closers-requires : tie.Need-pop-closers-requires
+pop-closers-requires c κs =
+    let s = c .before .before .before .before .before .before .before .before in
+    stack-nested (s .pre .0)
+
 declaration-of-requires : tie.Need-declaration-of-requires
 declaration-of-requires c κs = search needs
 
@@ -29,12 +41,17 @@ before-of-requires c κs = search needs
 
 place-line-requires : tie.Need-place-line-requires
 place-line-requires c κs =
-    let s = c .before .before .before .before .before .before .before .before .before .before .pre in
-    let d = c .before .before in
-    let k = d .before in
-    let b = c .before .before-of .ensures in
-    let e = c .before .before .before .before .before .line-that-goes-on .ensures in
-    (s .1 .1 .1, (goes-on _ _ _ _ (s .0) (s .1 .0) _ (s .1 .1 .0) _ e, (heads _ _ _ _ (s .0) (s .1 .0) _ (s .1 .1 .0) _ e _ _ _ b (k .leading-closers .ensures) (d .declaration-of .ensures), asks _ _ _ _ (s .0) (s .1 .0) _ _ _ b)))
+    let a = c .before in
+    let b = a .before in
+    let d = b .before in
+    let e = d .before .before in
+    let g = e .before .before in
+    let s = g .before .before .before .before .before in
+    let s0 = s .pre .0 in
+    let s1 = s .pre .1 .0 in
+    let s2 = s .pre .1 .1 .0 in
+    let t = g .line-that-goes-on .ensures in
+    (s .pre .1 .1 .1, (goes-on _ _ _ _ s0 s1 _ s2 _ t, (heads _ _ _ _ s0 s1 _ s2 _ t _ _ _ _ (a .before-of .ensures) (e .leading-closers .ensures) (b .declaration-of .ensures), asks _ _ _ _ s0 s1 _ _ _ _ (a .before-of .ensures) (d .pop-closers .ensures))))
 
 ends-in-brace-requires : tie.Need-ends-in-brace-requires
 ends-in-brace-requires c κs = search needs
@@ -44,11 +61,15 @@ same-length c = search needs
 
 returns : tie.Need-returns
 returns c =
-    let s = c .before .before .before .before .before .before .before .before .before .before .before .before .before .before .before .pre in
-    let b = c .before .before .before .before .before .before in
+    let a = c .before .before .before .before in
+    let b = a .before .before in
     let d = b .before in
-    let k = d .before in
-    put-on _ _ _ _ (s .0) (s .1 .0) _ (s .1 .1 .0) _ (k .before .before .line-that-goes-on .ensures) _ _ _ _ _ _ _ _ _ _ _ (b .before-of .ensures) (c .before .before .before .before .place-line .ensures) (k .leading-closers .ensures) (d .declaration-of .ensures) (c .ends-in-brace .ensures)
+    let e = d .before in
+    let g = e .before .before in
+    let h = g .before .before in
+    let s = h .before .before .before .before .before in
+    put-on _ _ _ _ (s .pre .0) (s .pre .1 .0) _ (s .pre .1 .1 .0) _ (h .line-that-goes-on .ensures) _ _ _ _ _ _ _ _ _ _ _ _
+    (b .before-of .ensures) (a .place-line .ensures) (g .leading-closers .ensures) (e .pop-closers .ensures) (d .declaration-of .ensures) (c .ends-in-brace .ensures)
 
 pub put-going-spec : {M : Type 1} → statement M
 put-going-spec =
@@ -60,6 +81,8 @@ put-going-spec =
     part-class-start
     part-class-end
     leading-closers-requires
+    mul-base
+    pop-closers-requires
     declaration-of-requires
     before-of-requires
     place-line-requires

@@ -1,7 +1,5 @@
 use borrow.Author.Needs.{needs}
-use mathlib.Core.Path.{refl}
-use Rattle.rules.specs.Options.{validIndent, allBlank}
-use Rattle.rules.specs.Choices.{printWidthNamed, endOfLineNamed, finalNewlineNamed, isNamed, validOptions, optionsOf}
+use Rattle.rules.proofs.CallExamples.{defaults-named, defaults-valid}
 use Rattle.wsfmt_run.proofs.ProgramLaws.{called}
 use Rattle.wsfmt_run.proofs.format_default.Statement.{statement}
 use Rattle.wsfmt_run.proofs.format_default.Tie as tie
@@ -16,8 +14,7 @@ format-call-requires : tie.Need-format-call-requires
 format-call-requires c κs = search needs
 
 returns : tie.Need-returns
-unfolding optionsOf printWidthNamed endOfLineNamed finalNewlineNamed isNamed validOptions validIndent allBlank
-returns c = called _ _ _ _ (c .before .format-call .ensures) refl refl (search needs) (search needs) (search needs)
+returns c = called _ _ _ _ (c .before .format-call .ensures) defaults-named defaults-valid (search needs) (search needs) (search needs)
 
 pub format-default-spec : {M : Type 1} → statement M
 format-default-spec =

@@ -205,6 +205,12 @@ const INPUTS: &[Input] = &[
         make: |n| repeated("(\n", n),
     },
     Input {
+        name: "deep nesting, 300 a line",
+        indent: "",
+        width: hundred,
+        make: |n| repeated(&format!("{}\n", "(".repeat(300)), n),
+    },
+    Input {
         name: "line comments",
         indent: "  ",
         width: hundred,

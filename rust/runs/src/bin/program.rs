@@ -114,7 +114,7 @@ fn compare(path: &str) -> io::Result<ExitCode> {
     for (number, source) in sources.iter().enumerate() {
         if run(path, source)? != written(source) {
             println!(
-                "program: source {number} differs: {:?}",
+                "program: source {number} differs: {}",
                 source.escape_ascii()
             );
             return Ok(ExitCode::FAILURE);

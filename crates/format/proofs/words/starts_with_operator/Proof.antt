@@ -4,11 +4,11 @@ use Rattle.format.proofs.WordLaws.{after-one, one-follows}
 use Rattle.format.proofs.words.starts_with_operator.Statement.{statement}
 use Rattle.format.proofs.words.starts_with_operator.Tie as tie
 
-shared-slice-read-is-operator : tie.Need-shared-slice-read-is-operator
-shared-slice-read-is-operator c = search needs
+shared-slice-read-is-one : tie.Need-shared-slice-read-is-one
+shared-slice-read-is-one c = search needs
 
-is-operator-requires : tie.Need-is-operator-requires
-is-operator-requires c κs = search needs
+is-one-requires : tie.Need-is-one-requires
+is-one-requires c κs = search needs
 
 sub-starts-white-or : tie.Need-sub-starts-white-or
 sub-starts-white-or c = search needs
@@ -32,8 +32,8 @@ pub starts-with-operator-spec : {M : Type 1} → statement M
 starts-with-operator-spec =
     tie.close
     (tie.spec
-    shared-slice-read-is-operator
-    is-operator-requires
+    shared-slice-read-is-one
+    is-one-requires
     sub-starts-white-or
     part-starts-white-or-start
     part-starts-white-or-end

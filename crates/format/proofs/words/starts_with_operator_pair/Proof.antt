@@ -4,14 +4,14 @@ use Rattle.format.proofs.WordLaws.{after-pair, pair-follows}
 use Rattle.format.proofs.words.starts_with_operator_pair.Statement.{statement}
 use Rattle.format.proofs.words.starts_with_operator_pair.Tie as tie
 
-shared-slice-read-is-operator-pair : tie.Need-shared-slice-read-is-operator-pair
-shared-slice-read-is-operator-pair c = search needs
+shared-slice-read-is-two : tie.Need-shared-slice-read-is-two
+shared-slice-read-is-two c = search needs
 
-shared-slice-read-is-operator-pair-2 : tie.Need-shared-slice-read-is-operator-pair-2
-shared-slice-read-is-operator-pair-2 c = search needs
+shared-slice-read-is-two-2 : tie.Need-shared-slice-read-is-two-2
+shared-slice-read-is-two-2 c = search needs
 
-is-operator-pair-requires : tie.Need-is-operator-pair-requires
-is-operator-pair-requires c κs = search needs
+is-two-requires : tie.Need-is-two-requires
+is-two-requires c κs = search needs
 
 sub-starts-white-or : tie.Need-sub-starts-white-or
 sub-starts-white-or c = search needs
@@ -35,9 +35,9 @@ pub starts-with-operator-pair-spec : {M : Type 1} → statement M
 starts-with-operator-pair-spec =
     tie.close
     (tie.spec
-    shared-slice-read-is-operator-pair
-    shared-slice-read-is-operator-pair-2
-    is-operator-pair-requires
+    shared-slice-read-is-two
+    shared-slice-read-is-two-2
+    is-two-requires
     sub-starts-white-or
     part-starts-white-or-start
     part-starts-white-or-end

@@ -1,9 +1,10 @@
-use borrow.Author.Needs.{needs}
 use native.Mathlib.Omega.{arith}
 use mathlib.Core.Path.{sym, _∙_}
 use lib.Seq.{length-take-le}
-use Rattle.line.proofs.HoldsLaws.{front-size, front-only, line-room, classify-room, stack-room, push-room, start-within, line-told, indent-none}
+use Rattle.brackets.proofs.StackLaws.{nested-past}
+use Rattle.line.proofs.HoldsLaws.{front-size, front-only, line-room, classify-room, stack-room, stack-nested, push-room, start-within, line-told, indent-none}
 use Rattle.line.proofs.KeptLaws.{shown, inside-step}
+use borrow.Author.Needs.{needs}
 use Rattle.line.proofs.kept.inside_line.Statement.{statement}
 use Rattle.line.proofs.kept.inside_line.Tie as tie
 
@@ -12,30 +13,34 @@ slice-relend-prefix-classify c = search needs
 
 slice-aggregate-classify : tie.Need-slice-aggregate-classify
 slice-aggregate-classify c =
-    let s = c .before .before .before .before .before in
+    let s = c .before .before .before .before .before .before in
     front-size (s .pre .0) (s .args .raw .now) (omega arith)
 
 classify-requires : tie.Need-classify-requires
 classify-requires c κs =
-    let s = c .before .before .before .before .before in
+    let s = c .before .before .before .before .before .before in
     classify-room (s .pre .0) (s .args .st .carry) (s .args .raw .now) (omega arith) (omega arith)
 
 trim-end-requires : tie.Need-trim-end-requires
 trim-end-requires c κs = search needs
 
 slice-aggregate-trim-start : tie.Need-slice-aggregate-trim-start
-slice-aggregate-trim-start c = sym (length-take-le _ _ (c .before .trim-end .ensures .fits))
+slice-aggregate-trim-start c =
+    let a = c .before in
+    sym (length-take-le _ _ (a .trim-end .ensures .fits))
 
 trim-start-requires : tie.Need-trim-start-requires
 trim-start-requires c κs = search needs
 
 sub-line : tie.Need-sub-line
-sub-line c = start-within _ _ _ (c .before .before .trim-end .ensures) (c .trim-start .ensures)
+sub-line c =
+    let a = c .before .before in
+    start-within _ _ _ (a .trim-end .ensures) (c .trim-start .ensures)
 
 part-line-start : tie.Need-part-line-start
 part-line-start c =
-    let e = c .before .before .trim-end .ensures in
-    omega (arith, start-within _ _ _ e (c .trim-start .ensures), e .fits)
+    let a = c .before .before in
+    omega (arith, start-within _ _ _ (a .trim-end .ensures) (c .trim-start .ensures), a .trim-end .ensures .fits)
 
 part-line-end : tie.Need-part-line-end
 part-line-end c = search needs
@@ -45,13 +50,17 @@ kept-len-requires c κs = search needs
 
 slice-aggregate-shown : tie.Need-slice-aggregate-shown
 slice-aggregate-shown c =
-    let s = c .before .before .before .before .before .before .before .before .before .before .before .before .before .before in
-    sym (length-take-le _ _ (shown (s .args .st .carry) _ _ _ (s .pre .1) (c .before .before .before .before .before .trim-end .ensures) (c .before .kept-len .ensures) .fits))
+    let a = c .before in
+    let b = a .before .before .before .before in
+    let s = b .before .before .before .before .before .before .before .before .before .before in
+    sym (length-take-le _ _ (shown (s .args .st .carry) _ _ _ (s .pre .1) (b .trim-end .ensures) (a .kept-len .ensures) .fits))
 
 line-facts-requires : tie.Need-line-facts-requires
 line-facts-requires c κs =
-    let s = c .before .before .before .before .before .before .before .before .before .before .before .before .before .before in
-    shown (s .args .st .carry) _ _ _ (s .pre .1) (c .before .before .before .before .before .trim-end .ensures) (c .before .kept-len .ensures) .well
+    let a = c .before in
+    let b = a .before .before .before .before in
+    let s = b .before .before .before .before .before .before .before .before .before .before in
+    shown (s .args .st .carry) _ _ _ (s .pre .1) (b .trim-end .ensures) (a .kept-len .ensures) .well
 
 takes-else-requires : tie.Need-takes-else-requires
 takes-else-requires c κs = search needs
@@ -62,19 +71,25 @@ slice-aggregate-push-line c = search needs
 push-line-requires : tie.Need-push-line-requires
 push-line-requires c κs =
     let a = c .before .before in
-    let b = a .before .before .before in
-    let s = b .before .before .before .before .before .before .before .before .before .before .before .before .before in
-    let x = shown (s .args .st .carry) _ _ _ (s .pre .1) (b .before .before .before .before .trim-end .ensures) (b .kept-len .ensures) in
-    (indent-none, (line-told _ _ _ (x .well) (a .before .line-facts .ensures) (a .takes-else .ensures), (s .pre .0 .small .ordered, push-room (s .pre .0) _ (x .short))))
+    let b = a .before in
+    let d = b .before .before in
+    let e = d .before .before .before .before in
+    let s = e .before .before .before .before .before .before .before .before .before .before in
+    let x = shown (s .args .st .carry) _ _ _ (s .pre .1) (e .trim-end .ensures) (d .kept-len .ensures) in
+    (indent-none, (line-told _ _ _ (x .well) (b .line-facts .ensures) (a .takes-else .ensures), (s .pre .0 .small .ordered, push-room (s .pre .0) _ (x .short))))
 
-mul-scan-brackets : tie.Need-mul-scan-brackets
-mul-scan-brackets c = record { fits = omega (arith, c .before .before .before .before .before .before .before .before .before .before .before .before .before .before .before .before .before .before .before .before .before .before .pre .0 .limit) }
+mul-base : tie.Need-mul-base
+mul-base c =
+    let s = c .before .before .before .before .before .before .before .before .before .before .before .before .before .before .before .before .before .before .before .before .before .before in
+    record { fits = omega (arith, s .pre .0 .limit) }
 
 scan-brackets-requires : tie.Need-scan-brackets-requires
 scan-brackets-requires c κs =
-    let s = c .before .before .before .before .before .before .before .before .before .before .before .before .before .before .before .before .before .before .before .before .before .before in
-    stack-room (s .pre .0) _ 0 _ _ (front-only _ _ _ (line-room (s .pre .0) (s .args .raw .now) (omega arith)) (c .before .before .before .before .before .before .before .before .before .before .before .before .before .before .before .before .classify .ensures) .long)
-    (omega (arith, s .pre .0 .depth)) (omega arith) (omega arith)
+    let a = c .before .before .before .before .before .before .before .before .before .before .before .before .before .before .before .before in
+    let s = a .before .before .before .before .before .before .before in
+    let o = front-only _ _ _ (line-room (s .pre .0) (s .args .raw .now) (omega arith)) (a .classify .ensures) in
+    stack-room (s .pre .0) _ 0 _ _ (o .long) (omega (arith, s .pre .0 .depth)) (omega arith) (omega arith)
+    (nested-past o (omega (arith, s .pre .0 .depth)) (stack-nested (s .pre .0)) .runs)
 
 declaration-of-requires : tie.Need-declaration-of-requires
 declaration-of-requires c κs = search needs
@@ -87,18 +102,23 @@ same-length c = search needs
 
 same-length-2 : tie.Need-same-length-2
 same-length-2 c =
-    let s = c .before .before .before .before .before .before .before .before .before .before .before .before .before .before .before .before .before .before .before .before .before .before .before .before .before .before .before in
-    c .before .before .before .before .scan-brackets .ensures .only .long ∙ front-only _ _ _ (line-room (s .pre .0) (s .args .raw .now) (omega arith)) (c .before .before .before .before .before .before .before .before .before .before .before .before .before .before .before .before .before .before .before .before .before .classify .ensures) .long
+    let a = c .before .before .before .before in
+    let b = a .before .before .before .before .before .before .before .before .before .before .before .before .before .before .before .before .before in
+    let s = b .before .before .before .before .before .before .before in
+    a .scan-brackets .ensures .only .long ∙ front-only _ _ _ (line-room (s .pre .0) (s .args .raw .now) (omega arith)) (b .classify .ensures) .long
 
 returns : tie.Need-returns
 returns c =
-    let a = c .before .before .before .before in
-    let b = a .before .before .before .before in
-    let d = b .before .before .before .before .before .before in
-    let e = d .before .before .before .before in
-    let s = e .before .before .before .before .before .before .before .before .before in
-    inside-step _ _ _ _ _ _ _ _ _ _ _ _ _ _ _ _ _ (s .pre .0) (s .pre .1) (e .before .before .before .classify .ensures) (e .trim-end .ensures) (d .before .before .trim-start .ensures)
-    (d .kept-len .ensures) (b .push-line .ensures) (a .scan-brackets .ensures) (c .before .declaration-of .ensures) (c .ends-in-brace .ensures)
+    let a = c .before in
+    let b = a .before .before .before in
+    let d = b .before .before .before .before in
+    let e = d .before .before .before .before .before .before in
+    let g = e .before .before in
+    let h = g .before .before in
+    let i = h .before .before .before in
+    let s = i .before .before .before .before .before .before .before in
+    inside-step _ _ _ _ _ _ _ _ _ _ _ _ _ _ _ _ _ (s .pre .0) (s .pre .1) (i .classify .ensures) (h .trim-end .ensures) (g .trim-start .ensures)
+    (e .kept-len .ensures) (d .push-line .ensures) (b .scan-brackets .ensures) (a .declaration-of .ensures) (c .ends-in-brace .ensures)
 
 pub inside-line-spec : {M : Type 1} → statement M
 inside-line-spec =
@@ -119,7 +139,7 @@ inside-line-spec =
     takes-else-requires
     slice-aggregate-push-line
     push-line-requires
-    mul-scan-brackets
+    mul-base
     scan-brackets-requires
     declaration-of-requires
     ends-in-brace-requires

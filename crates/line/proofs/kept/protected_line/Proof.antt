@@ -1,8 +1,8 @@
-use borrow.Author.Needs.{needs}
 use native.Mathlib.Omega.{arith}
 use mathlib.Core.Path.{refl}
-use Rattle.line.proofs.HoldsLaws.{stack-room, push-room, line-told, indent-none}
+use Rattle.line.proofs.HoldsLaws.{stack-room, stack-nested, push-room, line-told, indent-none}
 use Rattle.line.proofs.KeptLaws.{protected-step}
+use borrow.Author.Needs.{needs}
 use Rattle.line.proofs.kept.protected_line.Statement.{statement}
 use Rattle.line.proofs.kept.protected_line.Tie as tie
 
@@ -18,23 +18,30 @@ slice-aggregate-push-line c = search needs
 push-line-requires : tie.Need-push-line-requires
 push-line-requires c κs =
     let a = c .before .before in
-    let s = a .before .before .before .before .before .before .before .pre in
-    (indent-none, (line-told _ _ _ (s .1 .1 .0) (a .before .line-facts .ensures) (a .takes-else .ensures), (s .0 .small .ordered, push-room (s .0) _ (omega arith))))
+    let b = a .before in
+    let s = b .before .before .before .before .before .before .before in
+    (indent-none, (line-told _ _ _ (s .pre .1 .1 .0) (b .line-facts .ensures) (a .takes-else .ensures), (s .pre .0 .small .ordered, push-room (s .pre .0) _ (omega arith))))
 
 leading-closers-requires : tie.Need-leading-closers-requires
 leading-closers-requires c κs = search needs
 
-pop-closers-requires : tie.Need-pop-closers-requires
-pop-closers-requires c κs = search needs
+mul-base : tie.Need-mul-base
+mul-base c =
+    let s = c .before .before .before .before .before .before .before .before .before .before .before .before .before .before in
+    record { fits = omega (arith, s .pre .0 .limit) }
 
-mul-scan-brackets : tie.Need-mul-scan-brackets
-mul-scan-brackets c = search needs
+pop-closers-requires : tie.Need-pop-closers-requires
+pop-closers-requires c κs =
+    let s = c .before .before .before .before .before .before .before .before .before .before .before .before .before .before .before in
+    stack-nested (s .pre .0)
 
 scan-brackets-requires : tie.Need-scan-brackets-requires
 scan-brackets-requires c κs =
-    let s = c .before .before .before .before .before .before .before .before .before .before .before .before .before .before .before .pre in
-    let k = s .1 .1 .1 .0 .short in
-    stack-room (s .0) _ 0 _ _ refl (omega (arith, s .0 .depth, k)) (omega (arith, k)) (omega (arith, c .before .pop-closers .ensures))
+    let a = c .before in
+    let s = a .before .before .before .before .before .before .before .before .before .before .before .before .before .before .before .before in
+    let k = s .pre .1 .1 .1 .0 .short in
+    stack-room (s .pre .0) _ 0 _ _ refl (omega (arith, s .pre .0 .depth, k)) (omega (arith, k)) (omega (arith, a .pop-closers .ensures .depth))
+    (a .pop-closers .ensures .nested .runs)
 
 declaration-of-requires : tie.Need-declaration-of-requires
 declaration-of-requires c κs = search needs
@@ -50,11 +57,14 @@ same-length-2 c = search needs
 
 returns : tie.Need-returns
 returns c =
-    let b = c .before .before .before .before in
-    let a = b .before .before .before .before .before .before in
-    let s = a .before .before .before .before .before .before .before .before .before .before .pre in
-    protected-step _ _ _ _ _ _ _ _ _ _ _ _ _ _ _ _ (s .1 .0) (s .1 .1 .0) (s .1 .1 .1 .0) (s .1 .1 .1 .1) (a .push-line .ensures) (b .before .before .before .leading-closers .ensures)
-    (b .before .before .pop-closers .ensures) (b .scan-brackets .ensures) (c .before .declaration-of .ensures) (c .ends-in-brace .ensures)
+    let a = c .before in
+    let b = a .before .before .before in
+    let d = b .before .before in
+    let e = d .before .before in
+    let g = e .before .before .before in
+    let s = g .before .before .before .before .before .before .before .before .before .before .before in
+    protected-step _ _ _ _ _ _ _ _ _ _ _ _ _ _ _ _ (s .pre .1 .0) (s .pre .1 .1 .0) (s .pre .1 .1 .1 .0) (s .pre .1 .1 .1 .1) (g .push-line .ensures)
+    (e .leading-closers .ensures) (d .pop-closers .ensures) (b .scan-brackets .ensures) (a .declaration-of .ensures) (c .ends-in-brace .ensures)
 
 pub protected-line-spec : {M : Type 1} → statement M
 protected-line-spec =
@@ -65,8 +75,8 @@ protected-line-spec =
     slice-aggregate-push-line
     push-line-requires
     leading-closers-requires
+    mul-base
     pop-closers-requires
-    mul-scan-brackets
     scan-brackets-requires
     declaration-of-requires
     ends-in-brace-requires

@@ -1,5 +1,5 @@
 use borrow.Author.Needs.{needs}
-use Rattle.split.proofs.TestLaws.{bools}
+use Rattle.rules.proofs.TestLaws.{bools}
 use Rattle.split_operation.proofs.pass.in_word.Statement.{statement}
 use Rattle.split_operation.proofs.pass.in_word.Tie as tie
 

@@ -1,5 +1,5 @@
 use borrow.Author.Needs.{needs}
-use Rattle.split.proofs.TestLaws.{bools}
+use Rattle.rules.proofs.TestLaws.{bools}
 use Rattle.rules.specs.Basics.{oneOf}
 use Rattle.split_operation.proofs.pass.is_keyword.Statement.{statement}
 use Rattle.split_operation.proofs.pass.is_keyword.Tie as tie

@@ -14,7 +14,7 @@ new-requires c κs = search needs
 
 returns : tie.Need-returns
 returns c =
-    ap {B = State} (λ (t : Written). record { text = t; depth = 0; blank = false; decl = Declaration.Nothing; brace = false; ignore = Ignore.Nothing; carry = Carry.Code; imports = 0; blanks = 0 }) (c .new .ensures)
+    ap {B = State} (λ (t : Written). record { text = t; nesting = record { depth = 0; levels = 0 }; blank = false; decl = Declaration.Nothing; brace = false; ignore = Ignore.Nothing; carry = Carry.Code; imports = 0; blanks = 0 }) (c .new .ensures)
 
 pub new-spec : {M : Type 1} → statement M
 new-spec = tie.close (tie.spec new-requires returns)

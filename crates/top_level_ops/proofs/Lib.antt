@@ -1,0 +1,3 @@
+-- The laws that this crate's proofs and the crates above share.
+pub mod StepLaws
+pub mod NoOperator

@@ -1,0 +1,2 @@
+-- Laws of the functions for the runs.
+pub mod LevelLaws

@@ -9,7 +9,7 @@ use mathlib.Core.Logic.{_⊎_, inl, inr}
 use mathlib.Core.Path.{_≡_, refl, sym, ap, _∙_}
 use lib.ListN.{length, getD, take, drop, set, replicate, length-set, getD-replicate}
 use lib.Seq.{take-suc, take-suc-set, drop-set-lt, drop-drop, getD-drop}
-use Rattle.text_kinds.specs.Places.{Place, placeOf, placesIn, ascending, linesAsked}
+use Rattle.text_kinds.specs.Places.{Place, placeAt, placesIn, ascending, linesAsked}
 use Rattle.text_kinds.specs.Reading.{lineOf, columnOf, placeCount, From, IsPlace, IsOn, Ahead, Filled, Listed, Answered, PassedOver}
 use Rattle.text_kinds.proofs.PlaceLaws.{place-at, from-next, from-trans, from-column, from-line}
 
@@ -24,16 +24,16 @@ drop-zeros (suc n) = let e : suc n - 1 ≡ n = omega arith in rw e
 
 -- entry k, of the line and with the kind v
 module _ {f : Place → ℕ} {list kinds : List ℕ} {lines k : ℕ} (r : Filled f list lines k kinds) (h : k < placeCount list) (v : ℕ)
-    (e : f (placeOf (lineOf list k) (columnOf list k)) ≡ v) (l : lineOf list k < lines)
+    (e : f (placeAt (lineOf list k) (columnOf list k)) ≡ v) (l : lineOf list k < lines)
   where
     d : Place
-    d = placeOf 0 0
+    d = placeAt 0 0
 
-    one-more : take (k + 1) (placesIn list) ≡ take k (placesIn list) ++ (placeOf (lineOf list k) (columnOf list k) ∷ [])
+    one-more : take (k + 1) (placesIn list) ≡ take k (placesIn list) ++ (placeAt (lineOf list k) (columnOf list k) ∷ [])
     one-more = rw (add-one, take-suc (placesIn list) k d h, place-at list k d h)
 
     kinds-more : map f (take (k + 1) (placesIn list)) ≡ take k kinds ++ (v ∷ [])
-    kinds-more = rw one-more (map-append f (take k (placesIn list)) (placeOf (lineOf list k) (columnOf list k) ∷ []) ∙ rw (r .front, e))
+    kinds-more = rw one-more (map-append f (take k (placesIn list)) (placeAt (lineOf list k) (columnOf list k) ∷ []) ∙ rw (r .front, e))
 
     passes : linesAsked (take (k + 1) (placesIn list)) ≤ lines
     passes = rw one-more (asked-more (take k (placesIn list)) _ lines (r .passed) l)
@@ -59,8 +59,8 @@ module _ {f : Place → ℕ} {list kinds : List ℕ} {lines k : ℕ} (r : Filled
     filled-skip z =
         let n : k < length kinds = omega (arith, r .room) in
         let g : getD kinds k 0 ≡ v =
-            ap (λ (i : ℕ). getD kinds i 0) (sym (plus-zero k)) ∙ sym (getD-drop k kinds 0 0) ∙ ap (λ (x : List ℕ). getD x 0 0) (r .back)
-            ∙ getD-replicate (length kinds - k) 0 0 0 (omega arith) ∙ sym z
+        ap (λ (i : ℕ). getD kinds i 0) (sym (plus-zero k)) ∙ sym (getD-drop k kinds 0 0) ∙ ap (λ (x : List ℕ). getD x 0 0) (r .back)
+        ∙ getD-replicate (length kinds - k) 0 0 0 (omega arith) ∙ sym z
         in
         record {
           within = omega arith;
@@ -77,7 +77,7 @@ module _ {f : Place → ℕ} {list kinds : List ℕ} {lines k : ℕ} (r : Filled
 
 pub record Answering (list : List ℕ) (line column kind k : ℕ) (kinds₀ : List ℕ) (next : ℕ) (kinds : List ℕ) : Type 0 where
   pub long : length kinds ≡ length kinds₀
-  pub filled : (f : Place → ℕ) → f (placeOf line column) ≡ kind → Filled f list (suc line) k kinds₀ → Filled f list (suc line) next kinds
+  pub filled : (f : Place → ℕ) → f (placeAt line column) ≡ kind → Filled f list (suc line) k kinds₀ → Filled f list (suc line) next kinds
   pub ahead : Ahead list line column k → Ahead list line column next
 
 pub answering-start : (list : List ℕ) (line column kind k : ℕ) (kinds : List ℕ) → Answering list line column kind k kinds k kinds
@@ -111,7 +111,7 @@ module _ {list : List ℕ} {line column kind k : ℕ} {kinds₀ : List ℕ} {nex
 
 pub record Passing (list : List ℕ) (line k next : ℕ) : Type 0 where
   pub filled : (f : Place → ℕ) (kinds : List ℕ) (column : ℕ) → Ahead list line column k
-      → ((c : ℕ) → column ≤ c → f (placeOf line c) ≡ 0)
+      → ((c : ℕ) → column ≤ c → f (placeAt line c) ≡ 0)
       → Filled f list (suc line) k kinds → Filled f list (suc line) next kinds
   pub ahead : (column : ℕ) → Ahead list line column k → Ahead list line column next
 

@@ -9,7 +9,7 @@ use lib.ListN.{length, replicate}
 use Rattle.unicode.specs.Unicode.{decode}
 use Rattle.rules.specs.declared.Refusal.{Refusal}
 use Rattle.rules.specs.declared.Verdict.{Verdict}
-use Rattle.rules.specs.Refusals.{refuseIf, tested, unordered, shortKinds}
+use Rattle.rules.specs.Refusals.{numberOf, placeOf, refuseIf, tested, unordered, shortKinds}
 use Rattle.rules.specs.Basics.{choose}
 use Rattle.rules.specs.TextKind.{kindTests}
 use Rattle.rules.proofs.RefusalLaws.{places-ordered, kinds-fit, head-passed, tail-passed, goes-on, ends, front-passed, back-passed}
@@ -49,6 +49,10 @@ module _ (source list : List ℕ) (room scratch : ℕ) (v : Verdict) (e : v ≡ 
   source-passed r p q = q ∙ sym (goes-on (kindTests source scratch) (listTests list room) (sym e ∙ p))
 
 -- ---- the answer
+
+pub refused-kinds : (why : Refusal) (n number place : ℕ) (kinds : List ℕ) → number ≡ numberOf why → place ≡ placeOf why → kinds ≡ replicate n 0
+    → RefusedKinds why n (record { refusal = number; place = place; «lines_classified» = 0 }) kinds
+refused-kinds why n number place kinds e f z = record { answer = rw (e, f); zeros = z }
 
 module _ (source list : List ℕ) (room : ℕ) (scratch : List ℕ) (v : Verdict) (e : v ≡ kindsVerdict source list room (length scratch)) where
   pub kinds-refused : (why : Refusal) (r : Kinds) (kinds : List ℕ) → v ≡ Verdict.Refused why → RefusedKinds why room r kinds

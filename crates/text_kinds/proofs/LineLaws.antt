@@ -21,11 +21,11 @@ use Rattle.marks.proofs.NextLaws.{next-shallow}
 use Rattle.marks.proofs.ReachedLaws.{open-depth}
 use Rattle.text_kind.specs.Kind.{byteKinds}
 use Rattle.text_kind.proofs.KindBytes.{bytes-tail, bytes-first}
-use Rattle.text_kinds.specs.Places.{Place, placeOf, placesIn}
+use Rattle.text_kinds.specs.Places.{Place, placeAt, placesIn}
 use Rattle.text_kinds.specs.Reading.{Ahead, Filled, Listed, Answered, PassedOver, Shallow, LineAnswered}
 
 abbrev KindsAt : Mark → List ℕ → ℕ → (Place → ℕ) → Type 0
-KindsAt t line number f = (c : ℕ) → f (placeOf number c) ≡ kindNumber (getD (byteKinds t line) c TextKind.Code)
+KindsAt t line number f = (c : ℕ) → f (placeAt number c) ≡ kindNumber (getD (byteKinds t line) c TextKind.Code)
 
 pub record InLine (line : List ℕ) (t₀ : Mark) (number : ℕ) (list : List ℕ) (k : ℕ) (kinds₀ : List ℕ) (t : Mark) (to column i : ℕ) (kinds : List ℕ) : Type 0 where
   pub within : i ≤ length line

@@ -11,7 +11,7 @@ use lib.Dec.{eqb, leb, ltb}
 use lib.ListN.{length, getD, drop, length-drop}
 use lib.Seq.{drop-cons}
 use Rattle.unicode.proofs.Tests.{split, and-left, and-right}
-use Rattle.text_kinds.specs.Places.{Place, placeOf, placesIn, notAfter, ascending}
+use Rattle.text_kinds.specs.Places.{Place, placeAt, placesIn, notAfter, ascending}
 use Rattle.text_kinds.specs.Reading.{lineOf, columnOf, placeCount, From, IsPlace, IsOn}
 
 -- ---- entries by number
@@ -22,7 +22,7 @@ count-half [] = refl
 count-half (l ∷ []) = refl
 count-half (l ∷ c ∷ list) = let r = count-half list in omega arith
 
-pub place-at : (list : List ℕ) (k : ℕ) (d : Place) → k < placeCount list → getD (placesIn list) k d ≡ placeOf (lineOf list k) (columnOf list k)
+pub place-at : (list : List ℕ) (k : ℕ) (d : Place) → k < placeCount list → getD (placesIn list) k d ≡ placeAt (lineOf list k) (columnOf list k)
 unfolding placesIn
 place-at [] k d h = absurd (omega arith)
 place-at (l ∷ []) k d h = absurd (omega arith)
@@ -31,20 +31,20 @@ place-at (l ∷ c ∷ list) (suc k) d h =
     let e : 2 * suc k ≡ suc (suc (2 * k)) = omega arith in
     let f : 2 * suc k + 1 ≡ suc (suc (2 * k + 1)) = omega arith in
     place-at list k d (omega arith)
-    ∙ ap (λ (n : ℕ). placeOf (getD (l ∷ c ∷ list) n 0) (columnOf list k)) (sym e)
-    ∙ ap (λ (n : ℕ). placeOf (lineOf (l ∷ c ∷ list) (suc k)) (getD (l ∷ c ∷ list) n 0)) (sym f)
+    ∙ ap (λ (n : ℕ). placeAt (getD (l ∷ c ∷ list) n 0) (columnOf list k)) (sym e)
+    ∙ ap (λ (n : ℕ). placeAt (lineOf (l ∷ c ∷ list) (suc k)) (getD (l ∷ c ∷ list) n 0)) (sym f)
 
 -- ---- order
 
-pub not-after-less : (line column l c : ℕ) → line < l → true ≡ notAfter (placeOf line column) (placeOf l c)
+pub not-after-less : (line column l c : ℕ) → line < l → true ≡ notAfter (placeAt line column) (placeAt l c)
 unfolding notAfter
 not-after-less line column l c h = rw (lt-ltb line l h)
 
-pub not-after-same : (line column l c : ℕ) → l ≤ line → line ≡ l → leb column c ≡ notAfter (placeOf line column) (placeOf l c)
+pub not-after-same : (line column l c : ℕ) → l ≤ line → line ≡ l → leb column c ≡ notAfter (placeAt line column) (placeAt l c)
 unfolding notAfter
 not-after-same line column l c h e = rw (le-ltb line l h, eq-eqb line l e)
 
-pub not-after-other : (line column l c : ℕ) → l ≤ line → (line ≡ l → ⊥) → false ≡ notAfter (placeOf line column) (placeOf l c)
+pub not-after-other : (line column l c : ℕ) → l ≤ line → (line ≡ l → ⊥) → false ≡ notAfter (placeAt line column) (placeAt l c)
 unfolding notAfter
 not-after-other line column l c h e = rw (le-ltb line l h, ne-eqb line l e)
 
@@ -70,7 +70,7 @@ ascending-next (p ∷ q ∷ ps) (suc k) d e h = ascending-next (q ∷ ps) k d (a
 pub from-next : (list : List ℕ) (k : ℕ) → ascending (placesIn list) ≡ true → k + 1 < placeCount list
     → From (lineOf list k) (columnOf list k) (lineOf list (k + 1)) (columnOf list (k + 1))
 from-next list k e h =
-    let d : Place = placeOf 0 0 in
+    let d : Place = placeAt 0 0 in
     let n : suc k < placeCount list = omega arith in
     let q = rw (place-at list k d (omega arith), place-at list (suc k) d n) at (ascending-next (placesIn list) k d e n) in
     rw add-one (not-after-from _ _ q)
@@ -156,17 +156,17 @@ pub ascends-start : (list : List ℕ) → Ascends list 1
 ascends-start list = record { first = omega arith; same = refl }
 
 module _ {list : List ℕ} {k : ℕ} (r : Ascends list k) (h : k < length list / 2) (b : Bool)
-    (e : b ≡ notAfter (placeOf (getD list (2 * k - 2) 0) (getD list (2 * k - 1) 0)) (placeOf (getD list (2 * k) 0) (getD list (2 * k + 1) 0)))
+    (e : b ≡ notAfter (placeAt (getD list (2 * k - 2) 0) (getD list (2 * k - 1) 0)) (placeAt (getD list (2 * k) 0) (getD list (2 * k + 1) 0)))
   where
     two : ascending (placesIn list) ≡ (b && ascending (drop k (placesIn list)))
     two =
-        let d : Place = placeOf 0 0 in
+        let d : Place = placeAt 0 0 in
         let n : k < placeCount list = omega (arith, count-half list) in
         let j : k ≡ suc (k - 1) = omega (arith, r .first) in
         let x : 2 * (k - 1) ≡ 2 * k - 2 = omega (arith, r .first) in
         let y : 2 * (k - 1) + 1 ≡ 2 * k - 1 = omega (arith, r .first) in
         let t : notAfter (getD (placesIn list) (k - 1) d) (getD (placesIn list) k d) ≡ b =
-            rw (place-at list (k - 1) d (omega arith), place-at list k d n, y, x) (sym e)
+        rw (place-at list (k - 1) d (omega arith), place-at list k d n, y, x) (sym e)
         in
         r .same ∙ ascending-two (placesIn list) (k - 1) k d j n ∙ ap (λ (u : Bool). u && ascending (drop k (placesIn list))) t
 

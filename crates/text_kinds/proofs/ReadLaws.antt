@@ -26,7 +26,7 @@ use Rattle.line_ends.proofs.LineCuts.{Last, More, whole, part-of, cr-fits}
 use Rattle.text_kind.specs.Kind.{byteKinds, byteKindIn, kindFrom, lineAt, SourceFits}
 use Rattle.text_kind.proofs.KindBytes.{kind-bytes}
 use Rattle.text_kind.proofs.KindLines.{rust-none, line-last, line-more, kind-past, kind-more, kind-here, line-fits}
-use Rattle.text_kinds.specs.Places.{Place, placeOf, placesIn, ascending, kindOfPlace, linesAsked, linesClassified, kindsOf}
+use Rattle.text_kinds.specs.Places.{Place, placeAt, placesIn, ascending, kindOfPlace, linesAsked, linesClassified, kindsOf}
 use Rattle.text_kinds.specs.Reading.{lineOf, columnOf, placeCount, From, IsOn, Ahead, Filled, Listed, Shallow, LineAnswered, lineCount, Read, KindsFound}
 use Rattle.text_kinds.specs.declared.Progress.{Progress}
 use Rattle.text_kinds.proofs.PlaceLaws.{count-half, place-at, from-next, from-trans, from-line}
@@ -81,14 +81,14 @@ line-count-decode source w =
 
 -- ---- the largest line
 
-line-asked : (ps : List Place) (k : ℕ) → k < length ps → getD ps k (placeOf 0 0) .line < linesAsked ps
+line-asked : (ps : List Place) (k : ℕ) → k < length ps → getD ps k (placeAt 0 0) .line < linesAsked ps
 unfolding linesAsked
 line-asked [] k h = absurd (omega arith)
 line-asked (p ∷ ps) zero h = omega arith
 line-asked (p ∷ ps) (suc k) h = let r = line-asked ps k (omega arith) in omega arith
 
 pub asked-at : (list : List ℕ) (k : ℕ) → k < placeCount list → lineOf list k < linesAsked (placesIn list)
-asked-at list k h = rw (place-at list k (placeOf 0 0) h) at (line-asked (placesIn list) k h)
+asked-at list k h = rw (place-at list k (placeAt 0 0) h) at (line-asked (placesIn list) k h)
 
 -- ---- the invariant
 
@@ -174,7 +174,7 @@ module _ {source list kinds scratch : List ℕ} {p : Progress} (f : SourceFits s
     count-on : lineCount source ≡ p .lines + 1 + lineCount (drop (e + 1) source)
     count-on = let m = count-step source (p .at) e q h in omega (arith, r .count)
 
-    pub kinds-here : (c : ℕ) → kindOfPlace (decode source) (placeOf (p .lines) c) ≡ kindNumber (getD (byteKinds (begin (p .carry)) l) c TextKind.Code)
+    pub kinds-here : (c : ℕ) → kindOfPlace (decode source) (placeAt (p .lines) c) ≡ kindNumber (getD (byteKinds (begin (p .carry)) l) c TextKind.Code)
     unfolding kindOfPlace
     kinds-here c =
         let j : p .lines ≡ p .lines + 0 = omega arith in
@@ -188,33 +188,37 @@ module _ {source list kinds scratch : List ℕ} {p : Progress} (f : SourceFits s
     pub read-places : (kinds′ : List ℕ) (y : Carry) (next : ℕ) (b : Bool) → IsOn list (p .next) (p .lines) b → b ≡ true
         → LineAnswered l (p .carry) (p .lines) list (p .next) kinds y next kinds′
         → Read source list kinds′ (on y next) × (p .at < e + 1)
-    read-places kinds′ y next b i t a =
-        (record {
-          within = omega (arith, q .fits);
-          depth = omega (arith, a .depth, fits, r .depth, q .from);
-          small = omega (arith, r .small, q .from);
-          same = kind-on y (a .opens);
-          count = count-on;
-          asked = omega (arith, asked-at list (p .next) k, i .same-line t);
-          answers = more-lines (omega arith) (a .filled (kindOfPlace (decode source)) kinds-here (more-lines (omega arith) (r .answers)));
-          ahead = rw add-one (a .ahead);
-        }, omega (arith, q .from))
+    read-places kinds′ y next b i t a = (
+      record {
+        within = omega (arith, q .fits);
+        depth = omega (arith, a .depth, fits, r .depth, q .from);
+        small = omega (arith, r .small, q .from);
+        same = kind-on y (a .opens);
+        count = count-on;
+        asked = omega (arith, asked-at list (p .next) k, i .same-line t);
+        answers = more-lines (omega arith) (a .filled (kindOfPlace (decode source)) kinds-here (more-lines (omega arith) (r .answers)));
+        ahead = rw add-one (a .ahead);
+      },
+      omega (arith, q .from),
+    )
 
     pub read-none : (scratch′ : List ℕ) (y : Carry) (b : Bool) → IsOn list (p .next) (p .lines) b → b ≡ false
         → Classified (p .carry) l scratch scratch′ y
         → Read source list kinds (on y (p .next)) × (p .at < e + 1)
     read-none scratch′ y b i t a =
-        let later = from-line (r .ahead .from k) (i .other t k) in
-        (record {
-          within = omega (arith, q .fits);
-          depth = omega (arith, a .depth, fits, r .depth, q .from);
-          small = omega (arith, r .small, q .from);
-          same = kind-on y (a .carry);
-          count = count-on;
-          asked = after later;
-          answers = more-lines (omega arith) (r .answers);
-          ahead = rw add-one (record { from = λ _. later });
-        }, omega (arith, q .from))
+        let later = from-line (r .ahead .from k) (i .other t k) in (
+          record {
+            within = omega (arith, q .fits);
+            depth = omega (arith, a .depth, fits, r .depth, q .from);
+            small = omega (arith, r .small, q .from);
+            same = kind-on y (a .carry);
+            count = count-on;
+            asked = after later;
+            answers = more-lines (omega arith) (r .answers);
+            ahead = rw add-one (record { from = λ _. later });
+          },
+          omega (arith, q .from),
+        )
       where
         after : From (suc (p .lines)) 0 (lineOf list (p .next)) (columnOf list (p .next)) → p .lines + 1 ≤ linesAsked (placesIn list)
         after (inl x) = omega (arith, asked-at list (p .next) k)
@@ -253,7 +257,7 @@ read-all source list kinds scratch n p f r s h =
 module _ (source list kinds scratch : List ℕ) (n : ℕ) (p : Progress) (f : SourceFits source scratch) (w : ascending (placesIn list) ≡ true)
     (r : Read source list kinds p) (s : length kinds ≡ n) (h : length source ≤ p .at)
   where
-    past : (line c : ℕ) → p .lines ≤ line → kindOfPlace (decode source) (placeOf line c) ≡ 0
+    past : (line c : ℕ) → p .lines ≤ line → kindOfPlace (decode source) (placeAt line c) ≡ 0
     unfolding kindOfPlace
     past line c l =
         let j : line ≡ p .lines + (line - p .lines) = omega arith in

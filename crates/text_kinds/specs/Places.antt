@@ -17,14 +17,14 @@ pub record Place : Type 0 where
   pub line : ℕ
   pub column : ℕ
 
-abbrev pub placeOf : ℕ → ℕ → Place
-placeOf line column = record { line = line; column = column }
+abbrev pub placeAt : ℕ → ℕ → Place
+placeAt line column = record { line = line; column = column }
 
 -- a list holds line and column of each place in turn; an incomplete last entry doesn't count
 unfoldable pub placesIn : List ℕ → List Place
 placesIn [] = []
 placesIn (l ∷ []) = []
-placesIn (l ∷ c ∷ list) = placeOf l c ∷ placesIn list
+placesIn (l ∷ c ∷ list) = placeAt l c ∷ placesIn list
 
 -- ascending order of line, then column; equal ones are allowed
 unfoldable pub notAfter : Place → Place → Bool

@@ -16,7 +16,7 @@ use Rattle.rules.specs.TextKind.{rustLines, textKindAt, kindNumber}
 use Rattle.basics.specs.Depth.{carryDepth}
 use Rattle.unicode.specs.Unicode.{decode}
 use Rattle.text_kind.specs.Kind.{byteKinds, kindFrom}
-use Rattle.text_kinds.specs.Places.{Place, placeOf, placesIn, ascending, kindOfPlace, linesAsked, linesClassified, kindsVerdict, kindsAnswer, kindsLeft, kindsOf}
+use Rattle.text_kinds.specs.Places.{Place, placeAt, placesIn, ascending, kindOfPlace, linesAsked, linesClassified, kindsVerdict, kindsAnswer, kindsLeft, kindsOf}
 use Rattle.text_kinds.specs.declared.Progress.{Progress}
 use Rattle.text_kinds.specs.declared.Kinds.{Kinds}
 
@@ -67,14 +67,14 @@ pub record Listed (list kinds : List ℕ) : Type 0 where
 -- all places from entry k on that are this one have the answer `kind`
 pub record Answered (list : List ℕ) (line column kind k : ℕ) (kinds : List ℕ) (next : ℕ) (kinds′ : List ℕ) : Type 0 where
   pub long : length kinds′ ≡ length kinds
-  pub filled : (f : Place → ℕ) → f (placeOf line column) ≡ kind
+  pub filled : (f : Place → ℕ) → f (placeAt line column) ≡ kind
       → Filled f list (suc line) k kinds → Filled f list (suc line) next kinds′
   pub ahead : Ahead list line column k → Ahead list line (suc column) next
 
 -- all places of this line, from entry k on, are passed over: they stand at the column or behind it, where nothing is
 pub record PassedOver (list : List ℕ) (line k next : ℕ) : Type 0 where
   pub filled : (f : Place → ℕ) (kinds : List ℕ) (column : ℕ) → Ahead list line column k
-      → ((c : ℕ) → column ≤ c → f (placeOf line c) ≡ 0)
+      → ((c : ℕ) → column ≤ c → f (placeAt line c) ≡ 0)
       → Filled f list (suc line) k kinds → Filled f list (suc line) next kinds
   pub ahead : (column : ℕ) → Ahead list line column k → Ahead list (suc line) 0 next
 
@@ -88,7 +88,7 @@ pub record LineAnswered (line : List ℕ) (carry : Carry) (number : ℕ) (list :
   pub depth : carryDepth after ≤ carryDepth carry + length line
   pub long : length kinds′ ≡ length kinds
   pub filled : (f : Place → ℕ)
-      → ((c : ℕ) → f (placeOf number c) ≡ kindNumber (getD (byteKinds (begin carry) line) c TextKind.Code))
+      → ((c : ℕ) → f (placeAt number c) ≡ kindNumber (getD (byteKinds (begin carry) line) c TextKind.Code))
       → Filled f list (suc number) k kinds → Filled f list (suc number) next kinds′
   pub ahead : Ahead list (suc number) 0 next
 

@@ -5,7 +5,7 @@ ghost use Prim.Native.Nat.{_+_, _≤_, _<_, _^_};
 ghost use lib.ListN.{length, drop};
 ghost use Rattle.unicode.specs.Unicode.{decode};
 ghost use Rattle.rules.specs.TextKind.{kindNumber};
-ghost use Rattle.text_kinds.specs.Places.{placeOf, placesIn, notAfter, ascending, listTests, kindsVerdict};
+ghost use Rattle.text_kinds.specs.Places.{placeAt, placesIn, notAfter, ascending, listTests, kindsVerdict};
 ghost use Rattle.text_kinds.specs.Reading.{IsPlace, IsOn, Listed, Answered, PassedOver, Ahead, Shallow, LineAnswered, placeCount, Read, KindsFound, RefusedKinds, KindsGiven};
 ghost use Rattle.rules.specs.Refusals.{tested};
 ghost use Rattle.text_kind.specs.Kind.{SourceFits};
@@ -17,8 +17,8 @@ use rules::Carry;
 use rules::Refusal;
 use rules::TextKind;
 use rules::Verdict;
-use text_kind::in_interpolation;
 use text_kind::class_kind;
+use text_kind::in_interpolation;
 use text_kind::line_at;
 
 // What a host is told.
@@ -46,7 +46,7 @@ pub struct Progress {
 
 // Whether the first place is not after the second.
 fn not_after(line: u64, column: u64, l: u64, c: u64) -> bool
-    ensures { λ r. ⌜ r ≡ notAfter (placeOf line column) (placeOf l c) ⌝ }
+    ensures { λ r. ⌜ r ≡ notAfter (placeAt line column) (placeAt l c) ⌝ }
 {
     if line < l {
         return true;

@@ -10,15 +10,6 @@ use Rattle.text_kinds.proofs.kinds_in_line.Statement.{statement}
 use Rattle.text_kinds.proofs.kinds_in_line.Tie as tie
 use Rattle.text_kinds.proofs.kinds_in_line.Reads as reads
 use Rattle.text_kinds.proofs.kinds_in_line.Lts as lts
-use Rattle.marks.proofs.begin.Reads as begin-reads
-use Rattle.marks.proofs.next_mark.Reads as next-mark-reads
-use Rattle.marks.proofs.within.open_after.Reads as open-after-reads
-use Rattle.text_kind.proofs.in_interpolation.Reads as in-interpolation-reads
-use Rattle.text_kind.proofs.kind_of.Reads as kind-of-reads
-use Rattle.text_kinds.proofs.answer_place.Reads as answer-place-reads
-use Rattle.text_kinds.proofs.kind_byte.Reads as kind-byte-reads
-use Rattle.text_kinds.proofs.pass_line.Reads as pass-line-reads
-use Rattle.unicode.proofs.is_tail.Reads as is-tail-reads
 
 abbrev Inv-loop : tie.InvT-loop
 Inv-loop line number places k kinds₀ t₀ next₀ column₀ i₀ kinds t next column i = InLine line t₀ number places next₀ kinds₀ t next column i kinds

@@ -38,13 +38,13 @@ same-length-2 c = search needs
 
 -- src/lib.rt:224:13
 returns : tie.Need-returns Inv-loop μ-loop
-returns c = 
+returns c =
     let i = c .before .before .before .before .loop .inv in
     read-all _ _ _ _ _ _ (c .before .before .before .before .before .before .before .before .before .before .before .before .before .pre .0) (i .0) (as-zeroed _ _ (c .before .before .before .before .loop .kinds) (c .before .before .before .before .before .before .before .zero .ensures) (i .1)) (omega arith)
 
 -- src/lib.rt:226:9
 read-line-requires : tie.Need-read-line-requires Inv-loop μ-loop
-read-line-requires c κs = 
+read-line-requires c κs =
     let s = c .before .before .before .before .before .before .before .before .before .before .before .before .before .before .before .pre in
     let i = c .before .before .before .before .before .before .loop .inv in
     (fits-on (s .0) (i .2), (listed-on (s .1 .order) (i .0), (i .0, (omega arith, omega (arith, count-half (c .before .before .before .before .before .before .before .before .before .before .before .before .before .before .before .args .places .now))))))
@@ -67,7 +67,7 @@ same-length-4 c = search needs
 
 -- src/lib.rt:209:1
 returns-2 : tie.Need-returns-2 Inv-loop μ-loop
-returns-2 c = 
+returns-2 c =
     let s = c .before .before .before .before .before .before .before .before .before .before .before .pre in
     let i = c .before .before .loop .inv in
     read-end _ _ _ _ _ _ (s .0) (s .1 .order) (i .0) (as-zeroed _ _ (c .before .before .loop .kinds) (c .before .before .before .before .before .zero .ensures) (i .1)) (omega arith)

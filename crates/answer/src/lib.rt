@@ -50,6 +50,8 @@ pub fn number_of(r: Refusal) -> u64
         Refusal::ScratchShort(_) => 3,
         Refusal::NotUtf8(_) => 4,
         Refusal::OutputShort(_) => 5,
+        Refusal::PlacesUnordered => 9,
+        Refusal::KindsShort => 10,
     }
 }
 
@@ -62,6 +64,8 @@ pub fn place_of(r: Refusal) -> u64
         Refusal::ScratchShort(needed) => needed as u64,
         Refusal::NotUtf8(prefix) => prefix as u64,
         Refusal::OutputShort(needed) => needed as u64,
+        Refusal::PlacesUnordered => 0,
+        Refusal::KindsShort => 0,
     }
 }
 

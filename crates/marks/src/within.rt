@@ -21,7 +21,7 @@ fn class_byte(k: Class) -> u8
     }
 }
 
-fn open_after(m: Mode) -> Carry
+pub fn open_after(m: Mode) -> Carry
     ensures { λ r. ⌜ r ≡ openAfter m ⌝ }
 {
     match m {

@@ -14,7 +14,7 @@ use lib.ListN.{length}
 use borrow.Author.Tests.{ltb-false, not-false}
 use Rattle.unicode.specs.Unicode.{wellFormed}
 use Rattle.rules.specs.Basics.{choose}
-use Rattle.rules.specs.Refusals.{maxSource, scratchNeeded, numberOf, refuseIf, tested, longSource, badOption, shortScratch, illFormed, shortOutput}
+use Rattle.rules.specs.Refusals.{maxSource, scratchNeeded, numberOf, refuseIf, tested, longSource, badOption, shortScratch, illFormed, shortOutput, unordered, shortKinds}
 use Rattle.rules.specs.declared.Refusal.{Refusal}
 use Rattle.rules.specs.declared.Verdict.{Verdict}
 
@@ -27,6 +27,8 @@ numbered Refusal.BadOption e = omega arith
 numbered (Refusal.ScratchShort n) e = omega arith
 numbered (Refusal.NotUtf8 n) e = omega arith
 numbered (Refusal.OutputShort n) e = omega arith
+numbered Refusal.PlacesUnordered e = omega arith
+numbered Refusal.KindsShort e = omega arith
 
 -- ---- one test
 
@@ -62,6 +64,14 @@ source-well source e = not-false (wellFormed source) (passed-off _ _ e)
 pub output-fits : (needed output : ℕ) → shortOutput needed output ≡ Verdict.Accepted → needed ≤ output
 unfolding shortOutput
 output-fits needed output e = ltb-false output needed (passed-off _ _ e)
+
+pub places-ordered : (inOrder : Bool) → unordered inOrder ≡ Verdict.Accepted → inOrder ≡ true
+unfolding unordered
+places-ordered inOrder e = not-false inOrder (passed-off _ _ e)
+
+pub kinds-fit : (needed kinds : ℕ) → shortKinds needed kinds ≡ Verdict.Accepted → needed ≤ kinds
+unfolding shortKinds
+kinds-fit needed kinds e = ltb-false kinds needed (passed-off _ _ e)
 
 -- ---- several tests
 

@@ -24,6 +24,8 @@ numberOf Refusal.BadOption = 2
 numberOf (Refusal.ScratchShort needed) = 3
 numberOf (Refusal.NotUtf8 prefix) = 4
 numberOf (Refusal.OutputShort needed) = 5
+numberOf Refusal.PlacesUnordered = 9
+numberOf Refusal.KindsShort = 10
 
 abbrev pub placeOf : Refusal → ℕ
 placeOf Refusal.SourceTooLong = maxSource
@@ -31,6 +33,8 @@ placeOf Refusal.BadOption = 0
 placeOf (Refusal.ScratchShort needed) = needed
 placeOf (Refusal.NotUtf8 prefix) = prefix
 placeOf (Refusal.OutputShort needed) = needed
+placeOf Refusal.PlacesUnordered = 0
+placeOf Refusal.KindsShort = 0
 
 -- a test refuses if it applies
 unfoldable pub refuseIf : Bool → Refusal → Verdict
@@ -63,3 +67,11 @@ illFormed source = refuseIf (not (wellFormed source)) (Refusal.NotUtf8 (prefixLe
 -- 5
 unfoldable pub shortOutput : ℕ → ℕ → Verdict
 shortOutput needed output = refuseIf (ltb output needed) (Refusal.OutputShort needed)
+
+-- 9
+unfoldable pub unordered : Bool → Verdict
+unordered inOrder = refuseIf (not inOrder) Refusal.PlacesUnordered
+
+-- 10
+unfoldable pub shortKinds : ℕ → ℕ → Verdict
+shortKinds needed kinds = refuseIf (ltb kinds needed) Refusal.KindsShort

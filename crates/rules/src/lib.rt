@@ -100,13 +100,15 @@ impl OptionNumbers {
     };
 }
 
-// The refusals of document 01, with what their places need.
+// The refusals, with what their places need.
 pub enum Refusal {
     SourceTooLong,
     BadOption,
     ScratchShort(usize),
     NotUtf8(usize),
     OutputShort(usize),
+    PlacesUnordered,
+    KindsShort,
 }
 
 // What the tests of a call come to.

@@ -22,7 +22,7 @@ use Rattle.rules.proofs.Choose.{choose-case}
 use Rattle.rules.proofs.StartsBytes.{on-decode}
 use Rattle.rules.proofs.ScanBytes.{rest, mark-high, Fit, fit-one, next-fit, next-single, next-high, carry-encode}
 use Rattle.rules.proofs.LinesBytes.{rust-lines-bytes}
-use Rattle.text_kind.specs.Kind.{byteKinds}
+use Rattle.text_kind.specs.Kind.{byteKinds, byteKindIn, kindFrom}
 
 -- ---- the clauses, one at a time
 
@@ -97,22 +97,12 @@ kinds-encode (c ∷ s) t f =
 
 -- ---- the lines
 
--- `kindIn`, on the bytes of the lines
-unfoldable pub byteKindIn : Carry → List (List ℕ) → ℕ → ℕ → TextKind
-byteKindIn y [] n col = TextKind.Code
-byteKindIn y (l ∷ ls) zero col = getD (byteKinds (begin y) l) col TextKind.Code
-byteKindIn y (l ∷ ls) (suc n) col = byteKindIn (carryAfter y l) ls n col
-
 kind-in-encode : (ls : List (List ℕ)) (y : Carry) (n col : ℕ) → byteKindIn y (map encode ls) n col ≡ kindIn y ls n col
 unfolding byteKindIn kindIn
 kind-in-encode [] y n col = refl
 kind-in-encode (l ∷ ls) y zero col = rw (kinds-encode l (begin y) (fit-one l _ _))
 kind-in-encode (l ∷ ls) y (suc n) col =
     ap (λ (x : Carry). byteKindIn x (map encode ls) n col) (carry-encode y l) ∙ kind-in-encode ls (carryAfter y l) n col
-
--- in the bytes s, before which y is open
-abbrev pub kindFrom : Carry → List ℕ → ℕ → ℕ → TextKind
-kindFrom y s n col = byteKindIn y (rustLines (pieces (splitOn "\n" s))) n col
 
 pub kind-bytes : (s : List ℕ) → WellFormed s → (n col : ℕ) → textKindAt (decode s) n col ≡ kindFrom Carry.Code s n col
 unfolding textKindAt

@@ -22,12 +22,12 @@ use Rattle.scan.specs.Classified.{Classified}
 use Rattle.line_ends.specs.LineEnds.{LineEnd}
 use Rattle.line_ends.proofs.LineCuts.{Last, More, Cut, last, more, cut, whole, part-of, cr-fits}
 use Rattle.split.specs.Text.{firstOf}
-use Rattle.text_kind.specs.Kind.{byteKinds, lineAt, SourceFits}
-use Rattle.text_kind.proofs.KindBytes.{byteKindIn, kindFrom, kind-bytes}
+use Rattle.text_kind.specs.Kind.{byteKinds, byteKindIn, kindFrom, lineAt, SourceFits}
+use Rattle.text_kind.proofs.KindBytes.{kind-bytes}
 
 -- ---- Rust's lines of those pieces
 
-rust-none : rustLines ([] ∷ []) ≡ []
+pub rust-none : rustLines ([] ∷ []) ≡ []
 unfolding rustLines
 rust-none = refl
 

@@ -7,6 +7,7 @@ ghost use Rattle.rules.specs.Scan.{begin};
 ghost use Rattle.rules.specs.Refusals.{tested};
 ghost use Rattle.rules.specs.TextKind.{kindTests, inInterpolation, classKind, textKindAt, kindOutcomeOf, kindNumber, kindAnswer};
 ghost use Rattle.basics.specs.Depth.{carryDepth};
+ghost use Rattle.line_ends.specs.LineEnds.{LineEnd};
 ghost use Rattle.text_kind.specs.Kind.{byteKinds, lineAt, SourceFits};
 use answer::number_of;
 use answer::place_of;
@@ -25,7 +26,7 @@ use unicode::CharColumn;
 pub const KIND_SCRATCH: usize = 8;
 
 // Whether a character before which the mode is m is inside `${..}`.
-fn in_interpolation(m: Mode) -> bool
+pub fn in_interpolation(m: Mode) -> bool
     ensures { λ r. ⌜ r ≡ inInterpolation m ⌝ }
 {
     match m {
@@ -39,7 +40,7 @@ fn in_interpolation(m: Mode) -> bool
     }
 }
 
-fn class_kind(class: Class, inside: bool) -> TextKind
+pub fn class_kind(class: Class, inside: bool) -> TextKind
     ensures { λ r. ⌜ r ≡ classKind class inside ⌝ }
 {
     match class {
@@ -86,12 +87,11 @@ fn kind_in_line(line: &[u8], carry: Carry, column: CharColumn) -> TextKind
     TextKind::Code
 }
 
-// The line that starts at `at`: a CR goes only before an LF.
-fn line_at(source: &[u8], at: usize) -> &[u8]
-    requires { ⌜ at ≤ length (now source) ⌝ }
+// The line that starts at `at` and ends at `end`: a CR goes only before an LF.
+pub fn line_at(source: &[u8], at: usize, end: usize) -> &[u8]
+    requires { ⌜ LineEnd (now source) at end ⌝ }
     ensures { λ r. ⌜ now r ≡ lineAt (drop at (now (source .entry))) ⌝ }
 {
-    let end = line_end(source, at);
     if end < source.len() {
         return without_cr(&source[at..end]);
     }
@@ -115,11 +115,12 @@ pub fn text_kind_at(source: &[u8], line: usize, column: CharColumn, scratch: &mu
         at = end + 1;
         left -= 1;
     }
-    kind_in_line(line_at(source, at), carry, column)
+    let end = line_end(source, at);
+    kind_in_line(line_at(source, at, end), carry, column)
 }
 
 // Refusals 1, 3 and 4.
-fn test(source: &[u8], scratch: usize) -> Verdict
+pub fn test(source: &[u8], scratch: usize) -> Verdict
     ensures { λ r. ⌜ r ≡ tested (kindTests (now (source .entry)) scratch) ⌝ }
 {
     match answer::test_length(source) {

@@ -2,6 +2,7 @@
 mod config;
 pub mod grouping;
 pub mod interface;
+pub mod kinds;
 mod number;
 pub mod settings;
 

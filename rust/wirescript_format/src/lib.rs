@@ -18,10 +18,12 @@
 //! link: the error names the symbol `wirescript_interface_N`, with this crate's number for N.
 
 mod interface;
+mod kinds;
 mod options;
 pub mod raw;
 mod refusal;
 
+pub use kinds::text_kinds;
 pub use options::{
     EditorConfig, EndOfLine, IndentSize, IndentStyle, LineEnding, MaxLineLength, Options,
 };
@@ -46,6 +48,17 @@ pub enum TextKind {
     Comment,
 }
 
+impl TextKind {
+    /// The kind that a number of the library names.
+    fn of(number: u64) -> Self {
+        match number {
+            0 => Self::Code,
+            1 => Self::Str,
+            _ => Self::Comment,
+        }
+    }
+}
+
 /// Formats a source; see [`Formatter::format`].
 pub fn format(source: impl AsRef<[u8]>, options: &Options) -> Result<Formatted, Refusal> {
     let mut buffers = Formatter::new();
@@ -67,6 +80,8 @@ pub fn text_kind_at(source: impl AsRef<[u8]>, line: u64, column: u64) -> Result<
 pub struct Formatter {
     output: Vec<u8>,
     scratch: Vec<u8>,
+    /// A list of places, as numbers.
+    places: Vec<u64>,
     most: usize,
     /// The length of the last text: the next may well be of the same file.
     last: usize,
@@ -77,6 +92,7 @@ impl Default for Formatter {
         Self {
             output: Vec::new(),
             scratch: Vec::new(),
+            places: Vec::new(),
             most: Self::MOST,
             last: 0,
         }
@@ -136,11 +152,7 @@ impl Formatter {
         let answer = raw::text_kind_at(source, line, column, scratch);
         match Refusal::of(answer.refusal, answer.place) {
             Some(refusal) => Err(refusal),
-            None => Ok(match answer.kind {
-                0 => TextKind::Code,
-                1 => TextKind::Str,
-                _ => TextKind::Comment,
-            }),
+            None => Ok(TextKind::of(answer.kind)),
         }
     }
 

@@ -27,6 +27,15 @@ pub struct Kind {
     pub kind: u64,
 }
 
+/// What asking for the text kinds of a list of places comes to.
+#[repr(C)]
+#[derive(Clone, Copy, Debug, Default, PartialEq, Eq)]
+pub struct Kinds {
+    pub refusal: u64,
+    pub place: u64,
+    pub lines_classified: u64,
+}
+
 /// Options as numbers. `width_set`: 0 no width, 1 the width. `line_ending`: 0 kept, 1 LF,
 /// 2 CRLF. `final_newline`: 0 as the source, 1 always. Other numbers name no choice.
 #[derive(Clone, Copy, Debug, PartialEq, Eq)]
@@ -69,7 +78,7 @@ pub struct Resolved {
 }
 
 mod linked {
-    use super::{Answer, Kind, Settings};
+    use super::{Answer, Kind, Kinds, Settings};
 
     #[rustfmt::skip]
     unsafe extern "C" {
@@ -82,6 +91,10 @@ mod linked {
             source: *const u8, source_length: usize, line: u64, column: u64,
             scratch: *mut u8, scratch_length: usize,
         ) -> Kind;
+        pub fn wirescript_text_kinds(
+            source: *const u8, source_length: usize, places: *const u64, places_length: usize,
+            kinds: *mut u8, kinds_length: usize, scratch: *mut u8, scratch_length: usize,
+        ) -> Kinds;
         pub fn wirescript_indent_with(
             indent: *const u8, indent_length: usize,
             width_set: u64, width: u64, line_ending: u64, final_newline: u64,
@@ -137,6 +150,28 @@ pub fn text_kind_at(source: &[u8], line: u64, column: u64, scratch: &mut [u8]) -
     // SAFETY: as for `format`.
     unsafe {
         linked::wirescript_text_kind_at(source.as_ptr(), source.len(), line, column, work, left)
+    }
+}
+
+/// The text kinds of a list of places, line and character column in turn, in ascending order: a
+/// byte for each in `kinds`, numbered as by [`text_kind_at`], then zeros.
+#[must_use]
+pub fn text_kinds(source: &[u8], places: &[u64], kinds: &mut [u8], scratch: &mut [u8]) -> Kinds {
+    let (to, room) = (kinds.as_mut_ptr(), kinds.len());
+    let (work, left) = (scratch.as_mut_ptr(), scratch.len());
+    let (list, numbers) = (places.as_ptr(), places.len());
+    // SAFETY: as for `format`.
+    unsafe {
+        linked::wirescript_text_kinds(
+            source.as_ptr(),
+            source.len(),
+            list,
+            numbers,
+            to,
+            room,
+            work,
+            left,
+        )
     }
 }
 

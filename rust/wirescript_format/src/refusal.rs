@@ -25,6 +25,10 @@ pub enum Refusal {
     NotUtf8 { prefix: u64 },
     /// The text takes this many bytes, more than the output has.
     OutputShort { needed: u64 },
+    /// The places are not in ascending order of line, then column.
+    PlacesUnordered,
+    /// There are fewer answer bytes than places.
+    KindsShort,
     /// A refusal that this crate has no name for, as the library tells it.
     Other { number: u64, place: u64 },
 }
@@ -48,6 +52,8 @@ impl Refusal {
             (3, needed) => Self::ScratchShort { needed },
             (4, prefix) => Self::NotUtf8 { prefix },
             (5, needed) => Self::OutputShort { needed },
+            (9, 0) => Self::PlacesUnordered,
+            (10, 0) => Self::KindsShort,
             (number, place) => Self::Other { number, place },
         })
     }
@@ -61,6 +67,8 @@ impl Refusal {
             Self::ScratchShort { .. } => 3,
             Self::NotUtf8 { .. } => 4,
             Self::OutputShort { .. } => 5,
+            Self::PlacesUnordered => 9,
+            Self::KindsShort => 10,
             Self::Other { number, .. } => number,
         }
     }
@@ -70,7 +78,7 @@ impl Refusal {
     pub fn place(self) -> u64 {
         match self {
             Self::SourceTooLong => SOURCE_END,
-            Self::BadOption => 0,
+            Self::BadOption | Self::PlacesUnordered | Self::KindsShort => 0,
             Self::ScratchShort { needed } | Self::OutputShort { needed } => needed,
             Self::NotUtf8 { prefix } => prefix,
             Self::Other { place, .. } => place,
@@ -96,6 +104,8 @@ impl fmt::Display for Refusal {
                     "the text takes {needed} bytes, more than there is room for"
                 )
             }
+            Self::PlacesUnordered => write!(f, "the places are not in ascending order"),
+            Self::KindsShort => write!(f, "there are fewer answer bytes than places"),
             Self::Other { number, place } => write!(f, "refusal {number} at {place}"),
         }
     }
@@ -127,6 +137,8 @@ mod tests {
             (3, 7, Refusal::ScratchShort { needed: 7 }),
             (4, 7, Refusal::NotUtf8 { prefix: 7 }),
             (5, 7, Refusal::OutputShort { needed: 7 }),
+            (9, 0, Refusal::PlacesUnordered),
+            (10, 0, Refusal::KindsShort),
         ];
         for (number, place, refusal) in named {
             assert_eq!(Refusal::of(number, place), Some(refusal));

@@ -50,11 +50,14 @@ loop-less c = search needs
 loop-again : tie.Need-loop-again Inv-loop μ-loop
 loop-again c = seeking-more (c .before .before .before .before .before .before .before .before .before .loop .inv) _ _ _ _ (omega arith) (c .before .before .before .before .before .before .before .line-end .ensures) (c .before .before .before .before .before .before .if1 .left) (c .before .before .before .before .without-cr .ensures) (c .before .before .classify .ensures) (c .before .before .classify .kept .1 .1 .0)
 
+line-end-requires-2 : tie.Need-line-end-requires-2 Inv-loop μ-loop
+line-end-requires-2 c κs = search needs
+
 line-at-requires : tie.Need-line-at-requires Inv-loop μ-loop
 line-at-requires c κs = search needs
 
 kind-in-line-requires : tie.Need-kind-in-line-requires Inv-loop μ-loop
-kind-in-line-requires c κs = seeking-line (c .before .before .loop .inv) _ (c .line-at .ensures) (c .before .before .before .before .before .pre)
+kind-in-line-requires c κs = seeking-line (c .before .before .before .loop .inv) _ (c .line-at .ensures) (c .before .before .before .before .before .before .pre)
 
 same-length-2 : tie.Need-same-length-2 Inv-loop μ-loop
 same-length-2 c = search needs
@@ -81,6 +84,7 @@ text-kind-at-spec =
     sub-left
     loop-less
     loop-again
+    line-end-requires-2
     line-at-requires
     kind-in-line-requires
     same-length-2

@@ -1,0 +1,4 @@
+-- What the contracts cite.
+pub mod Places
+pub mod Reading
+pub mod KindsAnswered

@@ -22,7 +22,7 @@ use Rattle.config_rules.specs.Name.Item.{same, one}
 use Rattle.config_rules.specs.Name.Token.{item, opens}
 use Rattle.glob_pass.specs.Kinds.{upTo, rangeIn, plainAt, braceOf, heldAt}
 use Rattle.glob_name.specs.declared.read.Read.{Read}
-use Rattle.glob_name.specs.Read.{Counted, restMore, rangeMore, setMore, longer, Ends, plainRead, starRead, slashRead, singleRead, openedRead, asReading, TokenRead}
+use Rattle.glob_name.specs.Read.{Counted, restMore, rangeMore, setMore, longer, Ends, plainRead, starRead, slashRead, singleRead, openedRead, asReading, Good, TokenRead}
 
 -- ---- one character
 
@@ -360,10 +360,20 @@ module _ (cs : List ℕ) (i c end m : ℕ) (x : c ≡ 92 → ⊥) (y : c ≡ 91 
   opened-range z f = rw (ne-eqb c 92 x, ne-eqb c 91 y, ← e, ne-eqb m 0 z) f
 
 -- the kind is one that is read
-low-choose : (b : Bool) (x y : Read) → x .kind < 12 → y .kind < 12 → choose b x y .kind < 12
+good-kind : (x : ℕ) (r : Read) → r .kind < 12 → (r .kind ≡ 9 → ⊥) → Good x r
+good-kind x r h n = record { raw = h; spans = λ e. absurd (n e) }
+
+good-choose : (x : ℕ) (b : Bool) (r t : Read) → Good x r → Good x t → Good x (choose b r t)
 unfolding choose
-low-choose true x y h k = h
-low-choose false x y h k = k
+good-choose x true r t g h = g
+good-choose x false r t g h = h
+
+good-range : (x : ℕ) → Good x (choose (eqb x 0) (plainRead 3 0) (plainRead 9 x))
+unfolding choose
+good-range x =
+    by-test (eqb x 0)
+    (λ t. rw t (good-kind x (plainRead 3 0) (omega arith) (λ e. absurd (omega arith))))
+    (λ t. rw t (record { raw = omega arith; spans = λ e. (refl, ⊎-elim (λ (h : 0 < x). h) (λ (h : x ≤ 0). absurd (eqb-false x 0 t (omega arith))) (split 0 x)) }))
 
 module _ (cs : List ℕ) (i : ℕ) (deep : Bool) (h : i < length cs) where
   abbrev c : ℕ
@@ -393,17 +403,17 @@ module _ (cs : List ℕ) (i : ℕ) (deep : Bool) (h : i < length cs) where
       go (inl q) =
           record {
             is = rw (f, q) (unfold openedRead in unfold readingAt in unfold choose in escape-token q);
-            raw = rw (f, q) (unfold openedRead in unfold choose in low-choose (ltb (i + 1) (length cs)) (plainRead 10 1) (plainRead 0 0) (omega arith) (omega arith));
+            good = rw (f, q) (unfold openedRead in unfold choose in good-choose _ (ltb (i + 1) (length cs)) (plainRead 10 1) (plainRead 0 0) (good-kind _ _ (omega arith) (λ e. absurd (omega arith))) (good-kind _ _ (omega arith) (λ e. absurd (omega arith))));
           }
       go (inr (inl q)) =
           record {
             is = rw (f, q, e) (unfold openedRead in unfold readingAt in unfold choose in unfold setMore in bracket-read s (toBracket false s) refl);
-            raw = rw (f, q) (unfold openedRead in unfold choose in low-choose (eqb end 0) (plainRead 0 0) (plainRead 8 end) (omega arith) (omega arith));
+            good = rw (f, q) (unfold openedRead in unfold choose in good-choose _ (eqb end 0) (plainRead 0 0) (plainRead 8 end) (good-kind _ _ (omega arith) (λ e. absurd (omega arith))) (good-kind _ _ (omega arith) (λ e. absurd (omega arith))));
           }
       go (inr (inr q)) =
           record {
             is = rw (f, q) (unfold openedRead in unfold readingAt in unfold choose in brace-token);
-            raw = rw (f, q) (unfold openedRead in unfold choose in low-choose (eqb (rangeMore cs (i + 1)) 0) (plainRead 3 0) (plainRead 9 (rangeMore cs (i + 1))) (omega arith) (omega arith));
+            good = rw (f, q) (unfold openedRead in unfold choose in good-range (rangeMore cs (i + 1)));
           }
 
   pub token-opened : (ends : List ℕ) (r : Read) → Ends cs ends → ((eqb c 92 || eqb c 91) || eqb c 123) ≡ true
@@ -414,18 +424,18 @@ module _ (cs : List ℕ) (i : ℕ) (deep : Bool) (h : i < length cs) where
   unfolding readingAt starRead starAt choose heldAt plainAt
   token-star r e f =
       by-test (firstIs (is "*") s)
-      (λ t. record { is = rw (f, e, t); raw = rw (f, t) (omega arith) })
-      (λ t. record { is = rw (f, e, t); raw = rw (f, t) (omega arith) })
+      (λ t. record { is = rw (f, e, t); good = rw (f, t) (good-kind _ _ (omega arith) (λ e. absurd (omega arith))) })
+      (λ t. record { is = rw (f, e, t); good = rw (f, t) (good-kind _ _ (omega arith) (λ e. absurd (omega arith))) })
 
   pub token-slash : (r : Read) → c ≡ 47 → r ≡ slashRead deep s → TokenRead cs i deep r
   unfolding readingAt slashRead slashAt choose heldAt plainAt
   token-slash r e f =
       by-test deep
-      (λ t. record { is = rw (f, e, t); raw = rw (f, t) (omega arith) })
+      (λ t. record { is = rw (f, e, t); good = rw (f, t) (good-kind _ _ (omega arith) (λ e. absurd (omega arith))) })
       (λ t.
       by-test (at s "**/")
-      (λ u. record { is = rw (f, e, t, u); raw = rw (f, t, u) (omega arith) })
-      (λ u. record { is = rw (f, e, t, u); raw = rw (f, t, u) (omega arith) }))
+      (λ u. record { is = rw (f, e, t, u); good = rw (f, t, u) (good-kind _ _ (omega arith) (λ e. absurd (omega arith))) })
+      (λ u. record { is = rw (f, e, t, u); good = rw (f, t, u) (good-kind _ _ (omega arith) (λ e. absurd (omega arith))) }))
 
   pub token-single : (r : Read) → ((eqb c 92 || eqb c 91) || eqb c 123) ≡ false → (c ≡ 42 → ⊥) → (c ≡ 47 → ⊥) → r ≡ singleRead c → TokenRead cs i deep r
   unfolding readingAt singleRead choose heldAt plainAt braceOf
@@ -435,11 +445,11 @@ module _ (cs : List ℕ) (i : ℕ) (deep : Bool) (h : i < length cs) where
       let n2 : eqb c 91 ≡ false = neither-right (eqb c 92) _ a in
       let n3 : eqb c 123 ≡ false = neither-right (eqb c 92 || eqb c 91) _ t in
       by-test (eqb c 63)
-      (λ u. record { is = rw (f, n1, n2, n3, ne-eqb c 42 x, ne-eqb c 47 y, u); raw = rw (f, u) (omega arith) })
+      (λ u. record { is = rw (f, n1, n2, n3, ne-eqb c 42 x, ne-eqb c 47 y, u); good = rw (f, u) (good-kind _ _ (omega arith) (λ e. absurd (omega arith))) })
       (λ u.
       by-test (eqb c 44)
-      (λ v. record { is = rw (f, n1, n2, n3, ne-eqb c 42 x, ne-eqb c 47 y, u, v); raw = rw (f, u, v) (omega arith) })
+      (λ v. record { is = rw (f, n1, n2, n3, ne-eqb c 42 x, ne-eqb c 47 y, u, v); good = rw (f, u, v) (good-kind _ _ (omega arith) (λ e. absurd (omega arith))) })
       (λ v.
       by-test (eqb c 125)
-      (λ w. record { is = rw (f, n1, n2, n3, ne-eqb c 42 x, ne-eqb c 47 y, u, v, w); raw = rw (f, u, v, w) (omega arith) })
-      (λ w. record { is = rw (f, n1, n2, n3, ne-eqb c 42 x, ne-eqb c 47 y, u, v, w); raw = rw (f, u, v, w) (omega arith) })))
+      (λ w. record { is = rw (f, n1, n2, n3, ne-eqb c 42 x, ne-eqb c 47 y, u, v, w); good = rw (f, u, v, w) (good-kind _ _ (omega arith) (λ e. absurd (omega arith))) })
+      (λ w. record { is = rw (f, n1, n2, n3, ne-eqb c 42 x, ne-eqb c 47 y, u, v, w); good = rw (f, u, v, w) (good-kind _ _ (omega arith) (λ e. absurd (omega arith))) })))

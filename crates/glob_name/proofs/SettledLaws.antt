@@ -5,7 +5,7 @@ use mathlib.Core.List.{List, [], _∷_}
 use mathlib.Core.Path.{_≡_, refl, sym, ap, _∙_}
 use native.Mathlib.Omega.{arith}
 use borrow.Author.Tests.{ne-eqb, le-leb, lt-leb, le-ltb}
-use lib.Dec.{leb}
+use lib.Dec.{leb, eqb}
 use lib.ListN.{length, getD}
 use Rattle.unicode.specs.Unicode.{within}
 use Rattle.unicode.proofs.Tests.{by-test}
@@ -15,7 +15,7 @@ use Rattle.config_rules.specs.Name.{Token, withComma, outer, innermost, closers
 use Rattle.config_rules.specs.Name.Token.{item, opens, comma, closes}
 use Rattle.config_rules.specs.Name.Item.{same}
 use Rattle.glob_pass.specs.Kinds.{plainAt, braceOf, heldAt, held}
-use Rattle.glob_name.specs.Read.{Raw, RawKinds}
+use Rattle.glob_name.specs.Read.{Raw, Spaced, RawKinds}
 use Rattle.glob_name.specs.Braces.{rightEvent, leftEvent, marked, stackAfter, isLone, openRight, markRight, markLeft}
 
 -- one kind, marked from the right with `after` open there, then from the left with `before`
@@ -136,11 +136,51 @@ length-marked ks = length-left [] (markRight ks) ∙ length-right ks
 pub right-short : (ks l : List ℕ) → l ≡ markRight ks → length ks < 1026 → length l < 1026
 right-short ks l e h = let n : length l ≡ length ks = ap length e ∙ length-right ks in omega arith
 
+-- ---- ranges and their parts stay
+
+same-nine : (k : ℕ) (b : Bool) → marked k b ≡ 9 → k ≡ 9
+unfolding marked choose
+same-nine k false e = e
+same-nine k true e =
+    by-test (eqb k 1) (λ t. absurd (let z : 14 ≡ 9 = rw t at e in omega arith))
+    (λ t. by-test (eqb k 2) (λ u. absurd (let z : 13 ≡ 9 = rw (t, u) at e in omega arith))
+    (λ u. by-test (eqb k 3) (λ v. absurd (let z : 12 ≡ 9 = rw (t, u, v) at e in omega arith)) (λ v. rw (t, u, v) at e)))
+
+same-four : (k : ℕ) (b : Bool) → k ≡ 4 → marked k b ≡ 4
+unfolding marked choose
+same-four k true e = rw e
+same-four k false e = e
+
+right-at : (ks : List ℕ) (j : ℕ) → (b : Bool) × (getD (markRight ks) j 0 ≡ marked (getD ks j 0) b)
+unfolding markRight
+right-at [] j = (false, unfold marked in unfold choose in refl)
+right-at (k ∷ ks) zero = (isLone (rightEvent k) (openRight ks), refl)
+right-at (k ∷ ks) (suc j) = right-at ks j
+
+left-at : (bs : List Bool) (ks : List ℕ) (j : ℕ) → (b : Bool) × (getD (markLeft bs ks) j 0 ≡ marked (getD ks j 0) b)
+unfolding markLeft
+left-at bs [] j = (false, unfold marked in unfold choose in refl)
+left-at bs (k ∷ ks) zero = (isLone (leftEvent k) bs, refl)
+left-at bs (k ∷ ks) (suc j) = left-at (stackAfter (leftEvent k) bs) ks j
+
+nine-back : (ks : List ℕ) (j : ℕ) → getD (markLeft [] (markRight ks)) j 0 ≡ 9 → getD ks j 0 ≡ 9
+nine-back ks j e = same-nine _ _ (sym (right-at ks j .1) ∙ same-nine _ _ (sym (left-at [] (markRight ks) j .1) ∙ e))
+
+four-on : (ks : List ℕ) (j : ℕ) → getD ks j 0 ≡ 4 → getD (markLeft [] (markRight ks)) j 0 ≡ 4
+four-on ks j e = left-at [] (markRight ks) j .1 ∙ same-four _ _ (right-at ks j .1 ∙ same-four _ _ e)
+
+spaced-marked : (cs ks : List ℕ) → Spaced cs ks → Spaced cs (markLeft [] (markRight ks))
+spaced-marked cs ks w =
+    record {
+      some = λ j e. w .some j (nine-back ks j e);
+      parts = λ j e q a b d. four-on ks q (w .parts j (nine-back ks j e) q a b (rw (length-marked ks) at d));
+    }
+
 pub settled-held : (cs ks k1 k2 : List ℕ) → RawKinds cs ks → k1 ≡ markRight ks → k2 ≡ markLeft [] k1
-    → (length k2 ≡ length cs) × (held k2 cs ≡ tokensOf cs)
+    → (length k2 ≡ length cs) × (held k2 cs ≡ tokensOf cs) × Spaced cs k2
 unfolding tokensOf
 settled-held cs ks k1 k2 w a b =
-    let e : k2 ≡ markLeft [] (markRight ks) = b ∙ ap (markLeft []) a in (
-      ap length e ∙ length-marked ks ∙ w .long,
-      ap (λ (l : List ℕ). held l cs) e ∙ marked-is ks cs [] (w .long) (w .raw) ∙ ap (settled []) (w .is),
-    )
+    let e : k2 ≡ markLeft [] (markRight ks) = b ∙ ap (markLeft []) a in
+    (ap length e ∙ length-marked ks ∙ w .long,
+    ap (λ (l : List ℕ). held l cs) e ∙ marked-is ks cs [] (w .long) (w .raw) ∙ ap (settled []) (w .is),
+    rw e (spaced-marked cs ks (w .spaced)))

@@ -66,15 +66,26 @@ openedRead cs i c end =
 abbrev pub asReading : Read → List ℕ → Reading
 asReading r s = record { token = heldAt (r .kind) s; more = r .more; deep = r .deep }
 
+-- the kind is one that is read; a range has x characters more
+pub record Good (x : ℕ) (r : Read) : Type 0 where
+  pub raw : r .kind < 12
+  pub spans : r .kind ≡ 9 → (r .more ≡ x) × (0 < r .more)
+
 pub record TokenRead (cs : List ℕ) (i : ℕ) (deep : Bool) (r : Read) : Type 0 where
   pub is : asReading r (getD cs i 0 ∷ drop (i + 1) cs) ≡ readingAt deep (getD cs i 0) (drop (i + 1) cs)
-  pub raw : r .kind < 12
+  pub good : Good (rangeMore cs (i + 1)) r
 
 -- every kind is one of those that are read
 pub record Raw (ks : List ℕ) : Type 0 where
   pub at : (j : ℕ) → getD ks j 0 < 12
 
+-- where a range stands, its characters follow as parts
+pub record Spaced (cs ks : List ℕ) : Type 0 where
+  pub some : (j : ℕ) → getD ks j 0 ≡ 9 → 0 < rangeMore cs (j + 1)
+  pub parts : (j : ℕ) → getD ks j 0 ≡ 9 → (q : ℕ) → j < q → q ≤ j + rangeMore cs (j + 1) → q < length ks → getD ks q 0 ≡ 4
+
 pub record RawKinds (cs ks : List ℕ) : Type 0 where
   pub long : length ks ≡ length cs
   pub raw : Raw ks
+  pub spaced : Spaced cs ks
   pub is : held ks cs ≡ tokens 0 false cs

@@ -16,7 +16,7 @@ use Rattle.rules.proofs.Choose.{choose-case, choose-true, choose-false}
 use Rattle.config_rules.specs.Numbers.{isDigit, digitCount, sign, numberLen, value}
 use Rattle.glob_name.specs.Read.{restMore, rangeMore, Counted}
 use Rattle.ranges.specs.Slots.{digit, allDigits, all, minus, size}
-use Rattle.ranges.specs.Ranges.{lows, lowsOf, EndAt, RangeOf, PastZeros, WidthOf, firstEnd, secondEnd, secondAt}
+use Rattle.ranges.specs.Ranges.{lows, lowsOf, EndAt, RangeOf, PastZeros, pastZeros, endOf, widthOf, rangeFor, WidthOf, firstEnd, secondEnd, secondAt}
 use Rattle.ranges.specs.declared.End.{End}
 use Rattle.ranges.specs.declared.Range.{Range}
 
@@ -182,6 +182,8 @@ module _ (cs : List ℕ) (from n i : ℕ) (e : n ≡ numberLen (drop from cs)) (
 
   pub end-minus : getD cs from 0 ≡ 45 → PastZeros cs (from + 1) (from + n) i
       → EndAt cs (take n (drop from cs)) (record { minus = true; end = from + n; digits = from + n - i }) × (from + n - i ≤ n)
+      × (record { minus = true; end = from + n; digits = from + n - i } ≡ endOf cs from n)
+  unfolding endOf choose
   end-minus c w =
       let q : n ≡ 1 + digitCount (drop (from + 1) cs) = count-minus c in
       let a : from + 1 ≤ i = w .start in
@@ -190,6 +192,7 @@ module _ (cs : List ℕ) (from n i : ℕ) (e : n ≡ numberLen (drop from cs)) (
             (λ j y z. digit-in (from + 1) (omega arith) j y (omega arith)) w
             (size-minus c ∙ rw x) (sym (minus-is ∙ eq-eqb (getD cs from 0) 45 c)),
         omega arith,
+        rw (eq-eqb (getD cs from 0) 45 c, ← w .is),
       )
     where
       size-minus : getD cs from 0 ≡ 45 → size (take n (drop from cs)) ≡ value (take (n - 1) (drop (from + 1) cs))
@@ -201,6 +204,8 @@ module _ (cs : List ℕ) (from n i : ℕ) (e : n ≡ numberLen (drop from cs)) (
 
   pub end-plain : (getD cs from 0 ≡ 45 → ⊥) → PastZeros cs from (from + n) i
       → EndAt cs (take n (drop from cs)) (record { minus = false; end = from + n; digits = from + n - i }) × (from + n - i ≤ n)
+      × (record { minus = false; end = from + n; digits = from + n - i } ≡ endOf cs from n)
+  unfolding endOf choose
   end-plain c w =
       let q : n ≡ digitCount (drop from cs) = count-plain c in
       let a : from ≤ i = w .start in
@@ -209,6 +214,7 @@ module _ (cs : List ℕ) (from n i : ℕ) (e : n ≡ numberLen (drop from cs)) (
             (λ j y z. digit-in from (omega arith) j y (omega arith)) w
             (size-plain c ∙ rw x) (sym (minus-is ∙ ne-eqb (getD cs from 0) 45 c)),
         omega arith,
+        rw (ne-eqb (getD cs from 0) 45 c, ← w .is),
       )
     where
       size-plain : (getD cs from 0 ≡ 45 → ⊥) → size (take n (drop from cs)) ≡ value (take n (drop from cs))
@@ -225,13 +231,29 @@ pub record Zeros (cs : List ℕ) (from end i : ℕ) : Type 0 where
   pub stop : i ≤ end
   pub inside : end ≤ length cs
   pub zeros : (j : ℕ) → from ≤ j → j < i → getD cs j 0 ≡ 48
+  pub is : pastZeros cs from (end - from) ≡ pastZeros cs i (end - i)
 
 pub zeros-start : (cs : List ℕ) (from end : ℕ) → from ≤ end → end ≤ length cs → Zeros cs from end from
-zeros-start cs from end h k = record { start = omega arith; stop = h; inside = k; zeros = λ j a b. absurd (omega arith) }
+zeros-start cs from end h k = record { start = omega arith; stop = h; inside = k; zeros = λ j a b. absurd (omega arith); is = refl }
 
 module _ (cs : List ℕ) (from end i : ℕ) (w : Zeros cs from end i) where
+  past-here : i < end → pastZeros cs i (end - i) ≡ choose (eqb (getD cs i 0) 48) (pastZeros cs (suc i) (end - suc i)) i
+  unfolding pastZeros
+  past-here h = let e : end - i ≡ suc (end - suc i) = omega arith in rw e
+
+  past-none : end ≤ i → pastZeros cs i (end - i) ≡ i
+  unfolding pastZeros
+  past-none h = let e : end - i ≡ 0 = omega arith in rw e
+
   pub zeros-found : i < end → (getD cs i 0 ≡ 48 → ⊥) → PastZeros cs from end i
-  zeros-found h n = record { start = w .start; stop = w .stop; zeros = w .zeros; other = λ x. n }
+  zeros-found h n =
+      record {
+        start = w .start;
+        stop = w .stop;
+        zeros = w .zeros;
+        other = λ x. n;
+        is = sym (w .is ∙ past-here h ∙ choose-false _ _ _ (ne-eqb (getD cs i 0) 48 n));
+      }
 
   pub zeros-more : i < end → getD cs i 0 ≡ 48 → Zeros cs from end (i + 1)
   zeros-more h e =
@@ -242,10 +264,18 @@ module _ (cs : List ℕ) (from end i : ℕ) (w : Zeros cs from end i) where
         inside = w .inside;
         zeros = λ j a b.
             ⊎-elim (λ (t : j < i). w .zeros j a t) (λ (t : i ≤ j). let z : j ≡ i = omega arith in rw z e) (split j i);
+        is = w .is ∙ past-here h ∙ choose-true _ _ _ (eq-eqb (getD cs i 0) 48 e) ∙ rw (add-one i);
       }
 
   pub zeros-end : end ≤ i → PastZeros cs from end i
-  zeros-end h = record { start = w .start; stop = w .stop; zeros = w .zeros; other = λ x. absurd (omega arith) }
+  zeros-end h =
+      record {
+        start = w .start;
+        stop = w .stop;
+        zeros = w .zeros;
+        other = λ x. absurd (omega arith);
+        is = sym (w .is ∙ past-none h);
+      }
 
 -- ---- the range
 
@@ -293,17 +323,20 @@ parts cs from h =
     none e = absurd (omega (arith, e))
 
 pub width-second : (m n : ℕ) → m < n → WidthOf m n n
-width-second m n h = record { some = omega arith; wide = omega arith; broad = omega arith; is = λ b x y z. z }
+unfolding widthOf choose
+width-second m n h = record { some = omega arith; wide = omega arith; broad = omega arith; least = λ b x y z. z; is = rw (lt-ltb m n h) }
 
 pub width-first : (m n : ℕ) → n ≤ m → 0 < m → WidthOf m n m
-width-first m n h k = record { some = k; wide = omega arith; broad = h; is = λ b x y z. y }
+unfolding widthOf choose
+width-first m n h k = record { some = k; wide = omega arith; broad = h; least = λ b x y z. y; is = rw (le-ltb m n h, lt-ltb 0 m k) }
 
 pub width-one : (m n : ℕ) → n ≤ m → m ≤ 0 → WidthOf m n 1
-width-one m n h k = record { some = omega arith; wide = omega arith; broad = omega arith; is = λ b x y z. omega arith }
+unfolding widthOf choose
+width-one m n h k = record { some = omega arith; wide = omega arith; broad = omega arith; least = λ b x y z. omega arith; is = rw (le-ltb m n h, le-ltb 0 m k) }
 
 pub range-is : (cs : List ℕ) (p m n w : ℕ) (f s : End) → 0 < rangeMore cs (p + 1) → Counted cs (p + 1) (numberLen (drop (p + 1) cs)) m
-    → EndAt cs (take m (drop (p + 1) cs)) f × (f .digits ≤ m) → Counted cs (p + 1 + m + 2) (numberLen (drop (p + 1 + m + 2) cs)) n
-    → EndAt cs (take n (drop (p + 1 + m + 2) cs)) s × (s .digits ≤ n) → WidthOf (f .digits) (s .digits) w
+    → EndAt cs (take m (drop (p + 1) cs)) f × (f .digits ≤ m) × (f ≡ endOf cs (p + 1) m) → Counted cs (p + 1 + m + 2) (numberLen (drop (p + 1 + m + 2) cs)) n
+    → EndAt cs (take n (drop (p + 1 + m + 2) cs)) s × (s .digits ≤ n) × (s ≡ endOf cs (p + 1 + m + 2) n) → WidthOf (f .digits) (s .digits) w
     → RangeOf cs p (record { first = f; second = s; width = w })
 range-is cs p m n w f s h cm ef cn es ww =
     let P : Parts cs (p + 1) = parts cs (p + 1) h in
@@ -312,7 +345,7 @@ range-is cs p m n w f s h cm ef cn es ww =
     let b : n ≡ numberLen (drop (secondAt cs p) cs) = rw a at (cn .is) in
     let x : 0 < numberLen (drop (p + 1) cs) = P .first in
     let y : 0 < numberLen (drop (secondAt cs p) cs) = P .second in
-    let i : w ≤ m + n = ww .is (m + n) (omega arith) (omega (arith, ef .1)) (omega (arith, es .1)) in
+    let i : w ≤ m + n = ww .least (m + n) (omega arith) (omega (arith, ef .1)) (omega (arith, es .1)) in
     record {
       first = rw a at (ef .0);
       second = rw (z, b) at (es .0);
@@ -321,7 +354,12 @@ range-is cs p m n w f s h cm ef cn es ww =
       broad = ww .broad;
       room = omega (arith, P .more);
       fits = omega (arith, P .more, P .inside);
+      is = whole (rw a at (ef .2)) (rw (z, b) at (es .2)) (ww .is);
     }
+  where
+    whole : f ≡ endOf cs (p + 1) (numberLen (drop (p + 1) cs)) → s ≡ endOf cs (secondAt cs p) (numberLen (drop (secondAt cs p) cs))
+        → w ≡ widthOf (f .digits) (s .digits) → _≡_ {A = Range} (record { first = f; second = s; width = w }) (rangeFor cs p)
+    whole x y q = unfold rangeFor in rw (q, x, y)
 
 pub second-inside : (cs : List ℕ) (p m : ℕ) → 0 < rangeMore cs (p + 1) → Counted cs (p + 1) (numberLen (drop (p + 1) cs)) m → p + 1 + m + 2 ≤ length cs
 second-inside cs p m h c =

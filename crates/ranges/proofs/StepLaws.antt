@@ -337,10 +337,24 @@ module _ (cs : List ℕ) (p : ℕ) (next : Bool) (c : ℕ) (r : Range) (R : Rang
   flags-are = e₄
 
   pub range-behind : c ≡ 45 → RangeNext cs p next c l l₄ (eqb (getD l (p + r .width + 3) 0) 1)
-  range-behind q = rw flags-are (record { range = r; of = R; long = long₃; kept = kept₃; is = λ k s e K. (behind-on k s e K q, kept-on k s e K) })
+  range-behind q =
+      rw flags-are
+      (record {
+        of = rw (← R .is) R;
+        long = long₃;
+        kept = kept₃;
+        is = λ k s e K. rw (← R .is) (let L : Kept cs p r k s l = rw (← R .is) at K in (behind-on k s e L q, kept-on k s e L));
+      })
 
   pub range-on : (c ≡ 45 → ⊥) → RangeNext cs p next c l l₄ (P || N .plain)
-  range-on q = rw flags-are (record { range = r; of = R; long = long₃; kept = kept₃; is = λ k s e K. (hit-on k s e K q, kept-on k s e K) })
+  range-on q =
+      rw flags-are
+      (record {
+        of = rw (← R .is) R;
+        long = long₃;
+        kept = kept₃;
+        is = λ k s e K. rw (← R .is) (let L : Kept cs p r k s l = rw (← R .is) at K in (hit-on k s e L q, kept-on k s e L));
+      })
 
 -- ---- room
 

@@ -41,6 +41,27 @@ secondAt cs p = p + 1 + numberLen (drop (p + 1) cs) + 2
 abbrev pub secondEnd : List ℕ → ℕ → List ℕ
 secondEnd cs p = take (numberLen (drop (secondAt cs p) cs)) (drop (secondAt cs p) cs)
 
+-- past at most n zeros from i on
+unfoldable pub pastZeros : List ℕ → ℕ → ℕ → ℕ
+pastZeros cs i zero = i
+pastZeros cs i (suc n) = choose (eqb (getD cs i 0) 48) (pastZeros cs (suc i) n) i
+
+-- the end that stands at `from` and is n characters long, and a range of two of them
+unfoldable pub endOf : List ℕ → ℕ → ℕ → End
+endOf cs from n =
+    choose (eqb (getD cs from 0) 45)
+    (record { minus = true; end = from + n; digits = from + n - pastZeros cs (from + 1) (from + n - (from + 1)) })
+    (record { minus = false; end = from + n; digits = from + n - pastZeros cs from (from + n - from) })
+
+unfoldable pub widthOf : ℕ → ℕ → ℕ
+widthOf m n = choose (ltb m n) n (choose (ltb 0 m) m 1)
+
+unfoldable pub rangeFor : List ℕ → ℕ → Range
+rangeFor cs p =
+    let f = endOf cs (p + 1) (numberLen (drop (p + 1) cs)) in
+    let s = endOf cs (secondAt cs p) (numberLen (drop (secondAt cs p) cs)) in
+    record { first = f; second = s; width = widthOf (f .digits) (s .digits) }
+
 pub record RangeOf (cs : List ℕ) (p : ℕ) (r : Range) : Type 0 where
   pub first : EndAt cs (firstEnd cs p) (r .first)
   pub second : EndAt cs (secondEnd cs p) (r .second)
@@ -49,6 +70,7 @@ pub record RangeOf (cs : List ℕ) (p : ℕ) (r : Range) : Type 0 where
   pub broad : r .second .digits ≤ r .width
   pub room : r .width + 3 ≤ rangeMore cs (p + 1)
   pub fits : p + rangeMore cs (p + 1) < length cs
+  pub is : r ≡ rangeFor cs p
 
 -- all zeros from `from` up to i, which is `end` or stands at another character
 pub record PastZeros (cs : List ℕ) (from end i : ℕ) : Type 0 where
@@ -56,12 +78,14 @@ pub record PastZeros (cs : List ℕ) (from end i : ℕ) : Type 0 where
   pub stop : i ≤ end
   pub zeros : (j : ℕ) → from ≤ j → j < i → getD cs j 0 ≡ 48
   pub other : i < end → getD cs i 0 ≡ 48 → ⊥
+  pub is : i ≡ pastZeros cs from (end - from)
 
 pub record WidthOf (m n w : ℕ) : Type 0 where
   pub some : 0 < w
   pub wide : m ≤ w
   pub broad : n ≤ w
-  pub is : (b : ℕ) → 0 < b → m ≤ b → n ≤ b → w ≤ b
+  pub least : (b : ℕ) → 0 < b → m ≤ b → n ≤ b → w ≤ b
+  pub is : w ≡ widthOf m n
 
 pub record Ordered (c d order r : ℕ) : Type 0 where
   pub is : r ≡ orderThen c d order
@@ -130,9 +154,8 @@ pub record Kept (cs : List ℕ) (p : ℕ) (r : Range) (k : Strings) (s : List �
 
 -- one character more: the ends are those that the characters have
 pub record RangeNext (cs : List ℕ) (p : ℕ) (next : Bool) (c : ℕ) (l l' : List ℕ) (hit : Bool) : Type 0 where
-  pub range : Range
-  pub of : RangeOf cs p range
+  pub of : RangeOf cs p (rangeFor cs p)
   pub long : length l' ≡ length l
   pub kept : (i : ℕ) → (i < p → getD l' i 0 ≡ getD l i 0) × (p + rangeMore cs (p + 1) < i → getD l' i 0 ≡ getD l i 0)
-  pub is : (k : Strings) (s : List ℕ) → next ≡ k s → Kept cs p range k s l
-      → (hit ≡ someThen (inRange (firstEnd cs p) (secondEnd cs p)) k (c ∷ s)) × Kept cs p range k (c ∷ s) l'
+  pub is : (k : Strings) (s : List ℕ) → next ≡ k s → Kept cs p (rangeFor cs p) k s l
+      → (hit ≡ someThen (inRange (firstEnd cs p) (secondEnd cs p)) k (c ∷ s)) × Kept cs p (rangeFor cs p) k (c ∷ s) l'

@@ -5,7 +5,7 @@ ghost use lib.ListN.{length, getD, take, drop};
 ghost use Rattle.config_rules.specs.Numbers.{numberLen};
 ghost use Rattle.glob_name.specs.Read.{rangeMore};
 ghost use Rattle.ranges.specs.Slots.{notAbove, notBelow, wholeOf, insideOf};
-ghost use Rattle.ranges.specs.Ranges.{lows, EndAt, RangeOf, Ordered, slotStep, slotIn, flagOf, firstSlot, farAt, withFlags, FarNext, PastZeros, WidthOf, turned, opposite, anySlot, Moved, RangeNext};
+ghost use Rattle.ranges.specs.Ranges.{lows, EndAt, RangeOf, endOf, Ordered, slotStep, slotIn, flagOf, firstSlot, farAt, withFlags, FarNext, PastZeros, WidthOf, turned, opposite, anySlot, Moved, RangeNext};
 use glob_name::read::number_len;
 
 // An end of a range: whether a minus stands before it, where its digits end, and how many there are without leading zeros.
@@ -229,7 +229,7 @@ fn past_zeros(chars: &[u32], from: usize, end: usize) -> usize
 // The end of a range that stands at `from` and is n characters long.
 fn end_at(chars: &[u32], from: usize, n: usize) -> End
     requires { ⌜ (n ≡ numberLen (drop from (now chars))) × (0 < n) × (from + n ≤ length (now chars)) × (length (now chars) < 1026) ⌝ }
-    ensures { λ r. ⌜ EndAt (now (chars .entry)) (take n (drop from (now (chars .entry)))) r × (r .digits ≤ n) ⌝ }
+    ensures { λ r. ⌜ EndAt (now (chars .entry)) (take n (drop from (now (chars .entry)))) r × (r .digits ≤ n) × (r ≡ endOf (now (chars .entry)) from n) ⌝ }
 {
     let end = from + n;
     if chars[from] == 45 {

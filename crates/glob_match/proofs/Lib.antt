@@ -1,0 +1,3 @@
+-- Laws.
+pub mod SlotsLaws
+pub mod PathLaws

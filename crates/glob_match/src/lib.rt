@@ -1,6 +1,4 @@
 // Whether the name of a section matches a path. The path is read from its end, with a `/` before it.
-pub mod name;
-
 ghost use mathlib.Core.Path.{_≡_};
 ghost use mathlib.Core.List.{_∷_};
 ghost use Prim.Native.Nat.{_≤_, _<_};

@@ -180,7 +180,8 @@ pub settled-held : (cs ks k1 k2 : List ℕ) → RawKinds cs ks → k1 ≡ markRi
     → (length k2 ≡ length cs) × (held k2 cs ≡ tokensOf cs) × Spaced cs k2
 unfolding tokensOf
 settled-held cs ks k1 k2 w a b =
-    let e : k2 ≡ markLeft [] (markRight ks) = b ∙ ap (markLeft []) a in
-    (ap length e ∙ length-marked ks ∙ w .long,
-    ap (λ (l : List ℕ). held l cs) e ∙ marked-is ks cs [] (w .long) (w .raw) ∙ ap (settled []) (w .is),
-    rw e (spaced-marked cs ks (w .spaced)))
+    let e : k2 ≡ markLeft [] (markRight ks) = b ∙ ap (markLeft []) a in (
+      ap length e ∙ length-marked ks ∙ w .long,
+      ap (λ (l : List ℕ). held l cs) e ∙ marked-is ks cs [] (w .long) (w .raw) ∙ ap (settled []) (w .is),
+      rw e (spaced-marked cs ks (w .spaced)),
+    )

@@ -377,3 +377,35 @@ pub second-some : (cs : List ℕ) (p m n : ℕ) → 0 < rangeMore cs (p + 1) →
 second-some cs p m n h c d =
     let P : Parts cs (p + 1) = parts cs (p + 1) h in
     (d .is, rw (d .is, c .is) (P .second), d .fits)
+
+-- ---- the room that a range needs
+
+past-least : (cs : List ℕ) (i n : ℕ) → i ≤ pastZeros cs i n
+unfolding pastZeros
+past-least cs i zero = omega arith
+past-least cs i (suc n) =
+    let h : suc i ≤ pastZeros cs (suc i) n = past-least cs (suc i) n in
+    choose-case (λ (x : ℕ). i ≤ x) (λ e. omega arith) (λ e. omega arith)
+
+end-short : (cs : List ℕ) (from n : ℕ) → endOf cs from n .digits ≤ n
+unfolding endOf
+end-short cs from n =
+    choose-case (λ (e : End). e .digits ≤ n)
+    (λ e. let h : from + 1 ≤ pastZeros cs (from + 1) (from + n - (from + 1)) = past-least cs (from + 1) (from + n - (from + 1)) in omega arith)
+    (λ e. let h : from ≤ pastZeros cs from (from + n - from) = past-least cs from (from + n - from) in omega arith)
+
+width-short : (m n b : ℕ) → 0 < b → m ≤ b → n ≤ b → widthOf m n ≤ b
+unfolding widthOf
+width-short m n b h j k = choose-case (λ (x : ℕ). x ≤ b) (λ e. k) (λ e. choose-case (λ (x : ℕ). x ≤ b) (λ f. j) (λ f. omega arith))
+
+pub range-room : (cs : List ℕ) (p : ℕ) → 0 < rangeMore cs (p + 1) → rangeFor cs p .width + 3 ≤ rangeMore cs (p + 1)
+unfolding rangeFor
+range-room cs p h =
+    let P : Parts cs (p + 1) = parts cs (p + 1) h in
+    let m : ℕ = numberLen (drop (p + 1) cs) in
+    let n : ℕ = numberLen (drop (secondAt cs p) cs) in
+    let x : endOf cs (p + 1) m .digits ≤ m = end-short cs (p + 1) m in
+    let y : endOf cs (secondAt cs p) n .digits ≤ n = end-short cs (secondAt cs p) n in
+    let a : 0 < m = P .first in
+    let w : widthOf (endOf cs (p + 1) m .digits) (endOf cs (secondAt cs p) n .digits) ≤ m + n = width-short _ _ (m + n) (omega arith) (omega arith) (omega arith) in
+    omega (arith, P .more)

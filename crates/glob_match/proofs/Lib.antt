@@ -1,3 +1,4 @@
 -- Laws.
 pub mod SlotsLaws
 pub mod PathLaws
+pub mod NameLaws

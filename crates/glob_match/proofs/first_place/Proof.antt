@@ -3,14 +3,10 @@ use native.Mathlib.Omega.{arith}
 use Rattle.glob_match.proofs.NameLaws.{place-first, place-second}
 use Rattle.glob_match.proofs.first_place.Statement.{statement}
 use Rattle.glob_match.proofs.first_place.Tie as tie
-use Rattle.glob_match.proofs.first_place.Reads as reads
-use Rattle.glob_match.proofs.first_place.Lts as lts
 
--- src/lib.rt:89:9
 returns : tie.Need-returns
 returns c = place-first _ (c .if1 .taken)
 
--- src/lib.rt:85:1
 returns-2 : tie.Need-returns-2
 returns-2 c = place-second _ (c .if1 .left)
 

@@ -3,12 +3,6 @@ use native.Mathlib.Omega.{arith}
 use Rattle.glob_match.proofs.PathLaws.{Reading, reading-start, reading-more, reading-room, reading-levels, reading-whole}
 use Rattle.glob_match.proofs.matches_at.Statement.{statement}
 use Rattle.glob_match.proofs.matches_at.Tie as tie
-use Rattle.glob_match.proofs.matches_at.Reads as reads
-use Rattle.glob_match.proofs.matches_at.Lts as lts
-use Rattle.glob_match.proofs.ranges_next.Reads as ranges-next-reads
-use Rattle.glob_pass.proofs.pass.Reads as pass-reads
-use Rattle.unicode.proofs.code_at.Reads as code-at-reads
-use Rattle.unicode.proofs.size_before.Reads as size-before-reads
 
 abbrev Inv-loop : tie.InvT-loop
 Inv-loop kinds chars path levels slots₀ hits₀ v₀ found₀ e₀ slots hits v found e = Reading kinds chars path e v found slots hits
@@ -16,71 +10,54 @@ Inv-loop kinds chars path levels slots₀ hits₀ v₀ found₀ e₀ slots hits 
 abbrev μ-loop : tie.MeasureT-loop
 μ-loop kinds chars path levels slots₀ hits₀ v₀ found₀ e₀ slots hits v found e = e
 
--- src/lib.rt:47:5
 pass-requires : tie.Need-pass-requires Inv-loop μ-loop
 pass-requires c κs = search needs
 
--- src/lib.rt:48:21
 array-read-found : tie.Need-array-read-found Inv-loop μ-loop
 array-read-found c = search needs
 
--- src/lib.rt:50:5
 loop-holds : tie.Need-loop-holds Inv-loop μ-loop
 loop-holds c = reading-start _ _ _ 1026 1026 _ (c .before .before .before .before .before .before .pre .3) (c .before .before .before .before .before .before .pre .0) (omega arith) (omega arith) (c .pass .ensures)
 
--- src/lib.rt:51:14
 size-before-requires : tie.Need-size-before-requires Inv-loop μ-loop
 size-before-requires c κs = search needs
 
--- src/lib.rt:51:9
 sub-e : tie.Need-sub-e Inv-loop μ-loop
 sub-e c = search needs
 
--- src/lib.rt:52:13
 code-at-requires : tie.Need-code-at-requires Inv-loop μ-loop
 code-at-requires c κs = search needs
 
--- src/lib.rt:53:9
 ranges-next-requires : tie.Need-ranges-next-requires Inv-loop μ-loop
 ranges-next-requires c κs = search needs
 
--- src/lib.rt:54:9
 pass-requires-2 : tie.Need-pass-requires-2 Inv-loop μ-loop
 pass-requires-2 c κs = search needs
 
--- src/lib.rt:55:25
 array-read-found-2 : tie.Need-array-read-found-2 Inv-loop μ-loop
 array-read-found-2 c = search needs
 
--- src/lib.rt:50:5
 loop-less : tie.Need-loop-less Inv-loop μ-loop
 loop-less c = search needs
 
--- src/lib.rt:50:5
 loop-again : tie.Need-loop-again Inv-loop μ-loop
 loop-again c = search (needs, reading-more)
 
--- src/lib.rt:57:5
 ranges-next-requires-2 : tie.Need-ranges-next-requires-2 Inv-loop μ-loop
 ranges-next-requires-2 c κs = search needs
 
--- src/lib.rt:58:5
 pass-requires-3 : tie.Need-pass-requires-3 Inv-loop μ-loop
 pass-requires-3 c κs = search needs
 
--- src/lib.rt:60:24
 array-read-result : tie.Need-array-read-result Inv-loop μ-loop
 array-read-result c = search needs
 
--- src/lib.rt:60:9
 returns : tie.Need-returns Inv-loop μ-loop
 returns c = search (needs, reading-levels)
 
--- src/lib.rt:62:5
 array-read-result-2 : tie.Need-array-read-result-2 Inv-loop μ-loop
 array-read-result-2 c = search needs
 
--- src/lib.rt:40:1
 returns-2 : tie.Need-returns-2 Inv-loop μ-loop
 returns-2 c = search (needs, reading-whole)
 

@@ -5,9 +5,6 @@ use lib.ListN.{length}
 use Rattle.glob_match.proofs.SlotsLaws.{Ranging, ranging-start, ranging-end, ranging-other, ranging-range}
 use Rattle.glob_match.proofs.ranges_next.Statement.{statement}
 use Rattle.glob_match.proofs.ranges_next.Tie as tie
-use Rattle.glob_match.proofs.ranges_next.Reads as reads
-use Rattle.glob_match.proofs.ranges_next.Lts as lts
-use Rattle.ranges.proofs.range_next.Reads as range-next-reads
 
 abbrev Inv-loop : tie.InvT-loop
 Inv-loop kinds chars slots₀ hits₀ v c p₀ slots hits p = Ranging kinds chars v c slots₀ hits₀ p slots hits
@@ -15,55 +12,42 @@ Inv-loop kinds chars slots₀ hits₀ v c p₀ slots hits p = Ranging kinds char
 abbrev μ-loop : tie.MeasureT-loop
 μ-loop kinds chars slots₀ hits₀ v c p₀ slots hits p = length kinds - p
 
--- src/lib.rt:29:5
 loop-holds : tie.Need-loop-holds Inv-loop μ-loop
 loop-holds c = search (needs, ranging-start)
 
--- src/lib.rt:30:12
 shared-slice-read-if1 : tie.Need-shared-slice-read-if1 Inv-loop μ-loop
 shared-slice-read-if1 c = search needs
 
--- src/lib.rt:31:53
 add-range-next : tie.Need-add-range-next Inv-loop μ-loop
 add-range-next c = search needs
 
--- src/lib.rt:31:51
 element-copy-out-range-next : tie.Need-element-copy-out-range-next Inv-loop μ-loop
 element-copy-out-range-next c = search needs
 
--- src/lib.rt:31:23
 range-next-requires : tie.Need-range-next-requires Inv-loop μ-loop
 range-next-requires c κs = (c .before .before .before .before .before .before .before .before .pre .2 .some _ (c .before .before .if1 .taken), omega arith, omega arith, omega arith)
 
--- src/lib.rt:31:13
 element-write-hits : tie.Need-element-write-hits Inv-loop μ-loop
 element-write-hits c = search needs
 
--- src/lib.rt:32:13
 add-p : tie.Need-add-p Inv-loop μ-loop
 add-p c = search needs
 
--- src/lib.rt:29:5
 loop-less : tie.Need-loop-less Inv-loop μ-loop
 loop-less c = search needs
 
--- src/lib.rt:29:5
 loop-again : tie.Need-loop-again Inv-loop μ-loop
 loop-again c = search (needs, ranging-range)
 
--- src/lib.rt:35:9
 add-p-2 : tie.Need-add-p-2 Inv-loop μ-loop
 add-p-2 c = search needs
 
--- src/lib.rt:29:5
 loop-less-2 : tie.Need-loop-less-2 Inv-loop μ-loop
 loop-less-2 c = search needs
 
--- src/lib.rt:29:5
 loop-again-2 : tie.Need-loop-again-2 Inv-loop μ-loop
 loop-again-2 c = search (needs, ranging-other)
 
--- src/lib.rt:17:1
 returns : tie.Need-returns Inv-loop μ-loop
 returns c = search (needs, ranging-end)
 

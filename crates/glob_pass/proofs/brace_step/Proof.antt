@@ -3,54 +3,40 @@ use native.Mathlib.Omega.{arith}
 use Rattle.glob_pass.proofs.BraceLaws.{braced-closes, braced-none, braced-comma, braced-opens}
 use Rattle.glob_pass.proofs.brace_step.Statement.{statement}
 use Rattle.glob_pass.proofs.brace_step.Tie as tie
-use Rattle.glob_pass.proofs.brace_step.Reads as reads
-use Rattle.glob_pass.proofs.brace_step.Lts as lts
 
--- src/lib.rt:91:9
 element-write-after : tie.Need-element-write-after
 element-write-after c = search needs
 
--- src/lib.rt:92:9
 element-write-others : tie.Need-element-write-others
 element-write-others c = search needs
 
--- src/lib.rt:94:20
 add-t12 : tie.Need-add-t12
 add-t12 c = search needs
 
--- src/lib.rt:93:9
 returns : tie.Need-returns
 returns c = search (needs, braced-closes)
 
--- src/lib.rt:99:9
 returns-2 : tie.Need-returns-2
 returns-2 c = search (needs, braced-none)
 
--- src/lib.rt:101:13
 sub-m : tie.Need-sub-m
 sub-m c = search needs
 
--- src/lib.rt:103:28
 element-copy-out-others : tie.Need-element-copy-out-others
 element-copy-out-others c = search needs
 
--- src/lib.rt:103:9
 element-write-others-2 : tie.Need-element-write-others-2
 element-write-others-2 c = search needs
 
--- src/lib.rt:106:19
 element-copy-out-t15 : tie.Need-element-copy-out-t15
 element-copy-out-t15 c = search needs
 
--- src/lib.rt:104:9
 returns-3 : tie.Need-returns-3
 returns-3 c = search (needs, braced-comma)
 
--- src/lib.rt:111:22
 element-copy-out-t7 : tie.Need-element-copy-out-t7
 element-copy-out-t7 c = search needs
 
--- src/lib.rt:80:1
 returns-4 : tie.Need-returns-4
 returns-4 c = search (needs, braced-opens)
 

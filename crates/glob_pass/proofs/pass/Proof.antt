@@ -4,10 +4,6 @@ use lib.ListN.{set}
 use Rattle.glob_pass.proofs.PassLaws.{Going, going-start, passed-set, going-end, going-brace, going-plain}
 use Rattle.glob_pass.proofs.pass.Statement.{statement}
 use Rattle.glob_pass.proofs.pass.Tie as tie
-use Rattle.glob_pass.proofs.pass.Reads as reads
-use Rattle.glob_pass.proofs.pass.Lts as lts
-use Rattle.glob_pass.proofs.brace_step.Reads as brace-step-reads
-use Rattle.glob_pass.proofs.value_at.Reads as value-at-reads
 
 abbrev Inv-loop : tie.InvT-loop
 Inv-loop kinds chars c base hits v₀ after₀ others₀ p₀ depth₀ next₀ prior₀ v after others p depth next prior = Going kinds chars c base hits (set v₀ p₀ prior₀) p v prior others after depth next
@@ -15,67 +11,51 @@ Inv-loop kinds chars c base hits v₀ after₀ others₀ p₀ depth₀ next₀ p
 abbrev μ-loop : tie.MeasureT-loop
 μ-loop kinds chars c base hits v₀ after₀ others₀ p₀ depth₀ next₀ prior₀ v after others p depth next prior = p
 
--- src/lib.rt:132:21
 element-copy-out-prior : tie.Need-element-copy-out-prior Inv-loop μ-loop
 element-copy-out-prior c = search needs
 
--- src/lib.rt:133:5
 element-write-v : tie.Need-element-write-v Inv-loop μ-loop
 element-write-v c = search needs
 
--- src/lib.rt:134:5
 loop-holds : tie.Need-loop-holds Inv-loop μ-loop
 loop-holds c = going-start _ _ _ _ _ _ (c .before .before .before .args .v .now) _ _ (c .before .before .before .pre .0) (omega arith) (omega arith) (omega arith)
 
--- src/lib.rt:135:9
 sub-p : tie.Need-sub-p Inv-loop μ-loop
 sub-p c = search needs
 
--- src/lib.rt:136:19
 element-copy-out-old : tie.Need-element-copy-out-old Inv-loop μ-loop
 element-copy-out-old c = search needs
 
--- src/lib.rt:137:17
 shared-slice-read-k : tie.Need-shared-slice-read-k Inv-loop μ-loop
 shared-slice-read-k c = search needs
 
--- src/lib.rt:139:17
 brace-step-requires : tie.Need-brace-step-requires Inv-loop μ-loop
 brace-step-requires c κs = search needs
 
--- src/lib.rt:142:13
 element-write-v-2 : tie.Need-element-write-v-2 Inv-loop μ-loop
 element-write-v-2 c = search needs
 
--- src/lib.rt:134:5
 loop-less : tie.Need-loop-less Inv-loop μ-loop
 loop-less c = search needs
 
--- src/lib.rt:134:5
 loop-again : tie.Need-loop-again Inv-loop μ-loop
 loop-again c = search (needs, going-brace)
 
--- src/lib.rt:150:18
 element-copy-out-t22 : tie.Need-element-copy-out-t22 Inv-loop μ-loop
 element-copy-out-t22 c = search needs
 
--- src/lib.rt:152:9
 value-at-requires : tie.Need-value-at-requires Inv-loop μ-loop
 value-at-requires c κs = (search needs, c .before .if1 .left)
 
--- src/lib.rt:153:9
 element-write-v-3 : tie.Need-element-write-v-3 Inv-loop μ-loop
 element-write-v-3 c = search needs
 
--- src/lib.rt:134:5
 loop-less-2 : tie.Need-loop-less-2 Inv-loop μ-loop
 loop-less-2 c = search needs
 
--- src/lib.rt:134:5
 loop-again-2 : tie.Need-loop-again-2 Inv-loop μ-loop
 loop-again-2 c = search (needs, going-plain)
 
--- src/lib.rt:116:1
 returns : tie.Need-returns Inv-loop μ-loop
 returns c = passed-set _ _ _ _ _ _ _ (going-end _ _ _ _ _ _ _ _ _ _ _ _ _ (c .before .loop .inv) (omega arith))
 

@@ -3,50 +3,37 @@ use native.Mathlib.Omega.{arith}
 use Rattle.glob_pass.proofs.ValueLaws.{value-range, value-past, value-escaped, value-ahead, value-opens, value-comma, value-closes}
 use Rattle.glob_pass.proofs.rare_value.Statement.{statement}
 use Rattle.glob_pass.proofs.rare_value.Tie as tie
-use Rattle.glob_pass.proofs.rare_value.Reads as reads
-use Rattle.glob_pass.proofs.rare_value.Lts as lts
 
--- src/lib.rt:32:9
 returns : tie.Need-returns
 returns c = search (needs, value-range)
 
--- src/lib.rt:35:27
 add-if3 : tie.Need-add-if3
 add-if3 c = search needs
 
--- src/lib.rt:36:13
 returns-2 : tie.Need-returns-2
 returns-2 c = search (needs, value-past)
 
--- src/lib.rt:38:23
 add-result : tie.Need-add-result
 add-result c = search needs
 
--- src/lib.rt:38:17
 mul-result : tie.Need-mul-result
 mul-result c = search needs
 
--- src/lib.rt:38:17
 shared-slice-read-result : tie.Need-shared-slice-read-result
 shared-slice-read-result c = search needs
 
--- src/lib.rt:38:9
 returns-3 : tie.Need-returns-3
 returns-3 c = search (needs, value-escaped)
 
--- src/lib.rt:41:9
 returns-4 : tie.Need-returns-4
 returns-4 c = search (needs, value-ahead)
 
--- src/lib.rt:44:9
 returns-5 : tie.Need-returns-5
 returns-5 c = search (needs, value-opens)
 
--- src/lib.rt:47:9
 returns-6 : tie.Need-returns-6
 returns-6 c = search (needs, value-comma)
 
--- src/lib.rt:27:1
 returns-7 : tie.Need-returns-7
 returns-7 c = search (needs, value-closes)
 

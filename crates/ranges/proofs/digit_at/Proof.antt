@@ -3,30 +3,22 @@ use native.Mathlib.Omega.{arith}
 use Rattle.ranges.proofs.SlotLaws.{lows-at, lows-past}
 use Rattle.ranges.proofs.digit_at.Statement.{statement}
 use Rattle.ranges.proofs.digit_at.Tie as tie
-use Rattle.ranges.proofs.digit_at.Reads as reads
-use Rattle.ranges.proofs.digit_at.Lts as lts
 
--- src/lib.rt:153:17
 sub-i : tie.Need-sub-i
 sub-i c = search needs
 
--- src/lib.rt:153:17
 sub-i-2 : tie.Need-sub-i-2
 sub-i-2 c = search needs
 
--- src/lib.rt:154:16
 mul-result : tie.Need-mul-result
 mul-result c = search needs
 
--- src/lib.rt:154:16
 shared-slice-read-result : tie.Need-shared-slice-read-result
 shared-slice-read-result c = search needs
 
--- src/lib.rt:154:9
 returns : tie.Need-returns
 returns c = search (needs, lows-at)
 
--- src/lib.rt:146:1
 returns-2 : tie.Need-returns-2
 returns-2 c = search (needs, lows-past)
 

@@ -3,47 +3,34 @@ use native.Mathlib.Omega.{arith}
 use Rattle.ranges.proofs.EndLaws.{end-minus, end-plain}
 use Rattle.ranges.proofs.end_at.Statement.{statement}
 use Rattle.ranges.proofs.end_at.Tie as tie
-use Rattle.ranges.proofs.end_at.Reads as reads
-use Rattle.ranges.proofs.end_at.Lts as lts
-use Rattle.ranges.proofs.past_zeros.Reads as past-zeros-reads
 
--- src/lib.rt:234:15
 add-end : tie.Need-add-end
 add-end c = search needs
 
--- src/lib.rt:235:8
 mul-if1 : tie.Need-mul-if1
 mul-if1 c = search needs
 
--- src/lib.rt:235:8
 shared-slice-read-if1 : tie.Need-shared-slice-read-if1
 shared-slice-read-if1 c = search needs
 
--- src/lib.rt:236:39
 add-past-zeros : tie.Need-add-past-zeros
 add-past-zeros c = search needs
 
--- src/lib.rt:236:13
 past-zeros-requires : tie.Need-past-zeros-requires
 past-zeros-requires c κs = search needs
 
--- src/lib.rt:240:21
 sub-t11 : tie.Need-sub-t11
 sub-t11 c = search needs
 
--- src/lib.rt:237:9
 returns : tie.Need-returns
 returns c = end-minus _ _ _ _ (c .before .before .before .before .pre .0) (c .before .before .before .before .pre .1) (c .before .before .before .before .pre .2) (c .before .if1 .taken) (c .past-zeros .ensures)
 
--- src/lib.rt:243:9
 past-zeros-requires-2 : tie.Need-past-zeros-requires-2
 past-zeros-requires-2 c κs = search needs
 
--- src/lib.rt:247:17
 sub-t7 : tie.Need-sub-t7
 sub-t7 c = search needs
 
--- src/lib.rt:230:1
 returns-2 : tie.Need-returns-2
 returns-2 c = end-plain _ _ _ _ (c .before .before .before .before .pre .0) (c .before .before .before .before .pre .1) (c .before .before .before .before .pre .2) (c .before .if1 .left) (c .past-zeros2 .ensures)
 

@@ -4,26 +4,19 @@ use mathlib.Core.Path.{refl}
 use Rattle.ranges.specs.Ranges.{farAt}
 use Rattle.ranges.proofs.far_at.Statement.{statement}
 use Rattle.ranges.proofs.far_at.Tie as tie
-use Rattle.ranges.proofs.far_at.Reads as reads
-use Rattle.ranges.proofs.far_at.Lts as lts
 
--- src/lib.rt:288:22
 add-t3 : tie.Need-add-t3
 add-t3 c = search needs
 
--- src/lib.rt:288:16
 element-copy-out-t6 : tie.Need-element-copy-out-t6
 element-copy-out-t6 c = search needs
 
--- src/lib.rt:289:22
 add-t8 : tie.Need-add-t8
 add-t8 c = search needs
 
--- src/lib.rt:289:16
 element-copy-out-t11 : tie.Need-element-copy-out-t11
 element-copy-out-t11 c = search needs
 
--- src/lib.rt:283:1
 returns : tie.Need-returns
 unfolding farAt
 returns c = refl

@@ -4,15 +4,11 @@ use Rattle.rules.proofs.Choose.{picks}
 use Rattle.ranges.specs.Ranges.{firstSlot}
 use Rattle.ranges.proofs.first_slot.Statement.{statement}
 use Rattle.ranges.proofs.first_slot.Tie as tie
-use Rattle.ranges.proofs.first_slot.Reads as reads
-use Rattle.ranges.proofs.first_slot.Lts as lts
 
--- src/lib.rt:317:9
 returns : tie.Need-returns
 unfolding firstSlot
 returns c = search picks depth 20
 
--- src/lib.rt:313:1
 returns-2 : tie.Need-returns-2
 unfolding firstSlot
 returns-2 c = search picks depth 20

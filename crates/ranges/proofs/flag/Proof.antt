@@ -4,15 +4,11 @@ use Rattle.rules.proofs.Choose.{picks}
 use Rattle.ranges.specs.Ranges.{flagOf}
 use Rattle.ranges.proofs.flag.Statement.{statement}
 use Rattle.ranges.proofs.flag.Tie as tie
-use Rattle.ranges.proofs.flag.Reads as reads
-use Rattle.ranges.proofs.flag.Lts as lts
 
--- src/lib.rt:208:9
 returns : tie.Need-returns
 unfolding flagOf
 returns c = search picks depth 20
 
--- src/lib.rt:204:1
 returns-2 : tie.Need-returns-2
 unfolding flagOf
 returns-2 c = search picks depth 20

@@ -3,28 +3,19 @@ use native.Mathlib.Omega.{arith}
 use Rattle.ranges.specs.Slots.{inside}
 use Rattle.ranges.proofs.inside.Statement.{statement}
 use Rattle.ranges.proofs.inside.Tie as tie
-use Rattle.ranges.proofs.inside.Reads as reads
-use Rattle.ranges.proofs.inside.Lts as lts
-use Rattle.ranges.proofs.not_above.Reads as not-above-reads
-use Rattle.ranges.proofs.not_below.Reads as not-below-reads
 
--- src/lib.rt:66:9
 not-below-requires : tie.Need-not-below-requires
 not-below-requires c κs = search needs
 
--- src/lib.rt:67:9
 not-above-requires : tie.Need-not-above-requires
 not-above-requires c κs = search needs
 
--- src/lib.rt:68:9
 not-below-requires-2 : tie.Need-not-below-requires-2
 not-below-requires-2 c κs = search needs
 
--- src/lib.rt:69:9
 not-above-requires-2 : tie.Need-not-above-requires-2
 not-above-requires-2 c κs = search needs
 
--- src/lib.rt:63:1
 returns : tie.Need-returns
 unfolding inside
 returns c = rw (c .before .before .before .not-below .ensures, c .before .before .not-above .ensures, c .before .not-below2 .ensures, c .not-above2 .ensures)

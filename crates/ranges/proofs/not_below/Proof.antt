@@ -4,15 +4,11 @@ use Rattle.rules.proofs.Choose.{picks}
 use Rattle.ranges.specs.Slots.{notBelow}
 use Rattle.ranges.proofs.not_below.Statement.{statement}
 use Rattle.ranges.proofs.not_below.Tie as tie
-use Rattle.ranges.proofs.not_below.Reads as reads
-use Rattle.ranges.proofs.not_below.Lts as lts
 
--- src/lib.rt:57:9
 returns : tie.Need-returns
 unfolding notBelow
 returns c = search picks depth 20
 
--- src/lib.rt:53:1
 returns-2 : tie.Need-returns-2
 unfolding notBelow
 returns-2 c = search picks depth 20

@@ -3,18 +3,13 @@ use native.Mathlib.Omega.{arith}
 use Rattle.ranges.proofs.SlotLaws.{ordered-less, ordered-more, ordered-same}
 use Rattle.ranges.proofs.order_then.Statement.{statement}
 use Rattle.ranges.proofs.order_then.Tie as tie
-use Rattle.ranges.proofs.order_then.Reads as reads
-use Rattle.ranges.proofs.order_then.Lts as lts
 
--- src/lib.rt:36:9
 returns : tie.Need-returns
 returns c = search (needs, ordered-less)
 
--- src/lib.rt:39:9
 returns-2 : tie.Need-returns-2
 returns-2 c = search (needs, ordered-more)
 
--- src/lib.rt:32:1
 returns-3 : tie.Need-returns-3
 returns-3 c = search (needs, ordered-same)
 

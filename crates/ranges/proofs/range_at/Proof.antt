@@ -3,53 +3,37 @@ use native.Mathlib.Omega.{arith}
 use Rattle.ranges.proofs.EndLaws.{first-some, second-inside, second-some, range-is}
 use Rattle.ranges.proofs.range_at.Statement.{statement}
 use Rattle.ranges.proofs.range_at.Tie as tie
-use Rattle.ranges.proofs.range_at.Reads as reads
-use Rattle.ranges.proofs.range_at.Lts as lts
-use Rattle.glob_name.proofs.read.number_len.Reads as number-len-reads
-use Rattle.ranges.proofs.end_at.Reads as end-at-reads
-use Rattle.ranges.proofs.width_of.Reads as width-of-reads
 
--- src/lib.rt:269:31
 add-number-len : tie.Need-add-number-len
 add-number-len c = search needs
 
--- src/lib.rt:269:9
 number-len-requires : tie.Need-number-len-requires
 number-len-requires c κs = search needs
 
--- src/lib.rt:270:31
 add-end-at : tie.Need-add-end-at
 add-end-at c = search needs
 
--- src/lib.rt:270:9
 end-at-requires : tie.Need-end-at-requires
 end-at-requires c κs = let t = first-some _ _ _ (c .before .before .pre .0) (c .number-len .ensures) in (t .0, t .1, t .2, c .before .before .pre .2)
 
--- src/lib.rt:271:16
 add-from : tie.Need-add-from
 add-from c = search needs
 
--- src/lib.rt:271:16
 add-from-2 : tie.Need-add-from-2
 add-from-2 c = search needs
 
--- src/lib.rt:271:16
 add-from-3 : tie.Need-add-from-3
 add-from-3 c = search needs
 
--- src/lib.rt:272:9
 number-len-requires-2 : tie.Need-number-len-requires-2
 number-len-requires-2 c κs = second-inside _ _ _ (c .before .before .before .pre .0) (c .before .number-len .ensures)
 
--- src/lib.rt:273:9
 end-at-requires-2 : tie.Need-end-at-requires-2
 end-at-requires-2 c κs = let t = second-some _ _ _ _ (c .before .before .before .before .pre .0) (c .before .before .number-len .ensures) (c .number-len2 .ensures) in (t .0, t .1, t .2, c .before .before .before .before .pre .2)
 
--- src/lib.rt:274:9
 width-of-requires : tie.Need-width-of-requires
 width-of-requires c κs = search needs
 
--- src/lib.rt:265:1
 returns : tie.Need-returns
 returns c = search (needs, range-is)
 

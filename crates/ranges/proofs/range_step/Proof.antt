@@ -3,73 +3,49 @@ use native.Mathlib.Omega.{arith}
 use Rattle.ranges.proofs.StepLaws.{range-behind, range-on, room-flags, room-after, room-slots, room-other}
 use Rattle.ranges.proofs.range_step.Statement.{statement}
 use Rattle.ranges.proofs.range_step.Tie as tie
-use Rattle.ranges.proofs.range_step.Reads as reads
-use Rattle.ranges.proofs.range_step.Lts as lts
-use Rattle.ranges.proofs.any_slot.Reads as any-slot-reads
-use Rattle.ranges.proofs.far_at.Reads as far-at-reads
-use Rattle.ranges.proofs.far_next.Reads as far-next-reads
-use Rattle.ranges.proofs.first_slot.Reads as first-slot-reads
-use Rattle.ranges.proofs.opposite.Reads as opposite-reads
-use Rattle.ranges.proofs.put_flags.Reads as put-flags-reads
-use Rattle.ranges.proofs.slots_next.Reads as slots-next-reads
 
--- src/lib.rt:314:14
 add-at : tie.Need-add-at
 add-at c = search needs
 
--- src/lib.rt:315:16
 element-copy-out-last : tie.Need-element-copy-out-last
 element-copy-out-last c = search needs
 
--- src/lib.rt:316:9
 far-at-requires : tie.Need-far-at-requires
 far-at-requires c κs = search (needs, room-flags)
 
--- src/lib.rt:317:24
 add-behind : tie.Need-add-behind
 add-behind c = search needs
 
--- src/lib.rt:317:18
 element-copy-out-behind : tie.Need-element-copy-out-behind
 element-copy-out-behind c = search needs
 
--- src/lib.rt:318:16
 first-slot-requires : tie.Need-first-slot-requires
 first-slot-requires c κs = search needs
 
--- src/lib.rt:318:5
 element-write-slots : tie.Need-element-write-slots
 element-write-slots c = search needs
 
--- src/lib.rt:319:5
 slots-next-requires : tie.Need-slots-next-requires
 slots-next-requires c κs = search needs
 
--- src/lib.rt:320:9
 any-slot-requires : tie.Need-any-slot-requires
 any-slot-requires c κs = room-slots _ _ _ (c .before .before .before .before .before .before .before .before .before .before .pre .0) (c .before .before .before .before .before .before .before .before .before .before .args .slots .now) (c .before .before .before .before .before .before .before .before .before .before .pre .1) (c .before .before .before .before .before .before .before .before .before .before .pre .2) _ _ _ (c .before .slots-next .ensures)
 
--- src/lib.rt:321:36
 opposite-requires : tie.Need-opposite-requires
 opposite-requires c κs = search needs
 
--- src/lib.rt:321:9
 any-slot-requires-2 : tie.Need-any-slot-requires-2
 any-slot-requires-2 c κs = room-other _ _ _ (c .before .before .before .before .before .before .before .before .before .before .before .before .before .pre .0) (c .before .before .before .before .before .before .before .before .before .before .before .before .before .args .slots .now) (c .before .before .before .before .before .before .before .before .before .before .before .before .before .pre .1) (c .before .before .before .before .before .before .before .before .before .before .before .before .before .pre .2) _ _ _ (c .before .before .before .before .slots-next .ensures) _ (c .opposite .ensures)
 
--- src/lib.rt:322:9
 far-next-requires : tie.Need-far-next-requires
 far-next-requires c κs = search needs
 
--- src/lib.rt:323:5
 put-flags-requires : tie.Need-put-flags-requires
 put-flags-requires c κs = room-after _ _ _ (c .before .before .before .before .before .before .before .before .before .before .before .before .before .before .before .before .before .pre .0) (c .before .before .before .before .before .before .before .before .before .before .before .before .before .before .before .before .before .args .slots .now) (c .before .before .before .before .before .before .before .before .before .before .before .before .before .before .before .before .before .pre .1) (c .before .before .before .before .before .before .before .before .before .before .before .before .before .before .before .before .before .pre .2) _ _ _ (c .before .before .before .before .before .before .before .before .slots-next .ensures)
 
--- src/lib.rt:325:9
 returns : tie.Need-returns
 returns c = range-behind _ _ _ _ _ (c .before .before .before .before .before .before .before .before .before .before .before .before .before .before .before .before .before .before .before .pre .0) (c .before .before .before .before .before .before .before .before .before .before .before .before .before .before .before .before .before .before .before .args .slots .now) _ (c .before .before .before .before .before .before .before .before .before .before .before .before .before .before .before .before .before .before .before .pre .1) _ (c .before .before .before .before .before .before .before .before .before .before .before .before .first-slot .ensures) (c .before .before .before .before .before .before .before .before .before .before .slots-next .ensures) _ _ (c .before .before .before .before .before .before .before .before .any-slot .ensures) _ (c .before .before .before .before .before .before .opposite .ensures) (c .before .before .before .before .before .any-slot2 .ensures) _ _ (c .before .before .before .before .before .before .before .before .before .before .before .before .before .before .far-at .ensures) (c .before .before .before .before .far-next .ensures) _ (c .before .put-flags .ensures) (c .if1 .taken)
 
--- src/lib.rt:303:1
 returns-2 : tie.Need-returns-2
 returns-2 c = range-on _ _ _ _ _ (c .before .before .before .before .before .before .before .before .before .before .before .before .before .before .before .before .before .before .before .before .pre .0) (c .before .before .before .before .before .before .before .before .before .before .before .before .before .before .before .before .before .before .before .before .args .slots .now) _ (c .before .before .before .before .before .before .before .before .before .before .before .before .before .before .before .before .before .before .before .before .pre .1) _ (c .before .before .before .before .before .before .before .before .before .before .before .before .before .first-slot .ensures) (c .before .before .before .before .before .before .before .before .before .before .before .slots-next .ensures) _ _ (c .before .before .before .before .before .before .before .before .before .any-slot .ensures) _ (c .before .before .before .before .before .before .before .opposite .ensures) (c .before .before .before .before .before .before .any-slot2 .ensures) _ _ (c .before .before .before .before .before .before .before .before .before .before .before .before .before .before .before .far-at .ensures) (c .before .before .before .before .before .far-next .ensures) _ (c .before .before .put-flags .ensures) (c .before .if1 .left)
 

@@ -3,36 +3,25 @@ use native.Mathlib.Omega.{arith}
 use Rattle.ranges.proofs.SlotLaws.{in-none, in-some}
 use Rattle.ranges.proofs.slot_in.Statement.{statement}
 use Rattle.ranges.proofs.slot_in.Tie as tie
-use Rattle.ranges.proofs.slot_in.Reads as reads
-use Rattle.ranges.proofs.slot_in.Lts as lts
-use Rattle.ranges.proofs.inside.Reads as inside-reads
-use Rattle.ranges.proofs.whole_of.Reads as whole-of-reads
 
--- src/lib.rt:105:9
 returns : tie.Need-returns
 returns c = search (needs, in-none)
 
--- src/lib.rt:109:41
 sub-whole-of : tie.Need-sub-whole-of
 sub-whole-of c = search needs
 
--- src/lib.rt:109:9
 whole-of-requires : tie.Need-whole-of-requires
 whole-of-requires c κs = search needs
 
--- src/lib.rt:110:42
 sub-whole-of-2 : tie.Need-sub-whole-of-2
 sub-whole-of-2 c = search needs
 
--- src/lib.rt:110:9
 whole-of-requires-2 : tie.Need-whole-of-requires-2
 whole-of-requires-2 c κs = search needs
 
--- src/lib.rt:111:5
 inside-requires : tie.Need-inside-requires
 inside-requires c κs = search needs
 
--- src/lib.rt:101:1
 returns-2 : tie.Need-returns-2
 returns-2 c = search (needs, in-some)
 

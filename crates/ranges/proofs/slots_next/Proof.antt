@@ -3,10 +3,6 @@ use native.Mathlib.Omega.{arith}
 use Rattle.ranges.proofs.SlotLaws.{Moving, moving-start, moving-more, moving-end}
 use Rattle.ranges.proofs.slots_next.Statement.{statement}
 use Rattle.ranges.proofs.slots_next.Tie as tie
-use Rattle.ranges.proofs.slots_next.Reads as reads
-use Rattle.ranges.proofs.slots_next.Lts as lts
-use Rattle.ranges.proofs.digit_at.Reads as digit-at-reads
-use Rattle.ranges.proofs.slot_next.Reads as slot-next-reads
 
 abbrev Inv-loop : tie.InvT-loop
 Inv-loop chars slots₀ p c first second j₀ slots j = Moving chars p (record { first = first; second = second; width = j₀ }) c slots₀ j slots
@@ -14,51 +10,39 @@ Inv-loop chars slots₀ p c first second j₀ slots j = Moving chars p (record {
 abbrev μ-loop : tie.MeasureT-loop
 μ-loop chars slots₀ p c first second j₀ slots j = j
 
--- src/lib.rt:167:5
 loop-holds : tie.Need-loop-holds Inv-loop μ-loop
 loop-holds c = search (needs, moving-start)
 
--- src/lib.rt:168:21
 sub-below : tie.Need-sub-below Inv-loop μ-loop
 sub-below c = search needs
 
--- src/lib.rt:169:13
 digit-at-requires : tie.Need-digit-at-requires Inv-loop μ-loop
 digit-at-requires c κs = search needs
 
--- src/lib.rt:170:13
 digit-at-requires-2 : tie.Need-digit-at-requires-2 Inv-loop μ-loop
 digit-at-requires-2 c κs = search needs
 
--- src/lib.rt:171:40
 add-slot-next : tie.Need-add-slot-next Inv-loop μ-loop
 add-slot-next c = search needs
 
--- src/lib.rt:171:34
 element-copy-out-slot-next : tie.Need-element-copy-out-slot-next Inv-loop μ-loop
 element-copy-out-slot-next c = search needs
 
--- src/lib.rt:171:24
 slot-next-requires : tie.Need-slot-next-requires Inv-loop μ-loop
 slot-next-requires c κs = search needs
 
--- src/lib.rt:171:15
 add-slots : tie.Need-add-slots Inv-loop μ-loop
 add-slots c = search needs
 
--- src/lib.rt:171:9
 element-write-slots : tie.Need-element-write-slots Inv-loop μ-loop
 element-write-slots c = search needs
 
--- src/lib.rt:167:5
 loop-less : tie.Need-loop-less Inv-loop μ-loop
 loop-less c = search needs
 
--- src/lib.rt:167:5
 loop-again : tie.Need-loop-again Inv-loop μ-loop
 loop-again c = search (needs, moving-more)
 
--- src/lib.rt:160:1
 returns : tie.Need-returns Inv-loop μ-loop
 returns c = search (needs, moving-end)
 

@@ -3,14 +3,10 @@ use native.Mathlib.Omega.{arith}
 use Rattle.rules.proofs.Choose.{picks}
 use Rattle.ranges.proofs.whole_of.Statement.{statement}
 use Rattle.ranges.proofs.whole_of.Tie as tie
-use Rattle.ranges.proofs.whole_of.Reads as reads
-use Rattle.ranges.proofs.whole_of.Lts as lts
 
--- src/lib.rt:77:9
 returns : tie.Need-returns
 returns c = search picks depth 20
 
--- src/lib.rt:73:1
 returns-2 : tie.Need-returns-2
 returns-2 c = search picks depth 20
 

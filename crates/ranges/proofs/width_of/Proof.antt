@@ -3,18 +3,13 @@ use native.Mathlib.Omega.{arith}
 use Rattle.ranges.proofs.EndLaws.{width-second, width-first, width-one}
 use Rattle.ranges.proofs.width_of.Statement.{statement}
 use Rattle.ranges.proofs.width_of.Tie as tie
-use Rattle.ranges.proofs.width_of.Reads as reads
-use Rattle.ranges.proofs.width_of.Lts as lts
 
--- src/lib.rt:256:9
 returns : tie.Need-returns
 returns c = search (needs, width-second)
 
--- src/lib.rt:259:9
 returns-2 : tie.Need-returns-2
 returns-2 c = search (needs, width-first)
 
--- src/lib.rt:252:1
 returns-3 : tie.Need-returns-3
 returns-3 c = search (needs, width-one)
 

@@ -5,10 +5,6 @@ use lib.ListN.{length}
 use Rattle.glob_match.proofs.NameLaws.{Decoding, decoding-start, decoding-room, decoding-more, decoding-end}
 use Rattle.glob_match.proofs.name.decode_into.Statement.{statement}
 use Rattle.glob_match.proofs.name.decode_into.Tie as tie
-use Rattle.glob_match.proofs.name.decode_into.Reads as reads
-use Rattle.glob_match.proofs.name.decode_into.Lts as lts
-use Rattle.unicode.proofs.code_at.Reads as code-at-reads
-use Rattle.unicode.proofs.size_at.Reads as size-at-reads
 
 abbrev Inv-loop : tie.InvT-loop
 Inv-loop name chars₀ k n₀ i₀ chars n i = Decoding name k chars₀ i n chars
@@ -16,43 +12,33 @@ Inv-loop name chars₀ k n₀ i₀ chars n i = Decoding name k chars₀ i n char
 abbrev μ-loop : tie.MeasureT-loop
 μ-loop name chars₀ k n₀ i₀ chars n i = length name - i
 
--- src/name.rt:31:5
 loop-holds : tie.Need-loop-holds Inv-loop μ-loop
 loop-holds c = search (needs, decoding-start)
 
--- src/name.rt:32:13
 size-at-requires : tie.Need-size-at-requires Inv-loop μ-loop
 size-at-requires c κs = search needs
 
--- src/name.rt:33:20
 code-at-requires : tie.Need-code-at-requires Inv-loop μ-loop
 code-at-requires c κs = search needs
 
--- src/name.rt:33:9
 mul-chars : tie.Need-mul-chars Inv-loop μ-loop
 mul-chars c = omega (arith, decoding-room _ _ _ _ _ _ (c .before .before .before .loop .inv) _ (c .before .size-at .ensures) .0)
 
--- src/name.rt:33:9
 element-write-chars : tie.Need-element-write-chars Inv-loop μ-loop
 element-write-chars c = omega (arith, decoding-room _ _ _ _ _ _ (c .before .before .before .loop .inv) _ (c .before .size-at .ensures) .0)
 
--- src/name.rt:34:9
 add-i : tie.Need-add-i Inv-loop μ-loop
 add-i c = search needs
 
--- src/name.rt:35:9
 add-n : tie.Need-add-n Inv-loop μ-loop
 add-n c = omega (arith, decoding-room _ _ _ _ _ _ (c .before .before .before .loop .inv) _ (c .before .size-at .ensures) .0)
 
--- src/name.rt:31:5
 loop-less : tie.Need-loop-less Inv-loop μ-loop
 loop-less c = search needs
 
--- src/name.rt:31:5
 loop-again : tie.Need-loop-again Inv-loop μ-loop
 loop-again c = search (needs, decoding-more)
 
--- src/name.rt:25:1
 returns : tie.Need-returns Inv-loop μ-loop
 returns c = search (needs, decoding-end)
 

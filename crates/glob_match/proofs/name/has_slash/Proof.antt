@@ -5,9 +5,6 @@ use lib.ListN.{length}
 use Rattle.glob_match.proofs.NameLaws.{Seeking, seeking-start, seeking-found, seeking-more, seeking-end}
 use Rattle.glob_match.proofs.name.has_slash.Statement.{statement}
 use Rattle.glob_match.proofs.name.has_slash.Tie as tie
-use Rattle.glob_match.proofs.name.has_slash.Reads as reads
-use Rattle.glob_match.proofs.name.has_slash.Lts as lts
-use Rattle.glob_match.proofs.name.slash_at.Reads as slash-at-reads
 
 abbrev Inv-loop : tie.InvT-loop
 Inv-loop kinds chars i₀ i = Seeking kinds chars i
@@ -15,35 +12,27 @@ Inv-loop kinds chars i₀ i = Seeking kinds chars i
 abbrev μ-loop : tie.MeasureT-loop
 μ-loop kinds chars i₀ i = length kinds - i
 
--- src/name.rt:63:5
 loop-holds : tie.Need-loop-holds Inv-loop μ-loop
 loop-holds c = search (needs, seeking-start)
 
--- src/name.rt:64:21
 shared-slice-read-slash-at : tie.Need-shared-slice-read-slash-at Inv-loop μ-loop
 shared-slice-read-slash-at c = search needs
 
--- src/name.rt:64:12
 slash-at-requires : tie.Need-slash-at-requires Inv-loop μ-loop
 slash-at-requires c κs = search needs
 
--- src/name.rt:65:13
 returns : tie.Need-returns Inv-loop μ-loop
 returns c = search (needs, seeking-found)
 
--- src/name.rt:67:9
 add-i : tie.Need-add-i Inv-loop μ-loop
 add-i c = search needs
 
--- src/name.rt:63:5
 loop-less : tie.Need-loop-less Inv-loop μ-loop
 loop-less c = search needs
 
--- src/name.rt:63:5
 loop-again : tie.Need-loop-again Inv-loop μ-loop
 loop-again c = search (needs, seeking-more)
 
--- src/name.rt:58:1
 returns-2 : tie.Need-returns-2 Inv-loop μ-loop
 returns-2 c = search (needs, seeking-end)
 

@@ -4,35 +4,27 @@ use Rattle.rules.proofs.Choose.{picks}
 use Rattle.glob_name.specs.Braces.{leftEvent}
 use Rattle.glob_name.proofs.braces.left_event.Statement.{statement}
 use Rattle.glob_name.proofs.braces.left_event.Tie as tie
-use Rattle.glob_name.proofs.braces.left_event.Reads as reads
-use Rattle.glob_name.proofs.braces.left_event.Lts as lts
 
--- src/braces.rt:29:9
 returns : tie.Need-returns
 unfolding leftEvent
 returns c = search picks depth 20
 
--- src/braces.rt:32:9
 returns-2 : tie.Need-returns-2
 unfolding leftEvent
 returns-2 c = search picks depth 20
 
--- src/braces.rt:35:9
 returns-3 : tie.Need-returns-3
 unfolding leftEvent
 returns-3 c = search picks depth 20
 
--- src/braces.rt:38:9
 returns-4 : tie.Need-returns-4
 unfolding leftEvent
 returns-4 c = search picks depth 20
 
--- src/braces.rt:41:9
 returns-5 : tie.Need-returns-5
 unfolding leftEvent
 returns-5 c = search picks depth 20
 
--- src/braces.rt:25:1
 returns-6 : tie.Need-returns-6
 unfolding leftEvent
 returns-6 c = search picks depth 20

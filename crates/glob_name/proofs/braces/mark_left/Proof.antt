@@ -5,11 +5,6 @@ use lib.ListN.{length}
 use Rattle.glob_name.proofs.MarkLaws.{FromLeft, left-start, left-more, left-end}
 use Rattle.glob_name.proofs.braces.mark_left.Statement.{statement}
 use Rattle.glob_name.proofs.braces.mark_left.Tie as tie
-use Rattle.glob_name.proofs.braces.mark_left.Reads as reads
-use Rattle.glob_name.proofs.braces.mark_left.Lts as lts
-use Rattle.glob_name.proofs.braces.happen.Reads as happen-reads
-use Rattle.glob_name.proofs.braces.left_event.Reads as left-event-reads
-use Rattle.glob_name.proofs.braces.marked.Reads as marked-reads
 
 abbrev Inv-loop : tie.InvT-loop
 Inv-loop kinds₀ flags₀ depth₀ i₀ kinds flags depth i = FromLeft kinds₀ i kinds flags depth
@@ -17,47 +12,36 @@ Inv-loop kinds₀ flags₀ depth₀ i₀ kinds flags depth i = FromLeft kinds₀
 abbrev μ-loop : tie.MeasureT-loop
 μ-loop kinds₀ flags₀ depth₀ i₀ kinds flags depth i = length kinds₀ - i
 
--- src/braces.rt:122:5
 loop-holds : tie.Need-loop-holds Inv-loop μ-loop
 loop-holds c = search (needs, left-start)
 
--- src/braces.rt:123:17
 slice-read-k : tie.Need-slice-read-k Inv-loop μ-loop
 slice-read-k c = search needs
 
--- src/braces.rt:124:28
 left-event-requires : tie.Need-left-event-requires Inv-loop μ-loop
 left-event-requires c κs = search needs
 
--- src/braces.rt:124:13
 happen-requires : tie.Need-happen-requires Inv-loop μ-loop
 happen-requires c κs = search needs
 
--- src/braces.rt:125:20
 marked-requires : tie.Need-marked-requires Inv-loop μ-loop
 marked-requires c κs = search needs
 
--- src/braces.rt:125:9
 slice-write-kinds : tie.Need-slice-write-kinds Inv-loop μ-loop
 slice-write-kinds c = search needs
 
--- src/braces.rt:127:9
 add-i : tie.Need-add-i Inv-loop μ-loop
 add-i c = search needs
 
--- src/braces.rt:122:5
 loop-less : tie.Need-loop-less Inv-loop μ-loop
 loop-less c = search needs
 
--- src/braces.rt:122:5
 loop-again : tie.Need-loop-again Inv-loop μ-loop
 loop-again c = search (needs, left-more)
 
--- src/braces.rt:115:1
 same-length : tie.Need-same-length Inv-loop μ-loop
 same-length c = search needs
 
--- src/braces.rt:115:1
 returns : tie.Need-returns Inv-loop μ-loop
 returns c = search (needs, left-end)
 

@@ -3,11 +3,6 @@ use native.Mathlib.Omega.{arith}
 use Rattle.glob_name.proofs.MarkLaws.{FromRight, right-start, right-more, right-end}
 use Rattle.glob_name.proofs.braces.mark_right.Statement.{statement}
 use Rattle.glob_name.proofs.braces.mark_right.Tie as tie
-use Rattle.glob_name.proofs.braces.mark_right.Reads as reads
-use Rattle.glob_name.proofs.braces.mark_right.Lts as lts
-use Rattle.glob_name.proofs.braces.happen.Reads as happen-reads
-use Rattle.glob_name.proofs.braces.marked.Reads as marked-reads
-use Rattle.glob_name.proofs.braces.right_event.Reads as right-event-reads
 
 abbrev Inv-loop : tie.InvT-loop
 Inv-loop kinds₀ flags₀ depth₀ p₀ kinds flags depth p = FromRight kinds₀ p kinds flags depth
@@ -15,47 +10,36 @@ Inv-loop kinds₀ flags₀ depth₀ p₀ kinds flags depth p = FromRight kinds�
 abbrev μ-loop : tie.MeasureT-loop
 μ-loop kinds₀ flags₀ depth₀ p₀ kinds flags depth p = p
 
--- src/braces.rt:105:5
 loop-holds : tie.Need-loop-holds Inv-loop μ-loop
 loop-holds c = search (needs, right-start)
 
--- src/braces.rt:106:9
 sub-p : tie.Need-sub-p Inv-loop μ-loop
 sub-p c = search needs
 
--- src/braces.rt:107:17
 slice-read-k : tie.Need-slice-read-k Inv-loop μ-loop
 slice-read-k c = search needs
 
--- src/braces.rt:108:28
 right-event-requires : tie.Need-right-event-requires Inv-loop μ-loop
 right-event-requires c κs = search needs
 
--- src/braces.rt:108:13
 happen-requires : tie.Need-happen-requires Inv-loop μ-loop
 happen-requires c κs = search needs
 
--- src/braces.rt:109:20
 marked-requires : tie.Need-marked-requires Inv-loop μ-loop
 marked-requires c κs = search needs
 
--- src/braces.rt:109:9
 slice-write-kinds : tie.Need-slice-write-kinds Inv-loop μ-loop
 slice-write-kinds c = search needs
 
--- src/braces.rt:105:5
 loop-less : tie.Need-loop-less Inv-loop μ-loop
 loop-less c = search needs
 
--- src/braces.rt:105:5
 loop-again : tie.Need-loop-again Inv-loop μ-loop
 loop-again c = search (needs, right-more)
 
--- src/braces.rt:98:1
 same-length : tie.Need-same-length Inv-loop μ-loop
 same-length c = search needs
 
--- src/braces.rt:98:1
 returns : tie.Need-returns Inv-loop μ-loop
 returns c = search (needs, right-end)
 

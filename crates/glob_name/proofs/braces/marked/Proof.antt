@@ -4,30 +4,23 @@ use Rattle.rules.proofs.Choose.{picks}
 use Rattle.glob_name.specs.Braces.{marked}
 use Rattle.glob_name.proofs.braces.marked.Statement.{statement}
 use Rattle.glob_name.proofs.braces.marked.Tie as tie
-use Rattle.glob_name.proofs.braces.marked.Reads as reads
-use Rattle.glob_name.proofs.braces.marked.Lts as lts
 
--- src/braces.rt:52:13
 returns : tie.Need-returns
 unfolding marked
 returns c = search picks depth 20
 
--- src/braces.rt:55:13
 returns-2 : tie.Need-returns-2
 unfolding marked
 returns-2 c = search picks depth 20
 
--- src/braces.rt:58:13
 returns-3 : tie.Need-returns-3
 unfolding marked
 returns-3 c = search picks depth 20
 
--- src/braces.rt:60:9
 returns-4 : tie.Need-returns-4
 unfolding marked
 returns-4 c = search picks depth 20
 
--- src/braces.rt:47:1
 returns-5 : tie.Need-returns-5
 unfolding marked
 returns-5 c = search picks depth 20

@@ -4,15 +4,11 @@ use Rattle.rules.proofs.Choose.{picks}
 use Rattle.glob_name.specs.Braces.{rightEvent}
 use Rattle.glob_name.proofs.braces.right_event.Statement.{statement}
 use Rattle.glob_name.proofs.braces.right_event.Tie as tie
-use Rattle.glob_name.proofs.braces.right_event.Reads as reads
-use Rattle.glob_name.proofs.braces.right_event.Lts as lts
 
--- src/braces.rt:19:9
 returns : tie.Need-returns
 unfolding rightEvent
 returns c = search picks depth 20
 
--- src/braces.rt:15:1
 returns-2 : tie.Need-returns-2
 unfolding rightEvent
 returns-2 c = search picks depth 20

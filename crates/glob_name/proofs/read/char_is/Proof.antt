@@ -3,22 +3,16 @@ use native.Mathlib.Omega.{arith}
 use Rattle.glob_name.proofs.ReadLaws.{first-at, first-past}
 use Rattle.glob_name.proofs.read.char_is.Statement.{statement}
 use Rattle.glob_name.proofs.read.char_is.Tie as tie
-use Rattle.glob_name.proofs.read.char_is.Reads as reads
-use Rattle.glob_name.proofs.read.char_is.Lts as lts
 
--- src/read.rt:22:16
 mul-result : tie.Need-mul-result
 mul-result c = search needs
 
--- src/read.rt:22:16
 shared-slice-read-result : tie.Need-shared-slice-read-result
 shared-slice-read-result c = search needs
 
--- src/read.rt:22:9
 returns : tie.Need-returns
 returns c = search (needs, first-at)
 
--- src/read.rt:18:1
 returns-2 : tie.Need-returns-2
 returns-2 c = first-past (c .before .args .chars .now) (c .before .args .i) (c .before .args .c) (omega arith)
 

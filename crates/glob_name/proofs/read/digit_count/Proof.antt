@@ -5,8 +5,6 @@ use lib.ListN.{length}
 use Rattle.glob_name.proofs.ReadLaws.{Counting, counting-start, counting-below, counting-above, counting-more, counting-end}
 use Rattle.glob_name.proofs.read.digit_count.Statement.{statement}
 use Rattle.glob_name.proofs.read.digit_count.Tie as tie
-use Rattle.glob_name.proofs.read.digit_count.Reads as reads
-use Rattle.glob_name.proofs.read.digit_count.Lts as lts
 
 abbrev Inv-loop : tie.InvT-loop
 Inv-loop chars from i₀ i = Counting chars from i
@@ -14,51 +12,39 @@ Inv-loop chars from i₀ i = Counting chars from i
 abbrev μ-loop : tie.MeasureT-loop
 μ-loop chars from i₀ i = length chars - i
 
--- src/read.rt:33:5
 loop-holds : tie.Need-loop-holds Inv-loop μ-loop
 loop-holds c = search (needs, counting-start)
 
--- src/read.rt:34:17
 mul-c : tie.Need-mul-c Inv-loop μ-loop
 mul-c c = search needs
 
--- src/read.rt:34:17
 shared-slice-read-c : tie.Need-shared-slice-read-c Inv-loop μ-loop
 shared-slice-read-c c = search needs
 
--- src/read.rt:36:20
 sub-result : tie.Need-sub-result Inv-loop μ-loop
 sub-result c = search needs
 
--- src/read.rt:36:13
 returns : tie.Need-returns Inv-loop μ-loop
 returns c = search (needs, counting-below)
 
--- src/read.rt:39:20
 sub-result-2 : tie.Need-sub-result-2 Inv-loop μ-loop
 sub-result-2 c = search needs
 
--- src/read.rt:39:13
 returns-2 : tie.Need-returns-2 Inv-loop μ-loop
 returns-2 c = search (needs, counting-above)
 
--- src/read.rt:41:9
 add-i : tie.Need-add-i Inv-loop μ-loop
 add-i c = search needs
 
--- src/read.rt:33:5
 loop-less : tie.Need-loop-less Inv-loop μ-loop
 loop-less c = search needs
 
--- src/read.rt:33:5
 loop-again : tie.Need-loop-again Inv-loop μ-loop
 loop-again c = search (needs, counting-more)
 
--- src/read.rt:43:5
 sub-result-3 : tie.Need-sub-result-3 Inv-loop μ-loop
 sub-result-3 c = search needs
 
--- src/read.rt:28:1
 returns-3 : tie.Need-returns-3 Inv-loop μ-loop
 returns-3 c = search (needs, counting-end)
 

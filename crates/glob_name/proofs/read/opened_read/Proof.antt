@@ -5,72 +5,53 @@ use Rattle.glob_name.specs.Read.{openedRead}
 use Rattle.glob_name.proofs.ReadLaws.{opened-brace, opened-range}
 use Rattle.glob_name.proofs.read.opened_read.Statement.{statement}
 use Rattle.glob_name.proofs.read.opened_read.Tie as tie
-use Rattle.glob_name.proofs.read.opened_read.Reads as reads
-use Rattle.glob_name.proofs.read.opened_read.Lts as lts
-use Rattle.glob_name.proofs.read.plain_read.Reads as plain-read-reads
-use Rattle.glob_name.proofs.read.range_more.Reads as range-more-reads
 
--- src/read.rt:214:12
 add-if2 : tie.Need-add-if2
 add-if2 c = search needs
 
--- src/read.rt:215:13
 plain-read-requires : tie.Need-plain-read-requires
 plain-read-requires c κs = search needs
 
--- src/read.rt:215:13
 returns : tie.Need-returns
 unfolding openedRead
 returns c = search picks depth 20
 
--- src/read.rt:217:9
 plain-read-requires-2 : tie.Need-plain-read-requires-2
 plain-read-requires-2 c κs = search needs
 
--- src/read.rt:217:9
 returns-2 : tie.Need-returns-2
 unfolding openedRead
 returns-2 c = search picks depth 20
 
--- src/read.rt:221:13
 plain-read-requires-3 : tie.Need-plain-read-requires-3
 plain-read-requires-3 c κs = search needs
 
--- src/read.rt:221:13
 returns-3 : tie.Need-returns-3
 unfolding openedRead
 returns-3 c = search picks depth 20
 
--- src/read.rt:223:9
 plain-read-requires-4 : tie.Need-plain-read-requires-4
 plain-read-requires-4 c κs = search needs
 
--- src/read.rt:223:9
 returns-4 : tie.Need-returns-4
 unfolding openedRead
 returns-4 c = search picks depth 20
 
--- src/read.rt:225:34
 add-range-more : tie.Need-add-range-more
 add-range-more c = search needs
 
--- src/read.rt:225:9
 range-more-requires : tie.Need-range-more-requires
 range-more-requires c κs = search needs
 
--- src/read.rt:227:9
 plain-read-requires-5 : tie.Need-plain-read-requires-5
 plain-read-requires-5 c κs = search needs
 
--- src/read.rt:227:9
 returns-5 : tie.Need-returns-5
 returns-5 c = search (needs, opened-brace)
 
--- src/read.rt:229:5
 plain-read-requires-6 : tie.Need-plain-read-requires-6
 plain-read-requires-6 c κs = search needs
 
--- src/read.rt:209:1
 returns-6 : tie.Need-returns-6
 returns-6 c = search (needs, opened-range)
 

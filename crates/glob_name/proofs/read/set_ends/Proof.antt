@@ -3,9 +3,6 @@ use native.Mathlib.Omega.{arith}
 use Rattle.glob_name.proofs.ReadLaws.{Ending, ending-start, ending-close, ending-escape, ending-other, ending-end}
 use Rattle.glob_name.proofs.read.set_ends.Statement.{statement}
 use Rattle.glob_name.proofs.read.set_ends.Tie as tie
-use Rattle.glob_name.proofs.read.set_ends.Reads as reads
-use Rattle.glob_name.proofs.read.set_ends.Lts as lts
-use Rattle.glob_name.proofs.read.up.Reads as up-reads
 
 abbrev Inv-loop : tie.InvT-loop
 Inv-loop chars ends₀ i₀ plain₀ escaped₀ ends i plain escaped = Ending chars i plain escaped ends
@@ -13,95 +10,72 @@ Inv-loop chars ends₀ i₀ plain₀ escaped₀ ends i plain escaped = Ending ch
 abbrev μ-loop : tie.MeasureT-loop
 μ-loop chars ends₀ i₀ plain₀ escaped₀ ends i plain escaped = i
 
--- src/read.rt:113:5
 mul-ends : tie.Need-mul-ends Inv-loop μ-loop
 mul-ends c = search needs
 
--- src/read.rt:113:5
 element-write-ends : tie.Need-element-write-ends Inv-loop μ-loop
 element-write-ends c = search needs
 
--- src/read.rt:114:5
 loop-holds : tie.Need-loop-holds Inv-loop μ-loop
 loop-holds c = search (needs, ending-start)
 
--- src/read.rt:115:9
 sub-i : tie.Need-sub-i Inv-loop μ-loop
 sub-i c = search needs
 
--- src/read.rt:116:17
 mul-c : tie.Need-mul-c Inv-loop μ-loop
 mul-c c = search needs
 
--- src/read.rt:116:17
 shared-slice-read-c : tie.Need-shared-slice-read-c Inv-loop μ-loop
 shared-slice-read-c c = search needs
 
--- src/read.rt:120:13
 up-requires : tie.Need-up-requires Inv-loop μ-loop
 up-requires c κs = search needs
 
--- src/read.rt:121:13
 mul-ends-2 : tie.Need-mul-ends-2 Inv-loop μ-loop
 mul-ends-2 c = search needs
 
--- src/read.rt:121:13
 element-write-ends-2 : tie.Need-element-write-ends-2 Inv-loop μ-loop
 element-write-ends-2 c = search needs
 
--- src/read.rt:114:5
 loop-less : tie.Need-loop-less Inv-loop μ-loop
 loop-less c = search needs
 
--- src/read.rt:114:5
 loop-again : tie.Need-loop-again Inv-loop μ-loop
 loop-again c = search (needs, ending-close)
 
--- src/read.rt:125:13
 up-requires-2 : tie.Need-up-requires-2 Inv-loop μ-loop
 up-requires-2 c κs = search needs
 
--- src/read.rt:126:13
 up-requires-3 : tie.Need-up-requires-3 Inv-loop μ-loop
 up-requires-3 c κs = search needs
 
--- src/read.rt:127:13
 mul-ends-3 : tie.Need-mul-ends-3 Inv-loop μ-loop
 mul-ends-3 c = search needs
 
--- src/read.rt:127:13
 element-write-ends-3 : tie.Need-element-write-ends-3 Inv-loop μ-loop
 element-write-ends-3 c = search needs
 
--- src/read.rt:114:5
 loop-less-2 : tie.Need-loop-less-2 Inv-loop μ-loop
 loop-less-2 c = search needs
 
--- src/read.rt:114:5
 loop-again-2 : tie.Need-loop-again-2 Inv-loop μ-loop
 loop-again-2 c = search (needs, ending-escape)
 
--- src/read.rt:130:9
 up-requires-4 : tie.Need-up-requires-4 Inv-loop μ-loop
 up-requires-4 c κs = search needs
 
--- src/read.rt:132:9
 mul-ends-4 : tie.Need-mul-ends-4 Inv-loop μ-loop
 mul-ends-4 c = search needs
 
--- src/read.rt:132:9
 element-write-ends-4 : tie.Need-element-write-ends-4 Inv-loop μ-loop
 element-write-ends-4 c = search needs
 
--- src/read.rt:114:5
 loop-less-3 : tie.Need-loop-less-3 Inv-loop μ-loop
 loop-less-3 c = search needs
 
--- src/read.rt:114:5
 loop-again-3 : tie.Need-loop-again-3 Inv-loop μ-loop
 loop-again-3 c = search (needs, ending-other)
 
--- src/read.rt:106:1
 returns : tie.Need-returns Inv-loop μ-loop
 returns c = search (needs, ending-end)
 

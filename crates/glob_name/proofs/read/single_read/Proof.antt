@@ -4,42 +4,31 @@ use Rattle.rules.proofs.Choose.{picks}
 use Rattle.glob_name.specs.Read.{singleRead}
 use Rattle.glob_name.proofs.read.single_read.Statement.{statement}
 use Rattle.glob_name.proofs.read.single_read.Tie as tie
-use Rattle.glob_name.proofs.read.single_read.Reads as reads
-use Rattle.glob_name.proofs.read.single_read.Lts as lts
-use Rattle.glob_name.proofs.read.plain_read.Reads as plain-read-reads
 
--- src/read.rt:197:9
 plain-read-requires : tie.Need-plain-read-requires
 plain-read-requires c κs = search needs
 
--- src/read.rt:197:9
 returns : tie.Need-returns
 unfolding singleRead
 returns c = search picks depth 20
 
--- src/read.rt:200:9
 plain-read-requires-2 : tie.Need-plain-read-requires-2
 plain-read-requires-2 c κs = search needs
 
--- src/read.rt:200:9
 returns-2 : tie.Need-returns-2
 unfolding singleRead
 returns-2 c = search picks depth 20
 
--- src/read.rt:203:9
 plain-read-requires-3 : tie.Need-plain-read-requires-3
 plain-read-requires-3 c κs = search needs
 
--- src/read.rt:203:9
 returns-3 : tie.Need-returns-3
 unfolding singleRead
 returns-3 c = search picks depth 20
 
--- src/read.rt:205:5
 plain-read-requires-4 : tie.Need-plain-read-requires-4
 plain-read-requires-4 c κs = search needs
 
--- src/read.rt:193:1
 returns-4 : tie.Need-returns-4
 unfolding singleRead
 returns-4 c = search picks depth 20

@@ -4,29 +4,20 @@ use Rattle.rules.proofs.Choose.{picks}
 use Rattle.glob_name.specs.Read.{starRead}
 use Rattle.glob_name.proofs.read.star_read.Statement.{statement}
 use Rattle.glob_name.proofs.read.star_read.Tie as tie
-use Rattle.glob_name.proofs.read.star_read.Reads as reads
-use Rattle.glob_name.proofs.read.star_read.Lts as lts
-use Rattle.glob_name.proofs.read.char_is.Reads as char-is-reads
-use Rattle.glob_name.proofs.read.plain_read.Reads as plain-read-reads
 
--- src/read.rt:165:23
 add-char-is : tie.Need-add-char-is
 add-char-is c = search needs
 
--- src/read.rt:165:8
 char-is-requires : tie.Need-char-is-requires
 char-is-requires c κs = search needs
 
--- src/read.rt:166:9
 returns : tie.Need-returns
 unfolding starRead
 returns c = search picks depth 20
 
--- src/read.rt:172:5
 plain-read-requires : tie.Need-plain-read-requires
 plain-read-requires c κs = search needs
 
--- src/read.rt:161:1
 returns-2 : tie.Need-returns-2
 unfolding starRead
 returns-2 c = search picks depth 20

@@ -4,18 +4,13 @@ use Rattle.glob_name.proofs.ReadLaws.{longer-zero, longer-some}
 use mathlib.Core.Path.{sym}
 use Rattle.glob_name.proofs.read.up.Statement.{statement}
 use Rattle.glob_name.proofs.read.up.Tie as tie
-use Rattle.glob_name.proofs.read.up.Reads as reads
-use Rattle.glob_name.proofs.read.up.Lts as lts
 
--- src/read.rt:100:9
 returns : tie.Need-returns
 returns c = (rw (c .if1 .taken) (sym longer-zero), omega arith)
 
--- src/read.rt:102:5
 add-result : tie.Need-add-result
 add-result c = search needs
 
--- src/read.rt:95:1
 returns-2 : tie.Need-returns-2
 returns-2 c = (longer-some _ (c .if1 .left), omega arith)
 

@@ -4,10 +4,7 @@ use mathlib.Core.Path.{refl}
 use Rattle.config_rules.specs.Sets.{dashes}
 use Rattle.glob_pass.proofs.set.dashes.Statement.{statement}
 use Rattle.glob_pass.proofs.set.dashes.Tie as tie
-use Rattle.glob_pass.proofs.set.dashes.Reads as reads
-use Rattle.glob_pass.proofs.set.dashes.Lts as lts
 
--- src/set.rt:19:1
 returns : tie.Need-returns
 unfolding dashes
 returns c = refl

@@ -4,10 +4,7 @@ use mathlib.Core.Path.{refl}
 use Rattle.config_rules.specs.Sets.{escapes}
 use Rattle.glob_pass.proofs.set.escapes.Statement.{statement}
 use Rattle.glob_pass.proofs.set.escapes.Tie as tie
-use Rattle.glob_pass.proofs.set.escapes.Reads as reads
-use Rattle.glob_pass.proofs.set.escapes.Lts as lts
 
--- src/set.rt:12:1
 returns : tie.Need-returns
 unfolding escapes
 returns c = refl

@@ -5,10 +5,7 @@ use Rattle.config_rules.specs.Sets.{itself}
 use Rattle.glob_pass.specs.Kinds.{lastNames}
 use Rattle.glob_pass.proofs.set.last_names.Statement.{statement}
 use Rattle.glob_pass.proofs.set.last_names.Tie as tie
-use Rattle.glob_pass.proofs.set.last_names.Reads as reads
-use Rattle.glob_pass.proofs.set.last_names.Lts as lts
 
--- src/set.rt:85:1
 returns : tie.Need-returns
 unfolding lastNames itself
 returns c = refl

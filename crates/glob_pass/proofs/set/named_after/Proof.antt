@@ -4,35 +4,25 @@ use Rattle.rules.proofs.Choose.{picks}
 use Rattle.config_rules.specs.Sets.{namedAfter}
 use Rattle.glob_pass.proofs.set.named_after.Statement.{statement}
 use Rattle.glob_pass.proofs.set.named_after.Tie as tie
-use Rattle.glob_pass.proofs.set.named_after.Reads as reads
-use Rattle.glob_pass.proofs.set.named_after.Lts as lts
-use Rattle.glob_pass.proofs.set.dashes.Reads as dashes-reads
-use Rattle.glob_pass.proofs.set.escapes.Reads as escapes-reads
 
--- src/set.rt:36:8
 escapes-requires : tie.Need-escapes-requires
 escapes-requires c κs = search needs
 
--- src/set.rt:37:9
 returns : tie.Need-returns
 unfolding namedAfter
 returns c = search picks depth 20
 
--- src/set.rt:44:8
 dashes-requires : tie.Need-dashes-requires
 dashes-requires c κs = search needs
 
--- src/set.rt:45:9
 returns-2 : tie.Need-returns-2
 unfolding namedAfter
 returns-2 c = search picks depth 20
 
--- src/set.rt:53:9
 returns-3 : tie.Need-returns-3
 unfolding namedAfter
 returns-3 c = search picks depth 20
 
--- src/set.rt:33:1
 returns-4 : tie.Need-returns-4
 unfolding namedAfter
 returns-4 c = search picks depth 20

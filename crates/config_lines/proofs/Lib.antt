@@ -1,0 +1,4 @@
+-- Laws.
+pub mod WordLaws
+pub mod LineBytes
+pub mod PartLaws

@@ -2,3 +2,4 @@
 pub mod WordLaws
 pub mod LineBytes
 pub mod PartLaws
+pub mod WholeLaws

@@ -1,4 +1,6 @@
 // The lines of an .editorconfig text, by bytes.
+pub mod number;
+
 ghost use mathlib.Core.Path.{_≡_};
 ghost use Rattle.unicode.specs.Unicode.{WellFormed};
 ghost use Rattle.rules.specs.Basics.{same};

@@ -3,3 +3,4 @@ pub mod WordLaws
 pub mod LineBytes
 pub mod PartLaws
 pub mod WholeLaws
+pub mod ValueLaws

@@ -1,5 +1,6 @@
 // The lines of an .editorconfig text, by bytes.
 pub mod number;
+pub mod pairs;
 pub mod values;
 
 ghost use mathlib.Core.Path.{_≡_};

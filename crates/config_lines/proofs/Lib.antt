@@ -1,0 +1,6 @@
+-- Laws.
+pub mod WordLaws
+pub mod LineBytes
+pub mod PartLaws
+pub mod WholeLaws
+pub mod ValueLaws

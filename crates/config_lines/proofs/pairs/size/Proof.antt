@@ -1,0 +1,25 @@
+use borrow.Author.Needs.{needs}
+use native.Mathlib.Omega.{arith}
+use Rattle.rules.proofs.Choose.{picks}
+use Rattle.config_lines.proofs.pairs.size.Statement.{statement}
+use Rattle.config_lines.proofs.pairs.size.Tie as tie
+
+slice-aggregate-is-word : tie.Need-slice-aggregate-is-word
+slice-aggregate-is-word c = search needs
+
+is-word-requires : tie.Need-is-word-requires
+is-word-requires c κs = search needs
+
+size-of-requires : tie.Need-size-of-requires
+size-of-requires c κs = search needs
+
+returns : tie.Need-returns
+returns c = search (needs, picks) depth 20
+
+returns-2 : tie.Need-returns-2
+returns-2 c = search (needs, picks) depth 20
+
+pub size-spec : {M : Type 1} → statement M
+size-spec =
+    tie.close
+    (tie.spec slice-aggregate-is-word is-word-requires size-of-requires returns returns-2)

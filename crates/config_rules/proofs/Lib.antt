@@ -1,0 +1,4 @@
+-- Computed examples.
+pub mod Computing
+pub mod GlobExamples
+pub mod ConfigExamples

@@ -1,0 +1,4 @@
+-- Laws.
+pub mod SlotsLaws
+pub mod PathLaws
+pub mod NameLaws

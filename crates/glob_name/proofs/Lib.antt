@@ -1,0 +1,5 @@
+-- Laws.
+pub mod MarkLaws
+pub mod SettledLaws
+pub mod ReadLaws
+pub mod RawLaws

@@ -1,0 +1,6 @@
+-- Laws.
+pub mod TokenLaws
+pub mod SetLaws
+pub mod ValueLaws
+pub mod BraceLaws
+pub mod PassLaws

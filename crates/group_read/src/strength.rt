@@ -5,9 +5,9 @@ ghost use Prim.Native.Nat.{_<_};
 ghost use lib.ListN.{getD};
 ghost use Rattle.rules.specs.Operators.{strengths};
 ghost use Rattle.group_rules.specs.Grouping.{strengthOf};
+use operators::STRENGTHS;
 use operators::one_index;
 use operators::two_index;
-use operators::STRENGTHS;
 
 fn at_index(k: usize) -> u8
     ensures { λ r. ⌜ r ≡ getD strengths k 0 ⌝ }

@@ -1,9 +1,6 @@
 //! How an expression groups (C-21).
 
-use std::error::Error;
-use std::fmt;
-
-use crate::MAX_SOURCE;
+use crate::{MAX_SOURCE, Refusal};
 
 /// The deepest bracket of a source.
 pub const MAX_DEPTH: usize = 64;
@@ -17,7 +14,6 @@ pub struct GroupAnswer {
     pub length: u64,
 }
 
-#[cfg(not(wirescript_missing))]
 mod linked {
     use super::GroupAnswer;
 
@@ -33,25 +29,9 @@ mod linked {
     }
 }
 
-/// Stands where the archive was missing when this crate was built.
-#[cfg(wirescript_missing)]
-mod linked {
-    use super::GroupAnswer;
-
-    pub unsafe fn wirescript_group(
-        _: *const u8,
-        _: usize,
-        _: *mut u8,
-        _: usize,
-        _: *mut u8,
-        _: usize,
-    ) -> GroupAnswer {
-        panic!("built without libwirescript.a")
-    }
-}
-
 /// The exported function as it is: the text goes to the output, then zeros; after a refusal the
 /// output is all zeros. The scratch is all zeros after every call.
+#[must_use]
 pub fn raw(source: &[u8], output: &mut [u8], scratch: &mut [u8]) -> GroupAnswer {
     // SAFETY: each pointer and length is one slice, and the function reads and writes no
     // more than them.
@@ -67,50 +47,22 @@ pub fn raw(source: &[u8], output: &mut [u8], scratch: &mut [u8]) -> GroupAnswer 
     }
 }
 
-/// Why a source has no grouping. Places are bytes from the source's start.
-#[derive(Clone, Copy, Debug, PartialEq, Eq)]
-#[non_exhaustive]
-pub enum NoGrouping {
-    /// The source is over [`MAX_SOURCE`] bytes.
-    SourceTooLong,
-    /// The source is not well-formed UTF-8 after this many bytes.
-    NotUtf8 { prefix: u64 },
-    /// No expression has the character at this place, or the source ends early there.
-    NotExpression { place: u64 },
-    /// The bracket at this place stands deeper than [`MAX_DEPTH`].
-    TooDeep { place: u64 },
-}
-
-impl fmt::Display for NoGrouping {
-    fn fmt(&self, f: &mut fmt::Formatter<'_>) -> fmt::Result {
-        match self {
-            Self::SourceTooLong => write!(f, "the source is over {MAX_SOURCE} bytes"),
-            Self::NotUtf8 { prefix } => write!(f, "not UTF-8 after {prefix} bytes"),
-            Self::NotExpression { place } => write!(f, "not an expression at byte {place}"),
-            Self::TooDeep { place } => {
-                write!(f, "brackets deeper than {MAX_DEPTH} at byte {place}")
-            }
-        }
-    }
-}
-
-impl Error for NoGrouping {}
-
 /// Writes an expression with every operation bracketed, so that it shows which operator binds
 /// first. The source's own brackets go; a sign gets none.
 ///
 /// ```
-/// use wirescript_format::group::{NoGrouping, group};
+/// use wirescript_format::{Refusal, group};
 ///
 /// assert_eq!(group("a + b*c - -d").as_deref(), Ok("((a + (b * c)) - -d)"));
 /// assert_eq!(group("2**3**2").as_deref(), Ok("(2 ** (3 ** 2))"));
-/// assert_eq!(group("a + "), Err(NoGrouping::NotExpression { place: 4 }));
+/// assert_eq!(group("a + "), Err(Refusal::NotExpression { place: 4 }));
 /// ```
 ///
 /// # Errors
 ///
-/// [`NoGrouping`] says why a source has none, and where.
-pub fn group(source: impl AsRef<[u8]>) -> Result<String, NoGrouping> {
+/// [`Refusal::NotExpression`] and [`Refusal::TooDeep`] say where a source is none; refusals of the
+/// source as [`crate::Formatter::format`].
+pub fn group(source: impl AsRef<[u8]>) -> Result<String, Refusal> {
     let source = source.as_ref();
     let mut scratch = vec![0; 12 * source.len().min(MAX_SOURCE) + 256];
     let mut output = vec![0; 3 * source.len().min(MAX_SOURCE) + 16];
@@ -120,16 +72,9 @@ pub fn group(source: impl AsRef<[u8]>) -> Result<String, NoGrouping> {
         output.resize(answer.place as usize, 0);
         answer = raw(source, &mut output, &mut scratch);
     }
-    let place = answer.place;
-    match answer.refusal {
-        0 => {
-            output.truncate(answer.length as usize);
-            Ok(String::from_utf8(output).expect("the text is ASCII"))
-        }
-        1 => Err(NoGrouping::SourceTooLong),
-        4 => Err(NoGrouping::NotUtf8 { prefix: place }),
-        15 => Err(NoGrouping::TooDeep { place }),
-        14 => Err(NoGrouping::NotExpression { place }),
-        other => unreachable!("refusal {other} at {place}"),
+    if let Some(refusal) = Refusal::of(answer.refusal, answer.place) {
+        return Err(refusal);
     }
+    output.truncate(answer.length as usize);
+    Ok(String::from_utf8(output).expect("the text is ASCII"))
 }

@@ -17,12 +17,14 @@
 //! fails where it is missing. An archive with other signatures than this crate declares doesn't
 //! link: the error names the symbol `wirescript_interface_N`, with this crate's number for N.
 
+pub mod group;
 mod interface;
 mod kinds;
 mod options;
 pub mod raw;
 mod refusal;
 
+pub use group::group;
 pub use kinds::text_kinds;
 pub use options::{
     EditorConfig, EndOfLine, IndentSize, IndentStyle, LineEnding, MaxLineLength, Options,

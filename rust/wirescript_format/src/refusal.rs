@@ -29,6 +29,10 @@ pub enum Refusal {
     PlacesUnordered,
     /// There are fewer answer bytes than places.
     KindsShort,
+    /// No expression has the character at this byte of the source, or the source ends early there.
+    NotExpression { place: u64 },
+    /// The bracket at this byte of the source stands deeper than 64.
+    TooDeep { place: u64 },
     /// A refusal that this crate has no name for, as the library tells it.
     Other { number: u64, place: u64 },
 }
@@ -54,6 +58,8 @@ impl Refusal {
             (5, needed) => Self::OutputShort { needed },
             (9, 0) => Self::PlacesUnordered,
             (10, 0) => Self::KindsShort,
+            (14, place) => Self::NotExpression { place },
+            (15, place) => Self::TooDeep { place },
             (number, place) => Self::Other { number, place },
         })
     }
@@ -69,6 +75,8 @@ impl Refusal {
             Self::OutputShort { .. } => 5,
             Self::PlacesUnordered => 9,
             Self::KindsShort => 10,
+            Self::NotExpression { .. } => 14,
+            Self::TooDeep { .. } => 15,
             Self::Other { number, .. } => number,
         }
     }
@@ -81,7 +89,9 @@ impl Refusal {
             Self::BadOption | Self::PlacesUnordered | Self::KindsShort => 0,
             Self::ScratchShort { needed } | Self::OutputShort { needed } => needed,
             Self::NotUtf8 { prefix } => prefix,
-            Self::Other { place, .. } => place,
+            Self::NotExpression { place } | Self::TooDeep { place } | Self::Other { place, .. } => {
+                place
+            }
         }
     }
 }
@@ -106,6 +116,8 @@ impl fmt::Display for Refusal {
             }
             Self::PlacesUnordered => write!(f, "the places are not in ascending order"),
             Self::KindsShort => write!(f, "there are fewer answer bytes than places"),
+            Self::NotExpression { place } => write!(f, "not an expression at byte {place}"),
+            Self::TooDeep { place } => write!(f, "brackets deeper than 64 at byte {place}"),
             Self::Other { number, place } => write!(f, "refusal {number} at {place}"),
         }
     }
@@ -139,6 +151,8 @@ mod tests {
             (5, 7, Refusal::OutputShort { needed: 7 }),
             (9, 0, Refusal::PlacesUnordered),
             (10, 0, Refusal::KindsShort),
+            (14, 7, Refusal::NotExpression { place: 7 }),
+            (15, 7, Refusal::TooDeep { place: 7 }),
         ];
         for (number, place, refusal) in named {
             assert_eq!(Refusal::of(number, place), Some(refusal));

@@ -67,7 +67,7 @@ module _
     (source indent : List ℕ) (chosen : FormatOptions) (ending : LineEnding) (last : Bool) (st : State)
     (out₀ scratch₀ out₁ scratch₁ out₂ scratch₂ : List ℕ) (n : ℕ)
     (e : ending ≡ endingOf (chosen .ending) (decode source))
-    (l : LinesDone source indent (chosen .width) (asStr ending) st out₁ scratch₁)
+    (l : LinesDone source indent (record { width = chosen .width; ending = ending }) st out₁ scratch₁)
     (z : scratch₂ ≡ replicate (length scratch₁) 0)
     (k : (eol : List ℕ) → choose last eol [] ≡ lastEnding (chosen .newline) (decode source) eol)
     (w : Finished (asStr ending) (choose last (asStr ending) []) out₁ (st .text) out₂ n)

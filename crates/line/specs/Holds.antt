@@ -15,13 +15,13 @@ use Rattle.rules.specs.Brackets.{levels}
 use Rattle.rules.specs.Line.{Formatter, insideLine, blankLine, protectedLine}
 use Rattle.rules.specs.declared.Carry.{Carry}
 use Rattle.rules.specs.declared.Ignore.{Ignore}
-use Rattle.rules.specs.declared.PrintWidth.{PrintWidth}
 use Rattle.basics.specs.Depth.{carryDepth}
 use Rattle.brackets.specs.Stack.{stacked}
 use Rattle.format.specs.Words.{declarationOf}
 use Rattle.format.specs.declared.words.Declaration.{Declaration}
 use Rattle.text.specs.Text.{Text, Ordered, nothing, farPlace}
 use Rattle.line.specs.declared.state.State.{State}
+use Rattle.line.specs.declared.style.Style.{Style}
 use Rattle.line.specs.Scratch.{stackAt, scratchUsed}
 
 -- before the first line
@@ -91,10 +91,10 @@ pub record Stepped (g : Formatter → Formatter) (n unit : ℕ) (eol : List ℕ)
 pub record Blanked (eol : List ℕ) (st : State) (out : List ℕ) (st′ : State) (out′ : List ℕ) : Type 0 where
   pub step : (unit : ℕ) (scratch : List ℕ) → Stepped blankLine 0 unit eol st out scratch st′ out′ scratch
 
--- the options that a line is formatted by
-pub record Uses (o : Options) (indent : List ℕ) (width : PrintWidth) : Type 0 where
+-- the options in use: those that have this indent and this style
+pub record Uses (o : Options) (indent : List ℕ) (style : Style) : Type 0 where
   pub indents : o .indent ≡ indent
-  pub breaks : o .printWidth ≡ width
+  pub breaks : o .printWidth ≡ style .width
 
 -- an indent of spaces and tabs
 pub record ValidIndent (indent : List ℕ) : Type 0 where

@@ -2,3 +2,4 @@
 pub mod kept;
 pub mod scratch;
 pub mod state;
+pub mod style;

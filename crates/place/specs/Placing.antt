@@ -22,6 +22,7 @@ use Rattle.format.specs.declared.words.Declaration.{Declaration}
 use Rattle.text.specs.Text.{Text, Ordered, farPlace}
 use Rattle.text.specs.declared.Written.{Written}
 use Rattle.line.specs.Holds.{Uses}
+use Rattle.line.specs.declared.style.Style.{Style}
 use Rattle.place.specs.declared.Before.{Before}
 use Rattle.place.specs.declared.Placed.{Placed}
 
@@ -57,10 +58,10 @@ abbrev pub respacedGrowth : ℕ
 respacedGrowth = 2 ^ 28
 
 -- the line of characters l was put into the text, as the step g says
-pub record Puts (g : Options → Formatter → Formatter) (indent : List ℕ) (width : PrintWidth) (eol : List ℕ) (n : ℕ) (b : Before) (out : List ℕ) (r : Placed) (out′ : List ℕ) : Type 0 where
-  pub text : (o : Options) (f : Formatter) → Uses o indent width → Knows eol f b out → Text eol (g o f .lines) (r .text) out′
-  pub imports : (o : Options) (f : Formatter) → Uses o indent width → Knows eol f b out → g o f .importsSplit ≡ f .importsSplit + r .imports
-  pub blanks : (o : Options) (f : Formatter) → Uses o indent width → Knows eol f b out → g o f .blankNames ≡ f .blankNames + r .blanks
+pub record Puts (g : Options → Formatter → Formatter) (indent : List ℕ) (style : Style) (eol : List ℕ) (n : ℕ) (b : Before) (out : List ℕ) (r : Placed) (out′ : List ℕ) : Type 0 where
+  pub text : (o : Options) (f : Formatter) → Uses o indent style → Knows eol f b out → Text eol (g o f .lines) (r .text) out′
+  pub imports : (o : Options) (f : Formatter) → Uses o indent style → Knows eol f b out → g o f .importsSplit ≡ f .importsSplit + r .imports
+  pub blanks : (o : Options) (f : Formatter) → Uses o indent style → Knows eol f b out → g o f .blankNames ≡ f .blankNames + r .blanks
   pub ordered : Ordered (r .text)
   pub at : r .text .at .0 ≤ b .text .at .0 + (n + 1) * respacedGrowth
   pub few : r .imports ≤ 1

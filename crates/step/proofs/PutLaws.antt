@@ -16,7 +16,6 @@ use Rattle.rules.specs.Brackets.{levels}
 use Rattle.rules.specs.Line.{Formatter}
 use Rattle.rules.specs.Spacing.{respaced}
 use Rattle.rules.specs.declared.Carry.{Carry}
-use Rattle.rules.specs.declared.PrintWidth.{PrintWidth}
 use Rattle.rules.proofs.SpacedLine.{spaced-trimmed, length-size}
 use Rattle.basics.specs.Closers.{Closers}
 use Rattle.brackets.specs.Stack.{stacked, Popped}
@@ -30,6 +29,7 @@ use Rattle.place.specs.declared.Before.{Before}
 use Rattle.place.specs.declared.Placed.{Placed}
 use Rattle.line.specs.Holds.{Holds, Ready}
 use Rattle.line.specs.declared.state.State.{State}
+use Rattle.line.specs.declared.style.Style.{Style}
 use Rattle.line.proofs.HoldsLaws.{declaration-bytes, brace-bytes}
 use Rattle.step.specs.declared.Going.{Going}
 use Rattle.step.specs.Going.{SolidLine, goingLine, Goes, beforeOf, PutOn}
@@ -96,16 +96,16 @@ module _ (line scratch : List ℕ) (unit : ℕ) (st : State) (ready : Ready st s
     pub heads : (b : Before) (left closers : ℕ) (declares : Declaration) → b ≡ beforeOf st left closers declares → Closers L closers → declares ≡ declarationOf L → Heads L b
     heads b left closers declares e′ k d = subst (Heads L) (sym e′) (record { closers = k; declares = d })
 
-    pub put-on : (marker : Bool) (indent : List ℕ) (width : PrintWidth) (eol out out′ : List ℕ) (p : Placed) (closers : ℕ) (left : Nesting) (decl : Declaration) (brace : Bool) (b : Before)
-        → b ≡ beforeOf st (left .levels) closers decl → Puts (spacedBy marker (decode L)) indent width eol (length L) b out p out′
+    pub put-on : (marker : Bool) (indent : List ℕ) (style : Style) (eol out out′ : List ℕ) (p : Placed) (closers : ℕ) (left : Nesting) (decl : Declaration) (brace : Bool) (b : Before)
+        → b ≡ beforeOf st (left .levels) closers decl → Puts (spacedBy marker (decode L)) indent style eol (length L) b out p out′
         → Closers L closers → Popped scratch (stackAt unit) (st .nesting) closers left → decl ≡ declarationOf L → brace ≡ lastIs (is "}") L
-        → PutOn marker (respaced (decode line)) indent width eol (length line) unit st out scratch
+        → PutOn marker (respaced (decode line)) indent style eol (length line) unit st out scratch
         (record { text = p .text; imports = p .imports; blanks = p .blanks; closers = closers; left = left; decl = decl; brace = brace }) out′
-    put-on marker indent width eol out out′ p closers left decl brace b e′ w ek el ed eb =
-        let x : Puts (spacedBy marker (decode L)) indent width eol (length L) (beforeOf st (left .levels) closers decl) out p out′ =
-        subst (λ (y : Before). Puts (spacedBy marker (decode L)) indent width eol (length L) y out p out′) e′ w in
-        let v : Puts (spacedBy marker (respaced (decode line))) indent width eol (length L) (beforeOf st (left .levels) closers decl) out p out′ =
-        subst (λ (l : List ℕ). Puts (spacedBy marker l) indent width eol (length L) (beforeOf st (left .levels) closers decl) out p out′) going-text x in
+    put-on marker indent style eol out out′ p closers left decl brace b e′ w ek el ed eb =
+        let x : Puts (spacedBy marker (decode L)) indent style eol (length L) (beforeOf st (left .levels) closers decl) out p out′ =
+        subst (λ (y : Before). Puts (spacedBy marker (decode L)) indent style eol (length L) y out p out′) e′ w in
+        let v : Puts (spacedBy marker (respaced (decode line))) indent style eol (length L) (beforeOf st (left .levels) closers decl) out p out′ =
+        subst (λ (l : List ℕ). Puts (spacedBy marker l) indent style eol (length L) (beforeOf st (left .levels) closers decl) out p out′) going-text x in
         record {
           text = λ o f u h. v .text o f u (knows h el);
           imports = λ o f u h. v .imports o f u (knows h el);

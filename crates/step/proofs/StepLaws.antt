@@ -21,7 +21,6 @@ use Rattle.rules.specs.Line.{Formatter, elseLine, placedLine, spacedLine, prote
 use Rattle.rules.specs.Spacing.{respaced}
 use Rattle.rules.specs.declared.Carry.{Carry}
 use Rattle.rules.specs.declared.Ignore.{Ignore}
-use Rattle.rules.specs.declared.PrintWidth.{PrintWidth}
 use Rattle.rules.proofs.Choose.{choose-true, choose-false, choose-case}
 use Rattle.scan.specs.Classified.{Classified}
 use Rattle.basics.specs.Region.{Only}
@@ -35,6 +34,7 @@ use Rattle.line.specs.Scratch.{stackAt}
 use Rattle.format.proofs.ElseLaws.{decode-some}
 use Rattle.line.specs.Holds.{Holds, Runs, Ready, Stepped, TrimmedLine, Classes, Uses, insideOf, protectedOf}
 use Rattle.line.specs.declared.state.State.{State}
+use Rattle.line.specs.declared.style.Style.{Style}
 use Rattle.line.proofs.HoldsLaws.{carry-bytes, classes-front, front-only, line-room, trimmed-line, start-within}
 use Rattle.place.specs.Placing.{spacedBy}
 use Rattle.step.specs.declared.Going.{Going}
@@ -119,14 +119,14 @@ leaves o f marker l n = choose-case (Leaves marker l f) (λ h. joined marker n h
         let y : _≡_ {A = ℕ} 0 1 = cc in absurd (omega arith)
     joined false n h = record { stack = rw (else-closers l (and-left (isPlainElse l) (canJoin (f .lines)) h)); blank = refl; prev = refl; ignore = refl; carry = refl }
 
-pub spaced-step : (line eol out out′ s₀ s₁ s₂ indent : List ℕ) (width : PrintWidth) (unit : ℕ) (marker : Bool) (st : State) (g : Going) (p : Put) (deep : Nesting) (ignore : Ignore) (r : State)
+pub spaced-step : (line eol out out′ s₀ s₁ s₂ indent : List ℕ) (style : Style) (unit : ℕ) (marker : Bool) (st : State) (g : Going) (p : Put) (deep : Nesting) (ignore : Ignore) (r : State)
     → Marks marker line → Went line s₀ s₁ unit g
-    → PutOn marker (respaced (decode line)) indent width eol (length line) unit st out s₁ p out′
+    → PutOn marker (respaced (decode line)) indent style eol (length line) unit st out s₁ p out′
     → BracketsCounted (respaced (decode line)) s₁ s₂ (stackAt unit) (p .left) (length line) deep → ignore ≡ ignoreOf marker → r ≡ afterLine st p deep ignore (g .carry)
-    → (o : Options) → Uses o indent width
+    → (o : Options) → Uses o indent style
     → Stepped (spacedBy marker (respaced (decode line)) o) (length line) unit eol st out s₀ r out′ s₂
 unfolding countBrackets
-spaced-step line eol out out′ s₀ s₁ s₂ indent width unit marker st g p deep ignore r n w q v i e o u =
+spaced-step line eol out out′ s₀ s₁ s₂ indent style unit marker st g p deep ignore r n w q v i e o u =
     subst (λ (x : State). Stepped (spacedBy marker (respaced (decode line)) o) (length line) unit eol st out s₀ x out′ s₂) (sym e)
     (record {
       holds = λ f h₀.

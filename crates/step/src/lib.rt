@@ -21,13 +21,13 @@ ghost use Rattle.step.specs.Going.{markerIn, isKept, isAlone, SolidLine,
 use brackets::Nesting;
 use format::words::Declaration;
 use line::scratch::RECLASSED;
+use line::scratch::RESPACED;
 use line::scratch::STACK;
 use line::state::State;
+use line::style::Style;
 use place::Before;
 use rules::Carry;
 use rules::Ignore;
-use rules::LineEnding;
-use rules::PrintWidth;
 use text::Written;
 
 // A marker in the line's comment: none, one that stands alone, one with code before it.
@@ -72,9 +72,10 @@ fn go_on(line: &[u8], scratch: &mut [u8], unit: usize, after: Carry) -> Going
             carry: after,
         };
     }
-    let len = spacing::normalize_spacing(line, scratch, 0, unit);
+    let at = RESPACED * unit;
+    let len = spacing::normalize_spacing(line, scratch, 0, at);
     let class_at = RECLASSED * unit;
-    let carry = marks::within::classify_at(scratch, unit, len, class_at);
+    let carry = marks::within::classify_at(scratch, at, len, class_at);
     Going {
         own: false,
         len,
@@ -106,7 +107,8 @@ fn count_going(
     if g.own {
         return brackets::scan_brackets(line, scratch, class_at, base, left, closers);
     }
-    brackets::scan_brackets_at(scratch, unit, len, class_at, base, left, closers)
+    let at = RESPACED * unit;
+    brackets::scan_brackets_at(scratch, at, len, class_at, base, left, closers)
 }
 
 // What is known before the line is put.
@@ -135,8 +137,7 @@ fn put_going<'a>(
     g: Going,
     marker: bool,
     indent: &[u8],
-    width: PrintWidth,
-    ending: LineEnding,
+    style: Style,
     out: &mut [u8],
     st: State,
 ) -> Put
@@ -144,13 +145,14 @@ fn put_going<'a>(
     requires { ⌜ SolidLine (now line) ⌝ }
     requires { ⌜ Goes (now line) (now scratch) unit g ⌝ }
     requires { ⌜ ValidIndent (now indent) ⌝ }
-    ensures { λ r. ⌜ PutOn marker (respaced (decode (now (line .entry)))) (now (indent .entry)) width (asStr ending) (length (now (line .entry))) unit st (now (out .entry)) (now (scratch .entry)) r (now (out .exit)) ⌝ }
+    ensures { λ r. ⌜ PutOn marker (respaced (decode (now (line .entry)))) (now (indent .entry)) style (asStr (style .ending)) (length (now (line .entry))) unit st (now (out .entry)) (now (scratch .entry)) r (now (out .exit)) ⌝ }
 {
     let own = g.own;
     let len = g.len;
     let class_at = g.class_at;
     let end = class_at + len;
-    let l = spacing::line_that_goes_on(line, scratch, own, unit, len);
+    let at = RESPACED * unit;
+    let l = spacing::line_that_goes_on(line, scratch, own, at, len);
     let class = &scratch[class_at..end];
     let closers = brackets::leading_closers(l);
     let nesting = st.nesting;
@@ -158,7 +160,7 @@ fn put_going<'a>(
     let left = brackets::pop_closers(scratch, base, nesting, closers);
     let decl = format::words::declaration_of(l);
     let b = before_of(st, left.levels, closers, decl);
-    let p = place::place_line(l, class, marker, indent, width, ending, out, b);
+    let p = place::place_line(l, class, marker, indent, style, out, b);
     let text = p.text;
     Put {
         text,
@@ -210,8 +212,7 @@ fn spaced_line(
     after: Carry,
     marker: bool,
     indent: &[u8],
-    width: PrintWidth,
-    ending: LineEnding,
+    style: Style,
     out: &mut [u8],
     st: State,
 ) -> State
@@ -220,21 +221,10 @@ fn spaced_line(
     requires { ⌜ Marks marker (now line) ⌝ }
     requires { ⌜ Classes Carry.Code (now line) (now scratch) 0 after ⌝ }
     requires { ⌜ ValidIndent (now indent) ⌝ }
-    ensures { λ r. ⌜ ((o : Options) → Uses o (now (indent .entry)) width → Stepped (spacedBy marker (respaced (decode (now (line .entry)))) o) (length (now (line .entry))) unit (asStr ending) st (now (out .entry)) (now (scratch .entry)) r (now (out .exit)) (now (scratch .exit))) ⌝ }
+    ensures { λ r. ⌜ ((o : Options) → Uses o (now (indent .entry)) style → Stepped (spacedBy marker (respaced (decode (now (line .entry)))) o) (length (now (line .entry))) unit (asStr (style .ending)) st (now (out .entry)) (now (scratch .entry)) r (now (out .exit)) (now (scratch .exit))) ⌝ }
 {
     let g = go_on(line, scratch, unit, after);
-    let p = put_going(
-        line,
-        scratch,
-        unit,
-        g,
-        marker,
-        indent,
-        width,
-        ending,
-        out,
-        st,
-    );
+    let p = put_going(line, scratch, unit, g, marker, indent, style, out, st);
     let left = p.left;
     let deep = count_going(line, scratch, unit, g, p.closers, left);
     let carry = g.carry;
@@ -296,8 +286,7 @@ fn code_line(
     scratch: &mut [u8],
     unit: usize,
     indent: &[u8],
-    width: PrintWidth,
-    ending: LineEnding,
+    style: Style,
     out: &mut [u8],
     st: State,
 ) -> State
@@ -307,28 +296,18 @@ fn code_line(
     requires { ⌜ TrimmedLine (now raw) (now line) ⌝ }
     requires { ⌜ isEmpty (decode (now line)) ≡ false ⌝ }
     requires { ⌜ ValidIndent (now indent) ⌝ }
-    ensures { λ r. ⌜ ((o : Options) → Uses o (now (indent .entry)) width → Stepped (codeLineBy o (decode (now (raw .entry)))) (length (now (raw .entry))) unit (asStr ending) st (now (out .entry)) (now (scratch .entry)) r (now (out .exit)) (now (scratch .exit))) ⌝ }
+    ensures { λ r. ⌜ ((o : Options) → Uses o (now (indent .entry)) style → Stepped (codeLineBy o (decode (now (raw .entry)))) (length (now (raw .entry))) unit (asStr (style .ending)) st (now (out .entry)) (now (scratch .entry)) r (now (out .exit)) (now (scratch .exit))) ⌝ }
 {
     let n = line.len();
     let after = scan::classify(line, Carry::Code, &mut scratch[..n]);
     let pending = st.ignore;
     let marker = marker_in(line, &scratch[..n]);
     if is_kept(pending, marker) {
+        let ending = style.ending;
         return line::kept::protected_line(raw, line, out, scratch, unit, ending, after, st);
     }
     let alone = is_alone(marker);
-    spaced_line(
-        line,
-        scratch,
-        unit,
-        after,
-        alone,
-        indent,
-        width,
-        ending,
-        out,
-        st,
-    )
+    spaced_line(line, scratch, unit, after, alone, indent, style, out, st)
 }
 
 // Whether nothing is open.
@@ -346,8 +325,7 @@ fn in_code(carry: Carry) -> bool
 pub fn line_step(
     raw: &[u8],
     indent: &[u8],
-    width: PrintWidth,
-    ending: LineEnding,
+    style: Style,
     out: &mut [u8],
     scratch: &mut [u8],
     unit: usize,
@@ -356,17 +334,19 @@ pub fn line_step(
     requires { ⌜ Ready st (now scratch) unit (length (now raw)) ⌝ }
     requires { ⌜ WellFormed (now raw) ⌝ }
     requires { ⌜ ValidIndent (now indent) ⌝ }
-    ensures { λ r. ⌜ ((o : Options) → Uses o (now (indent .entry)) width → Stepped (formatLineBy o (decode (now (raw .entry)))) (length (now (raw .entry))) unit (asStr ending) st (now (out .entry)) (now (scratch .entry)) r (now (out .exit)) (now (scratch .exit))) ⌝ }
+    ensures { λ r. ⌜ ((o : Options) → Uses o (now (indent .entry)) style → Stepped (formatLineBy o (decode (now (raw .entry)))) (length (now (raw .entry))) unit (asStr (style .ending)) st (now (out .entry)) (now (scratch .entry)) r (now (out .exit)) (now (scratch .exit))) ⌝ }
 {
     let carry = st.carry;
     if in_code(carry) {
         let tail = unicode::trim_end(raw);
         let start = unicode::trim_start(&raw[..tail]);
         if start == tail {
+            let ending = style.ending;
             return line::kept::blank_line(out, ending, st);
         }
         let line = &raw[start..tail];
-        return code_line(raw, line, scratch, unit, indent, width, ending, out, st);
+        return code_line(raw, line, scratch, unit, indent, style, out, st);
     }
+    let ending = style.ending;
     line::kept::inside_line(raw, out, scratch, unit, ending, st)
 }

@@ -8,6 +8,9 @@ use Rattle.step.proofs.put_going.Tie as tie
 add-end : tie.Need-add-end
 add-end c = search needs
 
+mul-at : tie.Need-mul-at
+mul-at c = search needs
+
 line-that-goes-on-requires : tie.Need-line-that-goes-on-requires
 line-that-goes-on-requires c κs = search needs
 
@@ -76,6 +79,7 @@ put-going-spec =
     tie.close
     (tie.spec
     add-end
+    mul-at
     line-that-goes-on-requires
     sub-class
     part-class-start

@@ -31,8 +31,7 @@ use Rattle.rules.proofs.CallLaws.{answer-kept, first-of-four}
 use Rattle.options.specs.Held.{held, numbers}
 use Rattle.options.specs.declared.FormatOptions.{FormatOptions}
 use Rattle.text.specs.Text.{Finished}
-use Rattle.line.specs.Holds.{Holds, ValidIndent}
-use Rattle.line.specs.declared.state.State.{State}
+use Rattle.line.specs.Holds.{Record, Holds, ValidIndent}
 use Rattle.lines.specs.Lines.{Passed, LinesDone}
 use Rattle.call.specs.Formatted.{optionsWith, outcomeIn, Fitted, RefusedCall}
 use Rattle.call.specs.Answered.{callOf, Ran, FormatAnswered}
@@ -64,7 +63,7 @@ formattedLines o source = formatLines o (linesOf (decode source)) start
 
 -- out₁ is what `format_lines` leaves of the output, out₂ what `finish_text` leaves of it
 module _
-    (source indent : List ℕ) (chosen : FormatOptions) (ending : LineEnding) (last : Bool) (st : State)
+    (source indent : List ℕ) (chosen : FormatOptions) (ending : LineEnding) (last : Bool) (st : Record)
     (out₀ scratch₀ out₁ scratch₁ out₂ scratch₂ : List ℕ) (n : ℕ)
     (e : ending ≡ endingOf (chosen .ending) (decode source))
     (l : LinesDone source indent (record { width = chosen .width; ending = ending }) st out₁ scratch₁)

@@ -19,9 +19,8 @@ use Rattle.rules.specs.declared.PrintWidth.{PrintWidth}
 use Rattle.basics.specs.Depth.{carryDepth}
 use Rattle.split.specs.Text.{AllWell}
 use Rattle.text.specs.Text.{Ordered}
-use Rattle.line.specs.Holds.{Holds, Runs, Ready, Stepped, Uses, initial, growth}
+use Rattle.line.specs.Holds.{Record, Holds, Runs, Ready, Stepped, Uses, initial, growth}
 use Rattle.line.proofs.HoldsLaws.{initial-holds, initial-runs}
-use Rattle.line.specs.declared.state.State.{State}
 use Rattle.line.specs.declared.style.Style.{Style}
 use Rattle.line_ends.specs.LineEnds.{LineEnd}
 use Rattle.lines.specs.Lines.{Passed, LinesDone}
@@ -72,12 +71,12 @@ someOptions indent width =
     record { indent = indent; printWidth = width; endOfLine = EndOfLine.Kept; finalNewline = FinalNewline.Always }
 
 -- the lines `left` are still to come, after the definition's record f
-pub record Running (o : Options) (source eol : List ℕ) (left : List (List ℕ)) (st : State) (out scratch : List ℕ) : Type 0 where
+pub record Running (o : Options) (source eol : List ℕ) (left : List (List ℕ)) (st : Record) (out scratch : List ℕ) : Type 0 where
   pub f : Formatter
   pub same : formatLines o (linesOf (decode source)) start ≡ formatLines o (map decode left) f
   pub holds : Holds eol (length source) f st out scratch
 
-pub record Reached (source indent : List ℕ) (style : Style) (out₀ scratch₀ out scratch : List ℕ) (st : State) (at : ℕ) : Type 0 where
+pub record Reached (source indent : List ℕ) (style : Style) (out₀ scratch₀ out scratch : List ℕ) (st : Record) (at : ℕ) : Type 0 where
   pub within : at ≤ length source + 1
   pub left : List (List ℕ)
   pub here : at ≤ length source → left ≡ linesOf (drop at source)
@@ -94,7 +93,7 @@ pub record Reached (source indent : List ℕ) (style : Style) (out₀ scratch₀
   pub as-long : length out ≡ length out₀
   pub as-wide : length scratch ≡ length scratch₀
 
-pub reached-start : (source indent : List ℕ) (style : Style) (out scratch : List ℕ) (st : State) → Passed source indent scratch → st ≡ initial
+pub reached-start : (source indent : List ℕ) (style : Style) (out scratch : List ℕ) (st : Record) → Passed source indent scratch → st ≡ initial
     → Reached source indent style out scratch out scratch st 0
 reached-start source indent style out scratch st p e =
     rw e
@@ -121,7 +120,7 @@ reached-start source indent style out scratch st p e =
     })
 
 module _
-    {source indent : List ℕ} {style : Style} {out₀ scratch₀ out scratch : List ℕ} {st : State} {at : ℕ}
+    {source indent : List ℕ} {style : Style} {out₀ scratch₀ out scratch : List ℕ} {st : Record} {at : ℕ}
     (r : Reached source indent style out₀ scratch₀ out scratch st at) (p : Passed source indent scratch₀) (more : at ≤ length source)
     {e : ℕ} (q : LineEnd source at e) {raw : List ℕ} (l : raw ≡ dropCr (part source at e))
   where
@@ -150,7 +149,7 @@ module _
     pub reached-well : WellFormed raw
     reached-well = all-well (next-line source at e q) .0
 
-    module _ {st′ : State} {out′ scratch′ : List ℕ}
+    module _ {st′ : Record} {out′ scratch′ : List ℕ}
         (w : (o : Options) → Uses o indent style → Stepped (λ f. formatLine o f (decode raw)) (length raw) (length source) (asStr (style .ending)) st out scratch st′ out′ scratch′)
       where
         run-on : (n : Next source at e) (o : Options) → Uses o indent style → Running o source (asStr (style .ending)) (n .rest) st′ out′ scratch′
@@ -185,7 +184,7 @@ module _
               as-wide = es ∙ r .as-wide;
             }
 
-pub reached-end : {source indent : List ℕ} {style : Style} {out₀ scratch₀ out scratch : List ℕ} {st : State} {at : ℕ}
+pub reached-end : {source indent : List ℕ} {style : Style} {out₀ scratch₀ out scratch : List ℕ} {st : Record} {at : ℕ}
     → Reached source indent style out₀ scratch₀ out scratch st at → Passed source indent scratch₀ → length source < at
     → LinesDone source indent style st out scratch
 unfolding formatLines

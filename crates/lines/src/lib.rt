@@ -1,6 +1,6 @@
 // The lines of a source, one after the other.
 ghost use Rattle.lines.specs.Lines.{Passed, LinesDone};
-use line::state::State;
+use line::formatter::Formatter;
 use line::style::Style;
 use line_ends::line_end;
 use line_ends::without_cr;
@@ -13,12 +13,12 @@ pub fn format_lines(
     style: Style,
     out: &mut [u8],
     scratch: &mut [u8],
-) -> State
+) -> Formatter
     requires { ⌜ Passed (now source) (now indent) (now scratch) ⌝ }
     ensures { λ r. ⌜ LinesDone (now (source .entry)) (now (indent .entry)) style r (now (out .exit)) (now (scratch .exit)) ⌝ }
 {
     let unit = source.len();
-    let mut st = State::new();
+    let mut st = Formatter::new();
     let mut at = 0;
     while at <= unit {
         let end = line_end(source, at);

@@ -20,8 +20,7 @@ use Rattle.rules.specs.declared.PrintWidth.{PrintWidth}
 use Rattle.rules.proofs.Choose.{choose-true, choose-false}
 use Rattle.rules.proofs.StartsBytes.{on-decode, closers-encode}
 use Rattle.basics.specs.Closers.{Closers}
-use Rattle.format.specs.Words.{Continues, declarationOf}
-use Rattle.format.specs.declared.words.Declaration.{Declaration}
+use Rattle.format.specs.Words.{Continues}
 use Rattle.format.proofs.WordLaws.{same-declaration-by}
 use Rattle.text.specs.Text.{Text, Joins, isJoinable}
 use Rattle.text.specs.declared.Written.{Written}
@@ -29,7 +28,8 @@ use Rattle.text.proofs.LinesLaws.{kind-joinable}
 use Rattle.text.proofs.StepLaws.{grown-ordered}
 use Rattle.place.specs.declared.Before.{Before}
 use Rattle.place.specs.declared.Placed.{Placed}
-use Rattle.line.specs.Holds.{Uses}
+use Rattle.line.specs.Holds.{Uses, prevOf}
+use Rattle.line.specs.declared.formatter.Prev.{Prev}
 use Rattle.line.specs.declared.style.Style.{Style}
 use Rattle.line.proofs.HoldsLaws.{declaration-bytes}
 use Rattle.place.specs.Placing.{GoesOn, Knows, Puts, Lays, spacedBy, placedBy, dropsBlank, breakWidth, aloneIn}
@@ -66,9 +66,9 @@ and-choose false b = refl
 
 module _
     (marker : Bool) (indent : List ℕ) (style : Style) (line class eol out out′ : List ℕ) (b : Before) (continued : Bool) (level : ℕ)
-    (d : Declaration) (drops : Bool) (max : PrintWidth) (p : Placed) (g : GoesOn line class) (wc : Closers line (b .closers))
-    (wk : Continues line (b .brace) continued) (wl : level ≡ b .levels + choose continued 1 0) (ed : d ≡ declarationOf line)
-    (er : drops ≡ dropsBlank (b .depth) d (b .decl)) (em : max ≡ breakWidth (style .width) marker continued (b .closers))
+    (drops : Bool) (max : PrintWidth) (p : Placed) (g : GoesOn line class) (wc : Closers line (b .closers))
+    (wk : Continues line (b .prev .brace) continued) (wl : level ≡ b .levels + choose continued 1 0) (eo : b .own ≡ prevOf line)
+    (er : drops ≡ dropsBlank (b .depth) (b .own .declares) (b .prev .declares)) (em : max ≡ breakWidth (style .width) marker continued (b .closers))
     (w : Lays (choose (allCodeOrStr (classify Carry.Code (decode line))) max PrintWidth.Off) indent (decode line) level eol drops (length line) out (b .text) p out′)
   where
     closers-same : b .closers ≡ leadingClosers (decode line)
@@ -76,7 +76,7 @@ module _
 
     module _ (o : Options) (f : Formatter) (u : Uses o indent style) (k : Knows eol f b out) where
       continued-same : continued ≡ continues (f .prev) (decode line)
-      continued-same = wk .is (f .prev) (sym (k .brace))
+      continued-same = wk .is (f .prev) (sym (ap (λ (p : Prev). p .brace) (k .prev)))
 
       level-same : levelOf f (decode line) ≡ level
       unfolding levelOf
@@ -95,7 +95,7 @@ module _
 
       drops-same : (isEmpty (f .stack) && sameDeclaration (decode line) (f .prev)) ≡ drops
       drops-same =
-          sym (er ∙ rw (ed, k .decl, declaration-bytes line (g .well), ← same-declaration-by, ← k .empty) (sym (and-choose _ _)))
+          sym (er ∙ rw (ap (λ (p : Prev). p .declares) eo, ap (λ (p : Prev). p .declares) (k .prev), declaration-bytes line (g .well), ← same-declaration-by, ← k .empty) (sym (and-choose _ _)))
 
       lines-same : linesBefore f (decode line) ≡ choose drops (dropBlank (f .lines)) (f .lines)
       unfolding linesBefore

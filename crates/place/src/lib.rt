@@ -16,21 +16,21 @@ ghost use Rattle.rules.specs.declared.PrintWidth.{PrintWidth};
 ghost use Rattle.line.specs.Holds.{ValidIndent};
 ghost use Rattle.place.specs.Placing.{GoesOn, Heads, Asks, Puts, spacedBy, placedBy, dropsBlank, Wide, aloneIn, breakWidth, Lays, Breaks};
 use format::words::Declaration;
+use line::formatter::Prev;
 use line::style::Style;
 use rules::LineEnding;
 use rules::PrintWidth;
 use text::Written;
 
-// What is known before the line is put: the text so far, how many brackets are open, how many levels are left after the line's leading closers popped, of
-// the previous line which declaration it is and whether it ends in `}`, and of this line its leading closers and which declaration it is.
+// What is known before the line is put: the text so far, how many brackets are open, how many levels are left after the line's leading closers popped, what
+// it asks of the previous line, and of this line its leading closers and what the next line asks of it.
 pub struct Before {
     pub text: Written,
     pub depth: usize,
     pub levels: usize,
-    pub decl: Declaration,
-    pub brace: bool,
+    pub prev: Prev,
     pub closers: usize,
-    pub declares: Declaration,
+    pub own: Prev,
 }
 
 // The text after the line, and what the line adds to the counts.
@@ -202,10 +202,12 @@ fn lay_line(
 {
     let t = b.text;
     let depth = b.depth;
-    let before = b.decl;
+    let prev = b.prev;
+    let own = b.own;
+    let before = prev.declares;
+    let d = own.declares;
     let closers = b.closers;
-    let d = b.declares;
-    let continued = format::words::continues(line, closers, b.brace);
+    let continued = format::words::continues(line, closers, prev.brace);
     let level = level_of(b.levels, continued);
     let drops = drops_blank(depth, d, before);
     let width = style.width;

@@ -19,11 +19,12 @@ ghost use Rattle.line.specs.Holds.{Classes, Ready, Stepped, TrimmedLine, Uses, 
 ghost use Rattle.place.specs.Placing.{spacedBy};
 ghost use Rattle.step.specs.Going.{markerIn, isKept, isAlone, SolidLine, Marks, LineRoom, Goes, Went, BracketsCounted, beforeOf, PutOn, afterLine, codeLineBy, formatLineBy, ignoreOf};
 use brackets::Nesting;
-use format::words::Declaration;
+use line::formatter::Formatter;
+use line::formatter::Prev;
+use line::formatter::prev_of;
 use line::scratch::RECLASSED;
 use line::scratch::RESPACED;
 use line::scratch::STACK;
-use line::state::State;
 use line::style::Style;
 use place::Before;
 use rules::Carry;
@@ -52,8 +53,7 @@ pub struct Put {
     pub blanks: usize,
     pub closers: usize,
     pub left: Nesting,
-    pub decl: Declaration,
-    pub brace: bool,
+    pub own: Prev,
 }
 
 // Spacing: the source's own line goes on if it is spaced already, else the respaced one in scratch, classified anew.
@@ -112,20 +112,19 @@ fn count_going(
 }
 
 // What is known before the line is put.
-fn before_of(st: State, levels: usize, closers: usize, declares: Declaration) -> Before
-    ensures { λ r. ⌜ r ≡ beforeOf st levels closers declares ⌝ }
+fn before_of(st: Formatter, levels: usize, closers: usize, own: Prev) -> Before
+    ensures { λ r. ⌜ r ≡ beforeOf st levels closers own ⌝ }
 {
     let text = st.text;
     let nesting = st.nesting;
-    let decl = st.decl;
+    let prev = st.prev;
     Before {
         text,
         depth: nesting.depth,
         levels,
-        decl,
-        brace: st.brace,
+        prev,
         closers,
-        declares,
+        own,
     }
 }
 
@@ -139,7 +138,7 @@ fn put_going<'a>(
     indent: &[u8],
     style: Style,
     out: &mut [u8],
-    st: State,
+    st: Formatter,
 ) -> Put
     requires { ⌜ Ready st (now scratch) unit (length (now line)) ⌝ }
     requires { ⌜ SolidLine (now line) ⌝ }
@@ -158,8 +157,8 @@ fn put_going<'a>(
     let nesting = st.nesting;
     let base = STACK * unit;
     let left = brackets::pop_closers(scratch, base, nesting, closers);
-    let decl = format::words::declaration_of(l);
-    let b = before_of(st, left.levels, closers, decl);
+    let own = prev_of(l);
+    let b = before_of(st, left.levels, closers, own);
     let p = place::place_line(l, class, marker, indent, style, out, b);
     let text = p.text;
     Put {
@@ -168,8 +167,7 @@ fn put_going<'a>(
         blanks: p.blanks,
         closers,
         left,
-        decl,
-        brace: format::else_line::ends_in_brace(l),
+        own,
     }
 }
 
@@ -184,19 +182,18 @@ fn ignore_of(marker: bool) -> Ignore
 }
 
 // The record after a line that was put into the text, with the brackets `deep` open, that protects `ignore` and leaves `carry` open.
-fn after_line(st: State, p: Put, deep: Nesting, ignore: Ignore, carry: Carry) -> State
+fn after_line(st: Formatter, p: Put, deep: Nesting, ignore: Ignore, carry: Carry) -> Formatter
     requires { ⌜ st .imports + p .imports < 2 ^ 64 ⌝ }
     requires { ⌜ st .blanks + p .blanks < 2 ^ 64 ⌝ }
     ensures { λ r. ⌜ r ≡ afterLine st p deep ignore carry ⌝ }
 {
     let text = p.text;
-    let decl = p.decl;
-    State {
+    let prev = p.own;
+    Formatter {
         text,
         nesting: deep,
         blank: false,
-        decl,
-        brace: p.brace,
+        prev,
         ignore,
         carry,
         imports: st.imports + p.imports,
@@ -214,8 +211,8 @@ fn spaced_line(
     indent: &[u8],
     style: Style,
     out: &mut [u8],
-    st: State,
-) -> State
+    st: Formatter,
+) -> Formatter
     requires { ⌜ Ready st (now scratch) unit (length (now line)) ⌝ }
     requires { ⌜ SolidLine (now line) ⌝ }
     requires { ⌜ Marks marker (now line) ⌝ }
@@ -288,8 +285,8 @@ fn code_line(
     indent: &[u8],
     style: Style,
     out: &mut [u8],
-    st: State,
-) -> State
+    st: Formatter,
+) -> Formatter
     requires { ⌜ Ready st (now scratch) unit (length (now raw)) ⌝ }
     requires { ⌜ st .carry ≡ Carry.Code ⌝ }
     requires { ⌜ WellFormed (now raw) ⌝ }
@@ -329,8 +326,8 @@ pub fn line_step(
     out: &mut [u8],
     scratch: &mut [u8],
     unit: usize,
-    st: State,
-) -> State
+    st: Formatter,
+) -> Formatter
     requires { ⌜ Ready st (now scratch) unit (length (now raw)) ⌝ }
     requires { ⌜ WellFormed (now raw) ⌝ }
     requires { ⌜ ValidIndent (now indent) ⌝ }

@@ -39,8 +39,7 @@ use Rattle.options.specs.declared.FormatOptions.{FormatOptions}
 use Rattle.options.specs.declared.Changed.{Changed}
 use Rattle.options.proofs.NumbersLaws.{named-valid-is, named-options}
 use Rattle.text.specs.Text.{Finished}
-use Rattle.line.specs.Holds.{Holds, ValidIndent}
-use Rattle.line.specs.declared.state.State.{State}
+use Rattle.line.specs.Holds.{Record, Holds, ValidIndent}
 use Rattle.lines.specs.Lines.{Passed, LinesDone}
 use Rattle.call.specs.Formatted.{optionsWith, outcomeIn, Fitted, RefusedCall}
 use Rattle.call.specs.Ran.{callOf, Ran}
@@ -73,10 +72,10 @@ formattedLines o source = formatLines o (linesOf (decode source)) start
 
 -- out₁ is what `format_lines` leaves of the output, out₂ what `finish_text` leaves of it
 module _
-    (source indent : List ℕ) (chosen : FormatOptions) (ending : LineEnding) (last : Bool) (st : State)
+    (source indent : List ℕ) (chosen : FormatOptions) (ending : LineEnding) (last : Bool) (st : Record)
     (out₀ scratch₀ out₁ scratch₁ out₂ scratch₂ : List ℕ) (n : ℕ)
     (e : ending ≡ endingOf (chosen .«end_of_line») (decode source))
-    (l : LinesDone source indent (chosen .«print_width») (asStr ending) st out₁ scratch₁)
+    (l : LinesDone source indent (record { width = chosen .«print_width»; ending = ending }) st out₁ scratch₁)
     (z : scratch₂ ≡ replicate (length scratch₁) 0)
     (k : (eol : List ℕ) → choose last eol [] ≡ lastEnding (chosen .«insert_final_newline») (decode source) eol)
     (w : Finished (asStr ending) (choose last (asStr ending) []) out₁ (st .text) out₂ n)

@@ -8,6 +8,7 @@ ghost use Rattle.rules.specs.Basics.{choose};
 ghost use Rattle.rules.specs.Assembly.{endingOf, lastEnding, formatWith};
 ghost use Rattle.lines.specs.Lines.{Passed};
 ghost use Rattle.call.specs.Formatted.{Fitted, optionsWith};
+use line::style::Style;
 use options::FormatOptions;
 use rules::EndOfLine;
 use rules::FinalNewline;
@@ -52,7 +53,8 @@ pub fn format_with(
     let end_of_line = chosen.end_of_line;
     let newline = chosen.insert_final_newline;
     let ending = ending_of(end_of_line, source);
-    let st = lines::format_lines(source, indent, width, ending, output, scratch);
+    let style = Style { width, ending };
+    let st = lines::format_lines(source, indent, style, output, scratch);
     buffer::zero(scratch);
     let t = st.text;
     let last = has_last_ending(newline, source);

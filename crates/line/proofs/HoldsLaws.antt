@@ -1,7 +1,7 @@
 -- What every kind of line uses.
 --     initial-holds, initial-runs, initial-small            before the first line
 --     first-line, takes-join              what the kind of the newest line says of the lines
---     declaration-bytes, brace-bytes, carry-bytes     facts of a line, found on its bytes
+--     declaration-bytes, brace-bytes, prev-bytes, carry-bytes     facts of a line, found on its bytes
 --     stack-scanned, stack-counted        the stack after `scan_brackets` on a line's bytes is the definition's on its characters
 --     cells-decoded                       the cells of a line and its class bytes are those of its characters
 --     classes-front, front-only           the class bytes that `classify` wrote to the front of scratch; the rest is as it was
@@ -41,14 +41,15 @@ use Rattle.basics.specs.Closers.{Closers}
 use Rattle.brackets.specs.Stack.{stacked, Nested, Popped, StackFits, BracketsDone}
 use Rattle.brackets.specs.declared.Nesting.{Nesting}
 use Rattle.format.specs.Words.{declarationOf}
+use Rattle.format.specs.declared.words.Declaration.{Declaration}
+use Rattle.line.specs.declared.formatter.Prev.{Prev}
 use Rattle.format.specs.Else.{Facts}
 use Rattle.format.specs.declared.else_line.LineFacts.{LineFacts}
 use Rattle.brackets.proofs.StackLaws.{stacked-drop}
 use Rattle.text.specs.Text.{isFirst, isJoinable, Line}
 use Rattle.text.proofs.LinesLaws.{kind-first, kind-joinable}
 use Rattle.text.proofs.StepLaws.{text-nothing, nothing-ordered}
-use Rattle.line.specs.declared.state.State.{State}
-use Rattle.line.specs.Holds.{initial, Holds, Runs, Small, Ready, TrimmedLine, Classes}
+use Rattle.line.specs.Holds.{Record, prevOf, initial, Holds, Runs, Small, Ready, TrimmedLine, Classes}
 use Rattle.line.specs.Scratch.{stackAt}
 
 -- ---- before the first line
@@ -61,8 +62,7 @@ initial-holds eol unit out scratch =
       stack = refl;
       running = refl;
       blank = refl;
-      decl = refl;
-      brace = refl;
+      prev = refl;
       ignore = refl;
       carry = refl;
       imports = refl;
@@ -78,7 +78,7 @@ initial-small = record { ordered = nothing-ordered; at = omega arith }
 
 -- ---- the lines, by the kind of the newest
 
-module _ {eol : List ℕ} {unit : ℕ} {f : Formatter} {st : State} {out scratch : List ℕ} (h : Holds eol unit f st out scratch) where
+module _ {eol : List ℕ} {unit : ℕ} {f : Formatter} {st : Record} {out scratch : List ℕ} (h : Holds eol unit f st out scratch) where
   pub first-line : isFirst (st .text .last) ≡ isEmpty (f .lines)
   first-line = ap isFirst (h .text .last) ∙ kind-first (f .lines)
 
@@ -96,6 +96,13 @@ declaration-bytes = on-decode declarationOf declarationOf declaration-encode
 
 pub brace-bytes : (line : List ℕ) → WellFormed line → lastIs (is "}") line ≡ lastIs (is "}") (decode line)
 brace-bytes = on-decode (lastIs (is "}")) (lastIs (is "}")) (last-encode (is "}") false (steady-is "}" refl))
+
+pub prev-by : (line : List ℕ) (d : Declaration) (b : Bool) → d ≡ declarationOf line → b ≡ lastIs (is "}") line → _≡_ {A = Prev} (record { declares = d; brace = b }) (prevOf line)
+prev-by line d b e q =
+    ap {B = Prev} (λ (x : Declaration). record { declares = x; brace = b }) e ∙ ap {B = Prev} (λ (x : Bool). record { declares = declarationOf line; brace = x }) q
+
+pub prev-bytes : (line : List ℕ) → WellFormed line → prevOf line ≡ prevOf (decode line)
+prev-bytes line w = prev-by (decode line) _ _ (declaration-bytes line w) (brace-bytes line w)
 
 pub carry-bytes : (y : Carry) (line : List ℕ) → WellFormed line → carryAfter y line ≡ carryAfter y (decode line)
 carry-bytes y = on-decode (carryAfter y) (carryAfter y) (carry-encode y)
@@ -158,7 +165,7 @@ module _ {y r : Carry} (line scratch w : List ℕ) (h : length line ≤ length s
 -- ---- what the calls on a line ask
 
 -- of a line of at most n bytes, or respaced of at most 2 × n, where a line of n bytes is to come
-module _ {st : State} {scratch : List ℕ} {unit n : ℕ} (ready : Ready st scratch unit n) where
+module _ {st : Record} {scratch : List ℕ} {unit n : ℕ} (ready : Ready st scratch unit n) where
   pub line-room : (line : List ℕ) → length line ≤ n → length line ≤ length scratch
   line-room line h = omega (arith, ready .depth, ready .room)
 

@@ -11,7 +11,7 @@ use Rattle.unicode.specs.Places.{TrimmedStart, TrimmedEnd}
 use Rattle.unicode.proofs.Trim.{trim-twice}
 use Rattle.buffer.specs.Buffer.{part}
 use Rattle.buffer.specs.Repeat.{times}
-use Rattle.rules.specs.Basics.{choose, is, lastIs, isEmpty}
+use Rattle.rules.specs.Basics.{choose, isEmpty}
 use Rattle.rules.specs.Scan.{classify, carryAfter}
 use Rattle.rules.specs.ClassBytes.{cellsOf}
 use Rattle.rules.specs.Brackets.{leadingClosers, scanBrackets, countBrackets, levels}
@@ -23,20 +23,18 @@ use Rattle.scan.specs.Classified.{Classified}
 use Rattle.basics.specs.Closers.{Closers}
 use Rattle.brackets.specs.Stack.{stacked, Popped, BracketsDone}
 use Rattle.brackets.specs.declared.Nesting.{Nesting}
-use Rattle.format.specs.Words.{declarationOf}
 use Rattle.brackets.proofs.StackLaws.{stacked-past}
-use Rattle.format.specs.declared.words.Declaration.{Declaration}
 use Rattle.text.specs.Text.{isFirst, Adds}
 use Rattle.text.specs.declared.Written.{Written}
 use Rattle.text.proofs.StepLaws.{grown-ordered}
-use Rattle.line.specs.declared.state.State.{State}
-use Rattle.line.specs.Holds.{Holds, Small, Ready, Stepped, Blanked, TrimmedLine, Classes, keptLen, insideOf, protectedOf}
+use Rattle.line.specs.declared.formatter.Prev.{Prev}
+use Rattle.line.specs.Holds.{Record, prevOf, Holds, Small, Ready, Stepped, Blanked, TrimmedLine, Classes, keptLen, insideOf, protectedOf}
 use Rattle.line.specs.Scratch.{stackAt}
-use Rattle.line.proofs.HoldsLaws.{first-line, declaration-bytes, brace-bytes, carry-bytes, stack-scanned, stack-counted, classes-front, front-only, trimmed-line}
+use Rattle.line.proofs.HoldsLaws.{first-line, prev-bytes, carry-bytes, stack-scanned, stack-counted, classes-front, front-only, trimmed-line}
 
 -- ---- a blank line
 
-blank-same : (eol : List ℕ) (st : State) (out : List ℕ) → Small st
+blank-same : (eol : List ℕ) (st : Record) (out : List ℕ) → Small st
     → ((unit : ℕ) (scratch : List ℕ) (f : Formatter) → Holds eol unit f st out scratch → (f .prevBlank || isEmpty (f .lines)) ≡ true)
     → Blanked eol st out st out
 unfolding blankLine
@@ -54,10 +52,10 @@ blank-same eol st out s e =
       };
     }
 
-pub blank-again : (eol : List ℕ) (st : State) (out : List ℕ) → Small st → st .blank ≡ true → Blanked eol st out st out
+pub blank-again : (eol : List ℕ) (st : Record) (out : List ℕ) → Small st → st .blank ≡ true → Blanked eol st out st out
 blank-again eol st out s e = blank-same eol st out s (λ unit scratch f h. ap (λ (b : Bool). b || isEmpty (f .lines)) (sym (h .blank) ∙ e))
 
-module _ (eol : List ℕ) (st : State) (out : List ℕ) (r : Bool) (s : Small st) (e : st .blank ≡ false) (q : r ≡ isFirst (st .text .last)) where
+module _ (eol : List ℕ) (st : Record) (out : List ℕ) (r : Bool) (s : Small st) (e : st .blank ≡ false) (q : r ≡ isFirst (st .text .last)) where
   blank-test : {unit : ℕ} {scratch : List ℕ} (f : Formatter) → Holds eol unit f st out scratch → (f .prevBlank || isEmpty (f .lines)) ≡ r
   blank-test f h = rw (← h .blank, e) (sym (first-line h) ∙ sym q)
 
@@ -66,7 +64,7 @@ module _ (eol : List ℕ) (st : State) (out : List ℕ) (r : Bool) (s : Small st
 
   pub blank-new : (out′ : List ℕ) (u : Written) → r ≡ false → Adds eol false (times 0 [] ++ decode []) out (st .text) out′ u
       → Blanked eol st out
-      (record { text = u; nesting = st .nesting; blank = true; decl = st .decl; brace = st .brace; ignore = st .ignore; carry = st .carry; imports = st .imports; blanks = st .blanks })
+      (record { text = u; nesting = st .nesting; blank = true; prev = st .prev; ignore = st .ignore; carry = st .carry; imports = st .imports; blanks = st .blanks })
       out′
   unfolding blankLine times choose chars encode
   blank-new out′ u t w =
@@ -78,8 +76,7 @@ module _ (eol : List ℕ) (st : State) (out : List ℕ) (r : Bool) (s : Small st
                 stack = h .stack;
                 running = h .running;
                 blank = refl;
-                decl = h .decl;
-                brace = h .brace;
+                prev = h .prev;
                 ignore = h .ignore;
                 carry = h .carry;
                 imports = h .imports;
@@ -97,27 +94,25 @@ module _ (eol : List ℕ) (st : State) (out : List ℕ) (r : Bool) (s : Small st
 
 -- ---- a protected line
 
-pub protected-step : (raw line out out′ scratch scratch′ eol : List ℕ) (unit : ℕ) (st : State) (u : Written) (closers : ℕ) (left deep : Nesting) (decl : Declaration) (brace : Bool)
-    (after : Carry)
+pub protected-step : (raw line out out′ scratch scratch′ eol : List ℕ) (unit : ℕ) (st : Record) (u : Written) (closers : ℕ) (left deep : Nesting) (prev : Prev) (after : Carry)
     → st .carry ≡ Carry.Code → WellFormed raw → TrimmedLine raw line → Classes Carry.Code line scratch 0 after
     → Adds eol false (times 0 [] ++ decode raw) out (st .text) out′ u
     → Closers line closers → Popped scratch (stackAt unit) (st .nesting) closers left
     → BracketsDone scratch scratch′ (stackAt unit) left (length line)
     (scanBrackets (drop closers (cellsOf line (part scratch 0 (0 + length line)))) (stacked scratch (stackAt unit) (left .depth))) deep
-    → decl ≡ declarationOf line → brace ≡ lastIs (is "}") line
+    → prev ≡ prevOf line
     → Stepped (protectedOf (decode raw)) (length raw) unit eol st out scratch
-    (record { text = u; nesting = deep; blank = false; decl = decl; brace = brace; ignore = Ignore.Nothing; carry = after; imports = st .imports; blanks = st .blanks })
+    (record { text = u; nesting = deep; blank = false; prev = prev; ignore = Ignore.Nothing; carry = after; imports = st .imports; blanks = st .blanks })
     out′ scratch′
 unfolding keptLine times choose
-protected-step raw line out out′ scratch scratch′ eol unit st u closers left deep decl brace after code well t classes w k l v ed eb =
+protected-step raw line out out′ scratch scratch′ eol unit st u closers left deep prev after code well t classes w k l v ep =
     record {
       holds = λ f h. record {
         text = w .text (f .lines) (h .text);
         stack = stack-after f h;
         running = v .runs ∙ ap levels (stack-after f h);
         blank = refl;
-        decl = ed ∙ declaration-bytes line (t .well) ∙ ap declarationOf (t .text ∙ sym (trim-twice (decode raw)));
-        brace = eb ∙ brace-bytes line (t .well) ∙ ap (lastIs (is "}")) (t .text ∙ sym (trim-twice (decode raw)));
+        prev = ep ∙ prev-bytes line (t .well) ∙ ap prevOf (t .text ∙ sym (trim-twice (decode raw)));
         ignore = refl;
         carry = rw (in-code f h) at (classes .leaves ∙ carry-bytes Carry.Code line (t .well) ∙ ap (carryAfter Carry.Code) (t .text));
         imports = h .imports;
@@ -162,19 +157,18 @@ shown-by Carry.Prefab raw tail well e = shown-whole Carry.Prefab raw well refl
 pub shown : (y : Carry) (raw : List ℕ) (tail kept : ℕ) → WellFormed raw → TrimmedEnd raw tail → kept ≡ keptLen y tail (length raw) → Shown y raw kept
 shown y raw tail kept well e k = rw k (shown-by y raw tail well e)
 
-pub inside-step : (raw out out′ scratch w scratch′ eol : List ℕ) (unit : ℕ) (st : State) (u : Written) (tail start kept : ℕ) (deep : Nesting) (decl : Declaration) (brace : Bool)
-    (after : Carry)
+pub inside-step : (raw out out′ scratch w scratch′ eol : List ℕ) (unit : ℕ) (st : Record) (u : Written) (tail start kept : ℕ) (deep : Nesting) (prev : Prev) (after : Carry)
     → Ready st scratch unit (length raw) → WellFormed raw → Classified (st .carry) raw (take (length raw) scratch) w after
     → TrimmedEnd raw tail → TrimmedStart (take tail raw) start → kept ≡ keptLen (st .carry) tail (length raw)
     → Adds eol false (times 0 [] ++ decode (take kept raw)) out (st .text) out′ u
     → BracketsDone (w ++ drop (length raw) scratch) scratch′ (stackAt unit) (st .nesting) (length raw)
     (scanBrackets (drop 0 (cellsOf raw (part (w ++ drop (length raw) scratch) 0 (0 + length raw)))) (stacked (w ++ drop (length raw) scratch) (stackAt unit) (st .nesting .depth))) deep
-    → decl ≡ declarationOf (take (tail - start) (drop start raw)) → brace ≡ lastIs (is "}") (take (tail - start) (drop start raw))
+    → prev ≡ prevOf (take (tail - start) (drop start raw))
     → Stepped (insideOf (decode raw)) (length raw) unit eol st out scratch
-    (record { text = u; nesting = deep; blank = false; decl = decl; brace = brace; ignore = st .ignore; carry = after; imports = st .imports; blanks = st .blanks })
+    (record { text = u; nesting = deep; blank = false; prev = prev; ignore = st .ignore; carry = after; imports = st .imports; blanks = st .blanks })
     out′ scratch′
 unfolding keptLine countBrackets times choose
-inside-step raw out out′ scratch w scratch′ eol unit st u tail start kept deep decl brace after ready well classified e s k a v ed eb =
+inside-step raw out out′ scratch w scratch′ eol unit st u tail start kept deep prev after ready well classified e s k a v ep =
     let room : length raw ≤ length scratch = omega (arith, ready .depth, ready .room) in
     let t : TrimmedLine raw (take (tail - start) (drop start raw)) = trimmed-line raw tail start e s in
     let x : Shown (st .carry) raw kept = shown (st .carry) raw tail kept well e k in
@@ -188,8 +182,7 @@ inside-step raw out out′ scratch w scratch′ eol unit st u tail start kept de
         stack = after-it f h;
         running = v .runs ∙ ap levels (after-it f h);
         blank = refl;
-        decl = ed ∙ declaration-bytes (take (tail - start) (drop start raw)) (t .well) ∙ ap declarationOf (t .text);
-        brace = eb ∙ brace-bytes (take (tail - start) (drop start raw)) (t .well) ∙ ap (lastIs (is "}")) (t .text);
+        prev = ep ∙ prev-bytes (take (tail - start) (drop start raw)) (t .well) ∙ ap prevOf (t .text);
         ignore = h .ignore;
         carry = classified .carry ∙ carry-bytes (st .carry) raw well ∙ ap (λ (y : Carry). carryAfter y (decode raw)) (h .carry);
         imports = h .imports;

@@ -15,24 +15,32 @@ use Rattle.rules.specs.Brackets.{levels}
 use Rattle.rules.specs.Line.{Formatter, insideLine, blankLine, protectedLine}
 use Rattle.rules.specs.declared.Carry.{Carry}
 use Rattle.rules.specs.declared.Ignore.{Ignore}
-use Rattle.rules.specs.declared.PrintWidth.{PrintWidth}
 use Rattle.basics.specs.Depth.{carryDepth}
 use Rattle.brackets.specs.Stack.{stacked}
 use Rattle.format.specs.Words.{declarationOf}
 use Rattle.format.specs.declared.words.Declaration.{Declaration}
 use Rattle.text.specs.Text.{Text, Ordered, nothing, farPlace}
-use Rattle.line.specs.declared.state.State.{State}
+use Rattle.line.specs.declared.formatter.Formatter as code
+use Rattle.line.specs.declared.formatter.Prev.{Prev}
+use Rattle.line.specs.declared.style.Style.{Style}
 use Rattle.line.specs.Scratch.{stackAt, scratchUsed}
 
+-- the formatter's record as the code has it
+abbrev pub Record : Type 0
+Record = code.Formatter
+
+-- what later lines ask of a line
+abbrev pub prevOf : List ℕ → Prev
+prevOf line = record { declares = declarationOf line; brace = lastIs (is "}") line }
+
 -- before the first line
-abbrev pub initial : State
+abbrev pub initial : Record
 initial =
     record {
       text = nothing;
       nesting = record { depth = 0; levels = 0 };
       blank = false;
-      decl = Declaration.Nothing;
-      brace = false;
+      prev = record { declares = Declaration.Nothing; brace = false };
       ignore = Ignore.Nothing;
       carry = Carry.Code;
       imports = 0;
@@ -40,29 +48,28 @@ initial =
     }
 
 -- The code's state st, the output and the scratch hold the definition's record f.
-pub record Holds (eol : List ℕ) (unit : ℕ) (f : Formatter) (st : State) (out scratch : List ℕ) : Type 0 where
+pub record Holds (eol : List ℕ) (unit : ℕ) (f : Formatter) (st : Record) (out scratch : List ℕ) : Type 0 where
   pub text : Text eol (f .lines) (st .text) out
   pub stack : stacked scratch (stackAt unit) (st .nesting .depth) ≡ f .stack
   pub running : st .nesting .levels ≡ levels (f .stack)
   pub blank : st .blank ≡ f .prevBlank
-  pub decl : st .decl ≡ declarationOf (f .prev)
-  pub brace : st .brace ≡ lastIs (is "}") (f .prev)
+  pub prev : st .prev ≡ prevOf (f .prev)
   pub ignore : st .ignore ≡ f .ignore
   pub carry : st .carry ≡ f .carry
   pub imports : st .imports ≡ f .importsSplit
   pub blanks : st .blanks ≡ f .blankNames
 
 -- the running value is the count over the stack
-pub record Runs (unit : ℕ) (st : State) (scratch : List ℕ) : Type 0 where
+pub record Runs (unit : ℕ) (st : Record) (scratch : List ℕ) : Type 0 where
   pub is : st .nesting .levels ≡ levels (stacked scratch (stackAt unit) (st .nesting .depth))
 
 -- the lengths are in order and far below 2 ^ 64
-pub record Small (st : State) : Type 0 where
+pub record Small (st : Record) : Type 0 where
   pub ordered : Ordered (st .text)
   pub at : st .text .at .0 ≤ farPlace
 
 -- what a step asks: a line of n bytes is to come, which respaced has at most 2 × n
-pub record Ready (st : State) (scratch : List ℕ) (unit n : ℕ) : Type 0 where
+pub record Ready (st : Record) (scratch : List ℕ) (unit n : ℕ) : Type 0 where
   pub small : Small st
   pub depth : st .nesting .depth + n ≤ unit
   pub runs : Runs unit st scratch
@@ -77,7 +84,7 @@ abbrev pub growth : ℕ
 growth = 2 ^ 29
 
 -- what a step from the record f to g f gives, for a line of n bytes
-pub record Stepped (g : Formatter → Formatter) (n unit : ℕ) (eol : List ℕ) (st : State) (out scratch : List ℕ) (st′ : State) (out′ scratch′ : List ℕ) : Type 0 where
+pub record Stepped (g : Formatter → Formatter) (n unit : ℕ) (eol : List ℕ) (st : Record) (out scratch : List ℕ) (st′ : Record) (out′ scratch′ : List ℕ) : Type 0 where
   pub holds : (f : Formatter) → Holds eol unit f st out scratch → Holds eol unit (g f) st′ out′ scratch′
   pub ordered : Ordered (st′ .text)
   pub at : st′ .text .at .0 ≤ st .text .at .0 + (n + 1) * growth
@@ -88,13 +95,13 @@ pub record Stepped (g : Formatter → Formatter) (n unit : ℕ) (eol : List ℕ)
   pub blanks : st′ .blanks ≤ st .blanks + 2 * n
 
 -- a step that leaves the scratch alone
-pub record Blanked (eol : List ℕ) (st : State) (out : List ℕ) (st′ : State) (out′ : List ℕ) : Type 0 where
+pub record Blanked (eol : List ℕ) (st : Record) (out : List ℕ) (st′ : Record) (out′ : List ℕ) : Type 0 where
   pub step : (unit : ℕ) (scratch : List ℕ) → Stepped blankLine 0 unit eol st out scratch st′ out′ scratch
 
--- the options that a line is formatted by
-pub record Uses (o : Options) (indent : List ℕ) (width : PrintWidth) : Type 0 where
+-- the options in use: those that have this indent and this style
+pub record Uses (o : Options) (indent : List ℕ) (style : Style) : Type 0 where
   pub indents : o .indent ≡ indent
-  pub breaks : o .printWidth ≡ width
+  pub breaks : o .printWidth ≡ style .width
 
 -- an indent of spaces and tabs
 pub record ValidIndent (indent : List ℕ) : Type 0 where

@@ -5,8 +5,9 @@ ghost use lib.ListN.{length};
 ghost use Rattle.unicode.specs.Unicode.{decode, WellFormed};
 ghost use Rattle.rules.specs.Lines.{asStr};
 ghost use Rattle.line.specs.Holds.{Small, Ready, Stepped, Blanked, TrimmedLine, Classes, keptLen, insideOf, protectedOf};
+use crate::formatter::Formatter;
+use crate::formatter::prev_of;
 use crate::scratch::STACK;
-use crate::state::State;
 use format::else_line::LineFacts;
 use rules::Carry;
 use rules::Ignore;
@@ -40,8 +41,8 @@ pub fn inside_line(
     scratch: &mut [u8],
     unit: usize,
     ending: LineEnding,
-    st: State,
-) -> State
+    st: Formatter,
+) -> Formatter
     requires { ⌜ Ready st (now scratch) unit (length (now raw)) ⌝ }
     requires { ⌜ WellFormed (now raw) ⌝ }
     ensures { λ r. ⌜ Stepped (insideOf (decode (now (raw .entry)))) (length (now (raw .entry))) unit (asStr ending) st (now (out .entry)) (now (scratch .entry)) r (now (out .exit)) (now (scratch .exit)) ⌝ }
@@ -62,13 +63,12 @@ pub fn inside_line(
     let next = text::push_line(out, t, ending, false, b"", 0, shown, facts.trimmed, joins);
     let base = STACK * unit;
     let deep = brackets::scan_brackets(raw, scratch, 0, base, nesting, 0);
-    let decl = format::words::declaration_of(line);
-    State {
+    let prev = prev_of(line);
+    Formatter {
         text: next,
         nesting: deep,
         blank: false,
-        decl,
-        brace: format::else_line::ends_in_brace(line),
+        prev,
         ignore,
         carry: after,
         imports: st.imports,
@@ -77,7 +77,7 @@ pub fn inside_line(
 }
 
 // Of blank lines in a row one is written, and none before the first line. A pending marker stays pending.
-pub fn blank_line(out: &mut [u8], ending: LineEnding, st: State) -> State
+pub fn blank_line(out: &mut [u8], ending: LineEnding, st: Formatter) -> Formatter
     requires { ⌜ Small st ⌝ }
     ensures { λ r. ⌜ Blanked (asStr ending) st (now (out .entry)) r (now (out .exit)) ⌝ }
 {
@@ -90,16 +90,15 @@ pub fn blank_line(out: &mut [u8], ending: LineEnding, st: State) -> State
         return st;
     }
     let nesting = st.nesting;
-    let decl = st.decl;
+    let prev = st.prev;
     let pending = st.ignore;
     let carry = st.carry;
     let next = text::push_line(out, t, ending, false, b"", 0, b"", 0, false);
-    State {
+    Formatter {
         text: next,
         nesting,
         blank: true,
-        decl,
-        brace: st.brace,
+        prev,
         ignore: pending,
         carry,
         imports: st.imports,
@@ -116,8 +115,8 @@ pub fn protected_line(
     unit: usize,
     ending: LineEnding,
     after: Carry,
-    st: State,
-) -> State
+    st: Formatter,
+) -> Formatter
     requires { ⌜ Ready st (now scratch) unit (length (now raw)) ⌝ }
     requires { ⌜ st .carry ≡ Carry.Code ⌝ }
     requires { ⌜ WellFormed (now raw) ⌝ }
@@ -134,13 +133,12 @@ pub fn protected_line(
     let base = STACK * unit;
     let left = brackets::pop_closers(scratch, base, nesting, closers);
     let deep = brackets::scan_brackets(line, scratch, 0, base, left, closers);
-    let decl = format::words::declaration_of(line);
-    State {
+    let prev = prev_of(line);
+    Formatter {
         text: next,
         nesting: deep,
         blank: false,
-        decl,
-        brace: format::else_line::ends_in_brace(line),
+        prev,
         ignore: Ignore::Nothing,
         carry: after,
         imports: st.imports,

@@ -13,16 +13,15 @@ use Rattle.rules.specs.Lines.{asStr, dropCr, linesOf}
 use Rattle.rules.specs.Options.{Options}
 use Rattle.rules.specs.Line.{Formatter, start, formatLine}
 use Rattle.rules.specs.Assembly.{formatLines}
-use Rattle.rules.specs.declared.LineEnding.{LineEnding}
 use Rattle.rules.specs.declared.EndOfLine.{EndOfLine}
 use Rattle.rules.specs.declared.FinalNewline.{FinalNewline}
 use Rattle.rules.specs.declared.PrintWidth.{PrintWidth}
 use Rattle.basics.specs.Depth.{carryDepth}
 use Rattle.split.specs.Text.{AllWell}
 use Rattle.text.specs.Text.{Ordered}
-use Rattle.line.specs.Holds.{Holds, Runs, Ready, Stepped, Uses, initial, growth}
+use Rattle.line.specs.Holds.{Record, Holds, Runs, Ready, Stepped, Uses, initial, growth}
 use Rattle.line.proofs.HoldsLaws.{initial-holds, initial-runs}
-use Rattle.line.specs.declared.state.State.{State}
+use Rattle.line.specs.declared.style.Style.{Style}
 use Rattle.line_ends.specs.LineEnds.{LineEnd}
 use Rattle.lines.specs.Lines.{Passed, LinesDone}
 use Rattle.line_ends.proofs.LineCuts.{Last, More, whole, part-of, cr-fits}
@@ -72,18 +71,18 @@ someOptions indent width =
     record { indent = indent; printWidth = width; endOfLine = EndOfLine.Kept; insertFinalNewline = FinalNewline.Always }
 
 -- the lines `left` are still to come, after the definition's record f
-pub record Running (o : Options) (source eol : List ℕ) (left : List (List ℕ)) (st : State) (out scratch : List ℕ) : Type 0 where
+pub record Running (o : Options) (source eol : List ℕ) (left : List (List ℕ)) (st : Record) (out scratch : List ℕ) : Type 0 where
   pub f : Formatter
   pub same : formatLines o (linesOf (decode source)) start ≡ formatLines o (map decode left) f
   pub holds : Holds eol (length source) f st out scratch
 
-pub record Reached (source indent : List ℕ) (width : PrintWidth) (ending : LineEnding) (out₀ scratch₀ out scratch : List ℕ) (st : State) (at : ℕ) : Type 0 where
+pub record Reached (source indent : List ℕ) (style : Style) (out₀ scratch₀ out scratch : List ℕ) (st : Record) (at : ℕ) : Type 0 where
   pub within : at ≤ length source + 1
   pub left : List (List ℕ)
   pub here : at ≤ length source → left ≡ linesOf (drop at source)
   pub none : length source < at → left ≡ []
   pub well : AllWell left
-  pub run : (o : Options) → Uses o indent width → Running o source (asStr ending) left st out scratch
+  pub run : (o : Options) → Uses o indent style → Running o source (asStr (style .ending)) left st out scratch
   pub ordered : Ordered (st .text)
   pub place : st .text .at .0 ≤ at * growth
   pub runs : Runs (length source) st scratch
@@ -94,9 +93,9 @@ pub record Reached (source indent : List ℕ) (width : PrintWidth) (ending : Lin
   pub as-long : length out ≡ length out₀
   pub as-wide : length scratch ≡ length scratch₀
 
-pub reached-start : (source indent : List ℕ) (width : PrintWidth) (ending : LineEnding) (out scratch : List ℕ) (st : State) → Passed source indent scratch → st ≡ initial
-    → Reached source indent width ending out scratch out scratch st 0
-reached-start source indent width ending out scratch st p e =
+pub reached-start : (source indent : List ℕ) (style : Style) (out scratch : List ℕ) (st : Record) → Passed source indent scratch → st ≡ initial
+    → Reached source indent style out scratch out scratch st 0
+reached-start source indent style out scratch st p e =
     rw e
     (record {
       within = zero-le;
@@ -107,7 +106,7 @@ reached-start source indent width ending out scratch st p e =
       run = λ o u. record {
         f = start;
         same = ap (λ (ls : List (List ℕ)). formatLines o ls start) (sym (lines-decode source (p .well)));
-        holds = initial-holds (asStr ending) (length source) out scratch;
+        holds = initial-holds (asStr (style .ending)) (length source) out scratch;
       };
       ordered = record { cut = omega arith; full = omega arith; below = omega arith };
       place = zero-le;
@@ -121,8 +120,8 @@ reached-start source indent width ending out scratch st p e =
     })
 
 module _
-    {source indent : List ℕ} {width : PrintWidth} {ending : LineEnding} {out₀ scratch₀ out scratch : List ℕ} {st : State} {at : ℕ}
-    (r : Reached source indent width ending out₀ scratch₀ out scratch st at) (p : Passed source indent scratch₀) (more : at ≤ length source)
+    {source indent : List ℕ} {style : Style} {out₀ scratch₀ out scratch : List ℕ} {st : Record} {at : ℕ}
+    (r : Reached source indent style out₀ scratch₀ out scratch st at) (p : Passed source indent scratch₀) (more : at ≤ length source)
     {e : ℕ} (q : LineEnd source at e) {raw : List ℕ} (l : raw ≡ dropCr (part source at e))
   where
     raw-long : length raw ≤ e - at
@@ -150,10 +149,10 @@ module _
     pub reached-well : WellFormed raw
     reached-well = all-well (next-line source at e q) .0
 
-    module _ {st′ : State} {out′ scratch′ : List ℕ}
-        (w : (o : Options) → Uses o indent width → Stepped (λ f. formatLine o f (decode raw)) (length raw) (length source) (asStr ending) st out scratch st′ out′ scratch′)
+    module _ {st′ : Record} {out′ scratch′ : List ℕ}
+        (w : (o : Options) → Uses o indent style → Stepped (λ f. formatLine o f (decode raw)) (length raw) (length source) (asStr (style .ending)) st out scratch st′ out′ scratch′)
       where
-        run-on : (n : Next source at e) (o : Options) → Uses o indent width → Running o source (asStr ending) (n .rest) st′ out′ scratch′
+        run-on : (n : Next source at e) (o : Options) → Uses o indent style → Running o source (asStr (style .ending)) (n .rest) st′ out′ scratch′
         unfolding formatLines
         run-on n o u =
             let k = r .run o u in
@@ -163,10 +162,10 @@ module _
               holds = w o u .holds (k .f) (k .holds);
             }
 
-        pub reached-more : length out′ ≡ length out → length scratch′ ≡ length scratch → Reached source indent width ending out₀ scratch₀ out′ scratch′ st′ (e + 1)
+        pub reached-more : length out′ ≡ length out → length scratch′ ≡ length scratch → Reached source indent style out₀ scratch₀ out′ scratch′ st′ (e + 1)
         reached-more eo es =
             let n = next-line source at e q in
-            let s = w (someOptions indent width) (record { indents = refl; breaks = refl }) in
+            let s = w (someOptions indent (style .width)) (record { indents = refl; breaks = refl }) in
             record {
               within = omega (arith, q .fits);
               left = n .rest;
@@ -185,14 +184,14 @@ module _
               as-wide = es ∙ r .as-wide;
             }
 
-pub reached-end : {source indent : List ℕ} {width : PrintWidth} {ending : LineEnding} {out₀ scratch₀ out scratch : List ℕ} {st : State} {at : ℕ}
-    → Reached source indent width ending out₀ scratch₀ out scratch st at → Passed source indent scratch₀ → length source < at
-    → LinesDone source indent width (asStr ending) st out scratch
+pub reached-end : {source indent : List ℕ} {style : Style} {out₀ scratch₀ out scratch : List ℕ} {st : Record} {at : ℕ}
+    → Reached source indent style out₀ scratch₀ out scratch st at → Passed source indent scratch₀ → length source < at
+    → LinesDone source indent style st out scratch
 unfolding formatLines
-reached-end {source = source} {ending = ending} {out = out} {scratch = scratch} {st = st} r p h =
+reached-end {source = source} {style = style} {out = out} {scratch = scratch} {st = st} r p h =
     record {
       holds = λ o u. (let k = r .run o u in
           let e : formatLines o (linesOf (decode source)) start ≡ k .f = k .same ∙ ap (λ (ls : List (List ℕ)). formatLines o (map decode ls) (k .f)) (r .none h) in
-          subst (λ (f : Formatter). Holds (asStr ending) (length source) f st out scratch) (sym e) (k .holds));
+          subst (λ (f : Formatter). Holds (asStr (style .ending)) (length source) f st out scratch) (sym e) (k .holds));
       small = record { ordered = r .ordered; at = omega (arith, r .place, r .within, p .limit) };
     }

@@ -20,8 +20,7 @@ use Rattle.rules.specs.declared.PrintWidth.{PrintWidth}
 use Rattle.rules.proofs.Choose.{choose-true, choose-false}
 use Rattle.rules.proofs.StartsBytes.{on-decode, closers-encode}
 use Rattle.basics.specs.Closers.{Closers}
-use Rattle.format.specs.Words.{Continues, declarationOf}
-use Rattle.format.specs.declared.words.Declaration.{Declaration}
+use Rattle.format.specs.Words.{Continues}
 use Rattle.format.proofs.WordLaws.{same-declaration-by}
 use Rattle.text.specs.Text.{Text, Joins, isJoinable}
 use Rattle.text.specs.declared.Written.{Written}
@@ -29,7 +28,9 @@ use Rattle.text.proofs.LinesLaws.{kind-joinable}
 use Rattle.text.proofs.StepLaws.{grown-ordered}
 use Rattle.place.specs.declared.Before.{Before}
 use Rattle.place.specs.declared.Placed.{Placed}
-use Rattle.line.specs.Holds.{Uses}
+use Rattle.line.specs.Holds.{Uses, prevOf}
+use Rattle.line.specs.declared.formatter.Prev.{Prev}
+use Rattle.line.specs.declared.style.Style.{Style}
 use Rattle.line.proofs.HoldsLaws.{declaration-bytes}
 use Rattle.place.specs.Placing.{GoesOn, Knows, Puts, Lays, spacedBy, placedBy, dropsBlank, breakWidth, aloneIn}
 
@@ -64,18 +65,18 @@ and-choose false b = refl
 -- ---- a line placed
 
 module _
-    (marker : Bool) (indent : List ℕ) (width : PrintWidth) (line class eol out out′ : List ℕ) (b : Before) (continued : Bool) (level : ℕ)
-    (d : Declaration) (drops : Bool) (max : PrintWidth) (p : Placed) (g : GoesOn line class) (wc : Closers line (b .closers))
-    (wk : Continues line (b .brace) continued) (wl : level ≡ b .levels + choose continued 1 0) (ed : d ≡ declarationOf line)
-    (er : drops ≡ dropsBlank (b .depth) d (b .decl)) (em : max ≡ breakWidth width marker continued (b .closers))
+    (marker : Bool) (indent : List ℕ) (style : Style) (line class eol out out′ : List ℕ) (b : Before) (continued : Bool) (level : ℕ)
+    (drops : Bool) (max : PrintWidth) (p : Placed) (g : GoesOn line class) (wc : Closers line (b .closers))
+    (wk : Continues line (b .prev .brace) continued) (wl : level ≡ b .levels + choose continued 1 0) (eo : b .own ≡ prevOf line)
+    (er : drops ≡ dropsBlank (b .depth) (b .own .declares) (b .prev .declares)) (em : max ≡ breakWidth (style .width) marker continued (b .closers))
     (w : Lays (choose (allCodeOrStr (classify Carry.Code (decode line))) max PrintWidth.Off) indent (decode line) level eol drops (length line) out (b .text) p out′)
   where
     closers-same : b .closers ≡ leadingClosers (decode line)
     closers-same = wc .is ∙ on-decode leadingClosers leadingClosers closers-encode line (g .well)
 
-    module _ (o : Options) (f : Formatter) (u : Uses o indent width) (k : Knows eol f b out) where
+    module _ (o : Options) (f : Formatter) (u : Uses o indent style) (k : Knows eol f b out) where
       continued-same : continued ≡ continues (f .prev) (decode line)
-      continued-same = wk .is (f .prev) (sym (k .brace))
+      continued-same = wk .is (f .prev) (sym (ap (λ (p : Prev). p .brace) (k .prev)))
 
       level-same : levelOf f (decode line) ≡ level
       unfolding levelOf
@@ -86,7 +87,7 @@ module _
           ≡ choose (allCodeOrStr (classify Carry.Code (decode line))) max PrintWidth.Off
       unfolding maySplit
       fits-same =
-          rw (em, ← continued-same, ← closers-same, u .breaks) (width-same continued (eqb (b .closers) 0) marker (allCodeOrStr (classify Carry.Code (decode line))) width)
+          rw (em, ← continued-same, ← closers-same, u .breaks) (width-same continued (eqb (b .closers) 0) marker (allCodeOrStr (classify Carry.Code (decode line))) (style .width))
 
       laid-same : laid o f marker (decode line) ≡ splitWide (choose (allCodeOrStr (classify Carry.Code (decode line))) max PrintWidth.Off) o level (decode line)
       unfolding laid
@@ -94,7 +95,7 @@ module _
 
       drops-same : (isEmpty (f .stack) && sameDeclaration (decode line) (f .prev)) ≡ drops
       drops-same =
-          sym (er ∙ rw (ed, k .decl, declaration-bytes line (g .well), ← same-declaration-by, ← k .empty) (sym (and-choose _ _)))
+          sym (er ∙ rw (ap (λ (p : Prev). p .declares) eo, ap (λ (p : Prev). p .declares) (k .prev), declaration-bytes line (g .well), ← same-declaration-by, ← k .empty) (sym (and-choose _ _)))
 
       lines-same : linesBefore f (decode line) ≡ choose drops (dropBlank (f .lines)) (f .lines)
       unfolding linesBefore
@@ -112,14 +113,14 @@ module _
       unfolding placedLine
       lay-blanks = rw (laid-same, w .blanks o (u .indents)) refl
 
-    pub lay-done : Puts (placedBy marker (decode line)) indent width eol (length line) b out p out′
+    pub lay-done : Puts (placedBy marker (decode line)) indent style eol (length line) b out p out′
     lay-done =
         record { text = lay-text; imports = lay-imports; blanks = lay-blanks; ordered = w .ordered; at = w .at; few = w .few; fewer = w .fewer }
 
 -- ---- a line that goes on: a plain else is joined where the newest line can take it
 
 module _
-    (marker : Bool) (indent : List ℕ) (width : PrintWidth) (line eol out out′ : List ℕ) (b : Before) (e : Bool) (else : e ≡ isPlainElse (decode line))
+    (marker : Bool) (indent : List ℕ) (style : Style) (line eol out out′ : List ℕ) (b : Before) (e : Bool) (else : e ≡ isPlainElse (decode line))
   where
     -- the newest line's kind says whether it can
     takes : (j : Bool) → j ≡ isJoinable (b .text .last) → (f : Formatter) → Knows eol f b out → j ≡ canJoin (f .lines)
@@ -131,7 +132,7 @@ module _
       unfolding spacedLine
       joined-same o f k = choose-true _ _ _ (rw (← else, yes, ← takes j last f k, can) refl)
 
-      join-alone : Puts (spacedBy marker (decode line)) indent width eol (length line) b out (aloneIn u) out′
+      join-alone : Puts (spacedBy marker (decode line)) indent style eol (length line) b out (aloneIn u) out′
       unfolding elseLine
       join-alone =
           record {
@@ -144,12 +145,12 @@ module _
             fewer = omega arith;
           }
 
-      pub join-put : Puts (spacedBy marker (decode line)) indent width eol (length line) b out p out′
-      join-put = subst (λ (x : Placed). Puts (spacedBy marker (decode line)) indent width eol (length line) b out x out′) (sym is) join-alone
+      pub join-put : Puts (spacedBy marker (decode line)) indent style eol (length line) b out p out′
+      join-put = subst (λ (x : Placed). Puts (spacedBy marker (decode line)) indent style eol (length line) b out x out′) (sym is) join-alone
 
-    module _ (p : Placed) (w : Puts (placedBy marker (decode line)) indent width eol (length line) b out p out′) where
+    module _ (p : Placed) (w : Puts (placedBy marker (decode line)) indent style eol (length line) b out p out′) where
       placed-as : ((f : Formatter) → Knows eol f b out → (isPlainElse (decode line) && canJoin (f .lines)) ≡ false)
-          → Puts (spacedBy marker (decode line)) indent width eol (length line) b out p out′
+          → Puts (spacedBy marker (decode line)) indent style eol (length line) b out p out′
       placed-as h =
           record {
             text = λ o f i k. rw (same o f k) (w .text o f i k);
@@ -164,8 +165,8 @@ module _
           same : (o : Options) (f : Formatter) → Knows eol f b out → spacedLine o f marker (decode line) ≡ placedLine o f marker (decode line)
           same o f k = unfold spacedLine in (choose-false _ _ _ (h f k))
 
-      pub not-else : e ≡ false → Puts (spacedBy marker (decode line)) indent width eol (length line) b out p out′
+      pub not-else : e ≡ false → Puts (spacedBy marker (decode line)) indent style eol (length line) b out p out′
       not-else q = placed-as (λ f k. rw (← else, q) refl)
 
-      pub not-joinable : (j : Bool) → j ≡ isJoinable (b .text .last) → j ≡ false → Puts (spacedBy marker (decode line)) indent width eol (length line) b out p out′
+      pub not-joinable : (j : Bool) → j ≡ isJoinable (b .text .last) → j ≡ false → Puts (spacedBy marker (decode line)) indent style eol (length line) b out p out′
       not-joinable j last q = placed-as (λ f k. rw (← takes j last f k, q) (and-false (isPlainElse (decode line))))

@@ -7,7 +7,7 @@ use lib.Dec.{eqb}
 use lib.ListN.{length, drop}
 use Rattle.unicode.specs.Unicode.{decode, trimEnd, WellFormed}
 use Rattle.buffer.specs.Repeat.{times}
-use Rattle.rules.specs.Basics.{choose, is, isEmpty, lastIs}
+use Rattle.rules.specs.Basics.{choose, isEmpty}
 use Rattle.rules.specs.Scan.{classify}
 use Rattle.rules.specs.ClassBytes.{classBytes}
 use Rattle.rules.specs.Options.{Options, overWide}
@@ -17,11 +17,12 @@ use Rattle.rules.specs.Line.{Formatter, dropBlank, broken, splitWide, spacedLin
 use Rattle.rules.specs.declared.Carry.{Carry}
 use Rattle.rules.specs.declared.PrintWidth.{PrintWidth}
 use Rattle.basics.specs.Closers.{Closers}
-use Rattle.format.specs.Words.{declarationOf, sameOf}
+use Rattle.format.specs.Words.{sameOf}
 use Rattle.format.specs.declared.words.Declaration.{Declaration}
 use Rattle.text.specs.Text.{Text, Ordered, farPlace}
 use Rattle.text.specs.declared.Written.{Written}
-use Rattle.line.specs.Holds.{Uses}
+use Rattle.line.specs.Holds.{Uses, prevOf}
+use Rattle.line.specs.declared.style.Style.{Style}
 use Rattle.place.specs.declared.Before.{Before}
 use Rattle.place.specs.declared.Placed.{Placed}
 
@@ -33,18 +34,17 @@ pub record GoesOn (line class : List ℕ) : Type 0 where
   pub trimmed : trimEnd (decode line) ≡ decode line
   pub classes : class ≡ classBytes (classify Carry.Code line)
 
--- what the code knows before the line: the text, whether a bracket is open, the levels left after the leading closers, the previous line's two facts
+-- what the code knows before the line: the text, whether a bracket is open, the levels left after the leading closers, the previous line's facts
 pub record Knows (eol : List ℕ) (f : Formatter) (b : Before) (out : List ℕ) : Type 0 where
   pub text : Text eol (f .lines) (b .text) out
   pub empty : isEmpty (f .stack) ≡ eqb (b .depth) 0
   pub running : b .levels ≡ levels (drop (b .closers) (f .stack))
-  pub decl : b .decl ≡ declarationOf (f .prev)
-  pub brace : b .brace ≡ lastIs (is "}") (f .prev)
+  pub prev : b .prev ≡ prevOf (f .prev)
 
 -- and of the line itself, from its bytes
 pub record Heads (line : List ℕ) (b : Before) : Type 0 where
   pub closers : Closers line (b .closers)
-  pub declares : b .declares ≡ declarationOf line
+  pub own : b .own ≡ prevOf line
 
 -- what it asks
 pub record Asks (b : Before) : Type 0 where
@@ -57,10 +57,10 @@ abbrev pub respacedGrowth : ℕ
 respacedGrowth = 2 ^ 28
 
 -- the line of characters l was put into the text, as the step g says
-pub record Puts (g : Options → Formatter → Formatter) (indent : List ℕ) (width : PrintWidth) (eol : List ℕ) (n : ℕ) (b : Before) (out : List ℕ) (r : Placed) (out′ : List ℕ) : Type 0 where
-  pub text : (o : Options) (f : Formatter) → Uses o indent width → Knows eol f b out → Text eol (g o f .lines) (r .text) out′
-  pub imports : (o : Options) (f : Formatter) → Uses o indent width → Knows eol f b out → g o f .importsSplit ≡ f .importsSplit + r .imports
-  pub blanks : (o : Options) (f : Formatter) → Uses o indent width → Knows eol f b out → g o f .blankNames ≡ f .blankNames + r .blanks
+pub record Puts (g : Options → Formatter → Formatter) (indent : List ℕ) (style : Style) (eol : List ℕ) (n : ℕ) (b : Before) (out : List ℕ) (r : Placed) (out′ : List ℕ) : Type 0 where
+  pub text : (o : Options) (f : Formatter) → Uses o indent style → Knows eol f b out → Text eol (g o f .lines) (r .text) out′
+  pub imports : (o : Options) (f : Formatter) → Uses o indent style → Knows eol f b out → g o f .importsSplit ≡ f .importsSplit + r .imports
+  pub blanks : (o : Options) (f : Formatter) → Uses o indent style → Knows eol f b out → g o f .blankNames ≡ f .blankNames + r .blanks
   pub ordered : Ordered (r .text)
   pub at : r .text .at .0 ≤ b .text .at .0 + (n + 1) * respacedGrowth
   pub few : r .imports ≤ 1

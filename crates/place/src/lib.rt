@@ -16,20 +16,21 @@ ghost use Rattle.rules.specs.declared.PrintWidth.{PrintWidth};
 ghost use Rattle.line.specs.Holds.{ValidIndent};
 ghost use Rattle.place.specs.Placing.{GoesOn, Heads, Asks, Puts, spacedBy, placedBy, dropsBlank, Wide, aloneIn, breakWidth, Lays, Breaks};
 use format::words::Declaration;
+use line::formatter::Prev;
+use line::style::Style;
 use rules::LineEnding;
 use rules::PrintWidth;
 use text::Written;
 
-// What is known before the line is put: the text so far, how many brackets are open, how many levels are left after the line's leading closers popped, of
-// the previous line which declaration it is and whether it ends in `}`, and of this line its leading closers and which declaration it is.
+// What is known before the line is put: the text so far, how many brackets are open, how many levels are left after the line's leading closers popped, what
+// it asks of the previous line, and of this line its leading closers and what the next line asks of it.
 pub struct Before {
     pub text: Written,
     pub depth: usize,
     pub levels: usize,
-    pub decl: Declaration,
-    pub brace: bool,
+    pub prev: Prev,
     pub closers: usize,
-    pub declares: Declaration,
+    pub own: Prev,
 }
 
 // The text after the line, and what the line adds to the counts.
@@ -37,6 +38,12 @@ pub struct Placed {
     pub text: Written,
     pub imports: usize,
     pub blanks: usize,
+}
+
+// Where a line is put: the level of its indent, and whether an empty newest line goes first.
+pub struct Slot {
+    pub level: usize,
+    pub drops: bool,
 }
 
 // The levels left after the leading closers, and one more if the line continues the one before.
@@ -80,22 +87,31 @@ fn over_wide(indent: &[u8], level: usize, line: &[u8], max: usize) -> bool
 fn push_one(
     line: &[u8],
     indent: &[u8],
-    level: usize,
     ending: LineEnding,
-    drops: bool,
+    slot: Slot,
     out: &mut [u8],
     t: Written,
 ) -> Written
     requires { ⌜ ValidIndent (now indent) ⌝ }
-    requires { ⌜ level ≤ maxSource ⌝ }
+    requires { ⌜ slot .level ≤ maxSource ⌝ }
     requires { ⌜ WellFormed (now line) × (length (now line) ≤ 2 * maxSource) ⌝ }
     requires { ⌜ trimEnd (decode (now line)) ≡ decode (now line) ⌝ }
     requires { ⌜ Ordered t × (t .at .0 ≤ farPlace) ⌝ }
-    ensures { λ r. ⌜ Adds (asStr ending) drops (times level (now (indent .entry)) ++ decode (now (line .entry))) (now (out .entry)) t (now (out .exit)) r ⌝ }
+    ensures { λ r. ⌜ Adds (asStr ending) (slot .drops) (times (slot .level) (now (indent .entry)) ++ decode (now (line .entry))) (now (out .entry)) t (now (out .exit)) r ⌝ }
 {
     let joins = format::else_line::trimmed_takes_else(line);
     let tail = line.len();
-    text::push_line(out, t, ending, drops, indent, level, line, tail, joins)
+    text::push_line(
+        out,
+        t,
+        ending,
+        slot.drops,
+        indent,
+        slot.level,
+        line,
+        tail,
+        joins,
+    )
 }
 
 // A plain else joined to the newest line.
@@ -141,29 +157,29 @@ fn fit_line(
     line: &[u8],
     class: &[u8],
     indent: &[u8],
-    level: usize,
-    width: PrintWidth,
-    ending: LineEnding,
-    drops: bool,
+    style: Style,
+    slot: Slot,
     out: &mut [u8],
     t: Written,
 ) -> Placed
     requires { ⌜ ValidIndent (now indent) ⌝ }
-    requires { ⌜ level ≤ maxSource ⌝ }
+    requires { ⌜ slot .level ≤ maxSource ⌝ }
     requires { ⌜ GoesOn (now line) (now class) ⌝ }
     requires { ⌜ Ordered t × (t .at .0 ≤ farPlace) ⌝ }
-    ensures { λ r. ⌜ Lays (choose (allCodeOrStr (classify Carry.Code (decode (now (line .entry))))) width PrintWidth.Off) (now (indent .entry)) (decode (now (line .entry))) level (asStr ending) drops (length (now (line .entry))) (now (out .entry)) t r (now (out .exit)) ⌝ }
+    ensures { λ r. ⌜ Lays (choose (allCodeOrStr (classify Carry.Code (decode (now (line .entry))))) (style .width) PrintWidth.Off) (now (indent .entry)) (decode (now (line .entry))) (slot .level) (asStr (style .ending)) (slot .drops) (length (now (line .entry))) (now (out .entry)) t r (now (out .exit)) ⌝ }
 {
+    let width = style.width;
+    let ending = style.ending;
     match width {
-        PrintWidth::Off => alone(push_one(line, indent, level, ending, drops, out, t)),
+        PrintWidth::Off => alone(push_one(line, indent, ending, slot, out, t)),
         PrintWidth::Columns(max) => {
-            if over_wide(indent, level, line, max) {
+            if over_wide(indent, slot.level, line, max) {
                 if scan::all_code_or_str(class) {
-                    return break_line(line, class, indent, level, max, ending, drops, out, t);
+                    return break_line(line, class, indent, max, ending, slot, out, t);
                 }
-                return alone(push_one(line, indent, level, ending, drops, out, t));
+                return alone(push_one(line, indent, ending, slot, out, t));
             }
-            alone(push_one(line, indent, level, ending, drops, out, t))
+            alone(push_one(line, indent, ending, slot, out, t))
         }
     }
 }
@@ -174,8 +190,7 @@ fn lay_line(
     class: &[u8],
     marker: bool,
     indent: &[u8],
-    width: PrintWidth,
-    ending: LineEnding,
+    style: Style,
     out: &mut [u8],
     b: Before,
 ) -> Placed
@@ -183,18 +198,24 @@ fn lay_line(
     requires { ⌜ GoesOn (now line) (now class) ⌝ }
     requires { ⌜ Heads (now line) b ⌝ }
     requires { ⌜ Asks b ⌝ }
-    ensures { λ r. ⌜ Puts (placedBy marker (decode (now (line .entry)))) (now (indent .entry)) width (asStr ending) (length (now (line .entry))) b (now (out .entry)) r (now (out .exit)) ⌝ }
+    ensures { λ r. ⌜ Puts (placedBy marker (decode (now (line .entry)))) (now (indent .entry)) style (asStr (style .ending)) (length (now (line .entry))) b (now (out .entry)) r (now (out .exit)) ⌝ }
 {
     let t = b.text;
     let depth = b.depth;
-    let before = b.decl;
+    let prev = b.prev;
+    let own = b.own;
+    let before = prev.declares;
+    let d = own.declares;
     let closers = b.closers;
-    let d = b.declares;
-    let continued = format::words::continues(line, closers, b.brace);
+    let continued = format::words::continues(line, closers, prev.brace);
     let level = level_of(b.levels, continued);
     let drops = drops_blank(depth, d, before);
+    let width = style.width;
+    let ending = style.ending;
     let max = break_width(width, marker, continued, closers);
-    fit_line(line, class, indent, level, max, ending, drops, out, t)
+    let used = Style { width: max, ending };
+    let slot = Slot { level, drops };
+    fit_line(line, class, indent, used, slot, out, t)
 }
 
 // The line that goes on, put into the text: a plain else is joined to the newest line if that can take it.
@@ -203,8 +224,7 @@ pub fn place_line(
     class: &[u8],
     marker: bool,
     indent: &[u8],
-    width: PrintWidth,
-    ending: LineEnding,
+    style: Style,
     out: &mut [u8],
     b: Before,
 ) -> Placed
@@ -212,7 +232,7 @@ pub fn place_line(
     requires { ⌜ GoesOn (now line) (now class) ⌝ }
     requires { ⌜ Heads (now line) b ⌝ }
     requires { ⌜ Asks b ⌝ }
-    ensures { λ r. ⌜ Puts (spacedBy marker (decode (now (line .entry)))) (now (indent .entry)) width (asStr ending) (length (now (line .entry))) b (now (out .entry)) r (now (out .exit)) ⌝ }
+    ensures { λ r. ⌜ Puts (spacedBy marker (decode (now (line .entry)))) (now (indent .entry)) style (asStr (style .ending)) (length (now (line .entry))) b (now (out .entry)) r (now (out .exit)) ⌝ }
 {
     let t = b.text;
     let last = t.last;
@@ -220,9 +240,9 @@ pub fn place_line(
         if text::is_joinable(last) {
             return alone(join_one(line, class, out, t));
         }
-        return lay_line(line, class, marker, indent, width, ending, out, b);
+        return lay_line(line, class, marker, indent, style, out, b);
     }
-    lay_line(line, class, marker, indent, width, ending, out, b)
+    lay_line(line, class, marker, indent, style, out, b)
 }
 
 // The line, all of it code and strings, broken: an import first, otherwise at its operators.
@@ -230,24 +250,23 @@ fn break_line(
     line: &[u8],
     class: &[u8],
     indent: &[u8],
-    level: usize,
     max: usize,
     ending: LineEnding,
-    drops: bool,
+    slot: Slot,
     out: &mut [u8],
     t: Written,
 ) -> Placed
     requires { ⌜ ValidIndent (now indent) ⌝ }
-    requires { ⌜ level ≤ maxSource ⌝ }
+    requires { ⌜ slot .level ≤ maxSource ⌝ }
     requires { ⌜ GoesOn (now line) (now class) ⌝ }
     requires { ⌜ Ordered t × (t .at .0 ≤ farPlace) ⌝ }
     requires { ⌜ allCodeOrStr (classify Carry.Code (now line)) ≡ true ⌝ }
-    ensures { λ r. ⌜ Breaks max (now (indent .entry)) (decode (now (line .entry))) level (asStr ending) drops (length (now (line .entry))) (now (out .entry)) t r (now (out .exit)) ⌝ }
+    ensures { λ r. ⌜ Breaks max (now (indent .entry)) (decode (now (line .entry))) (slot .level) (asStr ending) (slot .drops) (length (now (line .entry))) (now (out .entry)) t r (now (out .exit)) ⌝ }
 {
-    let start = text::continue_text(out, t, ending, drops);
+    let start = text::continue_text(out, t, ending, slot.drops);
     let eol = options::ending::as_str(ending, b"\r\n");
     let brace = format::else_line::ends_in_brace(line);
-    let i = split_import::split_import(line, class, indent, level, eol, max, out, start);
+    let i = split_import::split_import(line, class, indent, slot.level, eol, max, out, start);
     if i.split {
         return Placed {
             text: text::after_lines(i.next, brace),
@@ -255,7 +274,7 @@ fn break_line(
             blanks: i.blanks,
         };
     }
-    let o = split_operation::split_operation(line, class, indent, level, eol, max, out, start);
+    let o = split_operation::split_operation(line, class, indent, slot.level, eol, max, out, start);
     if o.more {
         return alone(text::after_lines(o.next, brace));
     }

@@ -28,7 +28,7 @@ use Rattle.brackets.specs.declared.Nesting.{Nesting}
 use Rattle.basics.proofs.OnlyLaws.{only-same, only-wider, only-then, only-part-before}
 use Rattle.buffer.proofs.RegionLaws.{length-part}
 use Rattle.line.specs.Holds.{Classes}
-use Rattle.line.specs.Scratch.{reclassedAt, stackAt}
+use Rattle.line.specs.Scratch.{respacedAt, reclassedAt, stackAt}
 use Rattle.line.proofs.HoldsLaws.{cells-decoded}
 use Rattle.step.specs.declared.Going.{Going}
 use Rattle.step.specs.Going.{LineRoom, goingLine, Goes, Went, BracketsCounted}
@@ -62,18 +62,18 @@ module _ (line scratch : List ℕ) (unit : ℕ) (after : Carry) (well : WellForm
       }
 
   pub goes-spaced : (mid last : List ℕ) (len : ℕ) (carry : Carry)
-      → Normalized (cellsOf line (part scratch 0 (0 + length line))) scratch mid unit (length line) len → ClassifiedAt mid unit len (reclassedAt unit) last carry
+      → Normalized (cellsOf line (part scratch 0 (0 + length line))) scratch mid (respacedAt unit) (length line) len → ClassifiedAt mid (respacedAt unit) len (reclassedAt unit) last carry
       → Went line scratch last unit (record { own = false; len = len; «class_at» = reclassedAt unit; carry = carry })
   unfolding choose
   goes-spaced mid last len carry n c =
       let s = spaced-bytes line well in
       let o : Only mid last (reclassedAt unit) (reclassedAt unit + len) = record { long = c .long; front = c .front; back = c .back } in
-      let p : part last unit (unit + len) ≡ part mid unit (unit + len) = only-part-before o unit (unit + len) (omega arith) (omega (arith, n .most, room .short)) in
-      let k : part last unit (unit + len) ≡ encode (respaced (decode line)) =
+      let p : part last (respacedAt unit) (respacedAt unit + len) ≡ part mid (respacedAt unit) (respacedAt unit + len) = only-part-before o (respacedAt unit) (respacedAt unit + len) (omega arith) (omega (arith, n .most, room .short)) in
+      let k : part last (respacedAt unit) (respacedAt unit + len) ≡ encode (respaced (decode line)) =
       p ∙ n .is ∙ ap (λ (ks : List ℕ). normalizeSpacing (cellsOf line ks)) (classes .bytes) ∙ s .bytes in
       record {
         goes = record {
-          long = length-part last unit len (omega (arith, c .long, n .only .long, n .most, room .short, room .room));
+          long = length-part last (respacedAt unit) len (omega (arith, c .long, n .only .long, n .most, room .short, room .room));
           well = subst WellFormed (sym k) (s .well);
           text = ap decode k ∙ s .chars;
           classes = c .bytes ∙ ap (λ (l : List ℕ). classBytes (classify Carry.Code l)) (sym p);
@@ -170,15 +170,15 @@ module _ (line scratch scratch′ : List ℕ) (unit : ℕ) (g : Going) (closers 
 
   pub counts-spaced : g .own ≡ false
       → BracketsDone scratch scratch′ (stackAt unit) left (g .len)
-      (scanBrackets (drop closers (cellsOf (part scratch unit (unit + g .len)) (part scratch (g .«class_at») (g .«class_at» + g .len)))) (stacked scratch (stackAt unit) (left .depth)))
+      (scanBrackets (drop closers (cellsOf (part scratch (respacedAt unit) (respacedAt unit + g .len)) (part scratch (g .«class_at») (g .«class_at» + g .len)))) (stacked scratch (stackAt unit) (left .depth)))
       deep
       → BracketsCounted (respaced (decode line)) scratch scratch′ (stackAt unit) left (length line) deep
   counts-spaced e w =
-      let p : goingLine line scratch unit g ≡ part scratch unit (unit + g .len) = choose-false (g .own) line _ e in
-      let n : length (part scratch unit (unit + g .len)) ≡ g .len = ap length (sym p) ∙ goes .long in
-      counts (part scratch unit (unit + g .len)) p
+      let p : goingLine line scratch unit g ≡ part scratch (respacedAt unit) (respacedAt unit + g .len) = choose-false (g .own) line _ e in
+      let n : length (part scratch (respacedAt unit) (respacedAt unit + g .len)) ≡ g .len = ap length (sym p) ∙ goes .long in
+      counts (part scratch (respacedAt unit) (respacedAt unit + g .len)) p
       (subst (λ (m : ℕ). BracketsDone scratch scratch′ (stackAt unit) left m
-      (scanBrackets (drop closers (cellsOf (part scratch unit (unit + g .len)) (part scratch (g .«class_at») (g .«class_at» + m)))) (stacked scratch (stackAt unit) (left .depth))) deep)
+      (scanBrackets (drop closers (cellsOf (part scratch (respacedAt unit) (respacedAt unit + g .len)) (part scratch (g .«class_at») (g .«class_at» + m)))) (stacked scratch (stackAt unit) (left .depth))) deep)
       (sym n) w)
 
 -- there is room for the stack
@@ -187,4 +187,4 @@ pub count-room : (line scratch : List ℕ) (unit : ℕ) (g : Going) (left : Nest
 count-room line scratch unit g left n r w h k e = record { classes = omega (arith, w .fits); stack = omega (arith, w .most, r .room, r .short); runs = k .runs }
 
 pub own-length : (line scratch : List ℕ) (unit : ℕ) (g : Going) → Goes line scratch unit g → g .own ≡ true → length line ≡ g .len
-own-length line scratch unit g w e = ap length (sym (choose-true (g .own) line (part scratch unit (unit + g .len)) e)) ∙ w .long
+own-length line scratch unit g w e = ap length (sym (choose-true (g .own) line (part scratch (respacedAt unit) (respacedAt unit + g .len)) e)) ∙ w .long

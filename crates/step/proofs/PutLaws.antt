@@ -9,28 +9,26 @@ use lib.Dec.{eqb}
 use lib.ListN.{length, drop}
 use Rattle.unicode.specs.Unicode.{encode, decode, WellFormed, trimEnd}
 use Rattle.buffer.specs.Buffer.{part}
-use Rattle.rules.specs.Basics.{is, isEmpty, lastIs}
+use Rattle.rules.specs.Basics.{isEmpty}
 use Rattle.rules.specs.Scan.{classify}
 use Rattle.rules.specs.ClassBytes.{classBytes}
 use Rattle.rules.specs.Brackets.{levels}
 use Rattle.rules.specs.Line.{Formatter}
 use Rattle.rules.specs.Spacing.{respaced}
 use Rattle.rules.specs.declared.Carry.{Carry}
-use Rattle.rules.specs.declared.PrintWidth.{PrintWidth}
 use Rattle.rules.proofs.SpacedLine.{spaced-trimmed, length-size}
 use Rattle.basics.specs.Closers.{Closers}
 use Rattle.brackets.specs.Stack.{stacked, Popped}
 use Rattle.brackets.specs.declared.Nesting.{Nesting}
 use Rattle.brackets.proofs.StackLaws.{stacked-drop, levels-most}
 use Rattle.line.specs.Scratch.{stackAt}
-use Rattle.format.specs.Words.{declarationOf}
-use Rattle.format.specs.declared.words.Declaration.{Declaration}
 use Rattle.place.specs.Placing.{GoesOn, Heads, Knows, Asks, Puts, spacedBy}
 use Rattle.place.specs.declared.Before.{Before}
 use Rattle.place.specs.declared.Placed.{Placed}
-use Rattle.line.specs.Holds.{Holds, Ready}
-use Rattle.line.specs.declared.state.State.{State}
-use Rattle.line.proofs.HoldsLaws.{declaration-bytes, brace-bytes}
+use Rattle.line.specs.Holds.{Record, prevOf, Holds, Ready}
+use Rattle.line.specs.declared.formatter.Prev.{Prev}
+use Rattle.line.specs.declared.style.Style.{Style}
+use Rattle.line.proofs.HoldsLaws.{prev-bytes}
 use Rattle.step.specs.declared.Going.{Going}
 use Rattle.step.specs.Going.{SolidLine, goingLine, Goes, beforeOf, PutOn}
 
@@ -39,8 +37,8 @@ unfolding stacked
 stacked-empty scratch base zero = refl
 stacked-empty scratch base (suc depth) = sym (ne-eqb (suc depth) 0 (λ e. absurd (omega arith)))
 
-knows : {eol : List ℕ} {unit closers : ℕ} {left : Nesting} {declares : Declaration} {f : Formatter} {st : State} {out scratch : List ℕ} → Holds eol unit f st out scratch
-    → Popped scratch (stackAt unit) (st .nesting) closers left → Knows eol f (beforeOf st (left .levels) closers declares) out
+knows : {eol : List ℕ} {unit closers : ℕ} {left : Nesting} {own : Prev} {f : Formatter} {st : Record} {out scratch : List ℕ} → Holds eol unit f st out scratch
+    → Popped scratch (stackAt unit) (st .nesting) closers left → Knows eol f (beforeOf st (left .levels) closers own) out
 knows {unit = unit} {closers = closers} {st = st} {scratch = scratch} h l =
     record {
       text = h .text;
@@ -48,8 +46,7 @@ knows {unit = unit} {closers = closers} {st = st} {scratch = scratch} h l =
       running =
           l .nested .runs
           ∙ rw (l .depth) (ap levels (sym (stacked-drop scratch (stackAt unit) (st .nesting .depth) closers) ∙ ap (drop closers) (h .stack)));
-      decl = h .decl;
-      brace = h .brace;
+      prev = h .prev;
     }
 
 some-length : (l : List ℕ) → isEmpty l ≡ false → 1 ≤ length l
@@ -60,10 +57,10 @@ some-length (c ∷ l) e = omega arith
 pub some-bytes : (line : List ℕ) → WellFormed line → isEmpty (decode line) ≡ false → 1 ≤ length line
 some-bytes line w e = omega (arith, some-length (decode line) e, length-size (decode line), ap length w)
 
-module _ (line scratch : List ℕ) (unit : ℕ) (st : State) (ready : Ready st scratch unit (length line)) (solid : SolidLine line) where
-  pub asks : (b : Before) (closers : ℕ) (left : Nesting) (declares : Declaration) → b ≡ beforeOf st (left .levels) closers declares
+module _ (line scratch : List ℕ) (unit : ℕ) (st : Record) (ready : Ready st scratch unit (length line)) (solid : SolidLine line) where
+  pub asks : (b : Before) (closers : ℕ) (left : Nesting) (own : Prev) → b ≡ beforeOf st (left .levels) closers own
       → Popped scratch (stackAt unit) (st .nesting) closers left → Asks b
-  asks b closers left declares e l =
+  asks b closers left own e l =
       let n = some-bytes line (solid .well) (solid .some) in
       subst Asks (sym e)
       (record {
@@ -93,27 +90,26 @@ module _ (line scratch : List ℕ) (unit : ℕ) (st : State) (ready : Ready st s
           classes = goes .classes ∙ ap (λ (s : List ℕ). classBytes (classify Carry.Code s)) (sym e);
         }
 
-    pub heads : (b : Before) (left closers : ℕ) (declares : Declaration) → b ≡ beforeOf st left closers declares → Closers L closers → declares ≡ declarationOf L → Heads L b
-    heads b left closers declares e′ k d = subst (Heads L) (sym e′) (record { closers = k; declares = d })
+    pub heads : (b : Before) (left closers : ℕ) (own : Prev) → b ≡ beforeOf st left closers own → Closers L closers → own ≡ prevOf L → Heads L b
+    heads b left closers own e′ k d = subst (Heads L) (sym e′) (record { closers = k; own = d })
 
-    pub put-on : (marker : Bool) (indent : List ℕ) (width : PrintWidth) (eol out out′ : List ℕ) (p : Placed) (closers : ℕ) (left : Nesting) (decl : Declaration) (brace : Bool) (b : Before)
-        → b ≡ beforeOf st (left .levels) closers decl → Puts (spacedBy marker (decode L)) indent width eol (length L) b out p out′
-        → Closers L closers → Popped scratch (stackAt unit) (st .nesting) closers left → decl ≡ declarationOf L → brace ≡ lastIs (is "}") L
-        → PutOn marker (respaced (decode line)) indent width eol (length line) unit st out scratch
-        (record { text = p .text; imports = p .imports; blanks = p .blanks; closers = closers; left = left; decl = decl; brace = brace }) out′
-    put-on marker indent width eol out out′ p closers left decl brace b e′ w ek el ed eb =
-        let x : Puts (spacedBy marker (decode L)) indent width eol (length L) (beforeOf st (left .levels) closers decl) out p out′ =
-        subst (λ (y : Before). Puts (spacedBy marker (decode L)) indent width eol (length L) y out p out′) e′ w in
-        let v : Puts (spacedBy marker (respaced (decode line))) indent width eol (length L) (beforeOf st (left .levels) closers decl) out p out′ =
-        subst (λ (l : List ℕ). Puts (spacedBy marker l) indent width eol (length L) (beforeOf st (left .levels) closers decl) out p out′) going-text x in
+    pub put-on : (marker : Bool) (indent : List ℕ) (style : Style) (eol out out′ : List ℕ) (p : Placed) (closers : ℕ) (left : Nesting) (own : Prev) (b : Before)
+        → b ≡ beforeOf st (left .levels) closers own → Puts (spacedBy marker (decode L)) indent style eol (length L) b out p out′
+        → Closers L closers → Popped scratch (stackAt unit) (st .nesting) closers left → own ≡ prevOf L
+        → PutOn marker (respaced (decode line)) indent style eol (length line) unit st out scratch
+        (record { text = p .text; imports = p .imports; blanks = p .blanks; closers = closers; left = left; own = own }) out′
+    put-on marker indent style eol out out′ p closers left own b e′ w ek el eo =
+        let x : Puts (spacedBy marker (decode L)) indent style eol (length L) (beforeOf st (left .levels) closers own) out p out′ =
+        subst (λ (y : Before). Puts (spacedBy marker (decode L)) indent style eol (length L) y out p out′) e′ w in
+        let v : Puts (spacedBy marker (respaced (decode line))) indent style eol (length L) (beforeOf st (left .levels) closers own) out p out′ =
+        subst (λ (l : List ℕ). Puts (spacedBy marker l) indent style eol (length L) (beforeOf st (left .levels) closers own) out p out′) going-text x in
         record {
           text = λ o f u h. v .text o f u (knows h el);
           imports = λ o f u h. v .imports o f u (knows h el);
           blanks = λ o f u h. v .blanks o f u (knows h el);
           closers = subst (λ (s : List ℕ). Closers s closers) (sym going-well ∙ ap encode going-text) ek;
           left = el;
-          decl = ed ∙ declaration-bytes L going-well ∙ ap declarationOf going-text;
-          brace = eb ∙ brace-bytes L going-well ∙ ap (lastIs (is "}")) going-text;
+          own = eo ∙ prev-bytes L going-well ∙ ap prevOf going-text;
           ordered = v .ordered;
           at = omega (arith, v .at, going-long, goes .most);
           few = v .few;

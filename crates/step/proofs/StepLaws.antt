@@ -10,7 +10,7 @@ use Rattle.unicode.specs.Unicode.{chars, decode, trimEnd, trim}
 use Rattle.unicode.specs.Places.{TrimmedStart, TrimmedEnd}
 use Rattle.unicode.proofs.Tests.{and-left}
 use Rattle.unicode.proofs.Trim.{trim-trimEnd}
-use Rattle.rules.specs.Basics.{choose, is, isEmpty, lastIs}
+use Rattle.rules.specs.Basics.{choose, isEmpty}
 use Rattle.rules.specs.Scan.{classify, carryAfter}
 use Rattle.rules.specs.ClassBytes.{classBytes}
 use Rattle.rules.specs.Brackets.{leadingClosers, countBrackets, levels}
@@ -21,11 +21,9 @@ use Rattle.rules.specs.Line.{Formatter, elseLine, placedLine, spacedLine, prote
 use Rattle.rules.specs.Spacing.{respaced}
 use Rattle.rules.specs.declared.Carry.{Carry}
 use Rattle.rules.specs.declared.Ignore.{Ignore}
-use Rattle.rules.specs.declared.PrintWidth.{PrintWidth}
 use Rattle.rules.proofs.Choose.{choose-true, choose-false, choose-case}
 use Rattle.scan.specs.Classified.{Classified}
 use Rattle.basics.specs.Region.{Only}
-use Rattle.format.specs.Words.{declarationOf}
 use Rattle.basics.proofs.OnlyLaws.{only-same}
 use Rattle.brackets.specs.Stack.{stacked}
 use Rattle.brackets.specs.declared.Nesting.{Nesting}
@@ -33,8 +31,8 @@ use Rattle.brackets.proofs.StackLaws.{stacked-past, stacked-drop}
 use Rattle.rules.proofs.StartsBytes.{closers-encode}
 use Rattle.line.specs.Scratch.{stackAt}
 use Rattle.format.proofs.ElseLaws.{decode-some}
-use Rattle.line.specs.Holds.{Holds, Runs, Ready, Stepped, TrimmedLine, Classes, Uses, insideOf, protectedOf}
-use Rattle.line.specs.declared.state.State.{State}
+use Rattle.line.specs.Holds.{Record, prevOf, Holds, Runs, Ready, Stepped, TrimmedLine, Classes, Uses, insideOf, protectedOf}
+use Rattle.line.specs.declared.style.Style.{Style}
 use Rattle.line.proofs.HoldsLaws.{carry-bytes, classes-front, front-only, line-room, trimmed-line, start-within}
 use Rattle.place.specs.Placing.{spacedBy}
 use Rattle.step.specs.declared.Going.{Going}
@@ -46,10 +44,10 @@ use Rattle.step.proofs.GoingLaws.{front-part}
 
 -- ---- what is ready for a line is ready for a shorter one, in a scratch as long
 
-runs-past : {unit : ℕ} {st : State} {s₀ s₁ : List ℕ} {m : ℕ} → Only s₀ s₁ 0 m → m ≤ stackAt unit → Runs unit st s₀ → Runs unit st s₁
+runs-past : {unit : ℕ} {st : Record} {s₀ s₁ : List ℕ} {m : ℕ} → Only s₀ s₁ 0 m → m ≤ stackAt unit → Runs unit st s₀ → Runs unit st s₁
 runs-past {unit = unit} {st = st} o k r = record { is = r .is ∙ ap levels (sym (stacked-past o (stackAt unit) (st .nesting .depth) k)) }
 
-pub ready-as : {st : State} {scratch : List ℕ} {unit n : ℕ} (scratch′ : List ℕ) (m e : ℕ) → Ready st scratch unit n → Only scratch scratch′ 0 e → e ≤ stackAt unit → m ≤ n
+pub ready-as : {st : Record} {scratch : List ℕ} {unit n : ℕ} (scratch′ : List ℕ) (m e : ℕ) → Ready st scratch unit n → Only scratch scratch′ 0 e → e ≤ stackAt unit → m ≤ n
     → Ready st scratch′ unit m
 ready-as scratch′ m e r o k h =
     record {
@@ -63,12 +61,12 @@ ready-as scratch′ m e r o k h =
       room = omega (arith, r .room, o .long);
     }
 
-pub ready-room : {st : State} {scratch : List ℕ} {unit n : ℕ} (scratch′ : List ℕ) → Ready st scratch unit n → length scratch′ ≡ length scratch → LineRoom scratch′ unit n
+pub ready-room : {st : Record} {scratch : List ℕ} {unit n : ℕ} (scratch′ : List ℕ) → Ready st scratch unit n → length scratch′ ≡ length scratch → LineRoom scratch′ unit n
 ready-room scratch′ r e = record { short = omega (arith, r .depth); limit = r .limit; room = omega (arith, r .room) }
 
 -- ---- a step that starts after scratch was used before the stack
 
-holds-past : {eol : List ℕ} {unit : ℕ} {f : Formatter} {st : State} {out s₀ s₁ : List ℕ} {m : ℕ} → Only s₀ s₁ 0 m → m ≤ stackAt unit
+holds-past : {eol : List ℕ} {unit : ℕ} {f : Formatter} {st : Record} {out s₀ s₁ : List ℕ} {m : ℕ} → Only s₀ s₁ 0 m → m ≤ stackAt unit
     → Holds eol unit f st out s₀ → Holds eol unit f st out s₁
 holds-past {unit = unit} {st = st} o k h =
     record {
@@ -76,15 +74,14 @@ holds-past {unit = unit} {st = st} o k h =
       stack = stacked-past o (stackAt unit) (st .nesting .depth) k ∙ h .stack;
       running = h .running;
       blank = h .blank;
-      decl = h .decl;
-      brace = h .brace;
+      prev = h .prev;
       ignore = h .ignore;
       carry = h .carry;
       imports = h .imports;
       blanks = h .blanks;
     }
 
-stepped-as : {g : Formatter → Formatter} {n unit : ℕ} {eol : List ℕ} {st st′ : State} {out s₁ out′ s₂ : List ℕ} (g′ : Formatter → Formatter) (n′ : ℕ) (s₀ : List ℕ) {m : ℕ}
+stepped-as : {g : Formatter → Formatter} {n unit : ℕ} {eol : List ℕ} {st st′ : Record} {out s₁ out′ s₂ : List ℕ} (g′ : Formatter → Formatter) (n′ : ℕ) (s₀ : List ℕ) {m : ℕ}
     → Only s₀ s₁ 0 m → m ≤ stackAt unit → n ≤ n′ → ((f : Formatter) → Holds eol unit f st out s₀ → g f ≡ g′ f)
     → Stepped g n unit eol st out s₁ st′ out′ s₂ → Stepped g′ n′ unit eol st out s₀ st′ out′ s₂
 stepped-as {g} {n} {unit} {eol} {st} {st′} {out} {s₁} {out′} {s₂} g′ n′ s₀ o k h e w =
@@ -119,15 +116,15 @@ leaves o f marker l n = choose-case (Leaves marker l f) (λ h. joined marker n h
         let y : _≡_ {A = ℕ} 0 1 = cc in absurd (omega arith)
     joined false n h = record { stack = rw (else-closers l (and-left (isPlainElse l) (canJoin (f .lines)) h)); blank = refl; prev = refl; ignore = refl; carry = refl }
 
-pub spaced-step : (line eol out out′ s₀ s₁ s₂ indent : List ℕ) (width : PrintWidth) (unit : ℕ) (marker : Bool) (st : State) (g : Going) (p : Put) (deep : Nesting) (ignore : Ignore) (r : State)
+pub spaced-step : (line eol out out′ s₀ s₁ s₂ indent : List ℕ) (style : Style) (unit : ℕ) (marker : Bool) (st : Record) (g : Going) (p : Put) (deep : Nesting) (ignore : Ignore) (r : Record)
     → Marks marker line → Went line s₀ s₁ unit g
-    → PutOn marker (respaced (decode line)) indent width eol (length line) unit st out s₁ p out′
+    → PutOn marker (respaced (decode line)) indent style eol (length line) unit st out s₁ p out′
     → BracketsCounted (respaced (decode line)) s₁ s₂ (stackAt unit) (p .left) (length line) deep → ignore ≡ ignoreOf marker → r ≡ afterLine st p deep ignore (g .carry)
-    → (o : Options) → Uses o indent width
+    → (o : Options) → Uses o indent style
     → Stepped (spacedBy marker (respaced (decode line)) o) (length line) unit eol st out s₀ r out′ s₂
 unfolding countBrackets
-spaced-step line eol out out′ s₀ s₁ s₂ indent width unit marker st g p deep ignore r n w q v i e o u =
-    subst (λ (x : State). Stepped (spacedBy marker (respaced (decode line)) o) (length line) unit eol st out s₀ x out′ s₂) (sym e)
+spaced-step line eol out out′ s₀ s₁ s₂ indent style unit marker st g p deep ignore r n w q v i e o u =
+    subst (λ (x : Record). Stepped (spacedBy marker (respaced (decode line)) o) (length line) unit eol st out s₀ x out′ s₂) (sym e)
     (record {
       holds = λ f h₀.
           (let h : Holds eol unit f st out s₁ = holds-past (w .only) (omega arith) h₀ in
@@ -137,8 +134,7 @@ spaced-step line eol out out′ s₀ s₁ s₂ indent width unit marker st g p d
             stack = stack-after f h ∙ sym (k .stack);
             running = v .runs ∙ ap levels (stack-after f h ∙ sym (k .stack));
             blank = sym (k .blank);
-            decl = q .decl ∙ ap declarationOf (sym (k .prev));
-            brace = q .brace ∙ ap (lastIs (is "}")) (sym (k .prev));
+            prev = q .own ∙ ap prevOf (sym (k .prev));
             ignore = i ∙ sym (k .ignore);
             carry = w .goes .leaves ∙ carry-bytes Carry.Code (goingLine line s₁ unit g) (w .goes .well) ∙ ap (carryAfter Carry.Code) (w .goes .text) ∙ sym (k .carry);
             imports = ap (λ (m : ℕ). m + p .imports) (h .imports) ∙ sym (q .imports o f u h);
@@ -195,7 +191,7 @@ opens l i Marker.Alone d e = let x = found l Marker.Alone d in record { free = e
 opens l i Marker.AfterCode d e = absurd (true≢false e)
 
 module _
-    {st : State} {s₀ : List ℕ} {unit : ℕ} {raw line : List ℕ} (w : List ℕ) (after : Carry)
+    {st : Record} {s₀ : List ℕ} {unit : ℕ} {raw line : List ℕ} (w : List ℕ) (after : Carry)
     (ready : Ready st s₀ unit (length raw)) (t : TrimmedLine raw line) (c : Classified Carry.Code line (take (length line) s₀) w after)
   where
     room : length line ≤ length s₀
@@ -222,7 +218,7 @@ module _
     pub line-ready : Ready st (w ++ drop (length line) s₀) unit (length line)
     line-ready = ready-as _ _ _ ready only within (t .short)
 
-    module _ {eol out out′ s₂ : List ℕ} {r : State} where
+    module _ {eol out out′ s₂ : List ℕ} {r : Record} where
       -- kept as written
       pub code-protected : (m : Marker) (b : Bool) → m ≡ markerIn (decode line) → b ≡ isKept (st .ignore) m → b ≡ true
           → Stepped (protectedOf (decode raw)) (length raw) unit eol st out (w ++ drop (length line) s₀) r out′ s₂
@@ -262,11 +258,11 @@ code-carry Carry.Code b e q = refl
 code-carry (Carry.Block d) b e q = absurd (true≢false (sym q ∙ e))
 code-carry Carry.Prefab b e q = absurd (true≢false (sym q ∙ e))
 
-module _ {st : State} {s₀ out eol : List ℕ} {unit : ℕ} (b : Bool) (e : b ≡ inCodeNow (st .carry)) where
+module _ {st : Record} {s₀ out eol : List ℕ} {unit : ℕ} (b : Bool) (e : b ≡ inCodeNow (st .carry)) where
   in-now : {f : Formatter} → Holds eol unit f st out s₀ → inCodeNow (f .carry) ≡ b
   in-now h = ap inCodeNow (sym (h .carry)) ∙ sym e
 
-  module _ {r : State} {out′ s₂ : List ℕ} (raw : List ℕ) (o : Options) where
+  module _ {r : Record} {out′ s₂ : List ℕ} (raw : List ℕ) (o : Options) where
     pub format-inside : b ≡ false → Stepped (insideOf (decode raw)) (length raw) unit eol st out s₀ r out′ s₂ → Stepped (formatLineBy o (decode raw)) (length raw) unit eol st out s₀ r out′ s₂
     unfolding formatLine
     format-inside q v = stepped-as _ _ s₀ (only-same s₀ 0 0) (omega arith) (omega arith) (λ f h. sym (choose-false _ _ _ (in-now h ∙ q))) v

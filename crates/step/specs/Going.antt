@@ -6,7 +6,7 @@ use mathlib.Core.Path.{_≡_}
 use lib.ListN.{length, drop}
 use Rattle.unicode.specs.Unicode.{encode, decode, trimEnd, WellFormed}
 use Rattle.buffer.specs.Buffer.{part}
-use Rattle.rules.specs.Basics.{choose, is, isEmpty, lastIs}
+use Rattle.rules.specs.Basics.{choose, isEmpty}
 use Rattle.rules.specs.Scan.{classify, carryAfter}
 use Rattle.rules.specs.ClassBytes.{classBytes}
 use Rattle.rules.specs.Spacing.{respaced}
@@ -18,20 +18,18 @@ use Rattle.rules.specs.Refusals.{maxSource}
 use Rattle.rules.specs.Line.{Formatter, protects, codeLine, formatLine}
 use Rattle.rules.specs.declared.Carry.{Carry}
 use Rattle.rules.specs.declared.Ignore.{Ignore}
-use Rattle.rules.specs.declared.PrintWidth.{PrintWidth}
 use Rattle.basics.specs.Depth.{carryDepth}
 use Rattle.basics.specs.Region.{Only}
 use Rattle.basics.specs.Closers.{Closers}
 use Rattle.brackets.specs.Stack.{stacked, Popped}
 use Rattle.brackets.specs.declared.Nesting.{Nesting}
-use Rattle.format.specs.Words.{declarationOf}
-use Rattle.format.specs.declared.words.Declaration.{Declaration}
 use Rattle.text.specs.Text.{Text, Ordered}
 use Rattle.place.specs.Placing.{spacedBy, respacedGrowth}
 use Rattle.place.specs.declared.Before.{Before}
-use Rattle.line.specs.Scratch.{stackAt, scratchUsed}
-use Rattle.line.specs.Holds.{Holds, Uses}
-use Rattle.line.specs.declared.state.State.{State}
+use Rattle.line.specs.Scratch.{respacedAt, stackAt, scratchUsed}
+use Rattle.line.specs.Holds.{Record, prevOf, Holds, Uses}
+use Rattle.line.specs.declared.formatter.Prev.{Prev}
+use Rattle.line.specs.declared.style.Style.{Style}
 use Rattle.step.specs.declared.Going.{Going}
 use Rattle.step.specs.declared.Marker.{Marker}
 use Rattle.step.specs.declared.Put.{Put}
@@ -73,7 +71,7 @@ pub record LineRoom (scratch : List ℕ) (unit n : ℕ) : Type 0 where
 
 -- the bytes of the line that goes on
 abbrev pub goingLine : List ℕ → List ℕ → ℕ → Going → List ℕ
-goingLine line scratch unit g = choose (g .own) line (part scratch unit (unit + g .len))
+goingLine line scratch unit g = choose (g .own) line (part scratch (respacedAt unit) (respacedAt unit + g .len))
 
 -- the line that goes on, and its class bytes in scratch
 pub record Goes (line scratch : List ℕ) (unit : ℕ) (g : Going) : Type 0 where
@@ -110,27 +108,25 @@ abbrev pub ignoreOf : Bool → Ignore
 ignoreOf marker = choose marker Ignore.NextLine Ignore.Nothing
 
 -- what is known before the line is put
-abbrev pub beforeOf : State → ℕ → ℕ → Declaration → Before
-beforeOf st left closers declares =
+abbrev pub beforeOf : Record → ℕ → ℕ → Prev → Before
+beforeOf st left closers own =
     record {
       text = st .text;
       depth = st .nesting .depth;
       levels = left;
-      decl = st .decl;
-      brace = st .brace;
+      prev = st .prev;
       closers = closers;
-      declares = declares;
+      own = own;
     }
 
 -- the record after the line
-abbrev pub afterLine : State → Put → Nesting → Ignore → Carry → State
+abbrev pub afterLine : Record → Put → Nesting → Ignore → Carry → Record
 afterLine st p deep ignore carry =
     record {
       text = p .text;
       nesting = deep;
       blank = false;
-      decl = p .decl;
-      brace = p .brace;
+      prev = p .own;
       ignore = ignore;
       carry = carry;
       imports = st .imports + p .imports;
@@ -138,14 +134,13 @@ afterLine st p deep ignore carry =
     }
 
 -- a line of n bytes, which goes on as the characters l, was put into the text
-pub record PutOn (marker : Bool) (l indent : List ℕ) (width : PrintWidth) (eol : List ℕ) (n unit : ℕ) (st : State) (out scratch : List ℕ) (r : Put) (out′ : List ℕ) : Type 0 where
-  pub text : (o : Options) (f : Formatter) → Uses o indent width → Holds eol unit f st out scratch → Text eol (spacedBy marker l o f .lines) (r .text) out′
-  pub imports : (o : Options) (f : Formatter) → Uses o indent width → Holds eol unit f st out scratch → spacedBy marker l o f .importsSplit ≡ f .importsSplit + r .imports
-  pub blanks : (o : Options) (f : Formatter) → Uses o indent width → Holds eol unit f st out scratch → spacedBy marker l o f .blankNames ≡ f .blankNames + r .blanks
+pub record PutOn (marker : Bool) (l indent : List ℕ) (style : Style) (eol : List ℕ) (n unit : ℕ) (st : Record) (out scratch : List ℕ) (r : Put) (out′ : List ℕ) : Type 0 where
+  pub text : (o : Options) (f : Formatter) → Uses o indent style → Holds eol unit f st out scratch → Text eol (spacedBy marker l o f .lines) (r .text) out′
+  pub imports : (o : Options) (f : Formatter) → Uses o indent style → Holds eol unit f st out scratch → spacedBy marker l o f .importsSplit ≡ f .importsSplit + r .imports
+  pub blanks : (o : Options) (f : Formatter) → Uses o indent style → Holds eol unit f st out scratch → spacedBy marker l o f .blankNames ≡ f .blankNames + r .blanks
   pub closers : Closers (encode l) (r .closers)
   pub left : Popped scratch (stackAt unit) (st .nesting) (r .closers) (r .left)
-  pub decl : r .decl ≡ declarationOf l
-  pub brace : r .brace ≡ lastIs (is "}") l
+  pub own : r .own ≡ prevOf l
   pub ordered : Ordered (r .text)
   pub at : r .text .at .0 ≤ st .text .at .0 + (2 * n + 1) * respacedGrowth
   pub few : r .imports ≤ 1

@@ -19,15 +19,16 @@ ghost use Rattle.line.specs.Holds.{Classes, Ready, Stepped, TrimmedLine, Uses, 
 ghost use Rattle.place.specs.Placing.{spacedBy};
 ghost use Rattle.step.specs.Going.{markerIn, isKept, isAlone, SolidLine, Marks, LineRoom, Goes, Went, BracketsCounted, beforeOf, PutOn, afterLine, codeLineBy, formatLineBy, ignoreOf};
 use brackets::Nesting;
-use format::words::Declaration;
+use line::formatter::Formatter;
+use line::formatter::Prev;
+use line::formatter::prev_of;
 use line::scratch::RECLASSED;
+use line::scratch::RESPACED;
 use line::scratch::STACK;
-use line::state::State;
+use line::style::Style;
 use place::Before;
 use rules::Carry;
 use rules::Ignore;
-use rules::LineEnding;
-use rules::PrintWidth;
 use text::Written;
 
 // A marker in the line's comment: none, one that stands alone, one with code before it.
@@ -52,8 +53,7 @@ pub struct Put {
     pub blanks: usize,
     pub closers: usize,
     pub left: Nesting,
-    pub decl: Declaration,
-    pub brace: bool,
+    pub own: Prev,
 }
 
 // Spacing: the source's own line goes on if it is spaced already, else the respaced one in scratch, classified anew.
@@ -72,9 +72,10 @@ fn go_on(line: &[u8], scratch: &mut [u8], unit: usize, after: Carry) -> Going
             carry: after,
         };
     }
-    let len = spacing::normalize_spacing(line, scratch, 0, unit);
+    let at = RESPACED * unit;
+    let len = spacing::normalize_spacing(line, scratch, 0, at);
     let class_at = RECLASSED * unit;
-    let carry = marks::within::classify_at(scratch, unit, len, class_at);
+    let carry = marks::within::classify_at(scratch, at, len, class_at);
     Going {
         own: false,
         len,
@@ -106,24 +107,24 @@ fn count_going(
     if g.own {
         return brackets::scan_brackets(line, scratch, class_at, base, left, closers);
     }
-    brackets::scan_brackets_at(scratch, unit, len, class_at, base, left, closers)
+    let at = RESPACED * unit;
+    brackets::scan_brackets_at(scratch, at, len, class_at, base, left, closers)
 }
 
 // What is known before the line is put.
-fn before_of(st: State, levels: usize, closers: usize, declares: Declaration) -> Before
-    ensures { λ r. ⌜ r ≡ beforeOf st levels closers declares ⌝ }
+fn before_of(st: Formatter, levels: usize, closers: usize, own: Prev) -> Before
+    ensures { λ r. ⌜ r ≡ beforeOf st levels closers own ⌝ }
 {
     let text = st.text;
     let nesting = st.nesting;
-    let decl = st.decl;
+    let prev = st.prev;
     Before {
         text,
         depth: nesting.depth,
         levels,
-        decl,
-        brace: st.brace,
+        prev,
         closers,
-        declares,
+        own,
     }
 }
 
@@ -135,30 +136,30 @@ fn put_going<'a>(
     g: Going,
     marker: bool,
     indent: &[u8],
-    width: PrintWidth,
-    ending: LineEnding,
+    style: Style,
     out: &mut [u8],
-    st: State,
+    st: Formatter,
 ) -> Put
     requires { ⌜ Ready st (now scratch) unit (length (now line)) ⌝ }
     requires { ⌜ SolidLine (now line) ⌝ }
     requires { ⌜ Goes (now line) (now scratch) unit g ⌝ }
     requires { ⌜ ValidIndent (now indent) ⌝ }
-    ensures { λ r. ⌜ PutOn marker (respaced (decode (now (line .entry)))) (now (indent .entry)) width (asStr ending) (length (now (line .entry))) unit st (now (out .entry)) (now (scratch .entry)) r (now (out .exit)) ⌝ }
+    ensures { λ r. ⌜ PutOn marker (respaced (decode (now (line .entry)))) (now (indent .entry)) style (asStr (style .ending)) (length (now (line .entry))) unit st (now (out .entry)) (now (scratch .entry)) r (now (out .exit)) ⌝ }
 {
     let own = g.own;
     let len = g.len;
     let class_at = g.class_at;
     let end = class_at + len;
-    let l = spacing::line_that_goes_on(line, scratch, own, unit, len);
+    let at = RESPACED * unit;
+    let l = spacing::line_that_goes_on(line, scratch, own, at, len);
     let class = &scratch[class_at..end];
     let closers = brackets::leading_closers(l);
     let nesting = st.nesting;
     let base = STACK * unit;
     let left = brackets::pop_closers(scratch, base, nesting, closers);
-    let decl = format::words::declaration_of(l);
-    let b = before_of(st, left.levels, closers, decl);
-    let p = place::place_line(l, class, marker, indent, width, ending, out, b);
+    let own = prev_of(l);
+    let b = before_of(st, left.levels, closers, own);
+    let p = place::place_line(l, class, marker, indent, style, out, b);
     let text = p.text;
     Put {
         text,
@@ -166,8 +167,7 @@ fn put_going<'a>(
         blanks: p.blanks,
         closers,
         left,
-        decl,
-        brace: format::else_line::ends_in_brace(l),
+        own,
     }
 }
 
@@ -182,19 +182,18 @@ fn ignore_of(marker: bool) -> Ignore
 }
 
 // The record after a line that was put into the text, with the brackets `deep` open, that protects `ignore` and leaves `carry` open.
-fn after_line(st: State, p: Put, deep: Nesting, ignore: Ignore, carry: Carry) -> State
+fn after_line(st: Formatter, p: Put, deep: Nesting, ignore: Ignore, carry: Carry) -> Formatter
     requires { ⌜ st .imports + p .imports < 2 ^ 64 ⌝ }
     requires { ⌜ st .blanks + p .blanks < 2 ^ 64 ⌝ }
     ensures { λ r. ⌜ r ≡ afterLine st p deep ignore carry ⌝ }
 {
     let text = p.text;
-    let decl = p.decl;
-    State {
+    let prev = p.own;
+    Formatter {
         text,
         nesting: deep,
         blank: false,
-        decl,
-        brace: p.brace,
+        prev,
         ignore,
         carry,
         imports: st.imports + p.imports,
@@ -210,31 +209,19 @@ fn spaced_line(
     after: Carry,
     marker: bool,
     indent: &[u8],
-    width: PrintWidth,
-    ending: LineEnding,
+    style: Style,
     out: &mut [u8],
-    st: State,
-) -> State
+    st: Formatter,
+) -> Formatter
     requires { ⌜ Ready st (now scratch) unit (length (now line)) ⌝ }
     requires { ⌜ SolidLine (now line) ⌝ }
     requires { ⌜ Marks marker (now line) ⌝ }
     requires { ⌜ Classes Carry.Code (now line) (now scratch) 0 after ⌝ }
     requires { ⌜ ValidIndent (now indent) ⌝ }
-    ensures { λ r. ⌜ ((o : Options) → Uses o (now (indent .entry)) width → Stepped (spacedBy marker (respaced (decode (now (line .entry)))) o) (length (now (line .entry))) unit (asStr ending) st (now (out .entry)) (now (scratch .entry)) r (now (out .exit)) (now (scratch .exit))) ⌝ }
+    ensures { λ r. ⌜ ((o : Options) → Uses o (now (indent .entry)) style → Stepped (spacedBy marker (respaced (decode (now (line .entry)))) o) (length (now (line .entry))) unit (asStr (style .ending)) st (now (out .entry)) (now (scratch .entry)) r (now (out .exit)) (now (scratch .exit))) ⌝ }
 {
     let g = go_on(line, scratch, unit, after);
-    let p = put_going(
-        line,
-        scratch,
-        unit,
-        g,
-        marker,
-        indent,
-        width,
-        ending,
-        out,
-        st,
-    );
+    let p = put_going(line, scratch, unit, g, marker, indent, style, out, st);
     let left = p.left;
     let deep = count_going(line, scratch, unit, g, p.closers, left);
     let carry = g.carry;
@@ -296,39 +283,28 @@ fn code_line(
     scratch: &mut [u8],
     unit: usize,
     indent: &[u8],
-    width: PrintWidth,
-    ending: LineEnding,
+    style: Style,
     out: &mut [u8],
-    st: State,
-) -> State
+    st: Formatter,
+) -> Formatter
     requires { ⌜ Ready st (now scratch) unit (length (now raw)) ⌝ }
     requires { ⌜ st .carry ≡ Carry.Code ⌝ }
     requires { ⌜ WellFormed (now raw) ⌝ }
     requires { ⌜ TrimmedLine (now raw) (now line) ⌝ }
     requires { ⌜ isEmpty (decode (now line)) ≡ false ⌝ }
     requires { ⌜ ValidIndent (now indent) ⌝ }
-    ensures { λ r. ⌜ ((o : Options) → Uses o (now (indent .entry)) width → Stepped (codeLineBy o (decode (now (raw .entry)))) (length (now (raw .entry))) unit (asStr ending) st (now (out .entry)) (now (scratch .entry)) r (now (out .exit)) (now (scratch .exit))) ⌝ }
+    ensures { λ r. ⌜ ((o : Options) → Uses o (now (indent .entry)) style → Stepped (codeLineBy o (decode (now (raw .entry)))) (length (now (raw .entry))) unit (asStr (style .ending)) st (now (out .entry)) (now (scratch .entry)) r (now (out .exit)) (now (scratch .exit))) ⌝ }
 {
     let n = line.len();
     let after = scan::classify(line, Carry::Code, &mut scratch[..n]);
     let pending = st.ignore;
     let marker = marker_in(line, &scratch[..n]);
     if is_kept(pending, marker) {
+        let ending = style.ending;
         return line::kept::protected_line(raw, line, out, scratch, unit, ending, after, st);
     }
     let alone = is_alone(marker);
-    spaced_line(
-        line,
-        scratch,
-        unit,
-        after,
-        alone,
-        indent,
-        width,
-        ending,
-        out,
-        st,
-    )
+    spaced_line(line, scratch, unit, after, alone, indent, style, out, st)
 }
 
 // Whether nothing is open.
@@ -346,27 +322,28 @@ fn in_code(carry: Carry) -> bool
 pub fn line_step(
     raw: &[u8],
     indent: &[u8],
-    width: PrintWidth,
-    ending: LineEnding,
+    style: Style,
     out: &mut [u8],
     scratch: &mut [u8],
     unit: usize,
-    st: State,
-) -> State
+    st: Formatter,
+) -> Formatter
     requires { ⌜ Ready st (now scratch) unit (length (now raw)) ⌝ }
     requires { ⌜ WellFormed (now raw) ⌝ }
     requires { ⌜ ValidIndent (now indent) ⌝ }
-    ensures { λ r. ⌜ ((o : Options) → Uses o (now (indent .entry)) width → Stepped (formatLineBy o (decode (now (raw .entry)))) (length (now (raw .entry))) unit (asStr ending) st (now (out .entry)) (now (scratch .entry)) r (now (out .exit)) (now (scratch .exit))) ⌝ }
+    ensures { λ r. ⌜ ((o : Options) → Uses o (now (indent .entry)) style → Stepped (formatLineBy o (decode (now (raw .entry)))) (length (now (raw .entry))) unit (asStr (style .ending)) st (now (out .entry)) (now (scratch .entry)) r (now (out .exit)) (now (scratch .exit))) ⌝ }
 {
     let carry = st.carry;
     if in_code(carry) {
         let tail = unicode::trim_end(raw);
         let start = unicode::trim_start(&raw[..tail]);
         if start == tail {
+            let ending = style.ending;
             return line::kept::blank_line(out, ending, st);
         }
         let line = &raw[start..tail];
-        return code_line(raw, line, scratch, unit, indent, width, ending, out, st);
+        return code_line(raw, line, scratch, unit, indent, style, out, st);
     }
+    let ending = style.ending;
     line::kept::inside_line(raw, out, scratch, unit, ending, st)
 }

@@ -1,22 +1,24 @@
-use borrow.Author.Needs.{needs}
 use native.Mathlib.Omega.{arith}
 use Prim.Native.Nat.{_-_, _+_}
 use lib.ListN.{length}
 use Rattle.lines.proofs.LoopLaws.{Reached, reached-start, reached-ready, reached-well, reached-more, reached-end}
+use borrow.Author.Needs.{needs}
 use Rattle.lines.proofs.format_lines.Statement.{statement}
 use Rattle.lines.proofs.format_lines.Tie as tie
 
 abbrev Inv-loop : tie.InvT-loop
-Inv-loop source indent width ending out₀ scratch₀ unit st₀ at₀ out scratch st at = Reached source indent width ending out₀ scratch₀ out scratch st at
+Inv-loop source indent style out₀ scratch₀ unit st₀ at₀ out scratch st at = Reached source indent style out₀ scratch₀ out scratch st at
 
 abbrev μ-loop : tie.MeasureT-loop
-μ-loop source indent width ending out₀ scratch₀ unit st₀ at₀ out scratch st at = length source + 1 - at
+μ-loop source indent style out₀ scratch₀ unit st₀ at₀ out scratch st at = length source + 1 - at
 
 new-requires : tie.Need-new-requires Inv-loop μ-loop
 new-requires c κs = search needs
 
 loop-holds : tie.Need-loop-holds Inv-loop μ-loop
-loop-holds c = reached-start _ _ _ _ _ _ _ (c .before .before .before .before .before .pre) (c .new .ensures)
+loop-holds c =
+    let s = c .before .before .before .before .before in
+    reached-start _ _ _ _ _ _ (s .pre) (c .new .ensures)
 
 line-end-requires : tie.Need-line-end-requires Inv-loop μ-loop
 line-end-requires c κs = search needs
@@ -34,16 +36,31 @@ without-cr-requires : tie.Need-without-cr-requires Inv-loop μ-loop
 without-cr-requires c κs = search needs
 
 line-step-requires : tie.Need-line-step-requires Inv-loop μ-loop
-line-step-requires c κs = (reached-ready (c .before .before .before .before .before .before .loop .inv) (c .before .before .before .before .before .before .before .before .before .before .before .before .pre) (omega arith) (c .before .before .before .before .line-end .ensures) (c .before .before .without-cr .ensures), (reached-well (c .before .before .before .before .before .before .loop .inv) (c .before .before .before .before .before .before .before .before .before .before .before .before .pre) (omega arith) (c .before .before .before .before .line-end .ensures) (c .before .before .without-cr .ensures), c .before .before .before .before .before .before .before .before .before .before .before .before .pre .indents))
+line-step-requires c κs =
+    let a = c .before .before in
+    let b = a .before .before in
+    let d = b .before .before in
+    let s = d .before .before .before .before .before .before in
+    let i = d .loop .inv in
+    (reached-ready i (s .pre) (omega arith) (b .line-end .ensures) (a .without-cr .ensures), (reached-well i (s .pre) (omega arith) (b .line-end .ensures) (a .without-cr .ensures), s .pre .indents))
 
 add-at : tie.Need-add-at Inv-loop μ-loop
-add-at c = omega (arith, c .before .before .before .before .before .before .before .before .before .line-end .ensures .fits, c .before .before .before .before .before .before .before .before .before .before .before .before .before .before .before .before .before .pre .limit)
+add-at c =
+    let a = c .before .before .before .before .before .before .before .before .before in
+    let s = a .before .before .before .before .before .before .before .before in
+    omega (arith, a .line-end .ensures .fits, s .pre .limit)
 
 loop-less : tie.Need-loop-less Inv-loop μ-loop
 loop-less c = search needs
 
 loop-again : tie.Need-loop-again Inv-loop μ-loop
-loop-again c = reached-more (c .before .before .before .before .before .before .before .before .before .before .before .loop .inv) (c .before .before .before .before .before .before .before .before .before .before .before .before .before .before .before .before .before .pre) (omega arith) (c .before .before .before .before .before .before .before .before .before .line-end .ensures) (c .before .before .before .before .before .before .before .without-cr .ensures) (c .before .before .before .before .line-step .ensures) (search needs) (search needs)
+loop-again c =
+    let a = c .before .before .before .before in
+    let b = a .before .before .before in
+    let d = b .before .before in
+    let e = d .before .before in
+    let s = e .before .before .before .before .before .before in
+    reached-more (e .loop .inv) (s .pre) (omega arith) (d .line-end .ensures) (b .without-cr .ensures) (a .line-step .ensures) (search needs) (search needs)
 
 same-length : tie.Need-same-length Inv-loop μ-loop
 same-length c = search needs
@@ -52,7 +69,10 @@ same-length-2 : tie.Need-same-length-2 Inv-loop μ-loop
 same-length-2 c = search needs
 
 returns : tie.Need-returns Inv-loop μ-loop
-returns c = reached-end (c .before .loop .inv) (c .before .before .before .before .before .before .before .pre) (omega arith)
+returns c =
+    let a = c .before in
+    let s = a .before .before .before .before .before .before in
+    reached-end (a .loop .inv) (s .pre) (omega arith)
 
 pub format-lines-spec : {M : Type 1} → statement M
 format-lines-spec =

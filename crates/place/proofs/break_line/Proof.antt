@@ -19,9 +19,9 @@ ends-in-brace-requires c κs = search needs
 split-import-requires : tie.Need-split-import-requires
 split-import-requires c κs =
     let a = c .before .before in
-    let t = a .before .before .before .before in
-    let s = t .before .before .before .before .before .before in
-    import-asks _ _ _ _ _ _ _ _ _ _ _ (s .pre .0) (s .pre .1 .0) (s .pre .1 .1 .0) (a .as-str .ensures) (t .continue-text .ensures) (s .pre .1 .1 .1 .0 .1)
+    let b = a .before .before .before .before in
+    let s = b .before .before .before .before .before .before in
+    import-asks _ _ _ _ _ _ _ _ _ _ _ (s .pre .0) (s .pre .1 .0) (s .pre .1 .1 .0) (a .as-str .ensures) (b .continue-text .ensures) (s .pre .1 .1 .1 .0 .1)
 
 after-lines-requires : tie.Need-after-lines-requires
 after-lines-requires c κs = search needs
@@ -31,19 +31,21 @@ same-length c = search needs
 
 returns : tie.Need-returns
 returns c =
-    let i = c .before .before .before .before in
-    let a = i .before .before .before in
-    let t = a .before .before .before .before in
-    let s = t .before .before .before .before .before .before in
-    import-breaks _ _ _ _ _ _ _ _ _ _ _ (s .pre .0) (s .pre .1 .0) (s .pre .1 .1 .0) (a .as-str .ensures) (t .continue-text .ensures) _ _ (i .before .before .ends-in-brace .ensures) _ _ (i .split-import .ensures)
-    _ (c .after-lines .ensures) (c .before .if1 .taken)
+    let a = c .before in
+    let b = a .before .before .before in
+    let d = b .before .before in
+    let e = d .before in
+    let g = e .before .before .before .before in
+    let s = g .before .before .before .before .before .before in
+    import-breaks _ _ _ _ _ _ _ _ _ _ _ (s .pre .0) (s .pre .1 .0) (s .pre .1 .1 .0) (e .as-str .ensures) (g .continue-text .ensures) _ _ (d .ends-in-brace .ensures) _ _
+    (b .split-import .ensures) _ (c .after-lines .ensures) (a .if1 .taken)
 
 split-operation-requires : tie.Need-split-operation-requires
 split-operation-requires c κs =
     let a = c .before .before .before .before .before .before .before in
-    let t = a .before .before .before .before in
-    let s = t .before .before .before .before .before .before in
-    operation-asks _ _ _ _ _ _ _ _ _ _ _ (s .pre .0) (s .pre .1 .0) (s .pre .1 .1 .0) (a .as-str .ensures) (t .continue-text .ensures) (s .pre .1 .1 .1 .0 .1) (s .pre .1 .1 .1 .1)
+    let b = a .before .before .before .before in
+    let s = b .before .before .before .before .before .before in
+    operation-asks _ _ _ _ _ _ _ _ _ _ _ (s .pre .0) (s .pre .1 .0) (s .pre .1 .1 .0) (a .as-str .ensures) (b .continue-text .ensures) (s .pre .1 .1 .1 .0 .1) (s .pre .1 .1 .1 .1)
 
 after-lines-requires-2 : tie.Need-after-lines-requires-2
 after-lines-requires-2 c κs = search needs
@@ -53,19 +55,24 @@ alone-requires c κs = search needs
 
 same-length-2 : tie.Need-same-length-2
 same-length-2 c =
-    let o = c .before .before .before .before in
-    let i = o .before .before .before .before .before in
-    o .out3 .given ∙ i .out2 .given ∙ i .before .before .before .before .before .before .before .out .given
+    let a = c .before .before .before .before in
+    let b = a .before .before .before .before .before in
+    let d = b .before .before .before .before .before .before .before in
+    a .out3 .given ∙ b .out2 .given ∙ d .out .given
 
 returns-2 : tie.Need-returns-2
 returns-2 c =
-    let o = c .before .before .before .before .before in
-    let i = o .before .before .before .before .before in
-    let a = i .before .before .before in
-    let t = a .before .before .before .before in
-    let s = t .before .before .before .before .before .before in
-    several-breaks _ _ _ _ _ _ _ _ _ _ _ (s .pre .0) (s .pre .1 .0) (s .pre .1 .1 .0) (a .as-str .ensures) (t .continue-text .ensures) _ _ (i .before .before .ends-in-brace .ensures) _ _ (i .split-import .ensures)
-    (o .before .before .if1 .left) _ _ (o .split-operation .ensures) _ _ (c .before .before .if2 .taken) (c .before .after-lines2 .ensures) (c .alone .ensures)
+    let a = c .before in
+    let b = a .before in
+    let d = b .before .before .before in
+    let e = d .before .before in
+    let g = e .before .before .before in
+    let h = g .before .before in
+    let i = h .before in
+    let j = i .before .before .before .before in
+    let s = j .before .before .before .before .before .before in
+    several-breaks _ _ _ _ _ _ _ _ _ _ _ (s .pre .0) (s .pre .1 .0) (s .pre .1 .1 .0) (i .as-str .ensures) (j .continue-text .ensures) _ _ (h .ends-in-brace .ensures) _ _
+    (g .split-import .ensures) (e .if1 .left) _ _ (d .split-operation .ensures) _ _ (b .if2 .taken) (a .after-lines2 .ensures) (c .alone .ensures)
 
 trimmed-takes-else-requires : tie.Need-trimmed-takes-else-requires
 trimmed-takes-else-requires c κs =
@@ -80,20 +87,25 @@ alone-requires-2 c κs = search needs
 
 same-length-3 : tie.Need-same-length-3
 same-length-3 c =
-    let o = c .before .before .before .before .before in
-    let i = o .before .before .before .before .before in
-    o .out3 .given ∙ i .out2 .given ∙ i .before .before .before .before .before .before .before .out .given
+    let a = c .before .before .before .before .before in
+    let b = a .before .before .before .before .before in
+    let d = b .before .before .before .before .before .before .before in
+    a .out3 .given ∙ b .out2 .given ∙ d .out .given
 
 returns-3 : tie.Need-returns-3
 returns-3 c =
-    let o = c .before .before .before .before .before .before in
-    let i = o .before .before .before .before .before in
-    let a = i .before .before .before in
-    let t = a .before .before .before .before in
-    let s = t .before .before .before .before .before .before in
-    alone-breaks _ _ _ _ _ _ _ _ _ _ _ (s .pre .0) (s .pre .1 .0) (s .pre .1 .1 .0) (a .as-str .ensures) (t .continue-text .ensures) _ _ (i .before .before .ends-in-brace .ensures) _ _ (i .split-import .ensures)
-    (o .before .before .if1 .left) _ _ (o .split-operation .ensures) _ _ _ (c .before .before .trimmed-takes-else .ensures)
-    (c .before .before .before .if2 .left) (c .before .after-lines3 .ensures) (c .alone2 .ensures)
+    let a = c .before in
+    let b = a .before in
+    let d = b .before in
+    let e = d .before .before .before in
+    let g = e .before .before in
+    let h = g .before .before .before in
+    let i = h .before .before in
+    let j = i .before in
+    let k = j .before .before .before .before in
+    let s = k .before .before .before .before .before .before in
+    alone-breaks _ _ _ _ _ _ _ _ _ _ _ (s .pre .0) (s .pre .1 .0) (s .pre .1 .1 .0) (j .as-str .ensures) (k .continue-text .ensures) _ _ (i .ends-in-brace .ensures) _ _
+    (h .split-import .ensures) (g .if1 .left) _ _ (e .split-operation .ensures) _ _ _ (b .trimmed-takes-else .ensures) (d .if2 .left) (a .after-lines3 .ensures) (c .alone2 .ensures)
 
 pub break-line-spec : {M : Type 1} → statement M
 break-line-spec =

@@ -24,21 +24,26 @@ all-code-or-str-requires c κs = search needs
 
 break-line-requires : tie.Need-break-line-requires
 break-line-requires c κs =
-    let a = c .before .before in
-    let s = a .before .before .before .before .before .before .before .before .before .before in
-    (s .pre .0, (s .pre .1 .0, (s .pre .1 .1 .0, (s .pre .1 .1 .1, sym (code-bytes _ _ _ (s .pre .1 .1 .0) (a .all-code-or-str .ensures)) ∙ c .before .if2 .taken))))
+    let a = c .before in
+    let b = a .before in
+    let s = b .before .before .before .before .before .before .before .before .before .before in
+    let g = s .pre .1 .1 .0 in
+    (s .pre .0, (s .pre .1 .0, (g, (s .pre .1 .1 .1, sym (code-bytes _ _ _ g (b .all-code-or-str .ensures)) ∙ a .if2 .taken))))
 
 same-length : tie.Need-same-length
 same-length c = search needs
 
 returns : tie.Need-returns
 returns c =
-    let t = c .before .before .before .before in
-    let w = t .before .before .before in
-    let k = w .before .before in
-    let s = k .before .before .before .before .before .before in
-    fit-broken _ _ _ _ _ _ _ _ _ _ _ _ _ _ (s .pre .1 .1 .0) (k .width .given .1) (w .over-wide .ensures) (t .before .before .if1 .taken)
-    (t .before .all-code-or-str .ensures) (t .if2 .taken) (c .before .before .break-line .ensures)
+    let a = c .before .before in
+    let b = a .before .before in
+    let d = b .before in
+    let e = d .before in
+    let g = e .before in
+    let h = g .before .before in
+    let s = h .before .before .before .before .before .before in
+    fit-broken _ _ _ _ _ _ _ _ _ _ _ _ _ _ (s .pre .1 .1 .0) (h .width .given .1) (g .over-wide .ensures) (e .if1 .taken)
+    (d .all-code-or-str .ensures) (b .if2 .taken) (a .break-line .ensures)
 
 push-one-requires-2 : tie.Need-push-one-requires-2
 push-one-requires-2 c κs = (search needs, (search needs, ((search needs, search needs), (search needs, search needs))))
@@ -51,10 +56,12 @@ same-length-2 c = search needs
 
 returns-2 : tie.Need-returns-2
 returns-2 c =
-    let t = c .before .before .before .before .before in
-    let s = t .before .before .before .before .before .before .before .before .before .before .before in
-    fit-mixed _ _ _ _ _ _ _ _ _ _ (s .pre .0) (s .pre .1 .0) (s .pre .1 .1 .0) (c .before .before .before .push-one2 .ensures) _ (c .alone2 .ensures)
-    _ _ (t .before .all-code-or-str .ensures) (t .if2 .left)
+    let a = c .before .before .before in
+    let b = a .before .before in
+    let d = b .before in
+    let s = d .before .before .before .before .before .before .before .before .before .before in
+    fit-mixed _ _ _ _ _ _ _ _ _ _ (s .pre .0) (s .pre .1 .0) (s .pre .1 .1 .0) (a .push-one2 .ensures) _ (c .alone2 .ensures)
+    _ _ (d .all-code-or-str .ensures) (b .if2 .left)
 
 push-one-requires-3 : tie.Need-push-one-requires-3
 push-one-requires-3 c κs = (search needs, (search needs, ((search needs, search needs), (search needs, search needs))))
@@ -67,20 +74,23 @@ same-length-3 c = search needs
 
 returns-3 : tie.Need-returns-3
 returns-3 c =
-    let t = c .before .before .before .before .before in
-    let s = t .before .before .before .before .before .before in
-    fit-off _ _ _ _ _ _ _ _ _ _ (s .pre .0) (s .pre .1 .0) (s .pre .1 .1 .0) (c .before .before .before .push-one .ensures) _ (c .alone .ensures) _ (t .enum-told .given .1)
+    let a = c .before .before .before in
+    let b = a .before .before in
+    let s = b .before .before .before .before .before .before in
+    fit-off _ _ _ _ _ _ _ _ _ _ (s .pre .0) (s .pre .1 .0) (s .pre .1 .1 .0) (a .push-one .ensures) _ (c .alone .ensures) _ (b .enum-told .given .1)
 
 same-length-4 : tie.Need-same-length-4
 same-length-4 c = search needs
 
 returns-4 : tie.Need-returns-4
 returns-4 c =
-    let t = c .before .before .before .before .before in
-    let k = t .before .before .before in
-    let s = k .before .before .before .before .before .before in
-    fit-narrow _ _ _ _ _ _ _ _ _ _ (s .pre .0) (s .pre .1 .0) (s .pre .1 .1 .0) (c .before .before .before .push-one3 .ensures) _ (c .alone3 .ensures)
-    _ _ _ (k .width .given .1) (t .before .over-wide .ensures) (t .if1 .left)
+    let a = c .before .before .before in
+    let b = a .before .before in
+    let d = b .before in
+    let e = d .before .before in
+    let s = e .before .before .before .before .before .before in
+    fit-narrow _ _ _ _ _ _ _ _ _ _ (s .pre .0) (s .pre .1 .0) (s .pre .1 .1 .0) (a .push-one3 .ensures) _ (c .alone3 .ensures)
+    _ _ _ (e .width .given .1) (d .over-wide .ensures) (b .if1 .left)
 
 pub fit-line-spec : {M : Type 1} → statement M
 fit-line-spec =

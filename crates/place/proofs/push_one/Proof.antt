@@ -10,7 +10,7 @@ trimmed-takes-else-requires c κs = search needs
 push-line-requires : tie.Need-push-line-requires
 push-line-requires c κs =
     let s = c .before .before .before .before .before in
-    (search needs, (search (needs, trimmed-told), (search needs, omega (arith, indent-small (s .args .indent .now) (s .args .level) (s .pre .0) (s .pre .1 .0)))))
+    (search needs, (search (needs, trimmed-told), (search needs, omega (arith, indent-small (s .args .indent .now) (s .args .slot .level) (s .pre .0) (s .pre .1 .0)))))
 
 same-length : tie.Need-same-length
 same-length c = search needs
@@ -21,4 +21,8 @@ returns c = search needs
 pub push-one-spec : {M : Type 1} → statement M
 push-one-spec =
     tie.close
-    (tie.spec trimmed-takes-else-requires push-line-requires same-length returns)
+    (tie.spec
+    trimmed-takes-else-requires
+    push-line-requires
+    same-length
+    returns)

@@ -1,6 +1,6 @@
+use native.Mathlib.Omega.{arith}
 use mathlib.Core.Path.{refl}
 use Rattle.step.proofs.GoingLaws.{count-room, own-length, counts-own, counts-spaced}
-use native.Mathlib.Omega.{arith}
 use borrow.Author.Needs.{needs}
 use Rattle.step.proofs.count_going.Statement.{statement}
 use Rattle.step.proofs.count_going.Tie as tie
@@ -24,6 +24,9 @@ returns c =
     let b = a .before .before in
     let s = b .before .before .before in
     counts-own _ _ _ _ _ _ _ _ (s .pre .0) (s .pre .1 .1 .0) (s .pre .1 .1 .1 .0) (b .if1 .taken) (a .scan-brackets .ensures)
+
+mul-at : tie.Need-mul-at
+mul-at c = search needs
 
 scan-brackets-at-requires : tie.Need-scan-brackets-at-requires
 scan-brackets-at-requires c κs =
@@ -49,6 +52,7 @@ count-going-spec =
     scan-brackets-requires
     same-length
     returns
+    mul-at
     scan-brackets-at-requires
     same-length-2
     returns-2)

@@ -8,6 +8,9 @@ use Rattle.step.proofs.put_going.Tie as tie
 add-end : tie.Need-add-end
 add-end c = search needs
 
+mul-at : tie.Need-mul-at
+mul-at c = search needs
+
 line-that-goes-on-requires : tie.Need-line-that-goes-on-requires
 line-that-goes-on-requires c κs = search needs
 
@@ -33,8 +36,8 @@ pop-closers-requires c κs =
     let s = c .before .before .before .before .before .before .before .before in
     stack-nested (s .pre .0)
 
-declaration-of-requires : tie.Need-declaration-of-requires
-declaration-of-requires c κs = search needs
+prev-of-requires : tie.Need-prev-of-requires
+prev-of-requires c κs = search needs
 
 before-of-requires : tie.Need-before-of-requires
 before-of-requires c κs = search needs
@@ -51,31 +54,29 @@ place-line-requires c κs =
     let s1 = s .pre .1 .0 in
     let s2 = s .pre .1 .1 .0 in
     let t = g .line-that-goes-on .ensures in
-    (s .pre .1 .1 .1, (goes-on _ _ _ _ s0 s1 _ s2 _ t, (heads _ _ _ _ s0 s1 _ s2 _ t _ _ _ _ (a .before-of .ensures) (e .leading-closers .ensures) (b .declaration-of .ensures), asks _ _ _ _ s0 s1 _ _ _ _ (a .before-of .ensures) (d .pop-closers .ensures))))
-
-ends-in-brace-requires : tie.Need-ends-in-brace-requires
-ends-in-brace-requires c κs = search needs
+    (s .pre .1 .1 .1, (goes-on _ _ _ _ s0 s1 _ s2 _ t, (heads _ _ _ _ s0 s1 _ s2 _ t _ _ _ _ (a .before-of .ensures) (e .leading-closers .ensures) (b .prev-of .ensures), asks _ _ _ _ s0 s1 _ _ _ _ (a .before-of .ensures) (d .pop-closers .ensures))))
 
 same-length : tie.Need-same-length
 same-length c = search needs
 
 returns : tie.Need-returns
 returns c =
-    let a = c .before .before .before .before in
+    let a = c .before .before .before in
     let b = a .before .before in
     let d = b .before in
     let e = d .before in
     let g = e .before .before in
     let h = g .before .before in
     let s = h .before .before .before .before .before in
-    put-on _ _ _ _ (s .pre .0) (s .pre .1 .0) _ (s .pre .1 .1 .0) _ (h .line-that-goes-on .ensures) _ _ _ _ _ _ _ _ _ _ _ _
-    (b .before-of .ensures) (a .place-line .ensures) (g .leading-closers .ensures) (e .pop-closers .ensures) (d .declaration-of .ensures) (c .ends-in-brace .ensures)
+    put-on _ _ _ _ (s .pre .0) (s .pre .1 .0) _ (s .pre .1 .1 .0) _ (h .line-that-goes-on .ensures) _ _ _ _ _ _ _ _ _ _ _
+    (b .before-of .ensures) (a .place-line .ensures) (g .leading-closers .ensures) (e .pop-closers .ensures) (d .prev-of .ensures)
 
 pub put-going-spec : {M : Type 1} → statement M
 put-going-spec =
     tie.close
     (tie.spec
     add-end
+    mul-at
     line-that-goes-on-requires
     sub-class
     part-class-start
@@ -83,9 +84,8 @@ put-going-spec =
     leading-closers-requires
     mul-base
     pop-closers-requires
-    declaration-of-requires
+    prev-of-requires
     before-of-requires
     place-line-requires
-    ends-in-brace-requires
     same-length
     returns)

@@ -31,7 +31,7 @@ slice-aggregate-push-line-2 c = search needs
 
 push-line-requires : tie.Need-push-line-requires
 push-line-requires c κs =
-    let s = c .before .before .before .before .before .before .before .before .before in
+    let s = c .before .before .before .before .before .before .before .before .before .before in
     (indent-none, (line-none, (s .pre .ordered, omega (arith, ap length (times-nil 0), s .pre .at))))
 
 same-length : tie.Need-same-length
@@ -40,7 +40,7 @@ same-length c = search needs
 returns-3 : tie.Need-returns-3
 returns-3 c =
     let a = c .before .before in
-    let b = a .before .before .before .before .before in
+    let b = a .before .before .before .before .before .before in
     let d = b .before in
     let e = d .before in
     let s = e .before .before .before in

@@ -91,34 +91,30 @@ scan-brackets-requires c κs =
     stack-room (s .pre .0) _ 0 _ _ (o .long) (omega (arith, s .pre .0 .depth)) (omega arith) (omega arith)
     (nested-past o (omega (arith, s .pre .0 .depth)) (stack-nested (s .pre .0)) .runs)
 
-declaration-of-requires : tie.Need-declaration-of-requires
-declaration-of-requires c κs = search needs
-
-ends-in-brace-requires : tie.Need-ends-in-brace-requires
-ends-in-brace-requires c κs = search needs
+prev-of-requires : tie.Need-prev-of-requires
+prev-of-requires c κs = search needs
 
 same-length : tie.Need-same-length
 same-length c = search needs
 
 same-length-2 : tie.Need-same-length-2
 same-length-2 c =
-    let a = c .before .before .before .before in
+    let a = c .before .before .before in
     let b = a .before .before .before .before .before .before .before .before .before .before .before .before .before .before .before .before .before in
     let s = b .before .before .before .before .before .before .before in
     a .scan-brackets .ensures .only .long ∙ front-only _ _ _ (line-room (s .pre .0) (s .args .raw .now) (omega arith)) (b .classify .ensures) .long
 
 returns : tie.Need-returns
 returns c =
-    let a = c .before in
-    let b = a .before .before .before in
-    let d = b .before .before .before .before in
-    let e = d .before .before .before .before .before .before in
+    let a = c .before .before .before in
+    let b = a .before .before .before .before in
+    let d = b .before .before .before .before .before .before in
+    let e = d .before .before in
     let g = e .before .before in
-    let h = g .before .before in
-    let i = h .before .before .before in
-    let s = i .before .before .before .before .before .before .before in
-    inside-step _ _ _ _ _ _ _ _ _ _ _ _ _ _ _ _ _ (s .pre .0) (s .pre .1) (i .classify .ensures) (h .trim-end .ensures) (g .trim-start .ensures)
-    (e .kept-len .ensures) (d .push-line .ensures) (b .scan-brackets .ensures) (a .declaration-of .ensures) (c .ends-in-brace .ensures)
+    let h = g .before .before .before in
+    let s = h .before .before .before .before .before .before .before in
+    inside-step _ _ _ _ _ _ _ _ _ _ _ _ _ _ _ _ (s .pre .0) (s .pre .1) (h .classify .ensures) (g .trim-end .ensures) (e .trim-start .ensures)
+    (d .kept-len .ensures) (b .push-line .ensures) (a .scan-brackets .ensures) (c .prev-of .ensures)
 
 pub inside-line-spec : {M : Type 1} → statement M
 inside-line-spec =
@@ -141,8 +137,7 @@ inside-line-spec =
     push-line-requires
     mul-base
     scan-brackets-requires
-    declaration-of-requires
-    ends-in-brace-requires
+    prev-of-requires
     same-length
     same-length-2
     returns)

@@ -43,11 +43,8 @@ scan-brackets-requires c κs =
     stack-room (s .pre .0) _ 0 _ _ refl (omega (arith, s .pre .0 .depth, k)) (omega (arith, k)) (omega (arith, a .pop-closers .ensures .depth))
     (a .pop-closers .ensures .nested .runs)
 
-declaration-of-requires : tie.Need-declaration-of-requires
-declaration-of-requires c κs = search needs
-
-ends-in-brace-requires : tie.Need-ends-in-brace-requires
-ends-in-brace-requires c κs = search needs
+prev-of-requires : tie.Need-prev-of-requires
+prev-of-requires c κs = search needs
 
 same-length : tie.Need-same-length
 same-length c = search needs
@@ -57,14 +54,13 @@ same-length-2 c = search needs
 
 returns : tie.Need-returns
 returns c =
-    let a = c .before in
-    let b = a .before .before .before in
+    let a = c .before .before .before in
+    let b = a .before .before in
     let d = b .before .before in
-    let e = d .before .before in
-    let g = e .before .before .before in
-    let s = g .before .before .before .before .before .before .before .before .before .before .before in
-    protected-step _ _ _ _ _ _ _ _ _ _ _ _ _ _ _ _ (s .pre .1 .0) (s .pre .1 .1 .0) (s .pre .1 .1 .1 .0) (s .pre .1 .1 .1 .1) (g .push-line .ensures)
-    (e .leading-closers .ensures) (d .pop-closers .ensures) (b .scan-brackets .ensures) (a .declaration-of .ensures) (c .ends-in-brace .ensures)
+    let e = d .before .before .before in
+    let s = e .before .before .before .before .before .before .before .before .before .before .before in
+    protected-step _ _ _ _ _ _ _ _ _ _ _ _ _ _ _ (s .pre .1 .0) (s .pre .1 .1 .0) (s .pre .1 .1 .1 .0) (s .pre .1 .1 .1 .1) (e .push-line .ensures)
+    (d .leading-closers .ensures) (b .pop-closers .ensures) (a .scan-brackets .ensures) (c .prev-of .ensures)
 
 pub protected-line-spec : {M : Type 1} → statement M
 protected-line-spec =
@@ -78,8 +74,7 @@ protected-line-spec =
     mul-base
     pop-closers-requires
     scan-brackets-requires
-    declaration-of-requires
-    ends-in-brace-requires
+    prev-of-requires
     same-length
     same-length-2
     returns)

@@ -1,0 +1,59 @@
+// The formatter's record, by value.
+ghost use mathlib.Core.Path.{_≡_};
+ghost use Rattle.line.specs.Holds.{initial, prevOf};
+use brackets::Nesting;
+use format::words::Declaration;
+use rules::Carry;
+use rules::Ignore;
+use text::Written;
+
+// What later lines ask of a line: which declaration it is, and whether it ends in `}`.
+pub struct Prev {
+    pub declares: Declaration,
+    pub brace: bool,
+}
+
+pub fn prev_of(line: &[u8]) -> Prev
+    ensures { λ r. ⌜ r ≡ prevOf (now (line .entry)) ⌝ }
+{
+    let declares = format::words::declaration_of(line);
+    let brace = format::else_line::ends_in_brace(line);
+    Prev { declares, brace }
+}
+
+// Of the open brackets it keeps how many there are and how many of them added a level; they lie in scratch. Of the previous line it keeps what
+// later lines ask.
+pub struct Formatter {
+    pub text: Written,
+    pub nesting: Nesting,
+    pub blank: bool,
+    pub prev: Prev,
+    pub ignore: Ignore,
+    pub carry: Carry,
+    pub imports: usize,
+    pub blanks: usize,
+}
+
+impl Formatter {
+    pub fn new() -> Self
+        ensures { λ r. ⌜ r ≡ initial ⌝ }
+    {
+        let text = Written::new();
+        Self {
+            text,
+            nesting: Nesting {
+                depth: 0,
+                levels: 0,
+            },
+            blank: false,
+            prev: Prev {
+                declares: Declaration::Nothing,
+                brace: false,
+            },
+            ignore: Ignore::Nothing,
+            carry: Carry::Code,
+            imports: 0,
+            blanks: 0,
+        }
+    }
+}

@@ -1,0 +1,9 @@
+// What formatting asks of the options beside the indent, by value.
+use rules::LineEnding;
+use rules::PrintWidth;
+
+// The print width, and the ending that the text's lines get.
+pub struct Style {
+    pub width: PrintWidth,
+    pub ending: LineEnding,
+}

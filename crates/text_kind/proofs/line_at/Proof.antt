@@ -4,43 +4,31 @@ use Rattle.buffer.proofs.RegionLaws.{part-from}
 use Rattle.text_kind.proofs.KindLines.{line-end-last, line-end-more}
 use Rattle.text_kind.proofs.line_at.Statement.{statement}
 use Rattle.text_kind.proofs.line_at.Tie as tie
-use Rattle.text_kind.proofs.line_at.Reads as reads
-use Rattle.text_kind.proofs.line_at.Lts as lts
-use Rattle.line_ends.proofs.without_cr.Reads as without-cr-reads
 
--- src/lib.rt:93:27
 sub-without-cr : tie.Need-sub-without-cr
 sub-without-cr c = search needs
 
--- src/lib.rt:93:27
 part-without-cr-start : tie.Need-part-without-cr-start
 part-without-cr-start c = search needs
 
--- src/lib.rt:93:27
 part-without-cr-end : tie.Need-part-without-cr-end
 part-without-cr-end c = search needs
 
--- src/lib.rt:93:9
 without-cr-requires : tie.Need-without-cr-requires
 without-cr-requires c κs = search needs
 
--- src/lib.rt:93:9
 returns : tie.Need-returns
 returns c = c .without-cr .ensures ∙ line-end-more _ _ _ (c .before .before .before .before .pre) (c .before .before .if1 .taken)
 
--- src/lib.rt:95:5
 sub-result : tie.Need-sub-result
 sub-result c = search needs
 
--- src/lib.rt:95:5
 part-result-start : tie.Need-part-result-start
 part-result-start c = search needs
 
--- src/lib.rt:95:5
 part-result-end : tie.Need-part-result-end
 part-result-end c = search needs
 
--- src/lib.rt:88:1
 returns-2 : tie.Need-returns-2
 returns-2 c = part-from (c .before .before .before .args .source .now) (c .before .before .before .args .at) ∙ line-end-last _ _ _ (c .before .before .before .pre) (c .before .if1 .left)
 

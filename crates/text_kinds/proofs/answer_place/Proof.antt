@@ -5,9 +5,6 @@ use Rattle.text_kinds.specs.Reading.{placeCount}
 use Rattle.text_kinds.proofs.FillLaws.{Answering, answering-start, answering-room, answering-more, answering-end}
 use Rattle.text_kinds.proofs.answer_place.Statement.{statement}
 use Rattle.text_kinds.proofs.answer_place.Tie as tie
-use Rattle.text_kinds.proofs.answer_place.Reads as reads
-use Rattle.text_kinds.proofs.answer_place.Lts as lts
-use Rattle.text_kinds.proofs.is_place.Reads as is-place-reads
 
 abbrev Inv-loop : tie.InvT-loop
 Inv-loop places k line column kind kinds₀ next₀ kinds next = Answering places line column kind next₀ kinds₀ next kinds
@@ -15,35 +12,27 @@ Inv-loop places k line column kind kinds₀ next₀ kinds next = Answering place
 abbrev μ-loop : tie.MeasureT-loop
 μ-loop places k line column kind kinds₀ next₀ kinds next = placeCount places - next
 
--- src/lib.rt:82:5
 loop-holds : tie.Need-loop-holds Inv-loop μ-loop
 loop-holds c = answering-start _ _ _ _ _ _
 
--- src/lib.rt:82:11
 is-place-requires : tie.Need-is-place-requires Inv-loop μ-loop
 is-place-requires c κs = search needs
 
--- src/lib.rt:83:9
 slice-write-kinds : tie.Need-slice-write-kinds Inv-loop μ-loop
 slice-write-kinds c = search (needs, answering-room)
 
--- src/lib.rt:84:9
 add-next : tie.Need-add-next Inv-loop μ-loop
 add-next c = omega (arith, c .before .is-place .ensures .there (c .if1 .taken), c .before .before .before .before .before .pre .room)
 
--- src/lib.rt:82:5
 loop-less : tie.Need-loop-less Inv-loop μ-loop
 loop-less c = omega (arith, c .before .is-place .ensures .there (c .if1 .taken))
 
--- src/lib.rt:82:5
 loop-again : tie.Need-loop-again Inv-loop μ-loop
 loop-again c = search (needs, answering-more)
 
--- src/lib.rt:70:1
 same-length : tie.Need-same-length Inv-loop μ-loop
 same-length c = search needs
 
--- src/lib.rt:70:1
 returns : tie.Need-returns Inv-loop μ-loop
 returns c = search (needs, answering-end)
 

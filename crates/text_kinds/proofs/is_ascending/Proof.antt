@@ -3,9 +3,6 @@ use borrow.Author.Needs.{needs}
 use Rattle.text_kinds.proofs.PlaceLaws.{Ascends, ascends-start, ascends-more, ascends-not, ascends-end}
 use Rattle.text_kinds.proofs.is_ascending.Statement.{statement}
 use Rattle.text_kinds.proofs.is_ascending.Tie as tie
-use Rattle.text_kinds.proofs.is_ascending.Reads as reads
-use Rattle.text_kinds.proofs.is_ascending.Lts as lts
-use Rattle.text_kinds.proofs.not_after.Reads as not-after-reads
 
 abbrev Inv-loop : tie.InvT-loop
 Inv-loop places n k₀ k = Ascends places k
@@ -13,79 +10,60 @@ Inv-loop places n k₀ k = Ascends places k
 abbrev μ-loop : tie.MeasureT-loop
 μ-loop places n k₀ k = n - k
 
--- src/lib.rt:32:5
 loop-holds : tie.Need-loop-holds Inv-loop μ-loop
 loop-holds c = ascends-start _
 
--- src/lib.rt:33:17
 mul-i : tie.Need-mul-i Inv-loop μ-loop
 mul-i c = search needs
 
--- src/lib.rt:34:29
 sub-not-after : tie.Need-sub-not-after Inv-loop μ-loop
 sub-not-after c = search needs
 
--- src/lib.rt:34:22
 mul-not-after : tie.Need-mul-not-after Inv-loop μ-loop
 mul-not-after c = search needs
 
--- src/lib.rt:34:22
 shared-slice-read-not-after : tie.Need-shared-slice-read-not-after Inv-loop μ-loop
 shared-slice-read-not-after c = search needs
 
--- src/lib.rt:34:44
 sub-not-after-2 : tie.Need-sub-not-after-2 Inv-loop μ-loop
 sub-not-after-2 c = search needs
 
--- src/lib.rt:34:37
 mul-not-after-2 : tie.Need-mul-not-after-2 Inv-loop μ-loop
 mul-not-after-2 c = search needs
 
--- src/lib.rt:34:37
 shared-slice-read-not-after-2 : tie.Need-shared-slice-read-not-after-2 Inv-loop μ-loop
 shared-slice-read-not-after-2 c = search needs
 
--- src/lib.rt:34:52
 mul-not-after-3 : tie.Need-mul-not-after-3 Inv-loop μ-loop
 mul-not-after-3 c = search needs
 
--- src/lib.rt:34:52
 shared-slice-read-not-after-3 : tie.Need-shared-slice-read-not-after-3 Inv-loop μ-loop
 shared-slice-read-not-after-3 c = search needs
 
--- src/lib.rt:34:70
 add-not-after : tie.Need-add-not-after Inv-loop μ-loop
 add-not-after c = search needs
 
--- src/lib.rt:34:63
 mul-not-after-4 : tie.Need-mul-not-after-4 Inv-loop μ-loop
 mul-not-after-4 c = search needs
 
--- src/lib.rt:34:63
 shared-slice-read-not-after-4 : tie.Need-shared-slice-read-not-after-4 Inv-loop μ-loop
 shared-slice-read-not-after-4 c = search needs
 
--- src/lib.rt:34:12
 not-after-requires : tie.Need-not-after-requires Inv-loop μ-loop
 not-after-requires c κs = search needs
 
--- src/lib.rt:35:13
 add-k : tie.Need-add-k Inv-loop μ-loop
 add-k c = search needs
 
--- src/lib.rt:32:5
 loop-less : tie.Need-loop-less Inv-loop μ-loop
 loop-less c = search needs
 
--- src/lib.rt:32:5
 loop-again : tie.Need-loop-again Inv-loop μ-loop
 loop-again c = search (needs, ascends-more)
 
--- src/lib.rt:37:13
 returns : tie.Need-returns Inv-loop μ-loop
 returns c = search (needs, ascends-not)
 
--- src/lib.rt:27:1
 returns-2 : tie.Need-returns-2 Inv-loop μ-loop
 returns-2 c = search (needs, ascends-end)
 

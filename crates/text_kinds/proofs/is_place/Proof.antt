@@ -2,42 +2,31 @@ use borrow.Author.Needs.{needs}
 use Rattle.text_kinds.proofs.PlaceLaws.{is-place-same, is-place-other, is-place-past}
 use Rattle.text_kinds.proofs.is_place.Statement.{statement}
 use Rattle.text_kinds.proofs.is_place.Tie as tie
-use Rattle.text_kinds.proofs.is_place.Reads as reads
-use Rattle.text_kinds.proofs.is_place.Lts as lts
 
--- src/lib.rt:39:17
 mul-i : tie.Need-mul-i
 mul-i c = search needs
 
--- src/lib.rt:40:12
 mul-if2 : tie.Need-mul-if2
 mul-if2 c = search needs
 
--- src/lib.rt:40:12
 shared-slice-read-if2 : tie.Need-shared-slice-read-if2
 shared-slice-read-if2 c = search needs
 
--- src/lib.rt:41:27
 add-result : tie.Need-add-result
 add-result c = search needs
 
--- src/lib.rt:41:20
 mul-result : tie.Need-mul-result
 mul-result c = search needs
 
--- src/lib.rt:41:20
 shared-slice-read-result : tie.Need-shared-slice-read-result
 shared-slice-read-result c = search needs
 
--- src/lib.rt:41:13
 returns : tie.Need-returns
 returns c = search (needs, is-place-same)
 
--- src/lib.rt:43:9
 returns-2 : tie.Need-returns-2
 returns-2 c = search (needs, is-place-other)
 
--- src/lib.rt:35:1
 returns-3 : tie.Need-returns-3
 returns-3 c = search (needs, is-place-past)
 

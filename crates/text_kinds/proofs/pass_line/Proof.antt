@@ -6,9 +6,6 @@ use Rattle.text_kinds.proofs.PlaceLaws.{count-half}
 use Rattle.text_kinds.proofs.FillLaws.{Passing, passing-start, passing-more, passing-end}
 use Rattle.text_kinds.proofs.pass_line.Statement.{statement}
 use Rattle.text_kinds.proofs.pass_line.Tie as tie
-use Rattle.text_kinds.proofs.pass_line.Reads as reads
-use Rattle.text_kinds.proofs.pass_line.Lts as lts
-use Rattle.text_kinds.proofs.is_on.Reads as is-on-reads
 
 abbrev Inv-loop : tie.InvT-loop
 Inv-loop places k line next₀ next = Passing places line next₀ next
@@ -16,27 +13,21 @@ Inv-loop places k line next₀ next = Passing places line next₀ next
 abbrev μ-loop : tie.MeasureT-loop
 μ-loop places k line next₀ next = placeCount places - next
 
--- src/lib.rt:104:5
 loop-holds : tie.Need-loop-holds Inv-loop μ-loop
 loop-holds c = passing-start _ _ _
 
--- src/lib.rt:104:11
 is-on-requires : tie.Need-is-on-requires Inv-loop μ-loop
 is-on-requires c κs = search needs
 
--- src/lib.rt:105:9
 add-next : tie.Need-add-next Inv-loop μ-loop
 add-next c = omega (arith, c .before .is-on .ensures .there (c .if1 .taken), count-half (c .before .before .before .before .args .places .now))
 
--- src/lib.rt:104:5
 loop-less : tie.Need-loop-less Inv-loop μ-loop
 loop-less c = omega (arith, c .before .is-on .ensures .there (c .if1 .taken))
 
--- src/lib.rt:104:5
 loop-again : tie.Need-loop-again Inv-loop μ-loop
 loop-again c = search (needs, passing-more)
 
--- src/lib.rt:99:1
 returns : tie.Need-returns Inv-loop μ-loop
 returns c = search (needs, passing-end)
 

@@ -8,10 +8,6 @@ use Rattle.text_kinds.proofs.ReadLaws.{read-start, fits-on, listed-on, 
 use Rattle.text_kinds.proofs.PlaceLaws.{count-half}
 use Rattle.text_kinds.proofs.text_kinds.Statement.{statement}
 use Rattle.text_kinds.proofs.text_kinds.Tie as tie
-use Rattle.text_kinds.proofs.text_kinds.Reads as reads
-use Rattle.text_kinds.proofs.text_kinds.Lts as lts
-use Rattle.buffer.proofs.zero.Reads as zero-reads
-use Rattle.text_kinds.proofs.read_line.Reads as read-line-reads
 
 abbrev Inv-loop : tie.InvT-loop
 Inv-loop source places kinds₀ scratch₀ n p₀ kinds scratch p =
@@ -20,52 +16,41 @@ Inv-loop source places kinds₀ scratch₀ n p₀ kinds scratch p =
 abbrev μ-loop : tie.MeasureT-loop
 μ-loop source places kinds₀ scratch₀ n p₀ kinds scratch p = length source + 1 - p .at
 
--- src/lib.rt:214:5
 zero-requires : tie.Need-zero-requires Inv-loop μ-loop
 zero-requires c κs = search needs
 
--- src/lib.rt:222:5
 loop-holds : tie.Need-loop-holds Inv-loop μ-loop
 loop-holds c = (read-start _ _ _ _ _ (c .before .before .before .before .before .before .before .before .pre .0) (c .before .before .before .before .before .before .before .before .pre .1 .room) (c .before .before .zero .ensures), refl, refl)
 
--- src/lib.rt:224:13
 same-length : tie.Need-same-length Inv-loop μ-loop
 same-length c = search needs
 
--- src/lib.rt:224:13
 same-length-2 : tie.Need-same-length-2 Inv-loop μ-loop
 same-length-2 c = search needs
 
--- src/lib.rt:224:13
 returns : tie.Need-returns Inv-loop μ-loop
 returns c =
     let i = c .before .before .before .before .loop .inv in
     read-all _ _ _ _ _ _ (c .before .before .before .before .before .before .before .before .before .before .before .before .before .pre .0) (i .0) (as-zeroed _ _ (c .before .before .before .before .loop .kinds) (c .before .before .before .before .before .before .before .zero .ensures) (i .1)) (omega arith)
 
--- src/lib.rt:226:9
 read-line-requires : tie.Need-read-line-requires Inv-loop μ-loop
 read-line-requires c κs =
     let s = c .before .before .before .before .before .before .before .before .before .before .before .before .before .before .before .pre in
     let i = c .before .before .before .before .before .before .loop .inv in
     (fits-on (s .0) (i .2), (listed-on (s .1 .order) (i .0), (i .0, (omega arith, omega (arith, count-half (c .before .before .before .before .before .before .before .before .before .before .before .before .before .before .before .args .places .now))))))
 
--- src/lib.rt:222:5
 loop-less : tie.Need-loop-less Inv-loop μ-loop
 loop-less c = search needs
 
--- src/lib.rt:222:5
 loop-again : tie.Need-loop-again Inv-loop μ-loop
 loop-again c = search needs
 
--- src/lib.rt:209:1
 same-length-3 : tie.Need-same-length-3 Inv-loop μ-loop
 same-length-3 c = search needs
 
--- src/lib.rt:209:1
 same-length-4 : tie.Need-same-length-4 Inv-loop μ-loop
 same-length-4 c = search needs
 
--- src/lib.rt:209:1
 returns-2 : tie.Need-returns-2 Inv-loop μ-loop
 returns-2 c =
     let s = c .before .before .before .before .before .before .before .before .before .before .before .pre in

@@ -1,5 +1,5 @@
 //! Each claim of docs/DIFFERENCES.md about the Rust, run on it: its own comments that its behaviour
-//! contradicts, and its EditorConfig step beside the specification.
+//! contradicts, and its `.editorconfig` step beside the specification.
 
 use ec4rs::Properties;
 use ec4rs::property::{EndOfLine, FinalNewline, IndentSize, IndentStyle, MaxLineLen, TabWidth};

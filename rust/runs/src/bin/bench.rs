@@ -342,6 +342,44 @@ fn kind_rows(sizes: &[usize], formatter: &mut Formatter) {
     }
 }
 
+/// 5,000 places of a source of 1 MiB: the library's list beside single calls of both sides. Of the
+/// single calls every hundredth is made.
+fn list_rows(formatter: &mut Formatter) {
+    let source = written(1 << 20, 0);
+    let lines = source.lines().count();
+    let places: Vec<(u64, u64)> = (0..5000)
+        .map(|k| ((k * lines / 5000) as u64, (k % 40) as u64))
+        .collect();
+    let some: Vec<(u64, u64)> = places.iter().copied().step_by(100).collect();
+    let rust = 100.0
+        * best(|| {
+            for &(line, column) in &some {
+                black_box(text_kind_at(
+                    black_box(&source),
+                    line as usize,
+                    column as usize,
+                ));
+            }
+        });
+    let single = 100.0
+        * best(|| {
+            for &(line, column) in &some {
+                black_box(formatter.text_kind_at(&source, line, column)).expect("accepted");
+            }
+        });
+    let list = best(|| {
+        black_box(formatter.text_kinds(&source, places.iter().copied())).expect("accepted");
+    });
+    row(
+        "5,000 places, a call each",
+        source.len(),
+        0,
+        Some(rust),
+        single,
+    );
+    row("5,000 places, one list", source.len(), 0, Some(rust), list);
+}
+
 /// The library alone, once.
 fn once(name: &str) {
     let input = INPUTS.iter().find(|input| input.name == name);
@@ -385,5 +423,6 @@ fn main() {
     }
     if only.is_none() {
         kind_rows(sizes, &mut formatter);
+        list_rows(&mut formatter);
     }
 }

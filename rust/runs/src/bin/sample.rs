@@ -23,7 +23,7 @@ use Prim.Native.Nat.{ℕ}
 use Prim.Native.String.{String}
 use mathlib.Core.List.{List, [], _∷_, map}
 use Rattle.rules.specs.Basics.{codes}
-use Rattle.rules.specs.Options.{Options, Changed, indentWith}
+use Rattle.rules.specs.Options.{Options, SettingStep, indentWith}
 use Rattle.rules.specs.EditorConfig.{withEditorConfig}
 use Rattle.rules.specs.TextKind.{textKindAt, kindNumber}
 use Rattle.rules.specs.Assembly.{Formatted, formatWith}
@@ -45,7 +45,7 @@ use Rattle.rules.specs.declared.Resolved.{Resolved}
 use Rattle.rules.proofs.Computing.{computing}
 
 abbrev opts : String → PrintWidth → EndOfLine → FinalNewline → Options
-opts i w e n = record { indent = codes i; printWidth = w; endOfLine = e; finalNewline = n }
+opts i w e n = record { indent = codes i; printWidth = w; endOfLine = e; insertFinalNewline = n }
 
 ";
 
@@ -118,20 +118,20 @@ Case = Options × Resolved × Bool × Options
 abbrev res : IndentStyle → IndentSize → TabWidth → MaxLineLen → ConfigEnding → InsertFinalNewline → Resolved
 res a b c d e f = record { style = a; size = b; tab = c; max = d; ending = e; newline = f }
 
-abbrev expected : Case → Changed
+abbrev expected : Case → SettingStep
 expected c = record { refused = c .2; options = c .3 }
 
-abbrev given : Case → Changed
+abbrev given : Case → SettingStep
 given c = withEditorConfig (c .0) (c .1)
 ";
 
 const INDENT: &str = "abbrev Case : Type 0
 Case = Options × Bool × ℕ × Bool × Options
 
-abbrev expected : Case → Changed
+abbrev expected : Case → SettingStep
 expected c = record { refused = c .3; options = c .4 }
 
-abbrev given : Case → Changed
+abbrev given : Case → SettingStep
 given c = indentWith (c .0) (c .1) (c .2)
 ";
 
@@ -140,7 +140,7 @@ Case = Call × Answer × List ℕ
 
 abbrev call : List ℕ → List ℕ → ℕ → ℕ → ℕ → ℕ → ℕ → ℕ → Call
 call s i ws w e n o c =
-    record { source = s; indent = i; widthSet = ws; width = w; lineEnding = e; finalNewline = n; output = o; scratch = c }
+    record { source = s; choices = record { indent = i; numbers = record { «width_set» = ws; width = w; «line_ending» = e; «final_newline» = n } }; output = o; scratch = c }
 
 abbrev ans : ℕ → ℕ → ℕ → ℕ → ℕ → Answer
 ans r p l i b = record { refusal = r; place = p; length = l; «imports_split» = i; «blank_names» = b }

@@ -27,6 +27,9 @@ pub strength-of : (w : List ℕ) (k s : ℕ) → k ≡ indexIn operators w → s
 unfolding precedence
 strength-of w k s e h = h ∙ ap (λ n. getD strengths n 0) e
 
+pub built-read : (of : List ℕ) (k r : ℕ) → r ≡ getD of k 0 → of ≡ strengths → r ≡ getD strengths k 0
+built-read of k r e h = e ∙ ap (λ l. getD l k 0) h
+
 pub past-table : (k : ℕ) → 21 ≤ k → 0 ≡ getD strengths k 0
 past-table k h = sym (past strengths k h)
   where

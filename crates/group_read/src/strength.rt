@@ -5,7 +5,7 @@ ghost use Prim.Native.Nat.{_<_};
 ghost use lib.ListN.{getD};
 ghost use Rattle.rules.specs.Operators.{strengths};
 ghost use Rattle.group_rules.specs.Grouping.{strengthOf};
-use operators::STRENGTHS;
+use operators::built_in;
 use operators::one_index;
 use operators::two_index;
 
@@ -13,7 +13,8 @@ fn at_index(k: usize) -> u8
     ensures { λ r. ⌜ r ≡ getD strengths k 0 ⌝ }
 {
     if k < 21 {
-        return STRENGTHS[k];
+        let s = built_in();
+        return s.of[k];
     }
     0
 }

@@ -5,7 +5,7 @@ pub mod first;
 ghost use mathlib.Core.Path.{_≡_};
 ghost use mathlib.Core.List.{[], _∷_};
 ghost use Rattle.rules.specs.Basics.{oneOf};
-ghost use Rattle.rules.specs.Operators.{operators, indexIn};
+ghost use Rattle.rules.specs.Operators.{operators, strengths, indexIn};
 ghost use Rattle.rules.specs.SplitOperation.{isSign};
 
 // The places.
@@ -58,29 +58,39 @@ pub const COUNT: usize = 21;
 pub const MAX_STRENGTH: usize = 15;
 
 // Tightness: a strength for each, in their order.
-pub const STRENGTHS: [u8; 21] = [
-    1,
-    1,
-    2,
-    3,
-    4,
-    5,
-    6,
-    6,
-    7,
-    7,
-    7,
-    7,
-    8,
-    8,
-    9,
-    10,
-    10,
-    11,
-    11,
-    11,
-    12,
-];
+pub struct Strengths {
+    pub of: [u8; 21],
+}
+
+// Those of document 01.
+pub fn built_in() -> Strengths
+    ensures { λ r. ⌜ r .of ≡ strengths ⌝ }
+{
+    let of = [
+        1u8,
+        1,
+        2,
+        3,
+        4,
+        5,
+        6,
+        6,
+        7,
+        7,
+        7,
+        7,
+        8,
+        8,
+        9,
+        10,
+        10,
+        11,
+        11,
+        11,
+        12,
+    ];
+    Strengths { of }
+}
 
 // The place of the operator that is the byte a twice, or COUNT.
 fn double_index(a: u8) -> usize

@@ -13,7 +13,7 @@ use Rattle.rules.specs.Lines.{asStr}
 use Rattle.rules.specs.Scan.{classify, allCodeOrStr}
 use Rattle.rules.specs.Options.{Options, allBlank}
 use Rattle.rules.specs.SplitImport.{Laid, splitImport}
-use Rattle.rules.specs.Operators.{strengths}
+use Rattle.rules.specs.Operators.{strengths, maxStrength, AtMost}
 use Rattle.rules.specs.SplitOperation.{splitOperation}
 use Rattle.rules.specs.Assembly.{joined}
 use Rattle.rules.specs.Else.{joinable}
@@ -21,11 +21,15 @@ use Rattle.rules.specs.Line.{dropBlank, orOperation, broken}
 use Rattle.rules.specs.declared.Carry.{Carry}
 use Rattle.rules.specs.declared.LineEnding.{LineEnding}
 use Rattle.rules.proofs.SplitLines.{Newest, newest, newest-one, alone-line, import-lines, operation-lines, operation-several, operation-alone}
+use Rattle.rules.proofs.StrengthRounds.{strengths-known}
 use Rattle.rules.proofs.SplitSizes.{Fit, import-fits, operation-fits}
 use Rattle.split.specs.Text.{indented, Fits}
 use Rattle.split_import.specs.Import.{Given, ImportFits}
+use Rattle.split_import.specs.declared.ImportLines.{ImportLines}
 use Rattle.split_import.specs.declared.ImportSplit.{ImportSplit}
-use Rattle.split_operation.specs.Operation.{Broken, OperationFits}
+use Rattle.operators.specs.declared.Strengths.{Strengths}
+use Rattle.split.specs.declared.NewLine.{NewLine}
+use Rattle.split_operation.specs.Operation.{lineOf, isBroken, Broken, OperationFits}
 use Rattle.split_operation.specs.declared.OperationSplit.{OperationSplit}
 use Rattle.rules.specs.Refusals.{maxSource}
 use Rattle.text.specs.Text.{Text, Continued, afterLines, farPlace}
@@ -63,8 +67,10 @@ module _
     pub import-asks : t .at .0 ≤ farPlace → ImportFits line class indent level eol start
     import-asks h = record { fits = break-fits h; classes = g .classes }
 
-    pub operation-asks : t .at .0 ≤ farPlace → allCodeOrStr (classify Carry.Code line) ≡ true → OperationFits line class indent level eol start
-    operation-asks h p = record { fits = break-fits h; classed = record { classes = g .classes; plain = p } }
+    pub operation-asks : t .at .0 ≤ farPlace → allCodeOrStr (classify Carry.Code line) ≡ true → (st : Strengths) → st .of ≡ strengths
+        → OperationFits line class indent level eol start × AtMost maxStrength (st .of)
+    operation-asks h p st known =
+        (record { fits = break-fits h; classed = record { classes = g .classes; plain = p } }, rw known strengths-known)
 
     -- ---- lines that were written
 
@@ -118,37 +124,41 @@ module _
 
     module _ (max : ℕ) (brace : Bool) (ends : brace ≡ lastIs (is "}") line) (o2 : List ℕ) (i : ImportSplit)
         (given : (o : Options) → o .indent ≡ indent → Given (splitImport o max level (classify Carry.Code (decode line))) eol o1 o2 start i) where
-      module _ (u : Written) (reached : u ≡ afterLines (i .next) brace) (yes : i .split ≡ true) where
+      module _ (m : ImportLines) (yes : i ≡ ImportSplit.Split m) (u : Written) (reached : u ≡ afterLines (m .next) brace) where
         abbrev placed : Placed
-        placed = record { text = u; imports = 1; blanks = i .blanks }
+        placed = record { text = u; imports = 1; blanks = m .blanks }
 
-        import-came : (o : Options) → o .indent ≡ indent → Came (broken o max level (decode line)) brace o2 (i .next) placed
+        import-came : (o : Options) → o .indent ≡ indent → Came (broken o max level (decode line)) brace o2 (m .next) placed
         import-came o k = go (splitImport o max level (classify Carry.Code (decode line))) refl (given o k)
           where
-            go : (s : Option Laid) → splitImport o max level (classify Carry.Code (decode line)) ≡ s → Given s eol o1 o2 start i → Came (broken o max level (decode line)) brace o2 (i .next) placed
-            go none q w = absurd (true≢false (sym yes ∙ w .split))
+            go : (s : Option Laid) → splitImport o max level (classify Carry.Code (decode line)) ≡ s → Given s eol o1 o2 start i → Came (broken o max level (decode line)) brace o2 (m .next) placed
+            go none q w = absurd (let y : _≡_ {A = ℕ} 0 1 = cc (yes, w .is) in omega arith)
             go (some laid) q w =
+                let same-made : w .made ≡ m = cc (yes, w .is) in
                 let r = import-lines o (blank-of o k) max level (decode line) (g .trimmed) laid q in
                 let f = import-fits o (blank-of o k) (short-of o k) level flat (asStr e) eol-small max (decode line) laid q in
                 let same : broken o max level (decode line) ≡ laid = unfold broken orOperation in (rw q refl) in
-                subst (λ (x : Laid). Came x brace o2 (i .next) placed) (sym same)
+                subst (λ (x : Laid). Came x brace o2 (m .next) placed) (sym same)
                 (record {
                   newest = rw (ends, brace-bytes line (g .well)) (newest (r .lines));
-                  written = rw eq at (w .written .text);
+                  written = rw (eq, same-made) at (w .written .text);
                   fit = f .lines;
                   imports = sym (r .counted);
-                  blanks = w .blanks;
+                  blanks = rw same-made at (w .blanks);
                   few = omega arith;
-                  fewer = omega (arith, w .blanks, f .blanks);
+                  fewer = omega (arith, rw same-made at (w .blanks), f .blanks);
                 })
 
         pub import-breaks : Breaks max indent (decode line) level (asStr e) drops (length line) out t placed o2
-        import-breaks = came-breaks max brace o2 (i .next) placed reached import-came
+        import-breaks = came-breaks max brace o2 (m .next) placed reached import-came
 
       -- ---- an expression
 
-      module _ (other : i .split ≡ false) (o3 : List ℕ) (r : OperationSplit)
-          (made : (o : Options) → o .indent ≡ indent → Broken eol (splitOperation strengths o max level (decode line)) o2 o3 start r) where
+      module _ (other : i ≡ ImportSplit.Whole) (st : Strengths) (known : st .of ≡ strengths) (o3 : List ℕ) (r : OperationSplit)
+          (said : (o : Options) → o .indent ≡ indent → Broken eol (splitOperation (st .of) o max level (decode line)) o2 o3 start r) where
+        made : (o : Options) → o .indent ≡ indent → Broken eol (splitOperation strengths o max level (decode line)) o2 o3 start r
+        made o k = subst (λ (table : List ℕ). Broken eol (splitOperation table o max level (decode line)) o2 o3 start r) known (said o k)
+
         abbrev operationLaid : Options → Laid
         operationLaid o = record { lines = splitOperation strengths o max level (decode line); importsSplit = 0; blankNames = 0 }
 
@@ -159,12 +169,12 @@ module _
             go : (s : Option Laid) → splitImport o max level (classify Carry.Code (decode line)) ≡ s → Given s eol o1 o2 start i
                 → (broken o max level (decode line) ≡ operationLaid o) × (o2 ≡ o1)
             go none q w = (unfold broken orOperation in (rw q refl), w .same)
-            go (some laid) q w = absurd (true≢false (sym (w .split) ∙ other))
+            go (some laid) q w = absurd (let y : _≡_ {A = ℕ} 0 1 = cc (other, w .is) in omega arith)
 
-        operation-came : (b : Bool) (u : Written) (o : Options) → o .indent ≡ indent → Newest b (splitOperation strengths o max level (decode line)) → Came (broken o max level (decode line)) b o3 (r .next) (aloneIn u)
+        operation-came : (b : Bool) (u : Written) (o : Options) → o .indent ≡ indent → Newest b (splitOperation strengths o max level (decode line)) → Came (broken o max level (decode line)) b o3 (lineOf r .next) (aloneIn u)
         operation-came b u o k n =
             let s = other-same o k in
-            subst (λ (x : Laid). Came x b o3 (r .next) (aloneIn u)) (sym (s .0))
+            subst (λ (x : Laid). Came x b o3 (lineOf r .next) (aloneIn u)) (sym (s .0))
             (record {
               newest = n;
               written = rw (eq, s .1) at (made o k .written .text);
@@ -176,25 +186,25 @@ module _
             })
 
         operation-breaks : (b : Bool) (u : Written) (p : Placed) → ((o : Options) → o .indent ≡ indent → Newest b (splitOperation strengths o max level (decode line)))
-            → u ≡ afterLines (r .next) b → p ≡ aloneIn u → Breaks max indent (decode line) level (asStr e) drops (length line) out t p o3
+            → u ≡ afterLines (lineOf r .next) b → p ≡ aloneIn u → Breaks max indent (decode line) level (asStr e) drops (length line) out t p o3
         operation-breaks b u p n reached is =
             subst (λ (x : Placed). Breaks max indent (decode line) level (asStr e) drops (length line) out t x o3) (sym is)
-            (came-breaks max b o3 (r .next) (aloneIn u) reached (λ o k. operation-came b u o k (n o k)))
+            (came-breaks max b o3 (lineOf r .next) (aloneIn u) reached (λ o k. operation-came b u o k (n o k)))
 
-        pub several-breaks : (u : Written) (p : Placed) → r .more ≡ true → u ≡ afterLines (r .next) brace → p ≡ aloneIn u
+        pub several-breaks : (w : NewLine) (u : Written) (p : Placed) → r ≡ OperationSplit.Broken w → u ≡ afterLines (w .next) brace → p ≡ aloneIn u
             → Breaks max indent (decode line) level (asStr e) drops (length line) out t p o3
-        several-breaks u p more reached is =
+        several-breaks w u p more reached is =
             operation-breaks brace u p
-            (λ o k. rw (ends, brace-bytes line (g .well)) (newest (operation-several (operation-lines strengths o (blank-of o k) max level (decode line) (g .trimmed)) (sym (made o k .more) ∙ more))))
-            reached is
+            (λ o k. rw (ends, brace-bytes line (g .well)) (newest (operation-several (operation-lines strengths o (blank-of o k) max level (decode line) (g .trimmed)) (sym (made o k .more) ∙ ap isBroken more))))
+            (reached ∙ ap (λ (x : OperationSplit). afterLines (lineOf x .next) brace) (sym more)) is
 
-        pub alone-breaks : (j : Bool) (u : Written) (p : Placed) → j ≡ joinable (decode line)
-            → r .more ≡ false → u ≡ afterLines (r .next) j → p ≡ aloneIn u → Breaks max indent (decode line) level (asStr e) drops (length line) out t p o3
-        alone-breaks j u p q more reached is =
+        pub alone-breaks : (w : NewLine) (j : Bool) (u : Written) (p : Placed) → j ≡ joinable (decode line)
+            → r ≡ OperationSplit.Whole w → u ≡ afterLines (w .next) j → p ≡ aloneIn u → Breaks max indent (decode line) level (asStr e) drops (length line) out t p o3
+        alone-breaks w j u p q more reached is =
             operation-breaks j u p
-            (λ o k. rw (operation-alone (operation-lines strengths o (blank-of o k) max level (decode line) (g .trimmed)) (sym (made o k .more) ∙ more), q)
+            (λ o k. rw (operation-alone (operation-lines strengths o (blank-of o k) max level (decode line) (g .trimmed)) (sym (made o k .more) ∙ ap isBroken more), q)
             (newest-one (alone-line o (blank-of o k) level (decode line) (some-of (decode line) (omega (arith, long, g .some))) (g .trimmed))))
-            reached is
+            (reached ∙ ap (λ (x : OperationSplit). afterLines (lineOf x .next) j) (sym more)) is
           where
             some-of : (l : List ℕ) → 1 ≤ size l → isEmpty l ≡ false
             some-of [] h = unfold encode in absurd (omega arith)

@@ -26,7 +26,8 @@ use Rattle.text.proofs.StepLaws.{grown-ordered}
 use Rattle.text.proofs.PadLaws.{indent-blanks, blanks-size}
 use Rattle.place.specs.declared.Placed.{Placed}
 use Rattle.line.specs.Holds.{ValidIndent}
-use Rattle.place.specs.Placing.{GoesOn, Wide, Lays, Breaks, aloneIn}
+use Rattle.split.specs.Measure.{Wide}
+use Rattle.place.specs.Placing.{GoesOn, Lays, Breaks, aloneIn}
 use Rattle.place.proofs.PlaceLaws.{indent-small}
 
 -- the test of the class bytes is the test of the classes, of the bytes and of the characters
@@ -72,10 +73,10 @@ unfolding choose splitWide indentOf
 off-same true level indent l o e = rw e
 off-same false level indent l o e = rw e
 
-narrow-same : (b : Bool) (max level : ℕ) (indent l : List ℕ) (o : Options) → o .indent ≡ indent → overWide o max (times level indent ++ l) ≡ false
+narrow-same : (b : Bool) (max level : ℕ) (indent l : List ℕ) (o : Options) → o .indent ≡ indent → overWide o max (indentOf o level ++ l) ≡ false
     → splitWide (fits b (PrintWidth.Columns max)) o level l ≡ oneLine (times level indent ++ l)
-unfolding choose splitWide indentOf overWide times measure
-narrow-same true max level indent l o e h = rw (e, h)
+unfolding choose splitWide indentOf
+narrow-same true max level indent l o e h = rw (h, e)
 narrow-same false max level indent l o e h = rw e
 
 module _
@@ -94,7 +95,7 @@ module _
         → Lays (choose here width PrintWidth.Off) indent (decode line) level eol drops (length line) out t p out′
     fit-narrow width max r e wide q =
         lays-one (choose here width PrintWidth.Off) indent line class level eol drops out out′ t u v flat g a p is
-        (λ o k. ap (λ (x : PrintWidth). splitWide (fits here x) o level (decode line)) e ∙ narrow-same here max level indent (decode line) o k (sym (wide .is o) ∙ q))
+        (λ o k. ap (λ (x : PrintWidth). splitWide (fits here x) o level (decode line)) e ∙ narrow-same here max level indent (decode line) o k (sym (wide .is o k) ∙ q))
 
     pub fit-mixed : (width : PrintWidth) (c : Bool) → c ≡ onlyCodeOrStr class → c ≡ false
         → Lays (choose here width PrintWidth.Off) indent (decode line) level eol drops (length line) out t p out′
@@ -107,10 +108,10 @@ module _
         off-is o i = unfold choose splitWide indentOf in (rw i)
 
 -- a line that is split
-wide-same : (max level : ℕ) (indent l : List ℕ) (o : Options) → o .indent ≡ indent → overWide o max (times level indent ++ l) ≡ true
+wide-same : (max level : ℕ) (indent l : List ℕ) (o : Options) → o .indent ≡ indent → overWide o max (indentOf o level ++ l) ≡ true
     → splitWide (PrintWidth.Columns max) o level l ≡ broken o max level l
-unfolding choose splitWide indentOf overWide broken measure orOperation
-wide-same max level indent l o e h = rw (e, h)
+unfolding choose splitWide
+wide-same max level indent l o e h = rw h
 
 pub fit-broken : (indent line class : List ℕ) (level : ℕ) (eol : List ℕ) (drops : Bool) (out out′ : List ℕ) (t : Written) (p : Placed) (width : PrintWidth) (max : ℕ) (r c : Bool)
     → GoesOn line class → width ≡ PrintWidth.Columns max → Wide indent level line max r → r ≡ true → c ≡ onlyCodeOrStr class → c ≡ true
@@ -133,4 +134,4 @@ fit-broken indent line class level eol drops out out′ t p width max r c g e wi
     is here o i =
         ap (λ (x : Bool). splitWide (choose x width PrintWidth.Off) o level (decode line)) here
         ∙ ap (λ (x : PrintWidth). splitWide (choose true x PrintWidth.Off) o level (decode line)) e
-        ∙ (unfold choose in (wide-same max level indent (decode line) o i (sym (wide .is o) ∙ q)))
+        ∙ (unfold choose in (wide-same max level indent (decode line) o i (sym (wide .is o i) ∙ q)))

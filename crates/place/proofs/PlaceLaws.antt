@@ -5,66 +5,20 @@ use mathlib.Core.List.{List, [], _∷_, _++_}
 use mathlib.Core.Path.{_≡_, refl, sym, ap, _∙_}
 use native.Mathlib.Omega.{arith}
 use native.Mathlib.Nat.{le-refl}
-use borrow.Author.Tests.{le-ltb, lt-ltb}
-use lib.Dec.{ltb}
 use lib.ListN.{length, take, length-append}
 use lib.Seq.{take-all}
-use Rattle.unicode.specs.Unicode.{encodeChar, encode, decode, size, units, width, trimEnd, WellFormed}
-use Rattle.unicode.proofs.Table.{Shape, one, two, three, four, shape}
-use Rattle.unicode.proofs.Decode.{encode-cons}
-use Rattle.unicode.proofs.Bytewise.{width-nil, width-cons, width-append}
+use Rattle.unicode.specs.Unicode.{decode, size, trimEnd, WellFormed}
 use Rattle.buffer.specs.Repeat.{times}
 use Rattle.buffer.proofs.RepeatLaws.{times-within}
 use Rattle.rules.specs.Basics.{choose, is, lastIs}
 use Rattle.rules.proofs.Choose.{choose-case}
 use Rattle.rules.specs.Else.{joinable}
 use Rattle.rules.specs.Refusals.{maxSource}
-use Rattle.rules.specs.Options.{maxIndent, defaults, withIndent, indentOf, measure, overWide}
+use Rattle.rules.specs.Options.{maxIndent}
 use Rattle.text.specs.Text.{Line, ElseLine}
-use Rattle.split.specs.Measure.{Measured, IndentMeasured}
 use Rattle.line.specs.Holds.{ValidIndent}
 use Rattle.line.proofs.HoldsLaws.{brace-bytes}
-use Rattle.place.specs.Placing.{GoesOn, Wide}
-
--- ---- the width of an indented line
-
-units-low : (c : ℕ) → c < 0x10000 → units c ≡ 1
-unfolding units
-units-low c h = rw (lt-ltb c 0x10000 h)
-
-units-high : (c : ℕ) → 0x10000 ≤ c → units c ≡ 2
-unfolding units
-units-high c h = rw (le-ltb c 0x10000 h)
-
-units-size : (c : ℕ) → units c ≤ length (encodeChar c)
-units-size c = go (shape c)
-  where
-    go : Shape c → units c ≤ length (encodeChar c)
-    go (one h e) = omega (arith, units-low c (omega arith), ap length e)
-    go (two h k e) = omega (arith, units-low c (omega arith), ap length e)
-    go (three h k e) = omega (arith, units-low c k, ap length e)
-    go (four h e) = omega (arith, units-high c h, ap length e)
-
-pub width-size : (cs : List ℕ) → width cs ≤ size cs
-width-size [] = omega (arith, width-nil)
-width-size (c ∷ cs) =
-    omega (arith, width-cons c cs, ap length (encode-cons c cs), length-append (encodeChar c) (encode cs), units-size c, width-size cs)
-
-module _ (indent : List ℕ) (level : ℕ) (line : List ℕ) (max pad : ℕ) (p : IndentMeasured indent level pad) where
-  pad-is : pad ≡ width (times level indent)
-  unfolding measure indentOf
-  pad-is = omega (arith, p .is (withIndent defaults indent) refl)
-
-  whole : width (times level indent ++ decode line) ≡ pad + width (decode line)
-  whole = omega (arith, width-append (times level indent) (decode line), pad-is)
-
-  pub wide-not : WellFormed line → pad + length line ≤ max → Wide indent level line max false
-  unfolding overWide measure
-  wide-not w h = record { is = λ o. let h : 0 + width (times level indent ++ decode line) ≤ max = omega (arith, whole, width-size (decode line), ap length w) in sym (le-ltb _ _ h) }
-
-  pub wide-measured : (end : ℕ) → Measured pad line end → Wide indent level line max (ltb max end)
-  unfolding overWide measure
-  wide-measured end m = record { is = λ o. ap (ltb max) (omega (arith, whole, m .is o)) }
+use Rattle.place.specs.Placing.{GoesOn}
 
 -- ---- an else that goes on
 

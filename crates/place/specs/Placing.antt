@@ -10,7 +10,7 @@ use Rattle.buffer.specs.Repeat.{times}
 use Rattle.rules.specs.Basics.{choose, isEmpty}
 use Rattle.rules.specs.Scan.{classify}
 use Rattle.rules.specs.ClassBytes.{classBytes}
-use Rattle.rules.specs.Options.{Options, overWide}
+use Rattle.rules.specs.Options.{Options}
 use Rattle.rules.specs.Refusals.{maxSource}
 use Rattle.rules.specs.Brackets.{levels}
 use Rattle.rules.specs.Line.{Formatter, dropBlank, broken, splitWide, spacedLine, placedLine}
@@ -75,10 +75,6 @@ placedBy marker line o f = placedLine o f marker line
 -- whether a blank between goes
 abbrev pub dropsBlank : ℕ → Declaration → Declaration → Bool
 dropsBlank depth d before = choose (eqb depth 0) (sameOf d before) false
-
--- whether an indented line is wider than max
-pub record Wide (indent : List ℕ) (level : ℕ) (line : List ℕ) (max : ℕ) (r : Bool) : Type 0 where
-  pub is : (o : Options) → r ≡ overWide o max (times level indent ++ decode line)
 
 -- the line of characters l was laid out at a level as `splitWide` says for the width w, after an empty newest line was dropped if `drops` says so
 pub record Lays (w : PrintWidth) (indent l : List ℕ) (level : ℕ) (eol : List ℕ) (drops : Bool) (n : ℕ) (out : List ℕ) (t : Written) (r : Placed) (out′ : List ℕ) : Type 0 where

@@ -14,13 +14,20 @@ ghost use Rattle.rules.specs.Scan.{classify, allCodeOrStr};
 ghost use Rattle.rules.specs.declared.Carry.{Carry};
 ghost use Rattle.rules.specs.declared.PrintWidth.{PrintWidth};
 ghost use Rattle.line.specs.Holds.{ValidIndent};
-ghost use Rattle.place.specs.Placing.{GoesOn, Heads, Asks, Puts, spacedBy, placedBy, dropsBlank, Wide, aloneIn, breakWidth, Lays, Breaks};
+ghost use Rattle.place.specs.Placing.{GoesOn, Heads, Asks, Puts, spacedBy, placedBy, dropsBlank, aloneIn, breakWidth, Lays, Breaks};
 use format::words::Declaration;
 use line::formatter::Prev;
 use line::style::Style;
 use rules::LineEnding;
 use rules::PrintWidth;
+use split::Layout;
+use split::over_wide;
+use split_import::ImportSplit;
+use split_import::split_import;
+use split_operation::OperationSplit;
+use split_operation::split_operation;
 use text::Written;
+use unicode::Utf16Column;
 
 // What is known before the line is put: the text so far, how many brackets are open, how many levels are left after the line's leading closers popped, what
 // it asks of the previous line, and of this line its leading closers and what the next line asks of it.
@@ -65,22 +72,6 @@ fn drops_blank(depth: usize, d: Declaration, before: Declaration) -> bool
         return format::words::same_declaration(d, before);
     }
     false
-}
-
-// Whether the line, with its indent, is wider than max. A character takes no more UTF-16 units than bytes, so that most lines are not measured.
-fn over_wide(indent: &[u8], level: usize, line: &[u8], max: usize) -> bool
-    requires { ⌜ ValidIndent (now indent) ⌝ }
-    requires { ⌜ level ≤ maxSource ⌝ }
-    requires { ⌜ WellFormed (now line) × (length (now line) ≤ 2 * maxSource) ⌝ }
-    ensures { λ r. ⌜ Wide (now (indent .entry)) level (now (line .entry)) max r ⌝ }
-{
-    let pad = split::indent_column(indent, level);
-    let n = line.len();
-    if pad.0 + n <= max {
-        return false;
-    }
-    let end = split::measure_from(pad, line);
-    max < end.0
 }
 
 // The line indented, alone. It is trimmed at its end.
@@ -173,9 +164,14 @@ fn fit_line(
     match width {
         PrintWidth::Off => alone(push_one(line, indent, ending, slot, out, t)),
         PrintWidth::Columns(max) => {
-            if over_wide(indent, slot.level, line, max) {
+            let s = Layout {
+                level: slot.level,
+                max: Utf16Column(max),
+                ending,
+            };
+            if over_wide(s, indent, line) {
                 if scan::all_code_or_str(class) {
-                    return break_line(line, class, indent, max, ending, slot, out, t);
+                    return break_line(line, class, s, indent, slot.drops, out, t);
                 }
                 return alone(push_one(line, indent, ending, slot, out, t));
             }
@@ -249,35 +245,40 @@ pub fn place_line(
 fn break_line(
     line: &[u8],
     class: &[u8],
+    s: Layout,
     indent: &[u8],
-    max: usize,
-    ending: LineEnding,
-    slot: Slot,
+    drops: bool,
     out: &mut [u8],
     t: Written,
 ) -> Placed
     requires { ⌜ ValidIndent (now indent) ⌝ }
-    requires { ⌜ slot .level ≤ maxSource ⌝ }
+    requires { ⌜ s .level ≤ maxSource ⌝ }
     requires { ⌜ GoesOn (now line) (now class) ⌝ }
     requires { ⌜ Ordered t × (t .at .0 ≤ farPlace) ⌝ }
     requires { ⌜ allCodeOrStr (classify Carry.Code (now line)) ≡ true ⌝ }
-    ensures { λ r. ⌜ Breaks max (now (indent .entry)) (decode (now (line .entry))) (slot .level) (asStr ending) (slot .drops) (length (now (line .entry))) (now (out .entry)) t r (now (out .exit)) ⌝ }
+    ensures { λ r. ⌜ Breaks (s .max .0) (now (indent .entry)) (decode (now (line .entry))) (s .level) (asStr (s .ending)) drops (length (now (line .entry)))
+        (now (out .entry)) t r (now (out .exit)) ⌝ }
 {
-    let start = text::continue_text(out, t, ending, slot.drops);
-    let eol = options::ending::as_str(ending, b"\r\n");
+    let ending = s.ending;
+    let start = text::continue_text(out, t, ending, drops);
     let brace = format::else_line::ends_in_brace(line);
-    let i = split_import::split_import(line, class, indent, slot.level, eol, max, out, start);
-    if i.split {
-        return Placed {
-            text: text::after_lines(i.next, brace),
+    let i = split_import(line, class, s, indent, out, start);
+    match i {
+        ImportSplit::Split(m) => Placed {
+            text: text::after_lines(m.next, brace),
             imports: 1,
-            blanks: i.blanks,
-        };
+            blanks: m.blanks,
+        },
+        ImportSplit::Whole => {
+            let strengths = operators::built_in();
+            let o = split_operation(line, class, s, strengths, indent, out, start);
+            match o {
+                OperationSplit::Broken(w) => alone(text::after_lines(w.next, brace)),
+                OperationSplit::Whole(w) => {
+                    let joins = format::else_line::trimmed_takes_else(line);
+                    alone(text::after_lines(w.next, joins))
+                }
+            }
+        }
     }
-    let o = split_operation::split_operation(line, class, indent, slot.level, eol, max, out, start);
-    if o.more {
-        return alone(text::after_lines(o.next, brace));
-    }
-    let joins = format::else_line::trimmed_takes_else(line);
-    alone(text::after_lines(o.next, joins))
 }

@@ -1,27 +1,28 @@
 -- Laws on columns and on parts of a line.
 use Prim.Native.Nat.{ℕ, zero, suc, _+_, _-_, _*_, _^_, _≤_, _<_}
-use mathlib.Core.Bool.{true}
+use mathlib.Core.Bool.{true, false}
 use mathlib.Core.List.{List, [], _∷_, _++_}
 use mathlib.Core.Path.{_≡_, refl, sym, ap, _∙_, subst}
 use native.Mathlib.Omega.{arith}
 use native.Mathlib.Nat.{mul-le-mul}
-use lib.ListN.{length, take, drop, length-drop}
+use lib.ListN.{length, take, drop, length-drop, length-append}
 use lib.Seq.{take-take, length-take-le, drop-drop}
 use lib.Dec.{eqb, ltb}
-use borrow.Author.Tests.{eqb-true, lt-ltb}
+use borrow.Author.Tests.{eqb-true, lt-ltb, le-ltb}
 use Rattle.buffer.specs.Buffer.{part}
 use Rattle.buffer.specs.Repeat.{times}
 use Rattle.buffer.proofs.RegionLaws.{part-from, drop-take}
 use Rattle.buffer.proofs.RepeatLaws.{length-times}
-use Rattle.unicode.specs.Unicode.{decode, WellFormed, units, width, trim, trimEnd}
+use Rattle.unicode.specs.Unicode.{encodeChar, encode, decode, size, WellFormed, units, width, trim, trimEnd}
 use Rattle.unicode.specs.Places.{unitsOf, TrimmedStart, TrimmedEnd}
 use Rattle.unicode.proofs.Tests.{by-test, and-left, and-right}
-use Rattle.unicode.proofs.Bytewise.{total, width-bytes, width-append}
-use Rattle.unicode.proofs.Decode.{Ascii, ascii-append}
+use Rattle.unicode.proofs.Table.{Shape, one, two, three, four, shape}
+use Rattle.unicode.proofs.Bytewise.{total, width-bytes, width-nil, width-cons, width-append}
+use Rattle.unicode.proofs.Decode.{Ascii, ascii-append, encode-cons}
 use Rattle.rules.proofs.SplitSizes.{blank-ascii}
 use Rattle.rules.specs.Basics.{isBlank}
-use Rattle.rules.specs.Options.{Options, allBlank, indentOf, measure}
-use Rattle.split.specs.Measure.{Measurable, Measured, Indent, IndentMeasured, Within, Trimmed}
+use Rattle.rules.specs.Options.{Options, allBlank, indentOf, measure, overWide}
+use Rattle.split.specs.Measure.{Measurable, Measured, Indent, IndentMeasured, Wide, Within, Trimmed}
 
 -- ---- columns
 
@@ -49,6 +50,33 @@ pub measure-append : (o : Options) (from : ℕ) (a b : List ℕ) → measure o f
 unfolding measure
 measure-append o from a b = omega (arith, width-append a b)
 
+-- a character takes no more UTF-16 units than bytes: the quick test of `over_wide` rests on this
+units-low : (c : ℕ) → c < 0x10000 → units c ≡ 1
+unfolding units
+units-low c h = rw (lt-ltb c 0x10000 h)
+
+units-high : (c : ℕ) → 0x10000 ≤ c → units c ≡ 2
+unfolding units
+units-high c h = rw (le-ltb c 0x10000 h)
+
+units-size : (c : ℕ) → units c ≤ length (encodeChar c)
+units-size c = go (shape c)
+  where
+    go : Shape c → units c ≤ length (encodeChar c)
+    go (one h e) = omega (arith, units-low c (omega arith), ap length e)
+    go (two h k e) = omega (arith, units-low c (omega arith), ap length e)
+    go (three h k e) = omega (arith, units-low c k, ap length e)
+    go (four h e) = omega (arith, units-high c h, ap length e)
+
+width-size : (cs : List ℕ) → width cs ≤ size cs
+width-size [] = omega (arith, width-nil)
+width-size (c ∷ cs) =
+    omega (arith, width-cons c cs, ap length (encode-cons c cs), length-append (encodeChar c) (encode cs), units-size c, width-size cs)
+
+pub measure-bytes : (o : Options) (from : ℕ) (l : List ℕ) → measure o from l ≤ from + size l
+unfolding measure
+measure-bytes o from l = omega (arith, width-size l)
+
 -- ---- an indent
 
 -- a character below 80 hex takes one unit
@@ -75,6 +103,23 @@ indent-measured indent level p =
 
 pub indent-room : (indent : List ℕ) (level : ℕ) → Indent indent level → level * length indent < 2 ^ 64
 indent-room indent level p = omega (arith, indent-small indent level p)
+
+-- ---- an indented line
+
+module _ (indent : List ℕ) (level : ℕ) (line : List ℕ) (max pad : ℕ) (p : IndentMeasured indent level pad) where
+  whole : (o : Options) → o .indent ≡ indent → measure o 0 (indentOf o level ++ decode line) ≡ measure o pad (decode line)
+  whole o e = measure-append o 0 (indentOf o level) (decode line) ∙ rw (← (p .is o e))
+
+  pub wide-not : WellFormed line → pad + length line ≤ max → Wide indent level line max false
+  unfolding overWide
+  wide-not w h =
+      record {
+        is = λ o e. sym (ap (ltb max) (whole o e) ∙ le-ltb max _ (omega (arith, measure-bytes o pad (decode line), ap length w)));
+      }
+
+  pub wide-measured : (end : ℕ) → Measured pad line end → Wide indent level line max (ltb max end)
+  unfolding overWide
+  wide-measured end m = record { is = λ o e. ap (ltb max) (m .is o ∙ sym (whole o e)) }
 
 -- ---- parts
 

@@ -1,13 +1,13 @@
 -- Columns and parts of a line.
 use Prim.Native.Nat.{ℕ, _+_, _-_, _*_, _^_, _≤_, _<_}
-use mathlib.Core.Bool.{true}
-use mathlib.Core.List.{List}
+use mathlib.Core.Bool.{Bool, true}
+use mathlib.Core.List.{List, _++_}
 use mathlib.Core.Path.{_≡_}
 use lib.ListN.{length}
 use Rattle.buffer.specs.Buffer.{part}
 use Rattle.unicode.specs.Unicode.{decode, WellFormed, trim}
 use Rattle.unicode.specs.Places.{TrimmedStart}
-use Rattle.rules.specs.Options.{Options, allBlank, indentOf, measure}
+use Rattle.rules.specs.Options.{Options, allBlank, indentOf, measure, overWide}
 use Rattle.split.specs.declared.Part.{Part}
 
 pub record Measurable (from : ℕ) (l : List ℕ) : Type 0 where
@@ -29,6 +29,10 @@ pub record Indent (indent : List ℕ) (level : ℕ) : Type 0 where
 pub record IndentMeasured (indent : List ℕ) (level r : ℕ) : Type 0 where
   pub is : (o : Options) → o .indent ≡ indent → r ≡ measure o 0 (indentOf o level)
   pub small : r ≤ 67108928
+
+-- whether an indented line is wider than max
+pub record Wide (indent : List ℕ) (level : ℕ) (line : List ℕ) (max : ℕ) (r : Bool) : Type 0 where
+  pub is : (o : Options) → o .indent ≡ indent → r ≡ overWide o max (indentOf o level ++ decode line)
 
 -- a part of s that is well-formed
 pub record Within (s : List ℕ) (a e : ℕ) : Type 0 where

@@ -1,8 +1,20 @@
 // What the splits by import and by operators share: columns, parts without the white space around them, a line written after others.
 ghost use mathlib.Core.Path.{_≡_};
-ghost use Rattle.split.specs.Measure.{Measurable, Measured, Indent, IndentMeasured, Within, Trimmed};
+ghost use Prim.Native.Nat.{_<_, _^_};
+ghost use lib.ListN.{length};
+ghost use Rattle.unicode.specs.Unicode.{WellFormed};
+ghost use Rattle.rules.specs.Lines.{asStr};
+ghost use Rattle.split.specs.Measure.{Measurable, Measured, Indent, IndentMeasured, Wide, Within, Trimmed};
 ghost use Rattle.split.specs.Text.{lay, LineRoom, LineWritten};
+use rules::LineEnding;
 use unicode::Utf16Column;
+
+// How a line is laid out: at which level, in which width, and the line ending where it is broken.
+pub struct Layout {
+    pub level: usize,
+    pub max: Utf16Column,
+    pub ending: LineEnding,
+}
 
 // The column that a part reaches which starts at column from. Whatever measures a line uses this.
 pub fn measure_from(from: Utf16Column, part: &[u8]) -> Utf16Column
@@ -19,6 +31,22 @@ pub fn indent_column(indent: &[u8], levels: usize) -> Utf16Column
     ensures { λ r. ⌜ IndentMeasured (now (indent .entry)) levels (r .0) ⌝ }
 {
     Utf16Column(levels * indent.len())
+}
+
+// Whether the line, with its indent, is wider than the width. A character takes no more UTF-16 units than bytes, so that most lines are not
+// measured.
+pub fn over_wide(s: Layout, indent: &[u8], line: &[u8]) -> bool
+    requires { ⌜ Indent (now indent) (s .level) ⌝ }
+    requires { ⌜ WellFormed (now line) × (length (now line) < 2 ^ 31) ⌝ }
+    ensures { λ r. ⌜ Wide (now (indent .entry)) (s .level) (now (line .entry)) (s .max .0) r ⌝ }
+{
+    let pad = indent_column(indent, s.level);
+    let n = line.len();
+    if pad.0 + n <= s.max.0 {
+        return false;
+    }
+    let end = measure_from(pad, line);
+    s.max.0 < end.0
 }
 
 // A part of a slice: where it starts and ends.
@@ -47,19 +75,13 @@ pub struct NewLine {
     pub next: usize,
 }
 
-// Writes a line after others, at a level: the line ending before it comes first.
-pub fn write_line(
-    out: &mut [u8],
-    at: usize,
-    eol: &[u8],
-    indent: &[u8],
-    level: usize,
-    line: &[u8],
-) -> NewLine
-    requires { ⌜ LineRoom (now eol) (now indent) level (now line) at ⌝ }
-    ensures { λ r. ⌜ LineWritten (now (eol .entry)) (lay (now (indent .entry)) level (now (line .entry))) (now (out .entry)) (now (out .exit)) at r ⌝ }
+// Writes a line after others: the line ending before it comes first.
+pub fn write_line(out: &mut [u8], at: usize, s: Layout, indent: &[u8], line: &[u8]) -> NewLine
+    requires { ⌜ LineRoom (asStr (s .ending)) (now indent) (s .level) (now line) at ⌝ }
+    ensures { λ r. ⌜ LineWritten (asStr (s .ending)) (lay (now (indent .entry)) (s .level) (now (line .entry))) (now (out .entry)) (now (out .exit)) at r ⌝ }
 {
-    let start = buffer::append(out, at, eol);
-    let next = buffer::append_indented(out, start, indent, level, line);
+    let ending = s.ending;
+    let start = text::append_ending(out, at, ending);
+    let next = buffer::append_indented(out, start, indent, s.level, line);
     NewLine { start, next }
 }

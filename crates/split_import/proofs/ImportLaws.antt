@@ -156,12 +156,12 @@ module _ {line : List ℕ} {start end : ℕ} {indent : List ℕ} {level : ℕ} {
   -- ---- what is written
 
   module _ {c : Names} (q : NamesCounted (part line (start + 1) end) c) where
-    pub parts-none : (out : List ℕ) (r : ImportSplit) (max : ℕ) → c .names < 2 → r .split ≡ false → (o : Options) → o .indent ≡ indent → Given (partsOf o max level line start end) eol out out at r
+    pub parts-none : (out : List ℕ) (max : ℕ) → c .names < 2 → (o : Options) → o .indent ≡ indent → Given (partsOf o max level line start end) eol out out at ImportSplit.Whole
     unfolding importParts
-    parts-none out r max h f o e =
-        subst (λ (x : Option Laid). Given x eol out out at r)
+    parts-none out max h o e =
+        subst (λ (x : Option Laid). Given x eol out out at ImportSplit.Whole)
         (sym (choose-false _ _ _ (lt-leb 2 (length (namesOf (parts (part line (start + 1) end)))) (omega (arith, q .names)))))
-        (record { split = f; same = refl })
+        (record { is = refl; same = refl })
 
     module _ {max : ℕ} {out out₁ out₂ out₃ : List ℕ} {n m : ℕ} {w : NewLine} (two : 2 ≤ c .names) (a₁ : HeadWritten (take start line) indent level out out₁ at n)
         (a₂ : NamesWritten (part line (start + 1) end) indent (level + 1) eol max out₁ out₂ n m)
@@ -203,13 +203,14 @@ module _ {line : List ℕ} {start end : ℕ} {indent : List ℕ} {level : ℕ} {
             map-append encode (reverse (fillNames o max (indentOf o (suc level)) names)) ((indentOf o level ++ decode (drop end line)) ∷ [])
             ∙ rw (same-fill o indent max level names e, lay-encode o indent level (decode (drop end line)) e (level-fits (b .fits)), b .tail)
 
-      pub parts-some : (o : Options) → o .indent ≡ indent → Given (partsOf o max level line start end) eol out out₃ at (record { split = true; next = w .next; last = w .start; blanks = c .blanks })
+      pub parts-some : (o : Options) → o .indent ≡ indent → Given (partsOf o max level line start end) eol out out₃ at (ImportSplit.Split (record { next = w .next; last = w .start; blanks = c .blanks }))
       unfolding importParts importLines
       parts-some o e =
-          subst (λ (x : Option Laid). Given x eol out out₃ at (record { split = true; next = w .next; last = w .start; blanks = c .blanks }))
+          subst (λ (x : Option Laid). Given x eol out out₃ at (ImportSplit.Split (record { next = w .next; last = w .start; blanks = c .blanks })))
           (sym (choose-true _ _ _ (le-leb 2 (length names) (omega (arith, q .names)))))
           (record {
-            split = refl;
+            made = record { next = w .next; last = w .start; blanks = c .blanks };
+            is = refl;
             written = written-lines eol (indentOf o level ++ (trimEnd (decode (take start line)) ++ codes " {"))
                 (reverse (fillNames o max (indentOf o (suc level)) names) ++ ((indentOf o level ++ decode (drop end line)) ∷ []))
                 top (map encode (reverse filled) ++ (bottom ∷ [])) (b .fits .ascii) (top-line o e) (other-lines o e) text ends;
@@ -322,23 +323,23 @@ module _ {line class indent : List ℕ} {level : ℕ} {eol : List ℕ} {at : ℕ
   starts-chars : startsImport (charsOf chars) ≡ startsImport line
   starts-chars = ap startsImport (chars-classify Carry.Code (decode line)) ∙ sym (import-encode (decode line)) ∙ ap startsImport (f .fits .well)
 
-  not-given : (out : List ℕ) (s : ImportSplit) (x : Option Laid) → x ≡ none → s .split ≡ false → Given x eol out out at s
-  not-given out s x e g = subst (λ (y : Option Laid). Given y eol out out at s) (sym e) (record { split = g; same = refl })
+  not-given : (out : List ℕ) (x : Option Laid) → x ≡ none → Given x eol out out at ImportSplit.Whole
+  not-given out x e = subst (λ (y : Option Laid). Given y eol out out at ImportSplit.Whole) (sym e) (record { is = refl; same = refl })
 
   module _ (r : Bool) (q : r ≡ startsImport line) where
-    pub no-import : (out : List ℕ) (s : ImportSplit) (max : ℕ) → r ≡ false → s .split ≡ false → (o : Options) → o .indent ≡ indent → Given (splitImport o max level chars) eol out out at s
+    pub no-import : (out : List ℕ) (max : ℕ) → r ≡ false → (o : Options) → o .indent ≡ indent → Given (splitImport o max level chars) eol out out at ImportSplit.Whole
     unfolding splitImport
-    no-import out s max e g o i = not-given out s _ (choose-false _ _ _ (starts-chars ∙ sym q ∙ e)) g
+    no-import out max e o i = not-given out _ (choose-false _ _ _ (starts-chars ∙ sym q ∙ e))
 
     module _ (e : r ≡ true) (start : ℕ) (u : FirstAt (codeByte 123) line class start) where
       opened : (o : Options) (max : ℕ) → splitImport o max level chars ≡ openedImport o max level (charsOf (beforeCode "{" chars)) (fromCode "{" chars)
       unfolding splitImport
       opened o max = choose-true _ _ _ (starts-chars ∙ sym q ∙ e)
 
-      pub no-brace : (out : List ℕ) (s : ImportSplit) (max : ℕ) → length line ≤ start → s .split ≡ false → (o : Options) → o .indent ≡ indent → Given (splitImport o max level chars) eol out out at s
+      pub no-brace : (out : List ℕ) (max : ℕ) → length line ≤ start → (o : Options) → o .indent ≡ indent → Given (splitImport o max level chars) eol out out at ImportSplit.Whole
       unfolding openedImport
-      no-brace out s max h g o i =
-          not-given out s _ (opened o max ∙ ap (openedImport o max level (charsOf (beforeCode "{" chars))) (brace-none "{" refl chars line class cells-are class-room start u h)) g
+      no-brace out max h o i =
+          not-given out _ (opened o max ∙ ap (openedImport o max level (charsOf (beforeCode "{" chars))) (brace-none "{" refl chars line class cells-are class-room start u h))
 
       module _ (h : start < length line) (n : ℕ) (v : FirstAt (codeByte 125) (take (length line - (start + 1)) (drop (start + 1) line)) (take (length class - (start + 1)) (drop (start + 1) class)) n) where
         next : Next "{" chars line class start
@@ -360,11 +361,11 @@ module _ {line class indent : List ℕ} {level : ℕ} {eol : List ℕ} {at : ℕ
         unfolding openedImport
         closed o max = opened o max ∙ ap (openedImport o max level (charsOf (beforeCode "{" chars))) (next .is)
 
-        pub no-close : (out : List ℕ) (s : ImportSplit) (max : ℕ) → length line ≤ start + 1 + n → s .split ≡ false → (o : Options) → o .indent ≡ indent → Given (splitImport o max level chars) eol out out at s
+        pub no-close : (out : List ℕ) (max : ℕ) → length line ≤ start + 1 + n → (o : Options) → o .indent ≡ indent → Given (splitImport o max level chars) eol out out at ImportSplit.Whole
         unfolding closedImport
-        no-close out s max k g o i =
-            not-given out s _ (closed o max ∙ ap (closedImport o max level (charsOf (beforeCode "{" chars)) (charsOf (beforeCode "}" inner)))
-            (brace-none "}" refl inner (drop a line) (drop a class) (next .cells) room n v′ (omega (arith, length-drop a line)))) g
+        no-close out max k o i =
+            not-given out _ (closed o max ∙ ap (closedImport o max level (charsOf (beforeCode "{" chars)) (charsOf (beforeCode "}" inner)))
+            (brace-none "}" refl inner (drop a line) (drop a class) (next .cells) room n v′ (omega (arith, length-drop a line))))
 
         scalars-all : Scalars (charsOf chars)
         scalars-all = subst Scalars (sym (chars-classify Carry.Code (decode line))) (decode-scalars line)

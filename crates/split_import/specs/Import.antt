@@ -1,6 +1,5 @@
 -- What split_import gives.
 use Prim.Native.Nat.{ℕ, _+_, _^_, _≤_, _<_}
-use mathlib.Core.Bool.{true, false}
 use mathlib.Core.List.{List, [], _∷_, _++_}
 use mathlib.Core.Option.{Option, none, some}
 use mathlib.Core.Path.{_≡_}
@@ -15,16 +14,18 @@ use Rattle.rules.specs.SplitImport.{Laid, importParts}
 use Rattle.split.specs.Measure.{Indent}
 use Rattle.split.specs.Text.{lay, Written, Fits}
 use Rattle.split_import.specs.Names.{parts}
+use Rattle.split_import.specs.declared.ImportLines.{ImportLines}
 use Rattle.split_import.specs.declared.ImportSplit.{ImportSplit}
 
 pub record NotSplit (out out′ : List ℕ) (r : ImportSplit) : Type 0 where
-  pub split : r .split ≡ false
+  pub is : r ≡ ImportSplit.Whole
   pub same : out′ ≡ out
 
 pub record Split (laid : Laid) (eol out out′ : List ℕ) (at : ℕ) (r : ImportSplit) : Type 0 where
-  pub split : r .split ≡ true
-  pub written : Written eol (laid .lines) out out′ at (r .last) (r .next)
-  pub blanks : r .blanks ≡ laid .blankNames
+  pub made : ImportLines
+  pub is : r ≡ ImportSplit.Split made
+  pub written : Written eol (laid .lines) out out′ at (made .last) (made .next)
+  pub blanks : made .blanks ≡ laid .blankNames
 
 -- where the line isn't split, nothing is written
 abbrev pub Given : Option Laid → List ℕ → List ℕ → List ℕ → ℕ → ImportSplit → Type 0

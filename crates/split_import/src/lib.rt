@@ -1,6 +1,6 @@
 // split_import: the names of an over-wide import, refilled over lines.
 ghost use mathlib.Core.Path.{_≡_};
-ghost use mathlib.Core.Bool.{false, _&&_};
+ghost use mathlib.Core.Bool.{_&&_};
 ghost use mathlib.Core.List.{[], _∷_, _++_};
 ghost use Prim.Native.Nat.{_+_, _≤_, _<_, _^_};
 ghost use lib.Dec.{eqb};
@@ -8,6 +8,7 @@ ghost use lib.ListN.{length};
 ghost use Rattle.buffer.specs.Buffer.{Appended};
 ghost use Rattle.unicode.specs.Unicode.{decode};
 ghost use Rattle.rules.specs.Options.{Options};
+ghost use Rattle.rules.specs.Lines.{asStr};
 ghost use Rattle.rules.specs.Scan.{isCode, classify};
 ghost use Rattle.rules.specs.ClassBytes.{classOf, FirstAt};
 ghost use Rattle.rules.specs.SplitImport.{splitImport, startsImport};
@@ -17,18 +18,25 @@ ghost use Rattle.split_import.specs.Names.{codeByte, NameLen, CountableN
 ghost use Rattle.split_import.specs.Import.{HeadFits, HeadWritten, Braces, partsOf, Given, ImportFits};
 use basics::is_ident;
 use basics::starts_with;
+use split::Layout;
+use split::Part;
 use split::indent_column;
 use split::measure_from;
 use split::trim_part;
 use split::write_line;
 use unicode::Utf16Column;
 
-// Whether the import is split; then the next place, the place where the last line starts, and how many blank names are dropped.
-pub struct ImportSplit {
-    pub split: bool,
+// The lines that an import is split into, written: the next place, where the last line starts, and how many blank names are dropped.
+pub struct ImportLines {
     pub next: usize,
     pub last: usize,
     pub blanks: usize,
+}
+
+// What splitting an import comes to; where it stays whole, nothing is written.
+pub enum ImportSplit {
+    Whole,
+    Split(ImportLines),
 }
 
 // `import`, and no ASCII letter, digit or underscore is next.
@@ -123,19 +131,13 @@ fn put_name(out: &mut [u8], at: usize, name: &[u8]) -> usize
 }
 
 // A name, and its comma, on a line of its own.
-fn put_line(
-    out: &mut [u8],
-    at: usize,
-    eol: &[u8],
-    indent: &[u8],
-    level: usize,
-    name: &[u8],
-) -> usize
-    requires { ⌜ NamePlace (now eol) (now indent) level (now name) at ⌝ }
-    ensures { λ r. ⌜ Appended (now (out .entry)) (now (out .exit)) at (now (eol .entry) ++ lay (now (indent .entry)) level (now (name .entry) ++ 44 ∷ [])) r ⌝ }
+fn put_line(out: &mut [u8], at: usize, s: Layout, indent: &[u8], name: &[u8]) -> usize
+    requires { ⌜ NamePlace (asStr (s .ending)) (now indent) (s .level) (now name) at ⌝ }
+    ensures { λ r. ⌜ Appended (now (out .entry)) (now (out .exit)) at (asStr (s .ending) ++ lay (now (indent .entry)) (s .level) (now (name .entry) ++ 44 ∷ [])) r ⌝ }
 {
-    let n = buffer::append(out, at, eol);
-    let m = buffer::append_indented(out, n, indent, level, name);
+    let ending = s.ending;
+    let n = text::append_ending(out, at, ending);
+    let m = buffer::append_indented(out, n, indent, s.level, name);
     buffer::append(out, m, b",")
 }
 
@@ -154,37 +156,22 @@ pub struct Filled {
     pub some: bool,
 }
 
-fn new_line(
-    out: &mut [u8],
-    f: Filled,
-    indent: &[u8],
-    level: usize,
-    eol: &[u8],
-    name: &[u8],
-) -> Filled
-    requires { ⌜ NameFits (now indent) level (now eol) (now name) f ⌝ }
-    ensures { λ r. ⌜ OnNewLine (now (indent .entry)) level (now (eol .entry)) (now (name .entry)) (now (out .entry)) (now (out .exit)) f r ⌝ }
+fn new_line(out: &mut [u8], f: Filled, s: Layout, indent: &[u8], name: &[u8]) -> Filled
+    requires { ⌜ NameFits (now indent) (s .level) (asStr (s .ending)) (now name) f ⌝ }
+    ensures { λ r. ⌜ OnNewLine (now (indent .entry)) (s .level) (asStr (s .ending)) (now (name .entry)) (now (out .entry)) (now (out .exit)) f r ⌝ }
 {
-    let column = name_column(indent_column(indent, level), name);
+    let column = name_column(indent_column(indent, s.level), name);
     Filled {
-        at: put_line(out, f.at, eol, indent, level, name),
+        at: put_line(out, f.at, s, indent, name),
         column,
         some: true,
     }
 }
 
 // One more name: on the newest line if the width holds it, else on a line of its own. A blank one is dropped.
-fn add_name(
-    out: &mut [u8],
-    f: Filled,
-    indent: &[u8],
-    level: usize,
-    eol: &[u8],
-    max: usize,
-    name: &[u8],
-) -> Filled
-    requires { ⌜ NameFits (now indent) level (now eol) (now name) f ⌝ }
-    ensures { λ r. ⌜ Added (now (indent .entry)) level (now (eol .entry)) max (now (name .entry)) (now (out .entry)) (now (out .exit)) f r ⌝ }
+fn add_name(out: &mut [u8], f: Filled, s: Layout, indent: &[u8], name: &[u8]) -> Filled
+    requires { ⌜ NameFits (now indent) (s .level) (asStr (s .ending)) (now name) f ⌝ }
+    ensures { λ r. ⌜ Added (now (indent .entry)) (s .level) (asStr (s .ending)) (s .max .0) (now (name .entry)) (now (out .entry)) (now (out .exit)) f r ⌝ }
 {
     if name.len() == 0 {
         return f;
@@ -192,30 +179,22 @@ fn add_name(
     if f.some {
         let c = f.column;
         let column = name_column(measure_from(c, b" "), name);
-        if column.0 <= max {
+        if column.0 <= s.max.0 {
             return Filled {
                 at: put_name(out, f.at, name),
                 column,
                 some: true,
             };
         }
-        return new_line(out, f, indent, level, eol, name);
+        return new_line(out, f, s, indent, name);
     }
-    new_line(out, f, indent, level, eol, name)
+    new_line(out, f, s, indent, name)
 }
 
 // The lines of the names between commas, each after a line ending.
-fn write_names(
-    s: &[u8],
-    indent: &[u8],
-    level: usize,
-    eol: &[u8],
-    max: usize,
-    out: &mut [u8],
-    at: usize,
-) -> usize
-    requires { ⌜ NamesFit (now s) (now indent) level (now eol) at ⌝ }
-    ensures { λ r. ⌜ NamesWritten (now (s .entry)) (now (indent .entry)) level (now (eol .entry)) max (now (out .entry)) (now (out .exit)) at r ⌝ }
+fn write_names(names: &[u8], s: Layout, indent: &[u8], out: &mut [u8], at: usize) -> usize
+    requires { ⌜ NamesFit (now names) (now indent) (s .level) (asStr (s .ending)) at ⌝ }
+    ensures { λ r. ⌜ NamesWritten (now (names .entry)) (now (indent .entry)) (s .level) (asStr (s .ending)) (s .max .0) (now (out .entry)) (now (out .exit)) at r ⌝ }
 {
     let mut f = Filled {
         at,
@@ -223,26 +202,15 @@ fn write_names(
         some: false,
     };
     let mut a = 0;
-    while a <= s.len() {
-        let e = a + name_len(&s[a..]);
-        let p = trim_part(s, a, e);
+    while a <= names.len() {
+        let e = a + name_len(&names[a..]);
+        let p = trim_part(names, a, e);
         let b = p.start;
         let d = p.end;
-        f = add_name(out, f, indent, level, eol, max, &s[b..d]);
+        f = add_name(out, f, s, indent, &names[b..d]);
         a = e + 1;
     }
     f.at
-}
-
-fn not_split() -> ImportSplit
-    ensures { λ r. ⌜ r .split ≡ false ⌝ }
-{
-    ImportSplit {
-        split: false,
-        next: 0,
-        last: 0,
-        blanks: 0,
-    }
 }
 
 // The first line: the text before the brace, trimmed at its end, a space and the brace.
@@ -255,66 +223,68 @@ fn write_head(out: &mut [u8], at: usize, indent: &[u8], level: usize, head: &[u8
     buffer::append(out, m, b" {")
 }
 
-// The lines of an import whose braces stand at start and end; under two names, it isn't split.
+// The lines of an import whose braces stand where the part starts and ends; under two names, it isn't split.
 fn write_import(
     line: &[u8],
-    start: usize,
-    end: usize,
+    braces: Part,
+    s: Layout,
     indent: &[u8],
-    level: usize,
-    eol: &[u8],
-    max: usize,
     out: &mut [u8],
     at: usize,
 ) -> ImportSplit
-    requires { ⌜ Braces (now line) start end (now indent) level (now eol) at ⌝ }
+    requires { ⌜ Braces (now line) (braces .start) (braces .end) (now indent) (s .level) (asStr (s .ending)) at ⌝ }
     ensures { λ r. ⌜ ((o : Options) → o .indent ≡ now (indent .entry)
-        → Given (partsOf o max level (now (line .entry)) start end) (now (eol .entry)) (now (out .entry)) (now (out .exit)) at r) ⌝ }
+        → Given (partsOf o (s .max .0) (s .level) (now (line .entry)) (braces .start) (braces .end)) (asStr (s .ending)) (now (out .entry)) (now (out .exit)) at r) ⌝ }
 {
+    let start = braces.start;
+    let end = braces.end;
     let a = start + 1;
-    let s = &line[a..end];
-    let c = count_names(s);
+    let names = &line[a..end];
+    let c = count_names(names);
     if c.names < 2 {
-        return not_split();
+        return ImportSplit::Whole;
     }
-    let n = write_head(out, at, indent, level, &line[..start]);
-    let m = write_names(s, indent, level + 1, eol, max, out, n);
-    let w = write_line(out, m, eol, indent, level, &line[end..]);
-    ImportSplit {
-        split: true,
+    let n = write_head(out, at, indent, s.level, &line[..start]);
+    let ending = s.ending;
+    let under = Layout {
+        level: s.level + 1,
+        max: Utf16Column(s.max.0),
+        ending,
+    };
+    let m = write_names(names, under, indent, out, n);
+    let w = write_line(out, m, s, indent, &line[end..]);
+    ImportSplit::Split(ImportLines {
         next: w.next,
         last: w.start,
         blanks: c.blanks,
-    }
+    })
 }
 
 // An over-wide line, if it is an import with braces and at least two names: its names refilled over lines, written from the place at on.
 pub fn split_import(
     line: &[u8],
     class: &[u8],
+    s: Layout,
     indent: &[u8],
-    level: usize,
-    eol: &[u8],
-    max: usize,
     out: &mut [u8],
     at: usize,
 ) -> ImportSplit
-    requires { ⌜ ImportFits (now line) (now class) (now indent) level (now eol) at ⌝ }
+    requires { ⌜ ImportFits (now line) (now class) (now indent) (s .level) (asStr (s .ending)) at ⌝ }
     ensures { λ r. ⌜ ((o : Options) → o .indent ≡ now (indent .entry)
-        → Given (splitImport o max level (classify Carry.Code (decode (now (line .entry))))) (now (eol .entry)) (now (out .entry)) (now (out .exit)) at r) ⌝ }
+        → Given (splitImport o (s .max .0) (s .level) (classify Carry.Code (decode (now (line .entry))))) (asStr (s .ending)) (now (out .entry)) (now (out .exit)) at r) ⌝ }
 {
     if starts_import(line) {
         let start = find_code(line, class, b'{');
         if line.len() <= start {
-            return not_split();
+            return ImportSplit::Whole;
         }
         let a = start + 1;
         let n = find_code(&line[a..], &class[a..], b'}');
         let end = a + n;
         if line.len() <= end {
-            return not_split();
+            return ImportSplit::Whole;
         }
-        return write_import(line, start, end, indent, level, eol, max, out, at);
+        return write_import(line, Part { start, end }, s, indent, out, at);
     }
-    not_split()
+    ImportSplit::Whole
 }

@@ -1,7 +1,8 @@
 -- Laws of split_operation: its pieces found and written in bytes, round by round.
 use Prim.Native.Nat.{ℕ, zero, suc, _+_, _-_, _*_, _^_, _≤_, _<_, zero-le}
-use mathlib.Core.Bool.{Bool, true, false, not, _||_, or-true, or-false}
+use mathlib.Core.Bool.{Bool, true, false, not}
 use mathlib.Core.List.{List, [], _∷_, _++_, map, map-append, append-nil, append-assoc}
+use mathlib.Core.Logic.{_⊎_, inl, inr}
 use mathlib.Core.Option.{Option, none, some}
 use mathlib.Core.Path.{_≡_, refl, sym, ap, _∙_, subst}
 use native.Mathlib.Numerals.{add-one}
@@ -9,23 +10,24 @@ use native.Mathlib.Omega.{arith}
 use lib.Dec.{eqb, ltb}
 use lib.ListN.{length, getD, drop, length-append}
 use lib.Seq.{drop-cons}
-use borrow.Author.Tests.{eq-eqb, ne-eqb, lt-ltb, le-ltb}
+use borrow.Author.Tests.{eq-eqb, ne-eqb, eqb-false, lt-ltb, le-ltb}
 use Rattle.buffer.specs.Buffer.{part, Appended}
 use Rattle.buffer.specs.Repeat.{times}
 use Rattle.buffer.proofs.WriteLaws.{appended-nil, appended-append}
 use Rattle.unicode.specs.Unicode.{encode, decode, Scalars, WellFormed, trim}
+use Rattle.unicode.proofs.Tests.{split}
 use Rattle.unicode.proofs.Decode.{decode-encode, decode-scalars, wf-encode}
 use Rattle.rules.specs.declared.Carry.{Carry}
 use Rattle.rules.specs.Basics.{choose, isEmpty, Pieces}
 use Rattle.rules.specs.Scan.{Cell, charsOf, classify, allCodeOrStr}
 use Rattle.rules.specs.ClassBytes.{cellsOf}
 use Rattle.rules.specs.Options.{Options, indentOf, measure, overWide}
-use Rattle.rules.specs.Operators.{strengths, maxStrength}
-use Rattle.rules.specs.SplitOperation.{Ops, OpMark, opStep, noOps, marksFrom, topLevelOps, hasWord, isBalanced, keywords, loosest, atMark, cutBefore, trimmed, breakAt, splitOnce, nextBreak, breakOn, breakFirst, layPieces, splitOperation}
+use Rattle.rules.specs.Operators.{maxStrength, AtMost}
+use Rattle.rules.specs.SplitOperation.{Ops, OpMark, opStep, noOps, marksFrom, topLevelOps, hasWord, isBalanced, keywords, looser, loosest, atMark, cutBefore, trimmed, breakAt, splitOnce, nextBreak, breakOn, breakFirst, layPieces, splitOperation}
 use Rattle.rules.proofs.Choose.{choose-true, choose-false, choose-case}
 use Rattle.rules.proofs.ScanBytes.{encodeCells, classify-encode, chars-classify, all-encode}
 use Rattle.rules.proofs.CellsLaws.{cells-bytes, chars-cells}
-use Rattle.rules.proofs.StrengthRounds.{known-lines, strengths-known}
+use Rattle.rules.proofs.StrengthRounds.{known-lines}
 use Rattle.rules.proofs.WordsBytes.{encodePieces, balanced-encode, keywords-encode}
 use Rattle.rules.proofs.Prefix.{markedChars, marks-chars}
 use Rattle.rules.specs.OperatorBytes.{byteMarks}
@@ -37,11 +39,11 @@ use Rattle.split_operation.specs.declared.pass.Break.{Break}
 use Rattle.split.specs.declared.Part.{Part}
 use Rattle.split.specs.declared.NewLine.{NewLine}
 use Rattle.split_operation.specs.declared.OperationSplit.{OperationSplit}
-use Rattle.split.specs.Measure.{Measured, Indent, IndentMeasured, Within, Trimmed}
+use Rattle.split.specs.Measure.{Indent, Wide, Within, Trimmed}
 use Rattle.split.specs.Text.{indented, lay, AllWell, following, lastOf, LineRoom, LineWritten, Fits, lineRoom}
 use Rattle.split_operation.specs.Pass.{lineStart, Sound, Breakable, Cutting, breakStrength, restFrom, cutsAt, NextOp, Unbroken, BreakFound}
-use Rattle.split_operation.specs.Operation.{Broken, trimBytes, restLines, RestFits, After, RestWritten, Classed, OperationFits, LineFits, roundStrength, RoundBreak, firstLine, otherLines, PiecesWritten, brokenIn, FirstBroken}
-use Rattle.split.proofs.MeasureLaws.{measure-append, part-length}
+use Rattle.split_operation.specs.Operation.{lineOf, isBroken, Broken, trimBytes, restLines, RestFits, After, RestWritten, Classed, OperationFits, LineFits, roundStrength, RoundBreak, firstLine, otherLines, PiecesWritten, brokenIn, FirstBroken}
+use Rattle.split.proofs.MeasureLaws.{part-length}
 use Rattle.split.proofs.TextLaws.{AllScalars, all-well, following-append, last-append, written-lines, lay-encode, indent-short, level-fits, deeper-fits}
 use Rattle.split_operation.proofs.ClassLaws.{class-length, piece-classed}
 
@@ -73,9 +75,49 @@ module _ (table line class : List ℕ) (w : WellFormed line) (k : Classed line c
       go false true = refl
       go false false = refl
 
+  -- a strength other than 0 is that of the loosest operator
+  pub strength-loosest : (p : ℕ) → (p ≡ 0 → ⊥) → p ≡ breakStrength table (cellsOf line class) → loosest marks ≡ p
+  unfolding choose
+  strength-loosest p z e = go (hasWord keywords cells) (not (isBalanced cells)) (e ∙ strength-line)
+    where
+      go : (x y : Bool) → p ≡ choose x 0 (choose y 0 (loosest marks)) → loosest marks ≡ p
+      go true y q = absurd (z q)
+      go false true q = absurd (z q)
+      go false false q = sym q
+
   -- the pieces of a strength
   pub cuts-line : (p : ℕ) → 0 < p → cutBefore p (byteMarks table noOps (cellsOf line class)) ≡ encodePieces (cutBefore p marks)
   cuts-line p h = ap (cutBefore p) marks-line ∙ cut-encode p h marks
+
+-- ---- there are pieces after the first
+
+looser-other : (a b p : ℕ) → (a ≡ p → ⊥) → looser a b ≡ p → b ≡ p
+unfolding looser
+looser-other zero b p n e = e
+looser-other (suc a) zero p n e = absurd (n e)
+looser-other (suc a) (suc b) p n e = go (split a b)
+  where
+    go : (a < b) ⊎ (b ≤ a) → suc b ≡ p
+    go (inl h) = absurd (n (omega arith))
+    go (inr h) = omega arith
+
+cut-some : (p : ℕ) → (p ≡ 0 → ⊥) → (ms : List OpMark) → loosest ms ≡ p → isEmpty (cutBefore p ms .rest) ≡ false
+unfolding loosest cutBefore atMark
+cut-some p z [] e = absurd (z (sym e))
+cut-some p z (m ∷ ms) e = go (eqb (m .strength) p) refl (cut-some p z ms)
+  where
+    go : (t : Bool) → eqb (m .strength) p ≡ t → (loosest ms ≡ p → isEmpty (cutBefore p ms .rest) ≡ false)
+        → isEmpty (atMark t (m .ch) (cutBefore p ms) .rest) ≡ false
+    go true q i = refl
+    go false q i = i (looser-other (m .strength) (loosest ms) p (eqb-false (m .strength) p q) e)
+
+some-map : (f : List ℕ → List ℕ) (ls : List (List ℕ)) → isEmpty ls ≡ false → isEmpty (map f ls) ≡ false
+some-map f [] e = e
+some-map f (l ∷ ls) e = refl
+
+some-append : (a b : List (List ℕ)) → isEmpty b ≡ false → not (isEmpty (a ++ b)) ≡ true
+some-append [] b e = rw e
+some-append (l ∷ a) b e = refl
 
 -- ---- every piece is well-formed
 
@@ -171,18 +213,15 @@ module _ (table indent : List ℕ) (level max rounds : ℕ) (line class : List �
   unfolding roundStrength
   round-none r u e = none-round r u (sym (choose-true _ _ _ (eq-eqb rounds 0 e)))
 
-  module _ (some : rounds ≡ 0 → ⊥) (c n : ℕ) (p : IndentMeasured indent level c) (q : Measured c line n) where
-    columns : measure opts 0 (indentOf opts level ++ decode line) ≡ n
-    columns = measure-append opts 0 (indentOf opts level) (decode line) ∙ rw (← (p .is opts refl), ← (q .is opts))
+  module _ (some : rounds ≡ 0 → ⊥) (t : Bool) (q : Wide indent level line max t) where
+    pub round-fits : (r : Break) → Unbroken r → t ≡ false → RoundBreak table indent level max rounds line class r
+    unfolding roundStrength
+    round-fits r u h = none-round r u (sym (choose-false _ _ _ (ne-eqb rounds 0 some) ∙ choose-false _ _ _ (sym (q .is opts refl) ∙ h)))
 
-    pub round-fits : (r : Break) → Unbroken r → n ≤ max → RoundBreak table indent level max rounds line class r
-    unfolding roundStrength overWide
-    round-fits r u h = none-round r u (sym (choose-false _ _ _ (ne-eqb rounds 0 some) ∙ choose-false _ _ _ (rw columns (le-ltb max n h))))
-
-    pub round-wide : (r : Break) → max < n → BreakFound table line class r → RoundBreak table indent level max rounds line class r
-    unfolding roundStrength overWide
+    pub round-wide : (r : Break) → t ≡ true → BreakFound table line class r → RoundBreak table indent level max rounds line class r
+    unfolding roundStrength
     round-wide r h e =
-        record { strength = e .strength ∙ sym (choose-false _ _ _ (ne-eqb rounds 0 some) ∙ choose-true _ _ _ (rw columns (lt-ltb max n h))); cut = e .cut }
+        record { strength = e .strength ∙ sym (choose-false _ _ _ (ne-eqb rounds 0 some) ∙ choose-true _ _ _ (sym (q .is opts refl) ∙ h)); cut = e .cut }
 
   break-none : anyStarts line ≡ false → length line ≤ length class → breakStrength table (cellsOf line class) ≡ 0
   unfolding breakStrength
@@ -238,6 +277,15 @@ module _ (table indent : List ℕ) (level max rounds : ℕ) (line class : List �
             let m : suc n - 1 ≡ n = omega arith in
             rw m (round-broken table opts max level n (decode line) (trimmed (piecesAt table line (suc p))) (breaks (λ (y : rounds ≡ 0). some-left rounds refl y) ∙ rw (← e)))
 
+  pub round-loosest : (b : Break) → RoundBreak table indent level max rounds line class b → (b .strength ≡ 0 → ⊥) → b .strength ≡ breakStrength table (cellsOf line class)
+  unfolding roundStrength choose
+  round-loosest b e z = go (eqb rounds 0) (overWide opts max (indentOf opts level ++ decode line)) (e .strength)
+    where
+      go : (x y : Bool) → b .strength ≡ choose x 0 (choose y (breakStrength table (cellsOf line class)) 0) → b .strength ≡ breakStrength table (cellsOf line class)
+      go true y q = absurd (z q)
+      go false true q = q
+      go false false q = absurd (z q)
+
   pub rounds-left : (b : Break) → RoundBreak table indent level max rounds line class b → (b .strength ≡ 0 → ⊥) → (rounds ≡ 0 → ⊥)
   unfolding roundStrength
   rounds-left b e z y = z (e .strength ∙ choose-true _ _ _ (eq-eqb rounds 0 y))
@@ -254,19 +302,14 @@ unfolding restFrom
 rest-none table p line class c h = choose-false _ _ _ (le-ltb (c .place) (length line) h)
 
 -- one more line
-after-more : {eol : List ℕ} {ls : List (List ℕ)} {l out₀ out out′ : List ℕ} {first r : OperationSplit} {n : NewLine} → After eol ls out₀ out first r → LineWritten eol l out out′ (r .next) n
-    → After eol (ls ++ (l ∷ [])) out₀ out′ first (record { next = n .next; last = n .start; more = true })
+after-more : {eol : List ℕ} {ls : List (List ℕ)} {l out₀ out out′ : List ℕ} {first r n : NewLine} → After eol ls out₀ out first r → LineWritten eol l out out′ (r .next) n
+    → After eol (ls ++ (l ∷ [])) out₀ out′ first n
 unfolding following lastOf
-after-more {eol} {ls} {l} {first = first} a g =
+after-more {eol} {ls} {l} a g =
     record {
       text = rw (following-append eol ls (l ∷ []), append-nil) (appended-append (a .text) (g .text));
       last = λ k e. rw (last-append k ls (l ∷ [])) (g .start);
-      more = sym (rw (no-end ls l) (or-true (first .more)));
     }
-  where
-    no-end : (ls : List (List ℕ)) (l : List ℕ) → isEmpty (ls ++ (l ∷ [])) ≡ false
-    no-end [] l = refl
-    no-end (m ∷ ms) l = refl
 
 part-cons : (l : List ℕ) (a e : ℕ) → a < e → e ≤ length l → getD l a 0 ∷ part l (a + 1) e ≡ part l a e
 part-cons l a e h k =
@@ -282,7 +325,7 @@ rest-cons table p line class c d h q = opened ∙ rw (q .first, q .rest, part-co
     opened = rest-open table p line class c h
 
 -- what `write_rest` keeps: the pieces that are written, and those from the cut c on
-pub record Writing (table : List ℕ) (strength : ℕ) (line class : List ℕ) (cut : Cut) (indent : List ℕ) (level : ℕ) (eol out₀ : List ℕ) (first : OperationSplit) (out : List ℕ) (c : Cut) (r : OperationSplit) : Type 0 where
+pub record Writing (table : List ℕ) (strength : ℕ) (line class : List ℕ) (cut : Cut) (indent : List ℕ) (level : ℕ) (eol out₀ : List ℕ) (first : NewLine) (out : List ℕ) (c : Cut) (r : NewLine) : Type 0 where
   pub fits : RestFits table strength line class cut indent level eol first
   pub done : List (List ℕ)
   pub all : restFrom table strength line class cut ≡ done ++ restFrom table strength line class c
@@ -294,7 +337,7 @@ pub record Writing (table : List ℕ) (strength : ℕ) (line class : List ℕ) (
   pub room : r .next ≤ first .next + (c .place - cut .place) * lineRoom
   pub as-long : length out ≡ length out₀
 
-pub writing-start : {table : List ℕ} {strength : ℕ} {line class : List ℕ} {cut : Cut} {indent : List ℕ} {level : ℕ} {eol : List ℕ} {first : OperationSplit} (out : List ℕ) → RestFits table strength line class cut indent level eol first
+pub writing-start : {table : List ℕ} {strength : ℕ} {line class : List ℕ} {cut : Cut} {indent : List ℕ} {level : ℕ} {eol : List ℕ} {first : NewLine} (out : List ℕ) → RestFits table strength line class cut indent level eol first
     → Writing table strength line class cut indent level eol out first out cut first
 unfolding following lastOf
 writing-start {first = first} out f =
@@ -303,7 +346,7 @@ writing-start {first = first} out f =
       done = [];
       all = refl;
       well = f .well;
-      after = record { text = appended-nil out (first .next); last = λ l e. e; more = sym (or-false (first .more)) };
+      after = record { text = appended-nil out (first .next); last = λ l e. e };
       order = omega arith;
       within = f .within;
       sound = f .sound;
@@ -311,7 +354,7 @@ writing-start {first = first} out f =
       as-long = refl;
     }
 
-module _ {table : List ℕ} {strength : ℕ} {line class : List ℕ} {cut : Cut} {indent : List ℕ} {level : ℕ} {eol out₀ : List ℕ} {first : OperationSplit} {out : List ℕ} {c : Cut} {r : OperationSplit}
+module _ {table : List ℕ} {strength : ℕ} {line class : List ℕ} {cut : Cut} {indent : List ℕ} {level : ℕ} {eol out₀ : List ℕ} {first : NewLine} {out : List ℕ} {c : Cut} {r : NewLine}
     (w : Writing table strength line class cut indent level eol out₀ first out c r) where
   pub writing-cut : c .place < length line → Cutting strength line class (c .place + 1) (c .after)
   writing-cut h = record { some = w .fits .some; within = omega arith; breaks = w .fits .breaks; sound = w .sound h }
@@ -332,7 +375,7 @@ module _ {table : List ℕ} {strength : ℕ} {line class : List ℕ} {cut : Cut}
 
   pub writing-more : (d : Cut) (p : Part) (n : NewLine) (out′ : List ℕ) → c .place < length line → NextOp table strength line class (c .place + 1) (c .after) d → Trimmed line (c .place) (d .place) p
       → LineWritten eol (lay indent level (part line (p .start) (p .end))) out out′ (r .next) n → length out′ ≡ length out
-      → Writing table strength line class cut indent level eol out₀ first out′ d (record { next = n .next; last = n .start; more = true })
+      → Writing table strength line class cut indent level eol out₀ first out′ d n
   writing-more d p n out′ h q t g k =
       let piece = part line (c .place) (d .place) in
       let cons : restFrom table strength line class c ≡ piece ∷ restFrom table strength line class d = rest-cons table strength line class c d h q in
@@ -360,15 +403,7 @@ module _ {table : List ℕ} {strength : ℕ} {line class : List ℕ} {cut : Cut}
       record { after = rw e (w .after); room = omega (arith, w .room, w .within, w .order) }
 
 -- lines after those of pieces
-empty-append : (a b : List (List ℕ)) → (not (isEmpty a) || not (isEmpty b)) ≡ not (isEmpty (a ++ b))
-empty-append [] b = refl
-empty-append (l ∷ a) b = refl
-
-empty-map : (f : List ℕ → List ℕ) (a : List (List ℕ)) → isEmpty (map f a) ≡ isEmpty a
-empty-map f [] = refl
-empty-map f (l ∷ a) = refl
-
-pieces-more : {indent : List ℕ} {level : ℕ} {eol : List ℕ} {p : Pieces} (others : List (List ℕ)) {out out₁ out₂ : List ℕ} {at : ℕ} {first r : OperationSplit}
+pieces-more : {indent : List ℕ} {level : ℕ} {eol : List ℕ} {p : Pieces} (others : List (List ℕ)) {out out₁ out₂ : List ℕ} {at : ℕ} {first r : NewLine}
     → PiecesWritten indent level eol p out out₁ at first → After eol (map (λ (l : List ℕ). lay indent (suc level) (encode l)) others) out₁ out₂ first r
     → PiecesWritten indent level eol (record { first = p .first; rest = p .rest ++ others }) out out₂ at r
 pieces-more {indent} {level} {eol} {p} others {out} {out₁} {out₂} {at} {first} {r} w a =
@@ -376,7 +411,6 @@ pieces-more {indent} {level} {eol} {p} others {out} {out₁} {out₂} {at} {firs
     record {
       text = rw (lines, following-append eol (otherLines indent level p), ← append-assoc) (appended-append (w .text) (a .text));
       last = rw (lines, last-append) (a .last _ (w .last));
-      more = a .more ∙ rw (w .more, empty-map) (empty-append (p .rest) others);
     }
 
 -- ---- a line, its first piece broken again
@@ -396,14 +430,15 @@ module _ (table line class indent : List ℕ) (level : ℕ) (eol : List ℕ) (ma
   pre = asks .fits
 
   pub first-whole : (b : Break) (out out′ : List ℕ) (next : ℕ) → RoundBreak table indent level max rounds line class b → b .strength ≡ 0 → Appended out out′ at (times level indent ++ line) next
-      → FirstBroken table line indent level eol max rounds out out′ at (record { next = next; last = at; more = false })
+      → FirstBroken table line indent level eol max rounds out out′ at (OperationSplit.Whole (record { start = at; next = next }))
   unfolding following lastOf
   first-whole b out out′ next e z a =
       let b : brokenIn table indent level max rounds line ≡ record { first = decode line; rest = [] } = round-whole table indent level max rounds line class (pre .well) (asks .classed) (sym z ∙ e .strength) in
-      let q : PiecesWritten indent level eol (record { first = decode line; rest = [] }) out out′ at (record { next = next; last = at; more = false }) =
-      record { text = rw (append-nil, pre .well) a; last = rw (pre .well) (omega (arith, a .next)); more = refl } in
+      let q : PiecesWritten indent level eol (record { first = decode line; rest = [] }) out out′ at (record { start = at; next = next }) =
+      record { text = rw (append-nil, pre .well) a; last = rw (pre .well) (omega (arith, a .next)) } in
       record {
-        pieces = subst (λ (p : Pieces). PiecesWritten indent level eol p out out′ at (record { next = next; last = at; more = false })) (sym b) q;
+        pieces = subst (λ (p : Pieces). PiecesWritten indent level eol p out out′ at (record { start = at; next = next })) (sym b) q;
+        more = rw b;
         room = omega (arith, a .next, length-append (times level indent) line, indent-short indent level (level-fits pre));
       }
 
@@ -452,7 +487,7 @@ module _ (table line class indent : List ℕ) (level : ℕ) (eol : List ℕ) (ma
       first-text : decode piece ≡ trim (piecesAt table line p .first)
       first-text = u .text ∙ ap (λ (l : List ℕ). trim (decode l)) (cutting .first) ∙ ap trim (decode-encode _ (pieces-scalars table line p .first))
 
-      module _ (out out₁ : List ℕ) (first : OperationSplit) (g : FirstBroken table piece indent level eol max (rounds - 1) out out₁ at first) where
+      module _ (out out₁ : List ℕ) (f : OperationSplit) (g : FirstBroken table piece indent level eol max (rounds - 1) out out₁ at f) (first : NewLine) (is : first ≡ lineOf f) where
         pub rest-fits : RestFits table p line class c indent (level + 1) eol first
         rest-fits =
             record {
@@ -463,7 +498,7 @@ module _ (table line class indent : List ℕ) (level : ℕ) (eol : List ℕ) (ma
               well = cutting .others;
               indents = deeper-fits pre;
               end = pre .end;
-              room = omega (arith, g .room, piece-length, q .fits, pre .room);
+              room = rw is (omega (arith, g .room, piece-length, q .fits, pre .room));
             }
 
         -- the pieces of the first, and the others
@@ -478,15 +513,22 @@ module _ (table line class indent : List ℕ) (level : ℕ) (eol : List ℕ) (ma
             round-pieces table indent level max rounds line class (pre .well) (asks .classed) p (e .strength) z
             ∙ ap (λ (l : List ℕ). with-rest table (indented indent) max level (breakFirst table (indented indent) max level (rounds - 1) (record { first = l; rest = [] })) others) (sym first-text)
 
-        pub first-broken : (out₂ : List ℕ) (r : OperationSplit) → RestWritten table p line class c indent (level + 1) eol out₁ out₂ first r
-            → FirstBroken table line indent level eol max rounds out out₂ at r
+        -- there is an operator, so there are others
+        several-pieces : not (isEmpty (inner .rest ++ others)) ≡ true
+        several-pieces = some-append (inner .rest) others (some-map trim (piecesAt table line p .rest) (cut-some p z (topLevelOps table (classify Carry.Code (decode line))) (strength-loosest table line class (pre .well) (asks .classed) p z (round-loosest table indent level max rounds line class b e z))))
+
+        pub first-broken : (out₂ : List ℕ) (r : NewLine) → RestWritten table p line class c indent (level + 1) eol out₁ out₂ first r
+            → FirstBroken table line indent level eol max rounds out out₂ at (OperationSplit.Broken r)
         first-broken out₂ r w =
             let ls : restLines indent (level + 1) (restFrom table p line class c) ≡ map (λ (l : List ℕ). lay indent (suc level) (encode l)) others =
             ap (restLines indent (level + 1)) (cutting .rest) ∙ lines-trimmed indent (level + 1) (piecesAt table line p .rest) (pieces-scalars table line p .rest) ∙ rw (add-one level) in
             let a : After eol (map (λ (l : List ℕ). lay indent (suc level) (encode l)) others) out₁ out₂ first r = rw ls at (w .after) in
+            let began : PiecesWritten indent level eol inner out out₁ at first = rw is (g .pieces) in
+            let far : first .next ≤ at + (length piece + 1) * lineRoom = rw is (g .room) in
             record {
-              pieces = subst (λ (x : Pieces). PiecesWritten indent level eol x out out₂ at r) (sym whole) (pieces-more others (g .pieces) a);
-              room = omega (arith, g .room, w .room, piece-length, q .fits);
+              pieces = subst (λ (x : Pieces). PiecesWritten indent level eol x out out₂ at r) (sym whole) (pieces-more others began a);
+              more = sym (ap (λ (x : Pieces). not (isEmpty (x .rest))) whole ∙ several-pieces);
+              room = omega (arith, far, w .room, piece-length, q .fits);
             }
 
 -- ---- the whole
@@ -516,20 +558,20 @@ several : (f : List ℕ → List ℕ) (l : List ℕ) (ls : List (List ℕ)) → 
 several f l [] = refl
 several f l (m ∷ ms) = sym (lt-ltb 1 (length (l ∷ f m ∷ map f ms)) (omega arith))
 
-pub all-broken : {line class indent : List ℕ} {level : ℕ} {eol : List ℕ} {max at : ℕ} {out out′ : List ℕ} {r : OperationSplit} → OperationFits line class indent level eol at
-    → FirstBroken strengths line indent level eol max maxStrength out out′ at r → (o : Options) → o .indent ≡ indent → Broken eol (splitOperation strengths o max level (decode line)) out out′ at r
+pub all-broken : {table line class indent : List ℕ} {level : ℕ} {eol : List ℕ} {max at : ℕ} {out out′ : List ℕ} {r : OperationSplit} → OperationFits line class indent level eol at × AtMost maxStrength table
+    → FirstBroken table line indent level eol max maxStrength out out′ at r → (o : Options) → o .indent ≡ indent → Broken eol (splitOperation table o max level (decode line)) out out′ at r
 unfolding layPieces
-all-broken {line} {class} {indent} {level} {eol} {max} {at} {out} {out′} {r} asks f o e =
-    let pre : Fits line indent level eol at = asks .fits in
-    let p : Pieces = brokenIn strengths indent level max maxStrength line in
-    let k : allCodeOrStr (classify Carry.Code (decode line)) ≡ true = sym (all-encode (classify Carry.Code (decode line))) ∙ ap allCodeOrStr (sym (classify-encode Carry.Code (decode line)) ∙ ap (classify Carry.Code) (pre .well)) ∙ asks .classed .plain in
-    let b : breakFirst strengths o max level maxStrength (record { first = decode line; rest = [] }) ≡ p = same-break strengths o indent e max level maxStrength (record { first = decode line; rest = [] }) in
+all-broken {table} {line} {class} {indent} {level} {eol} {max} {at} {out} {out′} {r} ask f o e =
+    let pre : Fits line indent level eol at = ask .0 .fits in
+    let p : Pieces = brokenIn table indent level max maxStrength line in
+    let k : allCodeOrStr (classify Carry.Code (decode line)) ≡ true = sym (all-encode (classify Carry.Code (decode line))) ∙ ap allCodeOrStr (sym (classify-encode Carry.Code (decode line)) ∙ ap (classify Carry.Code) (pre .well)) ∙ ask .0 .classed .plain in
+    let b : breakFirst table o max level maxStrength (record { first = decode line; rest = [] }) ≡ p = same-break table o indent e max level maxStrength (record { first = decode line; rest = [] }) in
     let d : Indent indent (suc level) = rw add-one at (deeper-fits pre) in
-    subst (λ (ls : List (List ℕ)). Broken eol ls out out′ at r) (sym (known-lines strengths strengths-known o max level (decode line) k ∙ ap (layPieces o level) b))
+    subst (λ (ls : List (List ℕ)). Broken eol ls out out′ at r) (sym (known-lines table (ask .1) o max level (decode line) k ∙ ap (layPieces o level) b))
     (record {
       written = written-lines eol (indentOf o level ++ p .first) (map (λ (l : List ℕ). indentOf o (suc level) ++ l) (p .rest)) (firstLine indent level p) (otherLines indent level p)
           (pre .ascii) (lay-encode o indent level (p .first) e (level-fits pre)) (lay-all o indent (suc level) e d (p .rest)) (f .pieces .text) (f .pieces .last);
-      more = f .pieces .more ∙ several (λ (l : List ℕ). indentOf o (suc level) ++ l) (indentOf o level ++ p .first) (p .rest);
+      more = f .more ∙ several (λ (l : List ℕ). indentOf o (suc level) ++ l) (indentOf o level ++ p .first) (p .rest);
     })
 
 -- ---- what the calls of `break_first` ask

@@ -1,6 +1,6 @@
 -- What split_operation gives.
 use Prim.Native.Nat.{ℕ, suc, _+_, _-_, _*_, _^_, _≤_, _<_}
-use mathlib.Core.Bool.{true, not, _||_}
+use mathlib.Core.Bool.{Bool, true, false, not}
 use mathlib.Core.List.{List, [], _++_, map}
 use mathlib.Core.Path.{_≡_}
 use lib.Dec.{ltb, eqb}
@@ -13,6 +13,7 @@ use Rattle.rules.specs.Scan.{Cell, classify, allCodeOrStr}
 use Rattle.rules.specs.ClassBytes.{classBytes, cellsOf}
 use Rattle.rules.specs.Options.{indentOf, overWide}
 use Rattle.rules.specs.SplitOperation.{breakFirst}
+use Rattle.split.specs.declared.NewLine.{NewLine}
 use Rattle.split.specs.Measure.{Indent}
 use Rattle.split.specs.Text.{indented, lay, AllWell, following, lastOf, Written, Fits, lineRoom}
 use Rattle.split_operation.specs.Pass.{breakStrength, restFrom, Sound, Breakable, NextOp, lineStart}
@@ -20,10 +21,19 @@ use Rattle.split_operation.specs.declared.pass.Break.{Break}
 use Rattle.split_operation.specs.declared.pass.Cut.{Cut}
 use Rattle.split_operation.specs.declared.OperationSplit.{OperationSplit}
 
+-- the last of the lines that were written, and whether there are several
+abbrev pub lineOf : OperationSplit → NewLine
+lineOf (OperationSplit.Whole w) = w
+lineOf (OperationSplit.Broken w) = w
+
+abbrev pub isBroken : OperationSplit → Bool
+isBroken (OperationSplit.Whole w) = false
+isBroken (OperationSplit.Broken w) = true
+
 -- the lines of an expression, written
 pub record Broken (eol : List ℕ) (lines : List (List ℕ)) (out out′ : List ℕ) (at : ℕ) (r : OperationSplit) : Type 0 where
-  pub written : Written eol lines out out′ at (r .last) (r .next)
-  pub more : r .more ≡ ltb 1 (length lines)
+  pub written : Written eol lines out out′ at (lineOf r .start) (lineOf r .next)
+  pub more : isBroken r ≡ ltb 1 (length lines)
 
 -- bytes of a piece, trimmed
 abbrev pub trimBytes : List ℕ → List ℕ
@@ -33,7 +43,7 @@ trimBytes p = encode (trim (decode p))
 abbrev pub restLines : List ℕ → ℕ → List (List ℕ) → List (List ℕ)
 restLines indent level ps = map (λ (p : List ℕ). lay indent level (trimBytes p)) ps
 
-pub record RestFits (table : List ℕ) (strength : ℕ) (line class : List ℕ) (cut : Cut) (indent : List ℕ) (level : ℕ) (eol : List ℕ) (first : OperationSplit) : Type 0 where
+pub record RestFits (table : List ℕ) (strength : ℕ) (line class : List ℕ) (cut : Cut) (indent : List ℕ) (level : ℕ) (eol : List ℕ) (first : NewLine) : Type 0 where
   pub some : strength ≡ 0 → ⊥
   pub within : cut .place ≤ length line
   pub breaks : Breakable line class
@@ -44,12 +54,11 @@ pub record RestFits (table : List ℕ) (strength : ℕ) (line class : List ℕ) 
   pub room : first .next + (length line - cut .place) * lineRoom < 2 ^ 64
 
 -- lines ls written after the first ones, of which the last is any l that ends at their next place
-pub record After (eol : List ℕ) (ls : List (List ℕ)) (out out′ : List ℕ) (first r : OperationSplit) : Type 0 where
+pub record After (eol : List ℕ) (ls : List (List ℕ)) (out out′ : List ℕ) (first r : NewLine) : Type 0 where
   pub text : Appended out out′ (first .next) (following eol ls) (r .next)
-  pub last : (l : List ℕ) → first .last + length l ≡ first .next → r .last + length (lastOf l ls) ≡ r .next
-  pub more : r .more ≡ (first .more || not (isEmpty ls))
+  pub last : (l : List ℕ) → first .start + length l ≡ first .next → r .start + length (lastOf l ls) ≡ r .next
 
-pub record RestWritten (table : List ℕ) (strength : ℕ) (line class : List ℕ) (cut : Cut) (indent : List ℕ) (level : ℕ) (eol out out′ : List ℕ) (first r : OperationSplit) : Type 0 where
+pub record RestWritten (table : List ℕ) (strength : ℕ) (line class : List ℕ) (cut : Cut) (indent : List ℕ) (level : ℕ) (eol out out′ : List ℕ) (first r : NewLine) : Type 0 where
   pub after : After eol (restLines indent level (restFrom table strength line class cut)) out out′ first r
   pub room : r .next ≤ first .next + (length line - cut .place) * lineRoom
 
@@ -85,15 +94,15 @@ firstLine indent level p = lay indent level (encode (p .first))
 abbrev pub otherLines : List ℕ → ℕ → Pieces → List (List ℕ)
 otherLines indent level p = map (λ (l : List ℕ). lay indent (suc level) (encode l)) (p .rest)
 
-pub record PiecesWritten (indent : List ℕ) (level : ℕ) (eol : List ℕ) (p : Pieces) (out out′ : List ℕ) (at : ℕ) (r : OperationSplit) : Type 0 where
+pub record PiecesWritten (indent : List ℕ) (level : ℕ) (eol : List ℕ) (p : Pieces) (out out′ : List ℕ) (at : ℕ) (r : NewLine) : Type 0 where
   pub text : Appended out out′ at (firstLine indent level p ++ following eol (otherLines indent level p)) (r .next)
-  pub last : r .last + length (lastOf (firstLine indent level p) (otherLines indent level p)) ≡ r .next
-  pub more : r .more ≡ not (isEmpty (p .rest))
+  pub last : r .start + length (lastOf (firstLine indent level p) (otherLines indent level p)) ≡ r .next
 
 -- the pieces that a line alone becomes in so many rounds
 abbrev pub brokenIn : List ℕ → List ℕ → ℕ → ℕ → ℕ → List ℕ → Pieces
 brokenIn table indent level max rounds line = breakFirst table (indented indent) max level rounds (record { first = decode line; rest = [] })
 
 pub record FirstBroken (table line indent : List ℕ) (level : ℕ) (eol : List ℕ) (max rounds : ℕ) (out out′ : List ℕ) (at : ℕ) (r : OperationSplit) : Type 0 where
-  pub pieces : PiecesWritten indent level eol (brokenIn table indent level max rounds line) out out′ at r
-  pub room : r .next ≤ at + (length line + 1) * lineRoom
+  pub pieces : PiecesWritten indent level eol (brokenIn table indent level max rounds line) out out′ at (lineOf r)
+  pub more : isBroken r ≡ not (isEmpty (brokenIn table indent level max rounds line .rest))
+  pub room : lineOf r .next ≤ at + (length line + 1) * lineRoom

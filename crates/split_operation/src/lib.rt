@@ -2,115 +2,127 @@
 pub mod pass;
 
 ghost use mathlib.Core.Path.{_≡_};
+ghost use Prim.Native.Nat.{_+_};
 ghost use Rattle.unicode.specs.Unicode.{decode};
+ghost use Rattle.rules.specs.Lines.{asStr};
 ghost use Rattle.rules.specs.Options.{Options};
-ghost use Rattle.rules.specs.Operators.{strengths};
+ghost use Rattle.rules.specs.Operators.{maxStrength, AtMost};
 ghost use Rattle.rules.specs.SplitOperation.{splitOperation};
-ghost use Rattle.split_operation.specs.Operation.{LineFits, Broken, RestFits, RestWritten, RoundBreak, FirstBroken, OperationFits};
+ghost use Rattle.split_operation.specs.Operation.{LineFits, Broken, lineOf, RestFits, RestWritten, RoundBreak, FirstBroken, OperationFits};
 use operators::MAX_STRENGTH;
-use operators::STRENGTHS;
+use operators::Strengths;
 use operators::first::has_operator;
 use pass::Break;
 use pass::find_break;
 use pass::next_op;
 use pass::unbroken;
-use split::indent_column;
-use split::measure_from;
+use rules::LineEnding;
+use split::Layout;
+use split::NewLine;
+use split::over_wide;
 use split::trim_part;
 use split::write_line;
+use unicode::Utf16Column;
 
-// The next place, the place where the last line starts, and whether there is more than one.
-pub struct OperationSplit {
-    pub next: usize,
-    pub last: usize,
-    pub more: bool,
+// The line whole, or the lines that it is broken into, written: the last of them.
+pub enum OperationSplit {
+    Whole(NewLine),
+    Broken(NewLine),
 }
 
-// The pieces from an operator on, each a line.
+// How a line is broken: its layout, the strengths of the operators, and how many rounds are left.
+pub struct Breaking {
+    pub level: usize,
+    pub max: Utf16Column,
+    pub ending: LineEnding,
+    pub strengths: [u8; 21],
+    pub rounds: usize,
+}
+
+fn line_of(r: OperationSplit) -> NewLine
+    ensures { λ w. ⌜ w ≡ lineOf r ⌝ }
+{
+    match r {
+        OperationSplit::Whole(w) => w,
+        OperationSplit::Broken(w) => w,
+    }
+}
+
+// The pieces from an operator on, each a line, one level deeper than the first.
 fn write_rest(
-    table: &[u8; 21],
     line: &[u8],
     class: &[u8],
     b: Break,
+    s: Breaking,
     indent: &[u8],
-    level: usize,
-    eol: &[u8],
     out: &mut [u8],
-    first: OperationSplit,
-) -> OperationSplit
-    requires { ⌜ RestFits (now table) (b .strength) (now line) (now class) (b .cut) (now indent) level (now eol) first ⌝ }
-    ensures { λ r. ⌜ RestWritten (now (table .entry)) (b .strength) (now (line .entry)) (now (class .entry)) (b .cut) (now (indent .entry)) level (now (eol .entry)) (now (out .entry)) (now (out .exit)) first r ⌝ }
+    first: NewLine,
+) -> NewLine
+    requires { ⌜ RestFits (s .strengths) (b .strength) (now line) (now class) (b .cut) (now indent) (s .level + 1) (asStr (s .ending)) first ⌝ }
+    ensures { λ r. ⌜ RestWritten (s .strengths) (b .strength) (now (line .entry)) (now (class .entry)) (b .cut) (now (indent .entry)) (s .level + 1) (asStr (s .ending))
+        (now (out .entry)) (now (out .exit)) first r ⌝ }
 {
+    let ending = s.ending;
+    let under = Layout {
+        level: s.level + 1,
+        max: Utf16Column(s.max.0),
+        ending,
+    };
     let strength = b.strength;
     let mut c = b.cut;
     let mut r = first;
     while c.place < line.len() {
         let from = c.place;
         let q = c.after;
-        c = next_op(table, line, class, strength, from + 1, q);
+        c = next_op(&s.strengths, line, class, strength, from + 1, q);
         let p = trim_part(line, from, c.place);
         let a = p.start;
         let e = p.end;
-        let w = write_line(out, r.next, eol, indent, level, &line[a..e]);
-        r = OperationSplit {
-            next: w.next,
-            last: w.start,
-            more: true,
-        };
+        r = write_line(out, r.next, under, indent, &line[a..e]);
     }
     r
 }
 
 // Where a first line is broken: nowhere if it fits, if no rounds are left, or if none of its bytes starts an operator, which is told at once.
-fn round_break(
-    table: &[u8; 21],
-    line: &[u8],
-    class: &[u8],
-    indent: &[u8],
-    level: usize,
-    max: usize,
-    rounds: usize,
-) -> Break
-    requires { ⌜ LineFits (now line) (now class) (now indent) level ⌝ }
-    ensures { λ r. ⌜ RoundBreak (now (table .entry)) (now (indent .entry)) level max rounds (now (line .entry)) (now (class .entry)) r ⌝ }
+fn round_break(line: &[u8], class: &[u8], s: Breaking, indent: &[u8]) -> Break
+    requires { ⌜ LineFits (now line) (now class) (now indent) (s .level) ⌝ }
+    ensures { λ r. ⌜ RoundBreak (s .strengths) (now (indent .entry)) (s .level) (s .max .0) (s .rounds) (now (line .entry)) (now (class .entry)) r ⌝ }
 {
-    if rounds == 0 {
+    if s.rounds == 0 {
         return unbroken();
     }
-    let end = measure_from(indent_column(indent, level), line);
-    if end.0 <= max {
+    let ending = s.ending;
+    let own = Layout {
+        level: s.level,
+        max: Utf16Column(s.max.0),
+        ending,
+    };
+    if over_wide(own, indent, line) {
+        if has_operator(line) {
+            return find_break(&s.strengths, line, class);
+        }
         return unbroken();
-    }
-    if has_operator(line) {
-        return find_break(table, line, class);
     }
     unbroken()
 }
 
-// A line, its first piece broken again in so many rounds while it is too wide.
+// A line, its first piece broken again while it is too wide and rounds are left.
 fn break_first(
-    table: &[u8; 21],
     line: &[u8],
     class: &[u8],
+    s: Breaking,
     indent: &[u8],
-    level: usize,
-    eol: &[u8],
-    max: usize,
-    rounds: usize,
     out: &mut [u8],
     at: usize,
 ) -> OperationSplit
-    requires { ⌜ OperationFits (now line) (now class) (now indent) level (now eol) at ⌝ }
-    ensures { λ r. ⌜ FirstBroken (now (table .entry)) (now (line .entry)) (now (indent .entry)) level (now (eol .entry)) max rounds (now (out .entry)) (now (out .exit)) at r ⌝ }
+    requires { ⌜ OperationFits (now line) (now class) (now indent) (s .level) (asStr (s .ending)) at ⌝ }
+    ensures { λ r. ⌜ FirstBroken (s .strengths) (now (line .entry)) (now (indent .entry)) (s .level) (asStr (s .ending)) (s .max .0) (s .rounds)
+        (now (out .entry)) (now (out .exit)) at r ⌝ }
 {
-    let b = round_break(table, line, class, indent, level, max, rounds);
+    let b = round_break(line, class, s, indent);
     if b.strength == 0 {
-        let next = buffer::append_indented(out, at, indent, level, line);
-        return OperationSplit {
-            next,
-            last: at,
-            more: false,
-        };
+        let next = buffer::append_indented(out, at, indent, s.level, line);
+        return OperationSplit::Whole(NewLine { start: at, next });
     }
     let cut = b.cut;
     let p = trim_part(line, 0, cut.place);
@@ -118,8 +130,10 @@ fn break_first(
     let e = p.end;
     let l = &line[a..e];
     let k = &class[a..e];
-    let first = break_first(table, l, k, indent, level, eol, max, rounds - 1, out, at);
-    write_rest(table, line, class, b, indent, level + 1, eol, out, first)
+    let mut t = s;
+    t.rounds = s.rounds - 1;
+    let first = line_of(break_first(l, k, t, indent, out, at));
+    OperationSplit::Broken(write_rest(line, class, b, s, indent, out, first))
 }
 
 // An over-wide line of code and strings with its class bytes, broken before its loosest operators. Where there is nothing to break at, that is
@@ -127,27 +141,24 @@ fn break_first(
 pub fn split_operation(
     line: &[u8],
     class: &[u8],
+    s: Layout,
+    strengths: Strengths,
     indent: &[u8],
-    level: usize,
-    eol: &[u8],
-    max: usize,
     out: &mut [u8],
     at: usize,
 ) -> OperationSplit
-    requires { ⌜ OperationFits (now line) (now class) (now indent) level (now eol) at ⌝ }
+    requires { ⌜ OperationFits (now line) (now class) (now indent) (s .level) (asStr (s .ending)) at × AtMost maxStrength (strengths .of) ⌝ }
     ensures { λ r. ⌜ ((o : Options) → o .indent ≡ now (indent .entry)
-        → Broken (now (eol .entry)) (splitOperation strengths o max level (decode (now (line .entry)))) (now (out .entry)) (now (out .exit)) at r) ⌝ }
+        → Broken (asStr (s .ending)) (splitOperation (strengths .of) o (s .max .0) (s .level) (decode (now (line .entry)))) (now (out .entry)) (now (out .exit)) at r) ⌝ }
 {
-    break_first(
-        &STRENGTHS,
-        line,
-        class,
-        indent,
-        level,
-        eol,
-        max,
-        MAX_STRENGTH,
-        out,
-        at,
-    )
+    let ending = s.ending;
+    let table = strengths.of;
+    let b = Breaking {
+        level: s.level,
+        max: Utf16Column(s.max.0),
+        ending,
+        strengths: table,
+        rounds: MAX_STRENGTH,
+    };
+    break_first(line, class, b, indent, out, at)
 }

@@ -72,7 +72,7 @@ pub fn is_joinable(last: Last) -> bool
 }
 
 // The line ending, from the place at on.
-fn append_ending(out: &mut [u8], at: usize, ending: LineEnding) -> usize
+pub fn append_ending(out: &mut [u8], at: usize, ending: LineEnding) -> usize
     requires { ⌜ at + 2 < 2 ^ 64 ⌝ }
     ensures { λ r. ⌜ Appended (now (out .entry)) (now (out .exit)) at (asStr ending) r ⌝ }
 {

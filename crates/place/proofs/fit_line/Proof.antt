@@ -1,4 +1,5 @@
 use mathlib.Core.Path.{sym, _∙_}
+use native.Mathlib.Omega.{arith}
 use Rattle.place.proofs.FitLaws.{code-bytes, fit-off, fit-narrow, fit-mixed, fit-broken}
 use borrow.Author.Needs.{needs}
 use Rattle.place.proofs.fit_line.Statement.{statement}
@@ -17,7 +18,11 @@ enum-known-width : tie.Need-enum-known-width
 enum-known-width c = search needs
 
 over-wide-requires : tie.Need-over-wide-requires
-over-wide-requires c κs = search needs
+over-wide-requires c κs =
+    let s = c .before .before .before .before .before .before .before in (
+      record { blank = s .pre .0 .blank; short = s .pre .0 .short; flat = omega (arith, s .pre .1 .0) },
+      (s .pre .1 .1 .0 .well, omega (arith, s .pre .1 .1 .0 .short)),
+    )
 
 all-code-or-str-requires : tie.Need-all-code-or-str-requires
 all-code-or-str-requires c κs = search needs

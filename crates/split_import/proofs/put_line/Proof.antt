@@ -1,10 +1,10 @@
-use borrow.Author.Needs.{needs}
 use Rattle.split_import.proofs.NameLaws.{put-line, line-room, comma-room}
+use borrow.Author.Needs.{needs}
 use Rattle.split_import.proofs.put_line.Statement.{statement}
 use Rattle.split_import.proofs.put_line.Tie as tie
 
-append-requires : tie.Need-append-requires
-append-requires c κs = search needs
+append-ending-requires : tie.Need-append-ending-requires
+append-ending-requires c κs = search needs
 
 append-indented-requires : tie.Need-append-indented-requires
 append-indented-requires c κs = search (needs, line-room)
@@ -12,8 +12,8 @@ append-indented-requires c κs = search (needs, line-room)
 slice-aggregate-append : tie.Need-slice-aggregate-append
 slice-aggregate-append c = search needs
 
-append-requires-2 : tie.Need-append-requires-2
-append-requires-2 c κs = search (needs, comma-room)
+append-requires : tie.Need-append-requires
+append-requires c κs = search (needs, comma-room)
 
 same-length : tie.Need-same-length
 same-length c = search needs
@@ -25,9 +25,9 @@ pub put-line-spec : {M : Type 1} → statement M
 put-line-spec =
     tie.close
     (tie.spec
-    append-requires
+    append-ending-requires
     append-indented-requires
     slice-aggregate-append
-    append-requires-2
+    append-requires
     same-length
     returns)

@@ -1,6 +1,6 @@
-use borrow.Author.Needs.{needs}
-use native.Mathlib.Omega.{arith}
 use Rattle.split_import.proofs.ImportLaws.{class-room, rest-room, no-import, no-brace, no-close, found-braces, given-import}
+use native.Mathlib.Omega.{arith}
+use borrow.Author.Needs.{needs}
 use Rattle.split_import.proofs.split_import.Statement.{statement}
 use Rattle.split_import.proofs.split_import.Tie as tie
 
@@ -9,9 +9,6 @@ starts-import-requires c κs = search needs
 
 find-code-requires : tie.Need-find-code-requires
 find-code-requires c κs = search (needs, class-room)
-
-not-split-requires : tie.Need-not-split-requires
-not-split-requires c κs = search needs
 
 returns : tie.Need-returns
 returns c = search (needs, no-brace)
@@ -29,10 +26,10 @@ part-find-code-end : tie.Need-part-find-code-end
 part-find-code-end c = search needs
 
 sub-find-code-2 : tie.Need-sub-find-code-2
-sub-find-code-2 c = omega (arith, class-room (c .before .before .before .before .before .before .before .before .before .before .pre))
+sub-find-code-2 c = omega (arith, class-room (c .before .before .before .before .before .before .before .before .before .pre))
 
 part-find-code-start-2 : tie.Need-part-find-code-start-2
-part-find-code-start-2 c = let h = class-room (c .before .before .before .before .before .before .before .before .before .before .pre) in search needs
+part-find-code-start-2 c = let h = class-room (c .before .before .before .before .before .before .before .before .before .pre) in search needs
 
 part-find-code-end-2 : tie.Need-part-find-code-end-2
 part-find-code-end-2 c = search needs
@@ -42,9 +39,6 @@ find-code-requires-2 c κs = search (needs, rest-room)
 
 add-end : tie.Need-add-end
 add-end c = search needs
-
-not-split-requires-2 : tie.Need-not-split-requires-2
-not-split-requires-2 c κs = search needs
 
 returns-2 : tie.Need-returns-2
 returns-2 c = search (needs, no-close)
@@ -58,9 +52,6 @@ same-length c = search needs
 returns-3 : tie.Need-returns-3
 returns-3 c = search (needs, given-import)
 
-not-split-requires-3 : tie.Need-not-split-requires-3
-not-split-requires-3 c κs = search needs
-
 returns-4 : tie.Need-returns-4
 returns-4 c = search (needs, no-import)
 
@@ -70,7 +61,6 @@ split-import-spec =
     (tie.spec
     starts-import-requires
     find-code-requires
-    not-split-requires
     returns
     add-a
     sub-find-code
@@ -81,10 +71,8 @@ split-import-spec =
     part-find-code-end-2
     find-code-requires-2
     add-end
-    not-split-requires-2
     returns-2
     write-import-requires
     same-length
     returns-3
-    not-split-requires-3
     returns-4)

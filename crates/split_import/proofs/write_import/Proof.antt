@@ -1,28 +1,25 @@
-use borrow.Author.Needs.{needs}
-use native.Mathlib.Omega.{arith}
-use Rattle.split_import.proofs.ImportLaws.{inside-countable, head-fits, names-fit, tail-room, parts-none, parts-some}
-use lib.Seq.{length-take-le}
 use mathlib.Core.Path.{sym}
+use lib.Seq.{length-take-le}
+use Rattle.split_import.proofs.ImportLaws.{inside-countable, head-fits, names-fit, tail-room, parts-none, parts-some}
+use native.Mathlib.Omega.{arith}
+use borrow.Author.Needs.{needs}
 use Rattle.split_import.proofs.write_import.Statement.{statement}
 use Rattle.split_import.proofs.write_import.Tie as tie
 
 add-a : tie.Need-add-a
 add-a c = search needs
 
-sub-s : tie.Need-sub-s
-sub-s c = search needs
+sub-names : tie.Need-sub-names
+sub-names c = search needs
 
-part-s-start : tie.Need-part-s-start
-part-s-start c = search needs
+part-names-start : tie.Need-part-names-start
+part-names-start c = search needs
 
-part-s-end : tie.Need-part-s-end
-part-s-end c = search needs
+part-names-end : tie.Need-part-names-end
+part-names-end c = search needs
 
 count-names-requires : tie.Need-count-names-requires
 count-names-requires c κs = search (needs, inside-countable)
-
-not-split-requires : tie.Need-not-split-requires
-not-split-requires c κs = search needs
 
 returns : tie.Need-returns
 returns c = search (needs, parts-none)
@@ -33,11 +30,13 @@ slice-aggregate-write-head c = sym (length-take-le _ _ (omega arith))
 write-head-requires : tie.Need-write-head-requires
 write-head-requires c κs = search (needs, head-fits)
 
-add-write-names : tie.Need-add-write-names
-add-write-names c = search needs
+add-write-line : tie.Need-add-write-line
+add-write-line c = search needs
 
 write-names-requires : tie.Need-write-names-requires
-write-names-requires c κs = search (needs, names-fit)
+write-names-requires c κs =
+    let h = c .before .before .before .before in
+    names-fit (h .before .before .before .before .before .before .before .before .before .before .pre) (h .write-head .ensures)
 
 sub-write-line : tie.Need-sub-write-line
 sub-write-line c = search needs
@@ -49,7 +48,10 @@ part-write-line-end : tie.Need-part-write-line-end
 part-write-line-end c = search needs
 
 write-line-requires : tie.Need-write-line-requires
-write-line-requires c κs = tail-room (c .before .before .before .before .before .before .before .before .before .before .before .before .before .before .before .before .before .before .before .pre) (c .before .before .before .before .before .before .before .before .write-head .ensures) _ (c .before .before .before .before .write-names .ensures)
+write-line-requires c κs =
+    let n = c .before .before .before .before in
+    let h = n .before .before .before .before .before in
+    tail-room (h .before .before .before .before .before .before .before .before .before .before .pre) (h .write-head .ensures) _ (n .write-names .ensures)
 
 same-length : tie.Need-same-length
 same-length c = search needs
@@ -62,15 +64,14 @@ write-import-spec =
     tie.close
     (tie.spec
     add-a
-    sub-s
-    part-s-start
-    part-s-end
+    sub-names
+    part-names-start
+    part-names-end
     count-names-requires
-    not-split-requires
     returns
     slice-aggregate-write-head
     write-head-requires
-    add-write-names
+    add-write-line
     write-names-requires
     sub-write-line
     part-write-line-start

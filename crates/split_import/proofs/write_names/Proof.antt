@@ -1,15 +1,16 @@
 use borrow.Author.Needs.{needs}
 use Prim.Native.Nat.{_+_, _-_}
 use lib.ListN.{length}
+use Rattle.rules.specs.Lines.{asStr}
 use Rattle.split_import.proofs.NameLaws.{Filling, filling-start, filling-room, filling-more, filling-end, piece-within}
 use Rattle.split_import.proofs.write_names.Statement.{statement}
 use Rattle.split_import.proofs.write_names.Tie as tie
 
 abbrev Inv-loop : tie.InvT-loop
-Inv-loop s indent level eol max out₀ at f₀ a₀ out f a = Filling s indent level eol max out₀ at out f a
+Inv-loop names s indent out₀ at f₀ a₀ out f a = Filling names indent (s .level) (asStr (s .ending)) (s .max .0) out₀ at out f a
 
 abbrev μ-loop : tie.MeasureT-loop
-μ-loop s indent level eol max out₀ at f₀ a₀ out f a = length s + 1 - a
+μ-loop names s indent out₀ at f₀ a₀ out f a = length names + 1 - a
 
 loop-holds : tie.Need-loop-holds Inv-loop μ-loop
 loop-holds c = search (needs, filling-start)

@@ -1,3 +1,4 @@
+-- `split_operation::break_first` meets its contract: the rounds that are left fall with each call of itself.
 use native.Mathlib.Omega.{arith}
 use borrow.Author.Needs.{needs}
 use Rattle.split_operation.proofs.ClassLaws.{class-length}
@@ -10,21 +11,22 @@ use Rattle.split_operation.proofs.break_first.Kinds as break-first-kind
 use Rattle.split_operation.proofs.+break_first.Lts-break_first as break-first-lts
 use Rattle.buffer.proofs.append_indented.Reads as append-indented-reads
 use Rattle.split.proofs.trim_part.Reads as trim-part-reads
+use Rattle.split_operation.proofs.line_of.Reads as line-of-reads
 use Rattle.split_operation.proofs.round_break.Reads as round-break-reads
 use Rattle.split_operation.proofs.write_rest.Reads as write-rest-reads
 use Rattle.split_operation.proofs.+break_first.{statement}
 use Rattle.split_operation.proofs.+break_first.Tie.{close}
 
-abbrev μ-break-first : Measures 6 break-first-kinds.ps ℕ
-μ-break-first κs a = a .1 .1 .1 .1 .1 .1 .1 .0
+abbrev μ-break-first : Measures 4 break-first-kinds.ps ℕ
+μ-break-first κs a = a .1 .1 .0 .rounds
 
-abbrev break-first-at : ℕ → In 6 break-first-kinds.ps
+abbrev break-first-at : ℕ → In 4 break-first-kinds.ps
 break-first-at t =
-    and 6 break-first-kinds.ps (is 6 break-first-kinds.ps μ-break-first t) break-first.Pre
+    and 4 break-first-kinds.ps (is 4 break-first-kinds.ps μ-break-first t) break-first.Pre
 
-abbrev break-first-below : ℕ → In 6 break-first-kinds.ps
+abbrev break-first-below : ℕ → In 4 break-first-kinds.ps
 break-first-below t =
-    and 6 break-first-kinds.ps (falls 6 break-first-kinds.ps _<_ μ-break-first t) break-first.Pre
+    and 4 break-first-kinds.ps (falls 4 break-first-kinds.ps _<_ μ-break-first t) break-first.Pre
 
 break-first-round-break-requires : (t : ℕ) → break-first-lts.Need-round-break-requires (
   round-break-reads.Asked,
@@ -35,10 +37,12 @@ break-first-round-break-requires : (t : ℕ) → break-first-lts.Need-round-brea
   trim-part-reads.Learnt,
   break-first-below t,
   break-first.Post,
+  line-of-reads.Asked,
+  line-of-reads.Learnt,
   write-rest-reads.Asked,
   write-rest-reads.Learnt,
 ) (break-first-at t) break-first.Post
-break-first-round-break-requires t c κs = line-fits (c .before .before .before .before .before .pre .1)
+break-first-round-break-requires t c κs = line-fits (c .before .before .before .before .pre .1)
 
 break-first-append-indented-requires : (t : ℕ) → break-first-lts.Need-append-indented-requires (
   round-break-reads.Asked,
@@ -49,10 +53,12 @@ break-first-append-indented-requires : (t : ℕ) → break-first-lts.Need-append
   trim-part-reads.Learnt,
   break-first-below t,
   break-first.Post,
+  line-of-reads.Asked,
+  line-of-reads.Learnt,
   write-rest-reads.Asked,
   write-rest-reads.Learnt,
 ) (break-first-at t) break-first.Post
-break-first-append-indented-requires t c κs = whole-room (c .before .before .before .before .before .before .before .before .before .pre .1)
+break-first-append-indented-requires t c κs = whole-room (c .before .before .before .before .before .before .before .before .pre .1)
 
 break-first-same-length : (t : ℕ) → break-first-lts.Need-same-length (
   round-break-reads.Asked,
@@ -63,6 +69,8 @@ break-first-same-length : (t : ℕ) → break-first-lts.Need-same-length (
   trim-part-reads.Learnt,
   break-first-below t,
   break-first.Post,
+  line-of-reads.Asked,
+  line-of-reads.Learnt,
   write-rest-reads.Asked,
   write-rest-reads.Learnt,
 ) (break-first-at t) break-first.Post
@@ -77,10 +85,14 @@ break-first-returns : (t : ℕ) → break-first-lts.Need-returns (
   trim-part-reads.Learnt,
   break-first-below t,
   break-first.Post,
+  line-of-reads.Asked,
+  line-of-reads.Learnt,
   write-rest-reads.Asked,
   write-rest-reads.Learnt,
 ) (break-first-at t) break-first.Post
-break-first-returns t c = first-whole _ _ _ _ _ _ _ _ _ (c .before .before .before .before .before .before .before .before .before .before .before .before .pre .1) _ _ _ _ (c .before .before .before .before .before .before .round-break .ensures) (c .before .before .before .before .if1 .taken) (c .before .before .append-indented .ensures)
+break-first-returns t c =
+    let b = c .before .before .before .before .before .before in
+    first-whole _ _ _ _ _ _ _ _ _ (b .before .before .before .before .before .pre .1) _ _ _ _ (b .round-break .ensures) (c .before .before .before .before .if1 .taken) (c .before .before .append-indented .ensures)
 
 break-first-trim-part-requires : (t : ℕ) → break-first-lts.Need-trim-part-requires (
   round-break-reads.Asked,
@@ -91,10 +103,14 @@ break-first-trim-part-requires : (t : ℕ) → break-first-lts.Need-trim-part-re
   trim-part-reads.Learnt,
   break-first-below t,
   break-first.Post,
+  line-of-reads.Asked,
+  line-of-reads.Learnt,
   write-rest-reads.Asked,
   write-rest-reads.Learnt,
 ) (break-first-at t) break-first.Post
-break-first-trim-part-requires t c κs = first-within _ _ _ _ _ _ _ _ _ (c .before .before .before .before .before .before .before .before .before .pre .1) _ (c .before .before .before .round-break .ensures) (c .before .if1 .left)
+break-first-trim-part-requires t c κs =
+    let b = c .before .before .before in
+    first-within _ _ _ _ _ _ _ _ _ (b .before .before .before .before .before .pre .1) _ (b .round-break .ensures) (c .before .if1 .left)
 
 break-first-sub-l : (t : ℕ) → break-first-lts.Need-sub-l (
   round-break-reads.Asked,
@@ -105,6 +121,8 @@ break-first-sub-l : (t : ℕ) → break-first-lts.Need-sub-l (
   trim-part-reads.Learnt,
   break-first-below t,
   break-first.Post,
+  line-of-reads.Asked,
+  line-of-reads.Learnt,
   write-rest-reads.Asked,
   write-rest-reads.Learnt,
 ) (break-first-at t) break-first.Post
@@ -119,6 +137,8 @@ break-first-part-l-start : (t : ℕ) → break-first-lts.Need-part-l-start (
   trim-part-reads.Learnt,
   break-first-below t,
   break-first.Post,
+  line-of-reads.Asked,
+  line-of-reads.Learnt,
   write-rest-reads.Asked,
   write-rest-reads.Learnt,
 ) (break-first-at t) break-first.Post
@@ -133,10 +153,17 @@ break-first-part-l-end : (t : ℕ) → break-first-lts.Need-part-l-end (
   trim-part-reads.Learnt,
   break-first-below t,
   break-first.Post,
+  line-of-reads.Asked,
+  line-of-reads.Learnt,
   write-rest-reads.Asked,
   write-rest-reads.Learnt,
 ) (break-first-at t) break-first.Post
-break-first-part-l-end t c = let t = c .trim-part .ensures in let f = t .fits in let o = t .order in let q = c .before .before .before .before .round-break .ensures .cut (c .before .before .if1 .left) .fits in search needs
+break-first-part-l-end t c =
+    let t = c .trim-part .ensures in
+    let f = t .fits in
+    let o = t .order in
+    let q = c .before .before .before .before .round-break .ensures .cut (c .before .before .if1 .left) .fits in
+    search needs
 
 break-first-sub-k : (t : ℕ) → break-first-lts.Need-sub-k (
   round-break-reads.Asked,
@@ -147,6 +174,8 @@ break-first-sub-k : (t : ℕ) → break-first-lts.Need-sub-k (
   trim-part-reads.Learnt,
   break-first-below t,
   break-first.Post,
+  line-of-reads.Asked,
+  line-of-reads.Learnt,
   write-rest-reads.Asked,
   write-rest-reads.Learnt,
 ) (break-first-at t) break-first.Post
@@ -161,6 +190,8 @@ break-first-part-k-start : (t : ℕ) → break-first-lts.Need-part-k-start (
   trim-part-reads.Learnt,
   break-first-below t,
   break-first.Post,
+  line-of-reads.Asked,
+  line-of-reads.Learnt,
   write-rest-reads.Asked,
   write-rest-reads.Learnt,
 ) (break-first-at t) break-first.Post
@@ -175,12 +206,21 @@ break-first-part-k-end : (t : ℕ) → break-first-lts.Need-part-k-end (
   trim-part-reads.Learnt,
   break-first-below t,
   break-first.Post,
+  line-of-reads.Asked,
+  line-of-reads.Learnt,
   write-rest-reads.Asked,
   write-rest-reads.Learnt,
 ) (break-first-at t) break-first.Post
-break-first-part-k-end t c = let k = class-length _ _ (c .before .before .before .before .before .before .before .before .before .before .before .pre .1 .classed) in let t = c .before .trim-part .ensures in let f = t .fits in let o = t .order in let q = c .before .before .before .before .before .round-break .ensures .cut (c .before .before .before .if1 .left) .fits in search needs
+break-first-part-k-end t c =
+    let b = c .before .before .before .before .before in
+    let k = class-length _ _ (b .before .before .before .before .before .pre .1 .classed) in
+    let t = c .before .trim-part .ensures in
+    let f = t .fits in
+    let o = t .order in
+    let q = b .round-break .ensures .cut (c .before .before .before .if1 .left) .fits in
+    search needs
 
-break-first-sub-break-first : (t : ℕ) → break-first-lts.Need-sub-break-first (
+break-first-sub-t : (t : ℕ) → break-first-lts.Need-sub-t (
   round-break-reads.Asked,
   round-break-reads.Learnt,
   append-indented-reads.Asked,
@@ -189,10 +229,12 @@ break-first-sub-break-first : (t : ℕ) → break-first-lts.Need-sub-break-first
   trim-part-reads.Learnt,
   break-first-below t,
   break-first.Post,
+  line-of-reads.Asked,
+  line-of-reads.Learnt,
   write-rest-reads.Asked,
   write-rest-reads.Learnt,
 ) (break-first-at t) break-first.Post
-break-first-sub-break-first t c = some-rounds _ (rounds-left _ _ _ _ _ _ _ _ (c .before .before .before .before .before .before .round-break .ensures) (c .before .before .before .before .if1 .left))
+break-first-sub-t t c = some-rounds _ (rounds-left _ _ _ _ _ _ _ _ (c .before .before .before .before .before .before .before .round-break .ensures) (c .before .before .before .before .before .if1 .left))
 
 break-first-break-first-requires : (t : ℕ) → break-first-lts.Need-break-first-requires (
   round-break-reads.Asked,
@@ -203,12 +245,20 @@ break-first-break-first-requires : (t : ℕ) → break-first-lts.Need-break-firs
   trim-part-reads.Learnt,
   break-first-below t,
   break-first.Post,
+  line-of-reads.Asked,
+  line-of-reads.Learnt,
   write-rest-reads.Asked,
   write-rest-reads.Learnt,
 ) (break-first-at t) break-first.Post
-break-first-break-first-requires t c κs = (fewer-rounds (c .before .before .before .before .before .before .before .before .before .before .before .before .before .pre .0) (rounds-left _ _ _ _ _ _ _ _ (c .before .before .before .before .before .before .before .round-break .ensures) (c .before .before .before .before .before .if1 .left)), first-fits _ _ _ _ _ _ _ _ _ (c .before .before .before .before .before .before .before .before .before .before .before .before .before .pre .1) _ (c .before .before .before .before .before .before .before .round-break .ensures) (c .before .before .before .before .before .if1 .left) _ (c .before .before .before .trim-part .ensures))
+break-first-break-first-requires t c κs =
+    let i = c .before .before .before .before .before .before in
+    let b = i .before .before in
+    let s = b .before .before .before .before .before in (
+      fewer-rounds (s .pre .0) (rounds-left _ _ _ _ _ _ _ _ (b .round-break .ensures) (i .if1 .left)),
+      first-fits _ _ _ _ _ _ _ _ _ (s .pre .1) _ (b .round-break .ensures) (i .if1 .left) _ (c .before .before .before .before .trim-part .ensures),
+    )
 
-break-first-add-write-rest : (t : ℕ) → break-first-lts.Need-add-write-rest (
+break-first-line-of-requires : (t : ℕ) → break-first-lts.Need-line-of-requires (
   round-break-reads.Asked,
   round-break-reads.Learnt,
   append-indented-reads.Asked,
@@ -217,10 +267,12 @@ break-first-add-write-rest : (t : ℕ) → break-first-lts.Need-add-write-rest (
   trim-part-reads.Learnt,
   break-first-below t,
   break-first.Post,
+  line-of-reads.Asked,
+  line-of-reads.Learnt,
   write-rest-reads.Asked,
   write-rest-reads.Learnt,
 ) (break-first-at t) break-first.Post
-break-first-add-write-rest t c = record { fits = omega (arith, c .before .before .before .before .before .before .before .before .before .before .before .before .before .before .before .before .pre .1 .fits .flat) }
+break-first-line-of-requires t c κs = search needs
 
 break-first-write-rest-requires : (t : ℕ) → break-first-lts.Need-write-rest-requires (
   round-break-reads.Asked,
@@ -231,10 +283,17 @@ break-first-write-rest-requires : (t : ℕ) → break-first-lts.Need-write-rest-
   trim-part-reads.Learnt,
   break-first-below t,
   break-first.Post,
+  line-of-reads.Asked,
+  line-of-reads.Learnt,
   write-rest-reads.Asked,
   write-rest-reads.Learnt,
 ) (break-first-at t) break-first.Post
-break-first-write-rest-requires t c κs = rest-fits _ _ _ _ _ _ _ _ _ (c .before .before .before .before .before .before .before .before .before .before .before .before .before .before .before .before .before .pre .1) _ (c .before .before .before .before .before .before .before .before .before .before .before .round-break .ensures) (c .before .before .before .before .before .before .before .before .before .if1 .left) _ (c .before .before .before .before .before .before .before .trim-part .ensures) _ _ _ (c .before .before .before .break-first .ensures)
+break-first-write-rest-requires t c κs =
+    let p = c .before .before .before .before .before .before .before .before .before in
+    let i = p .before .before in
+    let b = i .before .before in
+    rest-fits _ _ _ _ _ _ _ _ _ (b .before .before .before .before .before .pre .1) _ (b .round-break .ensures) (i .if1 .left) _ (p .trim-part .ensures) _ _ _
+    (c .before .before .before .before .break-first .ensures) _ (c .before .line-of .ensures)
 
 break-first-same-length-2 : (t : ℕ) → break-first-lts.Need-same-length-2 (
   round-break-reads.Asked,
@@ -245,6 +304,8 @@ break-first-same-length-2 : (t : ℕ) → break-first-lts.Need-same-length-2 (
   trim-part-reads.Learnt,
   break-first-below t,
   break-first.Post,
+  line-of-reads.Asked,
+  line-of-reads.Learnt,
   write-rest-reads.Asked,
   write-rest-reads.Learnt,
 ) (break-first-at t) break-first.Post
@@ -259,10 +320,17 @@ break-first-returns-2 : (t : ℕ) → break-first-lts.Need-returns-2 (
   trim-part-reads.Learnt,
   break-first-below t,
   break-first.Post,
+  line-of-reads.Asked,
+  line-of-reads.Learnt,
   write-rest-reads.Asked,
   write-rest-reads.Learnt,
 ) (break-first-at t) break-first.Post
-break-first-returns-2 t c = first-broken _ _ _ _ _ _ _ _ _ (c .before .before .before .before .before .before .before .before .before .before .before .before .before .before .before .before .before .before .before .before .pre .1) _ (c .before .before .before .before .before .before .before .before .before .before .before .before .before .before .round-break .ensures) (c .before .before .before .before .before .before .before .before .before .before .before .before .if1 .left) _ (c .before .before .before .before .before .before .before .before .before .before .trim-part .ensures) _ _ _ (c .before .before .before .before .before .before .break-first .ensures) _ _ (c .before .before .write-rest .ensures)
+break-first-returns-2 t c =
+    let p = c .before .before .before .before .before .before .before .before .before .before .before .before in
+    let i = p .before .before in
+    let b = i .before .before in
+    first-broken _ _ _ _ _ _ _ _ _ (b .before .before .before .before .before .pre .1) _ (b .round-break .ensures) (i .if1 .left) _ (p .trim-part .ensures) _ _ _
+    (c .before .before .before .before .before .before .before .break-first .ensures) _ (c .before .before .before .before .line-of .ensures) _ _ (c .before .before .write-rest .ensures)
 
 pub +break-first-spec : {M : Type 1} → statement M
 +break-first-spec = close μ-break-first λ t. break-first-lts.spec (
@@ -274,6 +342,8 @@ pub +break-first-spec : {M : Type 1} → statement M
   trim-part-reads.Learnt,
   break-first-below t,
   break-first.Post,
+  line-of-reads.Asked,
+  line-of-reads.Learnt,
   write-rest-reads.Asked,
   write-rest-reads.Learnt,
 )
@@ -290,9 +360,9 @@ pub +break-first-spec : {M : Type 1} → statement M
     (break-first-sub-k t)
     (break-first-part-k-start t)
     (break-first-part-k-end t)
-    (break-first-sub-break-first t)
+    (break-first-sub-t t)
     (break-first-break-first-requires t)
-    (break-first-add-write-rest t)
+    (break-first-line-of-requires t)
     (break-first-write-rest-requires t)
     (break-first-same-length-2 t)
     (break-first-returns-2 t)

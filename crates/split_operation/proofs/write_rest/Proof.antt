@@ -1,15 +1,20 @@
 use borrow.Author.Needs.{needs}
 use Prim.Native.Nat.{_-_}
 use lib.ListN.{length}
+use Rattle.rules.specs.Lines.{asStr}
 use Rattle.split_operation.proofs.OperationLaws.{Writing, writing-start, writing-cut, writing-within, writing-room, writing-more, writing-end}
 use Rattle.split_operation.proofs.write_rest.Statement.{statement}
 use Rattle.split_operation.proofs.write_rest.Tie as tie
 
 abbrev Inv-loop : tie.InvT-loop
-Inv-loop table line class indent level eol out₀ strength c₀ r₀ out c r = Writing table strength line class c₀ indent level eol out₀ r₀ out c r
+Inv-loop line class indent out₀ s under strength c₀ r₀ out c r =
+    Writing (s .strengths) strength line class c₀ indent (under .level) (asStr (under .ending)) out₀ r₀ out c r
 
 abbrev μ-loop : tie.MeasureT-loop
-μ-loop table line class indent level eol out₀ strength c₀ r₀ out c r = length line - c .place
+μ-loop line class indent out₀ s under strength c₀ r₀ out c r = length line - c .place
+
+add-t20 : tie.Need-add-t20 Inv-loop μ-loop
+add-t20 c = search needs
 
 loop-holds : tie.Need-loop-holds Inv-loop μ-loop
 loop-holds c = search (needs, writing-start)
@@ -33,7 +38,10 @@ part-write-line-end : tie.Need-part-write-line-end Inv-loop μ-loop
 part-write-line-end c = search needs
 
 write-line-requires : tie.Need-write-line-requires Inv-loop μ-loop
-write-line-requires c κs = writing-room (c .before .before .before .before .before .before .before .loop .inv) _ _ (c .before .before .before .before .before .if1 .taken) (c .before .before .before .next-op .ensures) (c .before .before .trim-part .ensures)
+write-line-requires c κs =
+    let p = c .before .before in
+    let i = p .before .before .before .before .before in
+    writing-room (i .before .before .loop .inv) _ _ (i .if1 .taken) (p .before .next-op .ensures) (p .trim-part .ensures)
 
 loop-less : tie.Need-loop-less Inv-loop μ-loop
 loop-less c = search needs
@@ -53,6 +61,7 @@ write-rest-spec =
     (tie.spec
     Inv-loop
     μ-loop
+    add-t20
     loop-holds
     add-next-op
     next-op-requires

@@ -1,7 +1,7 @@
-use Rattle.place.proofs.PlaceLaws.{wide-not, wide-measured}
 use borrow.Author.Needs.{needs}
-use Rattle.place.proofs.over_wide.Statement.{statement}
-use Rattle.place.proofs.over_wide.Tie as tie
+use Rattle.split.proofs.MeasureLaws.{wide-not, wide-measured}
+use Rattle.split.proofs.over_wide.Statement.{statement}
+use Rattle.split.proofs.over_wide.Tie as tie
 
 indent-column-requires : tie.Need-indent-column-requires
 indent-column-requires c κs = search needs

@@ -64,6 +64,10 @@ pub last-always : (source : List ℕ) (k : FinalNewline) → k ≡ FinalNewline.
 unfolding lastEnding choose
 last-always source k e eol = rw e
 
+pub last-never : (source : List ℕ) (k : FinalNewline) → k ≡ FinalNewline.Never → (eol : List ℕ) → choose false eol [] ≡ lastEnding k source eol
+unfolding lastEnding choose
+last-never source k e eol = rw e
+
 -- ---- the text in the output
 
 -- all lines of the source, formatted

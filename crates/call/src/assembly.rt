@@ -27,14 +27,16 @@ fn ending_of(end_of_line: EndOfLine, source: &[u8]) -> LineEnding
     }
 }
 
-// Whether one more ending follows the text: always, or if the source ends in LF.
+// Whether one more ending follows the text: always, if the source ends in LF, or never.
 fn has_last_ending(newline: FinalNewline, source: &[u8]) -> bool
     requires { ⌜ WellFormed (now source) ⌝ }
     ensures { λ r. ⌜ ((eol : List ℕ) → choose r eol [] ≡ lastEnding newline (decode (now (source .entry))) eol) ⌝ }
 {
+    let own = options::ending::ends_in_lf(source);
     match newline {
-        FinalNewline::AsSource => options::ending::ends_in_lf(source),
+        FinalNewline::AsSource => own,
         FinalNewline::Always => true,
+        FinalNewline::Never => false,
     }
 }
 

@@ -65,7 +65,7 @@ pub fn newline_from(newline: InsertFinalNewline, old: FinalNewline) -> FinalNewl
             if insert {
                 return FinalNewline::Always;
             }
-            FinalNewline::AsSource
+            FinalNewline::Never
         }
     }
 }

@@ -87,5 +87,8 @@ pub fn final_newline_named(final_newline: u64) -> NewlineNamed
     if final_newline == 1 {
         return NewlineNamed::Choice(FinalNewline::Always);
     }
+    if final_newline == 2 {
+        return NewlineNamed::Choice(FinalNewline::Never);
+    }
     NewlineNamed::Nothing
 }

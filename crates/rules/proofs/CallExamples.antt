@@ -95,7 +95,8 @@ calls =
     ∷ (call [] (codes " \t") 1 100 2 1 256 2, fine 2)
     ∷ (call [] [] 2 100 0 1 256 1, bad)
     ∷ (call [] [] 1 100 3 1 256 1, bad)
-    ∷ (call [] [] 1 100 0 2 256 1, bad)
+    ∷ (call [] [] 1 100 0 2 256 1, fine 0)
+    ∷ (call [] [] 1 100 0 3 256 1, bad)
     -- the first that applies is given
     ∷ (call (0xFF ∷ []) (codes "q") 1 100 0 1 0 0, bad)
     ∷ (plain (0xFF ∷ []) 263 0, Outcome.Refused (Refusal.ScratchShort 264))
@@ -238,7 +239,7 @@ steps =
         indent = defaults .indent;
         printWidth = PrintWidth.Off;
         endOfLine = EndOfLine.Set LineEnding.Crlf;
-        insertFinalNewline = FinalNewline.AsSource;
+        insertFinalNewline = FinalNewline.Never;
       }),
     )
     ∷ []

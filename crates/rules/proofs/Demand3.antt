@@ -66,6 +66,7 @@ module _ (eol : List ℕ) (white : White eol) where
   unfolding lastEnding
   white-last FinalNewline.Always source = white
   white-last FinalNewline.AsSource source = choose-case White (λ h. white) (λ h. tt)
+  white-last FinalNewline.Never source = tt
 
   like-finish : (o : Options) (source : List ℕ) (f : Formatter) → Like (finish o source eol f .text) (flattenBack (f .lines))
   unfolding finish

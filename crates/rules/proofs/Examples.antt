@@ -23,14 +23,20 @@ atWidth n =
       insertFinalNewline = defaults .insertFinalNewline;
     }
 
-abbrev noFinalNewline : Options
-noFinalNewline =
+abbrev ending : FinalNewline → Options
+ending n =
     record {
       indent = defaults .indent;
       printWidth = defaults .printWidth;
       endOfLine = defaults .endOfLine;
-      insertFinalNewline = FinalNewline.AsSource;
+      insertFinalNewline = n;
     }
+
+abbrev noFinalNewline : Options
+noFinalNewline = ending FinalNewline.AsSource
+
+abbrev never : Options
+never = ending FinalNewline.Never
 
 abbrev pub expected : Case → Formatted
 expected c = record { text = codes (c .2); importsSplit = c .3; blankNames = c .4 }
@@ -43,6 +49,7 @@ cases =
     -- P1
     (defaults, "", "\n", 0, 0)
     ∷ (noFinalNewline, "", "", 0, 0)
+    ∷ (never, "", "", 0, 0)
     -- P2 to P6
     ∷ (defaults, "f(a ,b)", "f(a, b)\n", 0, 0)
     ∷ (defaults, "addRole(next, {\nx\n})", "addRole(next, {\n  x\n})\n", 0, 0)
@@ -69,6 +76,11 @@ abbrev pub others : List Case
 others =
     (atWidth 7, "\"😀\" + b", "\"😀\"\n  + b\n", 0, 0)
     ∷ (atWidth 8, "\"😀\" + b", "\"😀\" + b\n", 0, 0)
+    -- never: nothing after the last line, whatever the source ends in; an empty text stays empty
+    ∷ (never, "a", "a", 0, 0)
+    ∷ (never, "a\n", "a", 0, 0)
+    ∷ (never, "a\r\nb\r\n\r\n", "a\r\nb", 0, 0)
+    ∷ (never, "\n\n", "", 0, 0)
     ∷ []
 
 pub further : map given others ≡ map expected others

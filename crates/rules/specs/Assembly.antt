@@ -32,10 +32,11 @@ joined eol [] = []
 joined eol (l ∷ []) = l
 joined eol (l ∷ m ∷ ls) = joined eol (m ∷ ls) ++ (eol ++ l)
 
--- one more ending follows if final newline is set or the source ends in LF
+-- always: one more ending follows; as the source: one if the source ends in LF; never: nothing after the last line
 unfoldable pub lastEnding : FinalNewline → List ℕ → List ℕ → List ℕ
 lastEnding FinalNewline.Always source eol = eol
 lastEnding FinalNewline.AsSource source eol = choose (endsInLf source) eol []
+lastEnding FinalNewline.Never source eol = []
 
 unfoldable pub finish : Options → List ℕ → List ℕ → Formatter → Formatted
 finish o source eol f =

@@ -31,11 +31,12 @@ endOfLineNamed (suc zero) = some (EndOfLine.Set LineEnding.Lf)
 endOfLineNamed (suc (suc zero)) = some (EndOfLine.Set LineEnding.Crlf)
 endOfLineNamed (suc (suc (suc n))) = none
 
--- final_newline: 0 as the source, 1 always
+-- final_newline: 0 as the source, 1 always, 2 never
 unfoldable pub finalNewlineNamed : ℕ → Option FinalNewline
 finalNewlineNamed zero = some FinalNewline.AsSource
 finalNewlineNamed (suc zero) = some FinalNewline.Always
-finalNewlineNamed (suc (suc n)) = none
+finalNewlineNamed (suc (suc zero)) = some FinalNewline.Never
+finalNewlineNamed (suc (suc (suc n))) = none
 
 unfoldable pub isNamed {ℓ} : {A : Type ℓ} → Option A → Bool
 isNamed none = false

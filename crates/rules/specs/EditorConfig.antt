@@ -60,10 +60,11 @@ endingFrom ConfigEnding.Lf e = EndOfLine.Set LineEnding.Lf
 endingFrom ConfigEnding.CrLf e = EndOfLine.Set LineEnding.Crlf
 endingFrom ConfigEnding.Cr e = e
 
+-- false: the file doesn't end in a line ending, as the specification says
 unfoldable pub newlineFrom : InsertFinalNewline → FinalNewline → FinalNewline
 newlineFrom InsertFinalNewline.Unset n = n
 newlineFrom (InsertFinalNewline.Value true) n = FinalNewline.Always
-newlineFrom (InsertFinalNewline.Value false) n = FinalNewline.AsSource
+newlineFrom (InsertFinalNewline.Value false) n = FinalNewline.Never
 
 -- a size over 64, needed or not
 unfoldable pub tooLarge : Option ℕ → Bool

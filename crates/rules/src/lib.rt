@@ -76,14 +76,15 @@ impl PrintWidth {
     pub const DEFAULT: usize = 100;
 }
 
-// Whether the text ends in a line ending: if the source does, or always.
+// Whether the text ends in a line ending: if the source does, always, or never.
 pub enum FinalNewline {
     AsSource,
     Always,
+    Never,
 }
 
 // Options as a host gives them in numbers, beside the bytes of its indent. width_set: 0 no print width, 1 the width given.
-// line_ending: 0 kept, 1 LF, 2 CRLF. final_newline: 0 as the source, 1 always.
+// line_ending: 0 kept, 1 LF, 2 CRLF. final_newline: 0 as the source, 1 always, 2 never.
 pub struct OptionNumbers {
     pub width_set: u64,
     pub width: u64,

@@ -166,6 +166,7 @@ newline-back : (n : FinalNewline) → finalNewlineNamed (finalNewlineNumber n) �
 unfolding finalNewlineNamed finalNewlineNumber
 newline-back FinalNewline.AsSource = refl
 newline-back FinalNewline.Always = refl
+newline-back FinalNewline.Never = refl
 
 pub settings-name : (o : Options) (s : Settings) → s ≡ settingsAnswer (SettingOutcome.Given o)
     → optionsOf (record {

@@ -71,6 +71,7 @@ lineEndingNumber (EndOfLine.Set LineEnding.Crlf) = 2
 unfoldable pub finalNewlineNumber : FinalNewline → ℕ
 finalNewlineNumber FinalNewline.AsSource = 0
 finalNewlineNumber FinalNewline.Always = 1
+finalNewlineNumber FinalNewline.Never = 2
 
 -- ---- what a call leaves
 

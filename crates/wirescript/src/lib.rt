@@ -30,7 +30,7 @@ pub extern "C" fn wirescript_text_kind_at(
     answer
 }
 
-// The text of a source. width_set: 0 no width, 1 the width given. line_ending: 0 kept, 1 LF, 2 CRLF. final_newline: 0 as the source, 1 always.
+// The text of a source. width_set: 0 no width, 1 the width given. line_ending: 0 kept, 1 LF, 2 CRLF. final_newline: 0 as the source, 1 always, 2 never.
 #[no_mangle]
 pub extern "C" fn wirescript_format(
     source: &[u8],

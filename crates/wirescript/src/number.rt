@@ -42,5 +42,6 @@ pub fn final_newline(newline: FinalNewline) -> u64
     match newline {
         FinalNewline::AsSource => 0,
         FinalNewline::Always => 1,
+        FinalNewline::Never => 2,
     }
 }

@@ -37,6 +37,66 @@ pub fn scratch_needed(source: &[u8]) -> usize {
     8 * source.len() + 256
 }
 
+/// What a call is formatted by: the Rust's options, and what the Rust doesn't have.
+#[derive(Clone, Debug, PartialEq, Eq)]
+pub struct Chosen {
+    pub rust: FormatOptions,
+    /// The text never ends in a line ending; the Rust's options then ask for one, which is
+    /// removed.
+    pub never: bool,
+}
+
+impl From<FormatOptions> for Chosen {
+    fn from(rust: FormatOptions) -> Self {
+        Self { rust, never: false }
+    }
+}
+
+impl Chosen {
+    /// The same with no ending after the last line.
+    pub fn never(mut self) -> Self {
+        (self.rust.insert_final_newline, self.never) = (true, true);
+        self
+    }
+
+    pub fn choices(&self) -> Choices<'_> {
+        let choices = choices_of(&self.rust);
+        let final_newline = if self.never {
+            2
+        } else {
+            choices.final_newline
+        };
+        Choices {
+            final_newline,
+            ..choices
+        }
+    }
+
+    /// The text and the counts of a source.
+    pub fn format(&self, source: &str) -> upstream::Counted {
+        let mut counted = upstream::format_counted(source, &self.rust);
+        if self.never {
+            let text = counted.text.strip_suffix('\n').expect("an ending");
+            counted.text = match self.ending(source) {
+                LineEnding::Lf => text.into(),
+                LineEnding::Crlf => text.strip_suffix('\r').expect("an ending").into(),
+            };
+        }
+        counted
+    }
+
+    /// The ending that the text's lines get.
+    fn ending(&self, source: &str) -> LineEnding {
+        let crlf = source.matches("\r\n").count();
+        let kept = if crlf > source.matches('\n').count() - crlf {
+            LineEnding::Crlf
+        } else {
+            LineEnding::Lf
+        };
+        self.rust.end_of_line.unwrap_or(kept)
+    }
+}
+
 /// The Rust's options as numbers.
 pub fn choices_of(options: &FormatOptions) -> Choices<'_> {
     Choices {
@@ -55,8 +115,13 @@ pub fn choices_of(options: &FormatOptions) -> Choices<'_> {
 impl Call {
     /// A call with what it needs.
     pub fn new(source: impl Into<Vec<u8>>, options: &FormatOptions) -> Self {
+        Self::chosen(source, &options.clone().into())
+    }
+
+    /// The same where the Rust lacks an option.
+    pub fn chosen(source: impl Into<Vec<u8>>, options: &Chosen) -> Self {
         let needed = Size::Needed(0);
-        Self::of(source.into(), choices_of(options), needed, needed)
+        Self::of(source.into(), options.choices(), needed, needed)
     }
 
     pub fn of(source: Vec<u8>, s: Choices, output: Size, scratch: Size) -> Self {
@@ -86,13 +151,13 @@ impl Call {
         self.scratch.of(scratch_needed(&self.source))
     }
 
-    /// The Rust's options, if the numbers name choices and the indent is allowed.
-    pub fn options(&self) -> Option<FormatOptions> {
+    /// What the numbers choose, if they name choices and the indent is allowed.
+    pub fn options(&self) -> Option<Chosen> {
         let allowed = self.indent.len() <= 64 && self.indent.iter().all(|b| b" \t".contains(b));
-        if !allowed || self.width_set > 1 || self.final_newline > 1 {
+        if !allowed || self.width_set > 1 || self.final_newline > 2 {
             return None;
         }
-        Some(FormatOptions {
+        let rust = FormatOptions {
             indent: String::from_utf8(self.indent.clone()).ok()?,
             print_width: (self.width_set == 1).then_some(self.width as usize),
             end_of_line: match self.line_ending {
@@ -102,6 +167,12 @@ impl Call {
                 _ => return None,
             },
             insert_final_newline: self.final_newline == 1,
+        };
+        let chosen = Chosen::from(rust);
+        Some(if self.final_newline == 2 {
+            chosen.never()
+        } else {
+            chosen
         })
     }
 }

@@ -1,6 +1,6 @@
 //! One comparison with the Rust: answers, every byte lent, and the bytes around them.
 
-use crate::call::{Call, Outcome, scratch_needed};
+use crate::call::{Call, Chosen, Outcome, scratch_needed};
 use crate::library::Library;
 use crate::model;
 use crate::safe::SafeCall;
@@ -121,12 +121,12 @@ impl Buffers {
     fn step(
         &mut self,
         call: &Call,
-        found: Option<&FormatOptions>,
+        found: Option<&Chosen>,
         run: &dyn Fn(&mut [u8]) -> Settings,
     ) -> Option<String> {
         let room = call
             .output
-            .of(found.map_or(0, |options| options.indent.len()));
+            .of(found.map_or(0, |options| options.rust.indent.len()));
         let must = model::settled(found, room);
         let output = lend(&mut self.output, room);
         let answer = run(&mut self.output[output.clone()]);

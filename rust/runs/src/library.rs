@@ -1,9 +1,8 @@
 //! What is compared with the Rust.
 
-use crate::call::{Call, Size};
+use crate::call::{Call, Chosen, Size};
 use crate::model;
 use crate::safe::{self, SafeCall, Told};
-use upstream::FormatOptions;
 use wirescript_format::Formatter;
 use wirescript_format::raw::{self, Answer, Choices, Kind, Resolved, Settings};
 
@@ -108,7 +107,7 @@ impl Standin {
         Call::of(source.into(), s, Size::Fixed(output), Size::Fixed(scratch))
     }
 
-    fn settle(&self, options: Option<&FormatOptions>, output: &mut [u8]) -> Settings {
+    fn settle(&self, options: Option<&Chosen>, output: &mut [u8]) -> Settings {
         let settled = model::settled(options, output.len());
         let (indent, rest) = output.split_at_mut(settled.indent.len());
         indent.copy_from_slice(&settled.indent);

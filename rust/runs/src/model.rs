@@ -1,10 +1,10 @@
 //! What each call must come to: the Rust's answers, and the refusals that the Rust
 //! doesn't have.
 
-use crate::call::{Call, Outcome, Settled, choices_of, scratch_needed};
+use crate::call::{Call, Chosen, Outcome, Settled, scratch_needed};
 use ec4rs::Properties;
 use ec4rs::property::{EndOfLine, FinalNewline, IndentSize, IndentStyle, MaxLineLen, TabWidth};
-use upstream::{FormatOptions, TextKind};
+use upstream::TextKind;
 use wirescript_format::raw::{Answer, Kind, Resolved, Settings};
 
 const MAX_SOURCE: usize = 1_048_576;
@@ -23,7 +23,7 @@ pub fn text_of(call: &Call) -> Result<upstream::Counted, (u64, u64)> {
         return Err((3, needed as u64));
     }
     match std::str::from_utf8(&call.source) {
-        Ok(source) => Ok(upstream::format_counted(source, &options)),
+        Ok(source) => Ok(options.format(source)),
         Err(error) => Err((4, error.valid_up_to() as u64)),
     }
 }
@@ -92,28 +92,43 @@ pub fn length(found: &Result<upstream::Counted, (u64, u64)>) -> usize {
 
 /// The options that `indent_with` gives; `None` is refusal 2. A call's options are what is
 /// changed.
-pub fn indent_with(call: &Call, tabs: u64, size: u64) -> Option<FormatOptions> {
+pub fn indent_with(call: &Call, tabs: u64, size: u64) -> Option<Chosen> {
     let options = call.options()?;
-    (tabs <= 1 && size <= 64).then(|| options.indent_with(tabs == 1, size as usize))
+    (tabs <= 1 && size <= 64).then(|| Chosen {
+        rust: options.rust.indent_with(tabs == 1, size as usize),
+        ..options
+    })
 }
 
 /// The options that the `.editorconfig` step gives; `None` is refusal 2.
-pub fn editorconfig(call: &Call, values: Resolved) -> Option<FormatOptions> {
+pub fn editorconfig(call: &Call, values: Resolved) -> Option<Chosen> {
     configured(call.options()?, properties(values)?)
 }
 
-/// The same of options and values that are allowed.
-pub fn configured(options: FormatOptions, values: Properties) -> Option<FormatOptions> {
+/// The same of options and values that are allowed. `insert_final_newline = false` gives never, as the
+/// specification says; the Rust keeps the source's own ending.
+pub fn configured(options: Chosen, values: Properties) -> Option<Chosen> {
     // the size that the step resolves to
     let size = match (values.size, values.tab) {
         (Some(IndentSize::Value(n)), _) | (_, Some(TabWidth::Value(n))) => n,
         _ => 0,
     };
-    (size <= 64).then(|| upstream::with_resolved(options, values))
+    if size > 64 {
+        return None;
+    }
+    let set = Chosen {
+        rust: upstream::with_resolved(options.rust, values),
+        never: false,
+    };
+    Some(match values.newline {
+        Some(FinalNewline::Value(false)) => set.never(),
+        None if options.never => set.never(),
+        _ => set,
+    })
 }
 
 /// What a setting step leaves where the output has `room`.
-pub fn settled(options: Option<&FormatOptions>, room: usize) -> Settled {
+pub fn settled(options: Option<&Chosen>, room: usize) -> Settled {
     let refused = |refusal, place| Settled {
         answer: Settings {
             refusal,
@@ -125,11 +140,11 @@ pub fn settled(options: Option<&FormatOptions>, room: usize) -> Settled {
     let Some(options) = options else {
         return refused(2, 0);
     };
-    let length = options.indent.len();
+    let length = options.rust.indent.len();
     if length > room {
         return refused(5, length);
     }
-    let s = choices_of(options);
+    let s = options.choices();
     Settled {
         answer: Settings {
             refusal: 0,

@@ -1,13 +1,12 @@
 //! Calls of the host crate's safe functions: what they are given, what they must tell by the Rust,
 //! and what they tell.
 
-use crate::call::{Call, Size};
+use crate::call::{Call, Chosen, Size};
 use crate::model;
 use ec4rs::Properties;
 use ec4rs::property;
-use upstream::FormatOptions;
 use wirescript_format::{
-    EditorConfig, EndOfLine, Formatted, Formatter, IndentSize, IndentStyle, LineEnding,
+    EditorConfig, EndOfLine, FinalNewline, Formatted, Formatter, IndentSize, IndentStyle, LineEnding,
     MaxLineLength, Options, TextKind,
 };
 
@@ -18,7 +17,7 @@ pub enum SafeCall {
     /// By a formatter whose texts have at most so many bytes, or by the function `format`.
     Format {
         source: Vec<u8>,
-        options: FormatOptions,
+        options: Chosen,
         most: Option<Size>,
     },
     Kind {
@@ -27,12 +26,12 @@ pub enum SafeCall {
         column: u64,
     },
     Indent {
-        options: FormatOptions,
+        options: Chosen,
         tabs: bool,
         size: u64,
     },
     Config {
-        options: FormatOptions,
+        options: Chosen,
         values: Properties,
     },
 }
@@ -60,7 +59,7 @@ impl SafeCall {
                 source,
                 options,
                 most,
-            } => return must_format(&Call::new(source.clone(), options), *most),
+            } => return must_format(&Call::chosen(source.clone(), options), *most),
             Self::Kind {
                 source,
                 line,
@@ -71,11 +70,11 @@ impl SafeCall {
                 tabs,
                 size,
             } => {
-                let call = Call::new("", options);
+                let call = Call::chosen("", options);
                 must_settle(model::indent_with(&call, u64::from(*tabs), *size).as_ref())
             }
             Self::Config { options, values } => {
-                let options = Call::new("", options).options();
+                let options = Call::chosen("", options).options();
                 must_settle(options.and_then(|o| model::configured(o, *values)).as_ref())
             }
         };
@@ -110,14 +109,15 @@ fn must_kind(source: &[u8], line: u64, column: u64) -> Told {
     }
 }
 
-fn must_settle(options: Option<&FormatOptions>) -> Told {
+fn must_settle(options: Option<&Chosen>) -> Told {
     options.map_or(Told::Refused(2, 0), |options| {
         Told::Options(options_of(options))
     })
 }
 
-/// The host crate's options that are the Rust's.
-pub fn options_of(options: &FormatOptions) -> Options {
+/// The host crate's options that are these.
+pub fn options_of(chosen: &Chosen) -> Options {
+    let options = &chosen.rust;
     Options::new()
         .indent(&*options.indent)
         .width(options.print_width.map(|width| width as u64))
@@ -126,7 +126,11 @@ pub fn options_of(options: &FormatOptions) -> Options {
             Some(upstream::LineEnding::Lf) => LineEnding::Lf,
             Some(upstream::LineEnding::Crlf) => LineEnding::Crlf,
         })
-        .final_newline(options.insert_final_newline)
+        .final_newline(match (chosen.never, options.insert_final_newline) {
+            (true, _) => FinalNewline::Never,
+            (false, true) => FinalNewline::Always,
+            (false, false) => FinalNewline::AsSource,
+        })
 }
 
 /// The host crate's values that are the Rust's.

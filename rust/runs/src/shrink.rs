@@ -107,14 +107,14 @@ fn safe_candidates(call: &SafeCall, take: &mut dyn FnMut(SafeCall) -> bool) -> b
         } => {
             let with = |source: Vec<u8>, width: Option<usize>| {
                 let mut options = options.clone();
-                options.print_width = width;
+                options.rust.print_width = width;
                 SafeCall::Format {
                     source,
                     options,
                     most: *most,
                 }
             };
-            let width = options.print_width;
+            let width = options.rust.print_width;
             sources(source, &mut |s| take(with(s, width)))
                 || width.is_some_and(|w| w > 0 && take(with(source.clone(), Some(w / 2))))
         }
@@ -133,10 +133,11 @@ fn safe_candidates(call: &SafeCall, take: &mut dyn FnMut(SafeCall) -> bool) -> b
     }
 }
 
-const PLAINER: [fn(&mut Call); 8] = [
+const PLAINER: [fn(&mut Call); 9] = [
     |c| c.output = Size::Needed(0),
     |c| c.scratch = Size::Needed(0),
     |c| c.final_newline = c.final_newline.min(1),
+    |c| c.final_newline = c.final_newline.min(2),
     |c| c.line_ending = 0,
     |c| c.indent.truncate(2),
     |c| c.width_set = 0,

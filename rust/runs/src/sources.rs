@@ -330,7 +330,7 @@ pub fn call(random: &mut Random) -> Call {
         2 => call.indent = b" q".into(),
         3 => call.width_set = 2,
         4 => call.line_ending = 3,
-        5 => call.final_newline = 2,
+        5 => call.final_newline = 3,
         6 => call.indent = b"\xc2\xa0".into(),
         7 => call.width_set = u64::MAX,
         _ => {}

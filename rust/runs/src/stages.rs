@@ -20,8 +20,26 @@ pub struct Stage {
 }
 
 impl Stage {
-    pub fn check(&self, number: u64) -> Check {
+    /// The check of a number, in whose options the Rust has every choice.
+    pub fn beside_rust(&self, number: u64) -> Check {
         (self.make)(number)
+    }
+
+    /// The check of a number. A third of the texts of every stage never end in a line ending.
+    pub fn check(&self, number: u64) -> Check {
+        let mut check = self.beside_rust(number);
+        if number % 3 == 2 {
+            match &mut check {
+                Check::Format(call) if call.final_newline < 2 => call.final_newline = 2,
+                Check::Safe(
+                    SafeCall::Format { options, .. }
+                    | SafeCall::Indent { options, .. }
+                    | SafeCall::Config { options, .. },
+                ) => *options = options.clone().never(),
+                _ => {}
+            }
+        }
+        check
     }
 
     fn new(name: &str, count: Option<u64>, make: impl Fn(u64) -> Check + Sync + 'static) -> Self {
@@ -120,12 +138,12 @@ pub fn all(seed: u64) -> Vec<Stage> {
 fn safe(r: &mut Random) -> SafeCall {
     match r.below(12) {
         0 => SafeCall::Indent {
-            options: loose(r),
+            options: loose(r).into(),
             tabs: r.one_in(2),
             size: SIZES[r.below(SIZES.len())],
         },
         1 => SafeCall::Config {
-            options: loose(r),
+            options: loose(r).into(),
             values: sources::values(r),
         },
         2 => SafeCall::Kind {
@@ -146,7 +164,7 @@ fn safe(r: &mut Random) -> SafeCall {
             };
             SafeCall::Format {
                 source,
-                options,
+                options: options.into(),
                 most: (!r.one_in(4)).then(|| sources::room(r)),
             }
         }
@@ -331,7 +349,7 @@ fn safe_formats(source: &[u8], options: &FormatOptions) -> Vec<Check> {
         .map(|most| {
             Check::Safe(SafeCall::Format {
                 source: source.into(),
-                options: options.clone(),
+                options: options.clone().into(),
                 most,
             })
         })
@@ -377,7 +395,7 @@ fn safe_indents() -> Vec<Check> {
     for options in starting_options() {
         for (tabs, size) in [(true, 8), (false, 3), (true, 65), (false, 64), (false, 65)] {
             checks.push(Check::Safe(SafeCall::Indent {
-                options: options.clone(),
+                options: options.clone().into(),
                 tabs,
                 size,
             }));
@@ -392,7 +410,7 @@ fn safe_rules() -> Vec<Check> {
         if let Check::Format(call) = check
             && let Some(options) = call.options()
         {
-            checks.extend(safe_formats(&call.source, &options));
+            checks.extend(safe_formats(&call.source, &options.rust));
         }
     }
     checks
@@ -594,6 +612,7 @@ fn starting_calls() -> Vec<Call> {
     add(|c| c.width = u64::MAX);
     add(|c| c.line_ending = 3);
     add(|c| c.final_newline = 2);
+    add(|c| c.final_newline = 3);
     for size in [
         Size::Needed(-1),
         Size::Needed(7),

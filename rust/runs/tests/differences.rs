@@ -44,6 +44,7 @@ fn comments_that_the_rust_contradicts() {
     }
 }
 
+/// So does the Rust; here the specification stands, and the text has none.
 #[test]
 fn final_newline_false_keeps_the_source_s_own() {
     let options = stepped(Properties {

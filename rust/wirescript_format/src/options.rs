@@ -11,13 +11,24 @@ pub enum LineEnding {
     Crlf,
 }
 
+/// Whether the text ends in a line ending.
+#[derive(Clone, Copy, Debug, Default, PartialEq, Eq)]
+pub enum FinalNewline {
+    /// If the source does.
+    AsSource,
+    #[default]
+    Always,
+    /// Whatever the source ends in; an empty text stays empty.
+    Never,
+}
+
 /// What a host chooses. The defaults: two spaces, width 100, ending kept, final newline.
 #[derive(Clone, Debug, PartialEq, Eq)]
 pub struct Options {
     pub(crate) indent: String,
     pub(crate) width: Option<u64>,
     pub(crate) line_ending: LineEnding,
-    pub(crate) final_newline: bool,
+    pub(crate) final_newline: FinalNewline,
 }
 
 impl Default for Options {
@@ -26,7 +37,7 @@ impl Default for Options {
             indent: "  ".into(),
             width: Some(Self::DEFAULT_WIDTH),
             line_ending: LineEnding::Kept,
-            final_newline: true,
+            final_newline: FinalNewline::Always,
         }
     }
 }
@@ -59,10 +70,19 @@ impl Options {
         self
     }
 
-    /// End the text with a line ending. When false, it has one if the source has.
+    /// Whether the text ends in a line ending.
+    ///
+    /// ```
+    /// use wirescript_format::{FinalNewline, Options, format};
+    ///
+    /// let text = |choice| format("a\n\n", &Options::new().final_newline(choice)).map(|f| f.text);
+    /// assert_eq!(text(FinalNewline::Always).as_deref(), Ok("a\n"));
+    /// assert_eq!(text(FinalNewline::AsSource).as_deref(), Ok("a\n"));
+    /// assert_eq!(text(FinalNewline::Never).as_deref(), Ok("a"));
+    /// ```
     #[must_use]
-    pub fn final_newline(mut self, always: bool) -> Self {
-        self.final_newline = always;
+    pub fn final_newline(mut self, final_newline: FinalNewline) -> Self {
+        self.final_newline = final_newline;
         self
     }
 
@@ -117,7 +137,11 @@ impl Options {
                 LineEnding::Lf => 1,
                 LineEnding::Crlf => 2,
             },
-            final_newline: u64::from(self.final_newline),
+            final_newline: match self.final_newline {
+                FinalNewline::AsSource => 0,
+                FinalNewline::Always => 1,
+                FinalNewline::Never => 2,
+            },
         }
     }
 
@@ -134,7 +158,11 @@ impl Options {
                 1 => LineEnding::Lf,
                 _ => LineEnding::Crlf,
             },
-            final_newline: set.final_newline == 1,
+            final_newline: match set.final_newline {
+                0 => FinalNewline::AsSource,
+                1 => FinalNewline::Always,
+                _ => FinalNewline::Never,
+            },
         })
     }
 }
@@ -174,6 +202,7 @@ pub struct EditorConfig {
     pub tab_width: Option<u64>,
     pub max_line_length: Option<MaxLineLength>,
     pub end_of_line: Option<EndOfLine>,
+    /// `false` gives [`FinalNewline::Never`], as the specification says.
     pub insert_final_newline: Option<bool>,
 }
 
@@ -232,7 +261,7 @@ mod tests {
             .indent("\t")
             .width(None)
             .line_ending(LineEnding::Crlf)
-            .final_newline(false);
+            .final_newline(FinalNewline::AsSource);
         let choices = Choices {
             indent: b"\t",
             width_set: 0,
@@ -254,7 +283,7 @@ mod tests {
             .indent("\t")
             .width(None)
             .line_ending(LineEnding::Lf)
-            .final_newline(false);
+            .final_newline(FinalNewline::AsSource);
         assert_eq!(Options::of(set, b"\t\0"), Ok(wanted));
         set.refusal = 2;
         assert_eq!(Options::of(set, b"\t\0"), Err(Refusal::BadOption));

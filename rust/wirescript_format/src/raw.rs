@@ -37,7 +37,7 @@ pub struct Kinds {
 }
 
 /// Options as numbers. `width_set`: 0 no width, 1 the width. `line_ending`: 0 kept, 1 LF,
-/// 2 CRLF. `final_newline`: 0 as the source, 1 always. Other numbers name no choice.
+/// 2 CRLF. `final_newline`: 0 as the source, 1 always, 2 never. Other numbers name no choice.
 #[derive(Clone, Copy, Debug, PartialEq, Eq)]
 pub struct Choices<'a> {
     pub indent: &'a [u8],

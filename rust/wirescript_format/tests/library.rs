@@ -1,7 +1,7 @@
 //! The crate over the linked library.
 
 use wirescript_format::{
-    EditorConfig, EndOfLine, Formatter, IndentSize, IndentStyle, LineEnding, MAX_SOURCE,
+    EditorConfig, EndOfLine, FinalNewline, Formatter, IndentSize, IndentStyle, LineEnding, MAX_SOURCE,
     MaxLineLength, Options, Refusal, TextKind, format, text_kind_at,
 };
 
@@ -16,7 +16,11 @@ fn formats() {
     assert_eq!(text("f(a ,b)", &options), "f(a, b)\n");
     assert_eq!(text("}\nelse {", &options), "} else {\n");
     assert_eq!(text("{\na", &options.clone().indent("\t")), "{\n\ta\n");
-    assert_eq!(text("a", &options.clone().final_newline(false)), "a");
+    let ending = |choice| options.clone().final_newline(choice);
+    assert_eq!(text("a", &ending(FinalNewline::AsSource)), "a");
+    assert_eq!(text("a\r\n", &ending(FinalNewline::AsSource)), "a\r\n");
+    assert_eq!(text("a\r\n\r\n", &ending(FinalNewline::Never)), "a");
+    assert_eq!(text("\n", &ending(FinalNewline::Never)), "");
     let crlf = options.clone().line_ending(LineEnding::Crlf);
     assert_eq!(text("a\nb", &crlf), "a\r\nb\r\n");
     assert_eq!(
@@ -125,7 +129,7 @@ fn setting_steps() {
         .indent("    ")
         .width(None)
         .line_ending(LineEnding::Crlf)
-        .final_newline(false);
+        .final_newline(FinalNewline::Never);
     assert_eq!(options.with_editorconfig(config), Ok(wanted));
     let unset = EditorConfig::default();
     assert_eq!(options.with_editorconfig(unset), Ok(options));

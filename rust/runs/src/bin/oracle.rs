@@ -18,7 +18,7 @@ const LONGEST_ANSWER: usize = 4000;
 
 /// A case, if the Rust has an answer to it and both are short enough.
 fn case(call: &Call) -> Option<Vec<u8>> {
-    let options = call.options()?;
+    let options = call.options().filter(|o| !o.never)?.rust;
     let source = str::from_utf8(&call.source).ok()?;
     if source.len() > LONGEST_SOURCE {
         return None;
@@ -72,7 +72,7 @@ fn cases(seed: u64, count: usize, out: &mut impl Write) -> io::Result<()> {
                 if stage.count.is_some_and(|n| number >= n) {
                     continue;
                 }
-                let Check::Format(call) = stage.check(number) else {
+                let Check::Format(call) = stage.beside_rust(number) else {
                     continue;
                 };
                 let Some(case) = case(&call) else {

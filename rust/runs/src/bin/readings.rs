@@ -3,11 +3,11 @@
 //!
 //!     readings [FILE...]
 
-use runs::call::Call;
+use runs::call::{Call, Chosen};
 use runs::compare::{Buffers, Check};
 use runs::library::Linked;
 use std::process::ExitCode;
-use upstream::{FormatOptions, format_counted};
+use upstream::FormatOptions;
 
 const LISTS: [&str; 2] = ["Examples.antt", "Readings.antt"];
 
@@ -40,19 +40,20 @@ fn literal(rest: &str) -> Option<(String, &str)> {
     None
 }
 
-fn options_of(word: &str) -> Option<FormatOptions> {
+fn options_of(word: &str) -> Option<Chosen> {
     let mut options = FormatOptions::default();
     match word.split_once(' ') {
         None if word == "defaults" => {}
+        None if word == "never" => return Some(Chosen::from(options).never()),
         None if word == "noFinalNewline" => options.insert_final_newline = false,
         Some(("atWidth", width)) => options.print_width = Some(width.parse().ok()?),
         _ => return None,
     }
-    Some(options)
+    Some(options.into())
 }
 
 /// A line of a list: options, source, text, imports split, blank names.
-fn case(line: &str) -> Option<(FormatOptions, String, String, usize, usize)> {
+fn case(line: &str) -> Option<(Chosen, String, String, usize, usize)> {
     let (_, rest) = line.split_once('(')?;
     let (word, rest) = rest.split_once(',')?;
     let options = options_of(word)?;
@@ -81,10 +82,10 @@ fn main() -> ExitCode {
         for line in list.lines().filter(|l| is_case(l)) {
             let (options, source, text, imports, blanks) =
                 case(line).unwrap_or_else(|| panic!("not a case: {line}"));
-            let rust = format_counted(&source, &options);
+            let rust = options.format(&source);
             let stands = (rust.text.as_str(), rust.imports_split, rust.blank_names)
                 == (text.as_str(), imports, blanks);
-            let check = Check::Format(Call::new(source, &options));
+            let check = Check::Format(Call::chosen(source, &options));
             let differs = Buffers::default().check(&Linked, &check);
             if !stands || differs.is_some() {
                 println!(

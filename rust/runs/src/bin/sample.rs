@@ -6,7 +6,7 @@
 //! alphabet's name and a length: `twelve:3` takes its sources from number SEED on, `twelve~3`
 //! some of them; `kinds/twelve:3` their text kinds.
 
-use runs::call::Call;
+use runs::call::{Call, Chosen};
 use runs::random::Random;
 use runs::{grammar, model, sources};
 use std::fmt::Write as _;
@@ -63,26 +63,36 @@ fn ending(ending: Option<LineEnding>) -> &'static str {
     }
 }
 
-fn newline(always: bool) -> &'static str {
-    if always {
-        "FinalNewline.Always"
-    } else {
-        "FinalNewline.AsSource"
+fn newline(o: &Chosen) -> &'static str {
+    match (o.never, o.rust.insert_final_newline) {
+        (true, _) => "FinalNewline.Never",
+        (false, true) => "FinalNewline.Always",
+        (false, false) => "FinalNewline.AsSource",
     }
 }
 
-fn options(o: &FormatOptions) -> String {
+fn options(o: &Chosen) -> String {
     format!(
         "opts {:?} {} {} {}",
-        o.indent,
-        width(o.print_width),
-        ending(o.end_of_line),
-        newline(o.insert_final_newline)
+        o.rust.indent,
+        width(o.rust.print_width),
+        ending(o.rust.end_of_line),
+        newline(o)
     )
 }
 
-fn format_case(source: &str, o: &FormatOptions) -> String {
-    let counted = upstream::format_counted(source, o);
+/// Options at random; a third of them with no ending after the last line.
+fn chosen(random: &mut Random, rust: FormatOptions) -> Chosen {
+    let chosen = Chosen::from(rust);
+    if random.one_in(3) {
+        chosen.never()
+    } else {
+        chosen
+    }
+}
+
+fn format_case(source: &str, o: &Chosen) -> String {
+    let counted = o.format(source);
     format!(
         "({}, {source:?}, {:?}, {}, {})",
         options(o),
@@ -244,6 +254,7 @@ fn config_case(random: &mut Random) -> String {
     o.indent = random
         .pick(&["", " ", "  ", "\t", "\t\t", "\t ", " \t", "     "])
         .into();
+    let o = chosen(random, o);
     let r = Resolved {
         style: random.below(3) as u64,
         size_kind: random.below(3) as u64,
@@ -255,7 +266,7 @@ fn config_case(random: &mut Random) -> String {
         ending: random.below(4) as u64,
         newline: random.below(3) as u64,
     };
-    let found = model::editorconfig(&Call::new("", &o), r);
+    let found = model::editorconfig(&Call::chosen("", &o), r);
     let refused = found.is_none();
     let style = ["Unset", "Tabs", "Spaces"][r.style as usize];
     let size = match r.size_kind {
@@ -283,8 +294,9 @@ fn config_case(random: &mut Random) -> String {
 
 fn indent_case(random: &mut Random) -> String {
     let o = sources::options(random);
+    let o = chosen(random, o);
     let (tabs, size) = (random.one_in(2), size(random));
-    let found = model::indent_with(&Call::new("", &o), u64::from(tabs), size);
+    let found = model::indent_with(&Call::chosen("", &o), u64::from(tabs), size);
     let refused = found.is_none();
     let after = options(&found.unwrap_or(o.clone()));
     format!("({}, {tabs}, {size}, {refused}, {after})", options(&o))
@@ -341,7 +353,8 @@ fn main() {
         "format" => {
             for _ in 0..count {
                 let source = sources::short(&mut random);
-                cases.push(format_case(&source, &sources::options(&mut random)));
+                let o = sources::options(&mut random);
+                cases.push(format_case(&source, &chosen(&mut random, o)));
             }
             FORMAT
         }
@@ -353,7 +366,7 @@ fn main() {
                 if random.one_in(2) {
                     o.print_width = Some(10 + random.below(50));
                 }
-                cases.push(format_case(&source, &o));
+                cases.push(format_case(&source, &chosen(&mut random, o)));
             }
             FORMAT
         }
@@ -384,7 +397,7 @@ fn main() {
                         print_width: Some(random.below(7)),
                         ..sources::options(&mut random)
                     };
-                    cases.push(format_case(&source, &o));
+                    cases.push(format_case(&source, &chosen(&mut random, o)));
                 }
                 FORMAT
             }

@@ -34,6 +34,7 @@ use Rattle.rules.proofs.StartsBytes.{on-decode}
 use Rattle.rules.proofs.LinesBytes.{dominant-encode, ends-lf-encode}
 use Rattle.rules.proofs.RefusalLaws.{test-on, test-off, pass, stop, one-test, goes-on, ends, source-short}
 use Rattle.rules.proofs.CallLaws.{Admitted, admitted, indent-valid, answer-well, answer-kept}
+use Rattle.quoted.proofs.C22.{c22-call}
 use Rattle.options.specs.Held.{heldNamed}
 use Rattle.options.specs.declared.FormatOptions.{FormatOptions}
 use Rattle.options.specs.declared.Changed.{Changed}
@@ -211,4 +212,5 @@ answered c r a out work w e =
       scratch = w .scratch;
       well = answer-well c a out i (w .output);
       kept = answer-kept c a out i (w .output);
+      quoted = c22-call c a out i (w .output);
     }

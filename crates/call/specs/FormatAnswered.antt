@@ -7,6 +7,7 @@ use Rattle.unicode.specs.Unicode.{decode, WellFormed}
 use Rattle.rules.specs.Choices.{optionsOf}
 use Rattle.rules.specs.Call.{Call, formatCall}
 use Rattle.rules.specs.Demand3.{Kept}
+use Rattle.rules.specs.Quoted.{QuotedKept}
 use Rattle.rules.specs.declared.Answer.{Answer}
 
 -- The answer r to the call c, and what its output and its scratch hold after it.
@@ -19,3 +20,6 @@ pub record FormatAnswered (c : Call) (r : Answer) (out work : List ℕ) : Type 0
   -- and its characters keep of the source's what demand 3 says, with the answer's counts
   pub kept : r .refusal ≡ 0
       → Kept (optionsOf (c .choices) .printWidth) (decode (c .source)) (decode (take (r .length) out)) (r .«imports_split») (r .«blank_names»)
+  -- and with no print width its quoted text
+  pub quoted : r .refusal ≡ 0 → c .choices .numbers .«width_set» ≡ 0
+      → QuotedKept (optionsOf (c .choices) .endOfLine) (decode (c .source)) (decode (take (r .length) out))

@@ -137,7 +137,7 @@ unfolding validOptions
 indent-valid c e = first-of-four (validIndent (c .indent)) _ _ _ e
 
 module _ (c : Call) (r : Outcome) (a : Accepted c r) where
-  indent-blank : allBlank (c .choices .indent) ≡ true
+  pub indent-blank : allBlank (c .choices .indent) ≡ true
   unfolding validIndent
   indent-blank =
       and-right (leb (length (c .choices .indent)) maxIndent) (allBlank (c .choices .indent))

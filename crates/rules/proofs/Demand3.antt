@@ -21,7 +21,7 @@ use Rattle.rules.proofs.LineLaws.{holds-lines}
 
 -- ---- the lines of a source hold all but its white space
 
-like-dropCr : (l : List ℕ) → Like (dropCr l) l
+pub like-dropCr : (l : List ℕ) → Like (dropCr l) l
 unfolding dropCr isWhite
 like-dropCr [] = like-refl []
 like-dropCr (c ∷ []) =
@@ -44,7 +44,7 @@ like-linesOf source = like-map dropCr like-dropCr (pieces (splitOn "\n" source))
 
 -- ---- joining adds white space only
 
-white-ending : (e : LineEnding) → White (asStr e)
+pub white-ending : (e : LineEnding) → White (asStr e)
 unfolding asStr isWhite
 white-ending LineEnding.Lf = (refl, tt)
 white-ending LineEnding.Crlf = (refl, (refl, tt))
@@ -56,7 +56,7 @@ flattenBack-dropEmpty ([] ∷ ls) = flattenBack-dropEmpty ls ∙ sym (append-nil
 flattenBack-dropEmpty ((c ∷ cs) ∷ ls) = refl
 
 module _ (eol : List ℕ) (white : White eol) where
-  like-joined : (ls : List (List ℕ)) → Like (joined eol ls) (flattenBack ls)
+  pub like-joined : (ls : List (List ℕ)) → Like (joined eol ls) (flattenBack ls)
   unfolding joined flattenBack
   like-joined [] = like-refl []
   like-joined (l ∷ []) = like-refl l

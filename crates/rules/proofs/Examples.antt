@@ -14,14 +14,17 @@ use Rattle.rules.proofs.Computing.{computing}
 abbrev pub Case : Type 0
 Case = Options × String × String × ℕ × ℕ
 
-abbrev pub atWidth : ℕ → Options
-atWidth n =
+abbrev pub withWidth : PrintWidth → Options
+withWidth w =
     record {
       indent = defaults .indent;
-      printWidth = PrintWidth.Columns n;
+      printWidth = w;
       endOfLine = defaults .endOfLine;
       insertFinalNewline = defaults .insertFinalNewline;
     }
+
+abbrev pub atWidth : ℕ → Options
+atWidth n = withWidth (PrintWidth.Columns n)
 
 abbrev ending : FinalNewline → Options
 ending n =

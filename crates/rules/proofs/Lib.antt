@@ -35,3 +35,4 @@ pub mod SplitSizes
 pub mod Readings
 pub mod OperatorReadings
 pub mod CallExamples
+pub mod QuotedExamples

@@ -82,7 +82,7 @@ flattenBack-dropBlank [] = refl
 flattenBack-dropBlank ([] ∷ ls) = sym (append-nil (flattenBack ls))
 flattenBack-dropBlank ((c ∷ cs) ∷ ls) = refl
 
-flattenBack-before : (f : Formatter) (line : List ℕ) → flattenBack (linesBefore f line) ≡ flattenBack (f .lines)
+pub flattenBack-before : (f : Formatter) (line : List ℕ) → flattenBack (linesBefore f line) ≡ flattenBack (f .lines)
 unfolding linesBefore
 flattenBack-before f line =
     choose-case (λ (r : List (List ℕ)). flattenBack r ≡ flattenBack (f .lines)) (λ t. flattenBack-dropBlank (f .lines)) (λ t. refl)

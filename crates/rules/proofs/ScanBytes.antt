@@ -22,7 +22,7 @@ use Rattle.rules.specs.declared.Carry.{Carry}
 use Rattle.rules.specs.declared.Mode.{Mode}
 use Rattle.rules.specs.declared.Mark.{Mark}
 use Rattle.rules.specs.Basics.{choose, startsWith}
-use Rattle.rules.specs.Scan.{long, one, inCode, inQuoted, inInterp, inInner, inBlock, inPrefab, markAt, nextOf, next, Cell, cell, charsOf, scan, final, begin, openAfter, classify, carryAfter, isLineComment, isCodeOrStr, before, from, inComment, codePart, commentPart, allCodeOrStr}
+use Rattle.rules.specs.Scan.{long, one, inCode, inQuoted, inInterp, inInner, inBlock, inPrefab, markAt, ordinary, nextOf, next, Cell, cell, charsOf, scan, final, begin, openAfter, classify, carryAfter, isLineComment, isCodeOrStr, before, from, inComment, codePart, commentPart, allCodeOrStr}
 use Rattle.rules.proofs.Choose.{choose-case}
 use Rattle.rules.proofs.StartsBytes.{allAscii, Steady, not-ascii, starts-encode}
 
@@ -37,22 +37,12 @@ encodeCells (x ∷ xs) = label (x .class) (encodeChar (x .ch)) ++ encodeCells xs
 
 -- ---- marks
 
--- the class of a character that means nothing in mode m
-pub ordinary : Mode → Class
-ordinary Mode.Code = Class.Code
-ordinary (Mode.Quoted q) = Class.Str
-ordinary (Mode.Interp q d) = Class.Str
-ordinary (Mode.Inner q d k) = Class.Str
-ordinary Mode.Line = Class.LineComment
-ordinary (Mode.Block d) = Class.BlockComment
-ordinary Mode.Prefab = Class.Prefab
-
 -- a mark that has no character left, with the class of an ordinary character in its mode
 abbrev pub rest : Mode → Mark
 rest m = one (ordinary m) m
 
 pub mark-high : (m : Mode) (b : ℕ) (s : List ℕ) → 0x80 ≤ b → markAt m (b ∷ s) ≡ rest m
-unfolding ordinary startsWith choose inCode inQuoted inInterp inInner inBlock inPrefab
+unfolding startsWith choose inCode inQuoted inInterp inInner inBlock inPrefab
 mark-high Mode.Code b s h = simp (not-ascii b)
 mark-high (Mode.Quoted true) b s h = simp (not-ascii b)
 mark-high (Mode.Quoted false) b s h = simp (not-ascii b)
@@ -120,7 +110,7 @@ fork s b x y p q = choose-case (Fit s) p (λ e. q)
 ruleset fits = (fork, fit-one, fit-pair, fit-starts)
 
 mark-fit : (m : Mode) (c : ℕ) (s : List ℕ) → Fit s (markAt m (c ∷ s))
-unfolding ordinary inCode inQuoted inInterp inInner inBlock inPrefab
+unfolding inCode inQuoted inInterp inInner inBlock inPrefab
 mark-fit Mode.Code c s = search fits depth 10
 mark-fit (Mode.Quoted q) c s = search fits depth 10
 mark-fit (Mode.Interp q d) c s = search fits depth 10

@@ -20,3 +20,6 @@ pub mod Call
 pub mod TextKind
 pub mod EditorConfig
 pub mod Demand3
+-- document 02
+pub mod Prefabs
+pub mod Quoted

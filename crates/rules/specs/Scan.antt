@@ -83,6 +83,16 @@ markAt Mode.Line s = one Class.LineComment Mode.Line
 markAt (Mode.Block d) s = inBlock d s
 markAt Mode.Prefab s = inPrefab s
 
+-- the class of a character that means nothing in mode m
+abbrev pub ordinary : Mode → Class
+ordinary Mode.Code = Class.Code
+ordinary (Mode.Quoted q) = Class.Str
+ordinary (Mode.Interp q d) = Class.Str
+ordinary (Mode.Inner q d k) = Class.Str
+ordinary Mode.Line = Class.LineComment
+ordinary (Mode.Block d) = Class.BlockComment
+ordinary Mode.Prefab = Class.Prefab
+
 -- one character on: the rest of the mark, or the next mark
 abbrev pub nextOf : ℕ → Class → Mode → List ℕ → Mark
 nextOf zero k m s = markAt m s
@@ -169,6 +179,13 @@ isCodeOrStr Class.Str = true
 isCodeOrStr Class.LineComment = false
 isCodeOrStr Class.BlockComment = false
 isCodeOrStr Class.Prefab = false
+
+abbrev pub isPrefab : Class → Bool
+isPrefab Class.Code = false
+isPrefab Class.Str = false
+isPrefab Class.LineComment = false
+isPrefab Class.BlockComment = false
+isPrefab Class.Prefab = true
 
 -- before the first character that passes the test, and from it on
 unfoldable pub before : (Cell → Bool) → List Cell → List Cell

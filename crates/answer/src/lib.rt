@@ -50,8 +50,10 @@ pub fn number_of(r: Refusal) -> u64
         Refusal::ScratchShort(_) => 3,
         Refusal::NotUtf8(_) => 4,
         Refusal::OutputShort(_) => 5,
+        Refusal::NoPlace => 6,
         Refusal::PlacesUnordered => 9,
         Refusal::KindsShort => 10,
+        Refusal::ListShort(_) => 16,
     }
 }
 
@@ -64,8 +66,10 @@ pub fn place_of(r: Refusal) -> u64
         Refusal::ScratchShort(needed) => needed as u64,
         Refusal::NotUtf8(prefix) => prefix as u64,
         Refusal::OutputShort(needed) => needed as u64,
+        Refusal::NoPlace => 0,
         Refusal::PlacesUnordered => 0,
         Refusal::KindsShort => 0,
+        Refusal::ListShort(needed) => needed as u64,
     }
 }
 

@@ -6,7 +6,7 @@ use native.Mathlib.Nat.{add-zero}
 use native.Mathlib.Numerals.{add-one}
 use native.Mathlib.Omega.{arith}
 use lib.ListN.{length, getD, take, drop, set, length-append, length-drop, length-set, take-append-drop, drop-of-length-le}
-use lib.Seq.{length-take-le, take-all, take-nil, take-at, drop-at, set-at, drop-cons, append-snoc, take-append-le, drop-append-le, drop-drop, paste, set-split, take-suc, getD-drop, getD-set-same}
+use lib.Seq.{length-take-le, take-add, take-all, take-nil, take-at, drop-at, set-at, drop-cons, append-snoc, take-append-le, drop-append-le, drop-drop, paste, set-split, take-suc, getD-drop, getD-set-same}
 use Rattle.buffer.specs.Buffer.{part, put}
 
 -- a part that runs to the end, `&s[a..]`
@@ -108,6 +108,13 @@ part-more d a e h k =
     let n : e + 1 - a ≡ suc (e - a) = omega arith in
     let m : a + (e - a) ≡ e = omega arith in
     rw (n, take-suc (drop a d) (e - a) 0 (omega (arith, length-drop a d)), getD-drop, m)
+
+-- a part in two
+pub part-join : (s : List ℕ) (i a e : ℕ) → i ≤ a → a ≤ e → part s i e ≡ part s i a ++ part s a e
+part-join s i a e h k =
+    let n : e - i ≡ (a - i) + (e - a) = omega arith in
+    let m : i + (a - i) ≡ a = omega arith in
+    rw (n, take-add (a - i) (e - a) (drop i s), drop-drop (a - i) i s, m)
 
 -- a push: the stack is the part from base on, n high
 pub part-push : (d : List ℕ) (base n v : ℕ) → base + n < length d

@@ -1,7 +1,7 @@
 -- Lines, cut on bytes.
 --     Ending                        the loops of `past_blocks` and `line_end`, for the first LF
 --     Last, More, cut, whole, part-of   a text's pieces: all of it, or up to its first LF and from there on
---     cr-none, cr-goes, cr-stays    one CR at a line's end; cr-fits
+--     cr-none, cr-goes, cr-stays    one CR at a line's end; cr-fits, cr-scalars
 use Prim.Native.Nat.{ℕ, zero, suc, _+_, _-_, _<_, _≤_, zero-le}
 use native.Mathlib.Omega.{arith}
 use native.Mathlib.Nat.{le-refl, add-zero}
@@ -9,13 +9,14 @@ use native.Mathlib.Numerals.{add-one}
 use mathlib.Core.Bool.{Bool, true, false, _||_, true≢false}
 use mathlib.Core.List.{List, [], _∷_}
 use mathlib.Core.Path.{_≡_, refl, sym, ap, subst, _∙_}
-use lib.Dec.{eqb}
+use lib.Dec.{T, eqb}
 use borrow.Author.Tests.{eq-eqb, ne-eqb, eqb-true, eqb-false}
 use lib.ListN.{length, getD, take, drop, length-take, length-drop, drop-of-length-le}
 use lib.Seq.{drop-cons}
+use Rattle.unicode.specs.Unicode.{isScalar, Scalars}
 use Rattle.unicode.specs.Places.{NoneAmong}
 use Rattle.unicode.proofs.Tests.{by-test}
-use Rattle.rules.specs.Basics.{choose, Pieces, pieces, atSep, splitOn}
+use Rattle.rules.specs.Basics.{choose, is, Pieces, pieces, atSep, splitOn}
 use Rattle.rules.specs.Lines.{dropCr}
 use Rattle.line_ends.specs.LineEnds.{lfAt, Ending, LineEnd}
 
@@ -151,3 +152,14 @@ pub cr-fits : (l : List ℕ) → length (dropCr l) ≤ length l
 cr-fits [] = rw (← cr-none [] refl) zero-le
 cr-fits (c ∷ []) = by-test (eqb c 13) (λ e. rw (cr-here c (eqb-true c 13 e)) zero-le) (λ e. rw (cr-other c (eqb-false c 13 e)) (le-refl 1))
 cr-fits (c ∷ d ∷ ds) = rw cr-more (let r = cr-fits (d ∷ ds) in omega arith)
+
+one-scalar : (t : Bool) (c : ℕ) → T (isScalar c) → Scalars (choose t [] (c ∷ []))
+unfolding choose
+one-scalar true c s = tt
+one-scalar false c s = (s, tt)
+
+pub cr-scalars : (l : List ℕ) → Scalars l → Scalars (dropCr l)
+unfolding dropCr
+cr-scalars [] s = tt
+cr-scalars (c ∷ []) s = one-scalar (is "\r" c) c (s .0)
+cr-scalars (c ∷ d ∷ ds) s = (s .0, cr-scalars (d ∷ ds) (s .1))

@@ -6,10 +6,11 @@ use mathlib.Core.Path.{_≡_, sym, ap, subst, _∙_}
 use lib.Dec.{T}
 use Rattle.unicode.specs.Unicode.{isScalar, Scalars, encode, decode, WellFormed}
 use Rattle.unicode.proofs.Decode.{decode-scalars}
-use Rattle.rules.specs.Basics.{choose, is, Pieces, pieces, atSep, splitOn}
+use Rattle.rules.specs.Basics.{is, Pieces, pieces, atSep, splitOn}
 use Rattle.rules.specs.Lines.{dropCr, linesOf}
 use Rattle.rules.proofs.LinesBytes.{lines-encode}
 use Rattle.rules.proofs.StartsBytes.{on-decode}
+use Rattle.line_ends.proofs.LineCuts.{cr-scalars}
 use Rattle.split.specs.Text.{AllWell}
 use Rattle.split.proofs.TextLaws.{AllScalars, all-well, all-decode}
 
@@ -22,17 +23,6 @@ pieces-scalars : (l : List ℕ) → Scalars l → AllScalars (pieces (splitOn "\
 unfolding splitOn
 pieces-scalars [] s = (tt, tt)
 pieces-scalars (c ∷ l) s = sep-scalars (is "\n" c) c (splitOn "\n" l) (s .0) (pieces-scalars l (s .1))
-
-one-scalar : (t : Bool) (c : ℕ) → T (isScalar c) → Scalars (choose t [] (c ∷ []))
-unfolding choose
-one-scalar true c s = tt
-one-scalar false c s = (s, tt)
-
-cr-scalars : (l : List ℕ) → Scalars l → Scalars (dropCr l)
-unfolding dropCr
-cr-scalars [] s = tt
-cr-scalars (c ∷ []) s = one-scalar (is "\r" c) c (s .0)
-cr-scalars (c ∷ d ∷ ds) s = (s .0, cr-scalars (d ∷ ds) (s .1))
 
 each-scalars : (ps : List (List ℕ)) → AllScalars ps → AllScalars (map dropCr ps)
 each-scalars [] s = tt

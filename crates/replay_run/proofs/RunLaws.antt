@@ -12,7 +12,7 @@ use borrow.Author.Tests.{lt-ltb, le-ltb, le-leb, lt-leb, eq-eqb, ne-eqb}
 use lib.Dec.{eqb}
 use lib.ListN.{length, getD, take, length-take}
 use Rattle.unicode.proofs.Tests.{by-test}
-use Rattle.rules.proofs.Prefix.{same-eq}
+use Rattle.rules.proofs.Prefix.{same-eq, same-itself}
 use Rattle.buffer.specs.Buffer.{part}
 use Rattle.rules.specs.Basics.{choose, same}
 use Rattle.rules.specs.Call.{Call, outcomeOf, answerOf, outputOf, textOf}
@@ -27,17 +27,12 @@ use Rattle.replay_run.specs.declared.Progress.{Progress}
 
 -- ---- equal texts
 
-same-refl : (a : List ℕ) → same a a ≡ true
-unfolding same
-same-refl [] = refl
-same-refl (x ∷ a) = rw (eq-eqb x x refl, same-refl a)
-
 -- a bool that is true just if a and b are equal
 abbrev Tells : List ℕ → List ℕ → Bool → Type 0
 Tells a b r = (r ≡ true → a ≡ b) × (a ≡ b → r ≡ true)
 
 same-told : (a b : List ℕ) (r : Bool) → Tells a b r → r ≡ same a b
-same-told a b true t = sym (rw (t .0 refl) (same-refl b))
+same-told a b true t = sym (rw (t .0 refl) (same-itself b))
 same-told a b false t =
     by-test (same a b)
     (λ e. absurd (let y : false ≡ true = t .1 (same-eq a b e) in let z : _≡_ {A = ℕ} 0 1 = cc in omega arith)) (λ e. sym e)

@@ -14,7 +14,7 @@ use mathlib.Core.List.{List, [], _∷_, _++_}
 use mathlib.Core.Path.{_≡_, refl, sym, ap, _∙_}
 use lib.Dec.{eqb}
 use lib.ListN.{length, take, drop, getD, List·getD-append}
-use borrow.Author.Tests.{eqb-true, eqb-false, ne-eqb, lt-leb, not-true, not-false}
+use borrow.Author.Tests.{eq-eqb, eqb-true, eqb-false, ne-eqb, lt-leb, not-true, not-false}
 use Rattle.unicode.specs.Unicode.{within, isWhite}
 use Rattle.unicode.proofs.Tests.{by-test, and-left, and-right, in-range, split}
 use Rattle.unicode.proofs.Trim.{White}
@@ -48,6 +48,11 @@ same-eq [] [] h = refl
 same-eq [] (y ∷ ys) h = never h refl
 same-eq (x ∷ xs) [] h = never h refl
 same-eq (x ∷ xs) (y ∷ ys) h = rw (eqb-true x y (and-left (eqb x y) (same xs ys) h), same-eq xs ys (and-right (eqb x y) (same xs ys) h))
+
+pub same-itself : (k : List ℕ) → same k k ≡ true
+unfolding same
+same-itself [] = refl
+same-itself (x ∷ xs) = rw (eq-eqb x x refl, same-itself xs)
 
 one-of : (p : List ℕ → Bool) (ws : List (List ℕ)) (w : List ℕ) → allOf p ws ≡ true → oneOf ws w ≡ true → p w ≡ true
 unfolding oneOf allOf

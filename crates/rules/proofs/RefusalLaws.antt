@@ -27,8 +27,10 @@ numbered Refusal.BadOption e = omega arith
 numbered (Refusal.ScratchShort n) e = omega arith
 numbered (Refusal.NotUtf8 n) e = omega arith
 numbered (Refusal.OutputShort n) e = omega arith
+numbered Refusal.NoPlace e = omega arith
 numbered Refusal.PlacesUnordered e = omega arith
 numbered Refusal.KindsShort e = omega arith
+numbered (Refusal.ListShort n) e = omega arith
 
 -- ---- one test
 

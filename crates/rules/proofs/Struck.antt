@@ -130,7 +130,7 @@ flatten-reverse (l ∷ ls) acc = flatten-reverse ls (l ∷ acc) ∙ sym (append-
 
 -- ---- what is kept
 
-strike-append : (a b : List ℕ) → strike (a ++ b) ≡ strike a ++ strike b
+pub strike-append : (a b : List ℕ) → strike (a ++ b) ≡ strike a ++ strike b
 unfolding strike
 strike-append a b = keep-append isKept a b
 

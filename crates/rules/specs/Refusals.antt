@@ -24,8 +24,10 @@ numberOf Refusal.BadOption = 2
 numberOf (Refusal.ScratchShort needed) = 3
 numberOf (Refusal.NotUtf8 prefix) = 4
 numberOf (Refusal.OutputShort needed) = 5
+numberOf Refusal.NoPlace = 6
 numberOf Refusal.PlacesUnordered = 9
 numberOf Refusal.KindsShort = 10
+numberOf (Refusal.ListShort needed) = 16
 
 abbrev pub placeOf : Refusal → ℕ
 placeOf Refusal.SourceTooLong = maxSource
@@ -33,8 +35,10 @@ placeOf Refusal.BadOption = 0
 placeOf (Refusal.ScratchShort needed) = needed
 placeOf (Refusal.NotUtf8 prefix) = prefix
 placeOf (Refusal.OutputShort needed) = needed
+placeOf Refusal.NoPlace = 0
 placeOf Refusal.PlacesUnordered = 0
 placeOf Refusal.KindsShort = 0
+placeOf (Refusal.ListShort needed) = needed
 
 -- a test refuses if it applies
 unfoldable pub refuseIf : Bool → Refusal → Verdict
@@ -68,6 +72,10 @@ illFormed source = refuseIf (not (wellFormed source)) (Refusal.NotUtf8 (prefixLe
 unfoldable pub shortOutput : ℕ → ℕ → Verdict
 shortOutput needed output = refuseIf (ltb output needed) (Refusal.OutputShort needed)
 
+-- 6
+unfoldable pub noPlace : Bool → Verdict
+noPlace isPlace = refuseIf (not isPlace) Refusal.NoPlace
+
 -- 9
 unfoldable pub unordered : Bool → Verdict
 unordered inOrder = refuseIf (not inOrder) Refusal.PlacesUnordered
@@ -75,3 +83,7 @@ unordered inOrder = refuseIf (not inOrder) Refusal.PlacesUnordered
 -- 10
 unfoldable pub shortKinds : ℕ → ℕ → Verdict
 shortKinds needed kinds = refuseIf (ltb kinds needed) Refusal.KindsShort
+
+-- 16, of a list with room for so many changes
+unfoldable pub shortList : ℕ → ℕ → Verdict
+shortList needed room = refuseIf (ltb room needed) (Refusal.ListShort needed)

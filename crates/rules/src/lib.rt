@@ -108,8 +108,10 @@ pub enum Refusal {
     ScratchShort(usize),
     NotUtf8(usize),
     OutputShort(usize),
+    NoPlace,
     PlacesUnordered,
     KindsShort,
+    ListShort(usize),
 }
 
 // What the tests of a call come to.

@@ -7,7 +7,7 @@
 --     AsciiRun     the loops over bytes that are ASCII
 use Prim.Native.Nat.{ℕ, zero, suc, _+_, _-_, _<_, _≤_}
 use mathlib.Core.Bool.{Bool, false}
-use mathlib.Core.List.{List, _∷_, _++_}
+use mathlib.Core.List.{List, [], _∷_, _++_}
 use mathlib.Core.Logic.{_⊎_, inl, inr}
 use mathlib.Core.Path.{_≡_, refl, sym, ap, _∙_, subst}
 use native.Mathlib.Omega.{arith}
@@ -18,7 +18,7 @@ use lib.Seq.{drop-drop, drop-length, getD-drop}
 use Rattle.unicode.specs.Unicode.{encodeChar, encode, size, seqLen, codeOf, seqAt, codeAt, chars, decode, prefixLen, WellFormed}
 use Rattle.unicode.specs.Places.{Step, SeqAt, NoneAmong, highAt, AsciiRun}
 use Rattle.unicode.proofs.Tests.{split}
-use Rattle.unicode.proofs.Table.{len-1, code-1, lead-2, lead-3, lead-4}
+use Rattle.unicode.proofs.Table.{encodeChar-1, len-1, code-1, lead-2, lead-3, lead-4}
 use Rattle.unicode.proofs.Decode.{decode-step, decode-stop, Read, read, wf-step}
 
 pub step : (s : List ℕ) (i n : ℕ) → i < length s → n ≡ seqAt (drop i s) → 0 < n → Step s i n
@@ -48,6 +48,13 @@ ascii s i h =
 
 pub ascii-step : (s : List ℕ) (i : ℕ) → i < length s → getD s i 0 < 0x80 → Step s i 1
 ascii-step s i h b = step s i 1 h (ascii s i b .0) (omega arith)
+
+-- a character that is not the ASCII character d, by its byte
+pub not-ascii : (s : List ℕ) (i n d : ℕ) → Step s i n → d < 0x80 → (getD s i 0 ≡ d → ⊥) → codeAt (drop i s) ≡ d → ⊥
+not-ascii s i n d t l f e =
+    let k : encodeChar (codeAt (drop i s)) ≡ d ∷ [] = ap encodeChar e ∙ encodeChar-1 d l in
+    let b : drop i s ≡ d ∷ drop (i + n) s = t .bytes ∙ ap (λ (m : List ℕ). m ++ drop (i + n) s) k in
+    f (sym (getD-drop i s 0 0 ∙ rw add-zero) ∙ ap (λ (m : List ℕ). getD m 0 0) b)
 
 pub stops : (s : List ℕ) → 0 ≡ seqAt s → prefixLen s ≡ 0
 unfolding encode

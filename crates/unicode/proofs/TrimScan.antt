@@ -92,7 +92,7 @@ before-other s e n c w t k v y =
 
 -- ---- the first character of a well-formed list
 
-first-char : (s : List ℕ) (i : ℕ) → i < length s → WellFormed (drop i s) → Step s i (seqAt (drop i s))
+pub first-char : (s : List ℕ) (i : ℕ) → i < length s → WellFormed (drop i s) → Step s i (seqAt (drop i s))
 first-char s i h w = step s i (seqAt (drop i s)) h refl (wf-sequence (drop i s) (simp length-drop (omega arith)) w)
 
 pub first-none : (s : List ℕ) → length s ≡ 0 → false ≡ firstIsWhite (decode s)

@@ -1,0 +1,5 @@
+-- Laws of changes.
+pub mod Examples
+pub mod WalkLaws
+pub mod ChangeLaws
+pub mod ListLaws

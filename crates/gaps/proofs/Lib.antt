@@ -1,0 +1,3 @@
+-- Laws of gaps.
+pub mod GapLaws
+pub mod ScanLaws

@@ -1,0 +1,32 @@
+// The gaps between the characters of a text that are kept: neither white space nor a comma.
+ghost use Prim.Native.Nat.{_<_};
+ghost use lib.ListN.{length, drop};
+ghost use Rattle.unicode.specs.Unicode.{WellFormed};
+ghost use Rattle.gaps.specs.Gaps.{From, UnkeptAt, GapEnd};
+
+// How many bytes the character at i takes if it is not kept, else 0.
+pub fn unkept_at(s: &[u8], i: usize) -> usize
+    requires { ⌜ (i < length (now s)) × WellFormed (drop i (now s)) ⌝ }
+    ensures { λ r. ⌜ UnkeptAt (now (s .entry)) i r ⌝ }
+{
+    if s[i] == b',' {
+        return 1;
+    }
+    unicode::white_at(s, i)
+}
+
+// Where the gap ends that starts at i: the place of the first kept character from i on, or the end.
+pub fn gap_end(s: &[u8], i: usize) -> usize
+    requires { ⌜ From (now s) i ⌝ }
+    ensures { λ r. ⌜ GapEnd (now (s .entry)) i r ⌝ }
+{
+    let mut a = i;
+    while a < s.len() {
+        let n = unkept_at(s, a);
+        if n == 0 {
+            return a;
+        }
+        a += n;
+    }
+    a
+}

@@ -12,7 +12,7 @@ use Rattle.rules.specs.Spacing.{respaced}
 use Rattle.rules.specs.Words.{isMarker}
 use Rattle.rules.specs.Else.{joinElse}
 use Rattle.rules.specs.SplitImport.{Laid}
-use Rattle.rules.specs.Line.{Formatter, keptLine, asWritten, insideLine, blankLine, protectedLine, elseLine, linesBefore, levelOf, oneLine, maySplit, splitWide, laid, placedLine, spacedLine, codeLine, inCodeNow, formatLine}
+use Rattle.rules.specs.Line.{Formatter, keptLine, asWritten, insideLine, blankLine, protectedLine, elseLine, linesBefore, levelOf, oneLine, maySplit, splitWide, laid, placedLine, spacedLine, codeLine, inCodeNow, anyLine, formatLine}
 use Rattle.rules.specs.declared.Carry.{Carry}
 use Rattle.rules.specs.declared.PrintWidth.{PrintWidth}
 use Rattle.rules.proofs.Choose.{choose-case}
@@ -98,10 +98,14 @@ module _ (o : Options) (off : o .printWidth ≡ PrintWidth.Off) (white : White (
         choose-case (Goes f raw) (λ t. goes-protected)
         (λ t. choose-case (Goes f raw) (λ u. goes-else) (λ u. goes-placed (isMarker (classify Carry.Code (trim raw)))))
 
-  pub goes-line : Goes f raw (formatLine o f raw)
-  unfolding formatLine
-  goes-line =
+  goes-any : Goes f raw (anyLine o f raw)
+  unfolding anyLine
+  goes-any =
       choose-case (Goes f raw)
       (λ t. let e = in-code (f .carry) t in
       choose-case (Goes f raw) (λ u. goes-blank e (empty-nil (trim raw) u)) (λ u. goes-code e))
       (λ t. goes-inside)
+
+  pub goes-line : Goes f raw (formatLine o f raw)
+  unfolding formatLine
+  goes-line = record { lines = goes-any .lines; carry = goes-any .carry }

@@ -14,7 +14,7 @@ use Rattle.rules.specs.Basics.{choose, codes, isEmpty, pieces, splitOn}
 use Rattle.rules.specs.Lines.{asStr, dropCr, linesOf}
 use Rattle.rules.specs.Options.{Options, allBlank}
 use Rattle.rules.specs.Scan.{next, final, begin, openAfter, carryAfter, isPrefab}
-use Rattle.rules.specs.Line.{Formatter, start, keptLine, asWritten, formatLine}
+use Rattle.rules.specs.Line.{Formatter, start, keptLine, asWritten, anyLine, formatLine}
 use Rattle.rules.specs.Assembly.{endingOf, dropEmpty, joined, lastEnding, finish, formatLines, formatWith}
 use Rattle.rules.specs.Prefabs.{Prefab, inPrefabMode, opens, stays, leftOpen, longer, prefabsFrom, prefabsOf, ended, Follows}
 use Rattle.rules.specs.Quoted.{All}
@@ -119,7 +119,7 @@ reverse-snoc (m ∷ ls) l acc = reverse-snoc ls l (m ∷ acc)
 
 module _ (o : Options) (off : o .printWidth ≡ PrintWidth.Off) (white : White (o .indent)) where
   prefab-line : (f : Formatter) (raw : List ℕ) → f .carry ≡ Carry.Prefab → formatLine o f raw .lines ≡ raw ∷ f .lines
-  unfolding formatLine keptLine asWritten choose
+  unfolding formatLine anyLine keptLine asWritten choose
   prefab-line f raw e = rw e
 
   module _ (f : Formatter) (b raw : List ℕ) (like : Like (flattenBack (f .lines)) b) where

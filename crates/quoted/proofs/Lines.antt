@@ -12,7 +12,7 @@ use Rattle.rules.specs.Spacing.{respaced}
 use Rattle.rules.specs.Words.{isMarker}
 use Rattle.rules.specs.Else.{joinElse}
 use Rattle.rules.specs.SplitImport.{Laid}
-use Rattle.rules.specs.Line.{Formatter, keptLine, asWritten, insideLine, blankLine, protectedLine, elseLine, linesBefore, levelOf, oneLine, maySplit, splitWide, laid, placedLine, spacedLine, codeLine, inCodeNow, anyLine, formatLine}
+use Rattle.rules.specs.Line.{Formatter, scannedPart, keptLine, asWritten, insideLine, blankLine, protectedLine, elseLine, linesBefore, levelOf, oneLine, maySplit, splitWide, laid, placedLine, spacedLine, codeLine, inCodeNow, anyLine, formatLine}
 use Rattle.rules.specs.declared.Carry.{Carry}
 use Rattle.rules.specs.declared.PrintWidth.{PrintWidth}
 use Rattle.rules.proofs.Choose.{choose-case}
@@ -45,10 +45,21 @@ empty-nil : (l : List ℕ) → isEmpty l ≡ true → l ≡ []
 empty-nil [] h = refl
 empty-nil (c ∷ l) h = never h refl
 
+-- what is open after the part that is scanned
+scanned-carry : (y : Carry) (raw : List ℕ) → carryAfter y (scannedPart y raw) ≡ carryAfter y raw
+unfolding scannedPart
+scanned-carry Carry.Code raw = carry-trim raw
+scanned-carry (Carry.Block d) raw = refl
+scanned-carry Carry.Prefab raw = refl
+
 module _ (o : Options) (off : o .printWidth ≡ PrintWidth.Off) (white : White (o .indent)) (f : Formatter) (raw : List ℕ) where
   goes-inside : Goes f raw (insideLine f raw)
   unfolding keptLine
-  goes-inside = record { lines = kept (f .carry) refl; carry = refl }
+  goes-inside = record { lines = kept (f .carry) refl; carry = scanned-carry (f .carry) raw }
+
+  goes-protected : Goes f raw (protectedLine f raw)
+  unfolding keptLine asWritten
+  goes-protected = record { lines = kept Carry.Code refl; carry = scanned-carry (f .carry) raw }
 
   module _ (e : f .carry ≡ Carry.Code) where
     -- what is open after the trimmed line, or the respaced one
@@ -65,10 +76,6 @@ module _ (o : Options) (off : o .printWidth ≡ PrintWidth.Off) (white : White (
         choose-case (Goes f raw)
         (λ t. record { lines = passed e z refl; carry = still })
         (λ t. record { lines = blank e z refl; carry = still })
-
-    goes-protected : Goes f raw (protectedLine f raw)
-    unfolding keptLine asWritten
-    goes-protected = record { lines = kept Carry.Code refl; carry = trimmed-carry }
 
     goes-else : Goes f raw (elseLine f (respaced (trim raw)))
     unfolding elseLine
@@ -101,10 +108,11 @@ module _ (o : Options) (off : o .printWidth ≡ PrintWidth.Off) (white : White (
   goes-any : Goes f raw (anyLine o f raw)
   unfolding anyLine
   goes-any =
-      choose-case (Goes f raw)
+      choose-case (Goes f raw) (λ s. goes-protected)
+      (λ s. choose-case (Goes f raw)
       (λ t. let e = in-code (f .carry) t in
       choose-case (Goes f raw) (λ u. goes-blank e (empty-nil (trim raw) u)) (λ u. goes-code e))
-      (λ t. goes-inside)
+      (λ t. goes-inside))
 
   pub goes-line : Goes f raw (formatLine o f raw)
   unfolding formatLine

@@ -119,8 +119,9 @@ reverse-snoc (m ∷ ls) l acc = reverse-snoc ls l (m ∷ acc)
 
 module _ (o : Options) (off : o .printWidth ≡ PrintWidth.Off) (white : White (o .indent)) where
   prefab-line : (f : Formatter) (raw : List ℕ) → f .carry ≡ Carry.Prefab → formatLine o f raw .lines ≡ raw ∷ f .lines
-  unfolding formatLine anyLine keptLine asWritten choose
-  prefab-line f raw e = rw e
+  unfolding formatLine anyLine keptLine
+  prefab-line f raw e =
+      choose-case (λ (g : Formatter). g .lines ≡ raw ∷ f .lines) (λ t. refl) (λ t. rw e (unfold choose asWritten in refl))
 
   module _ (f : Formatter) (b raw : List ℕ) (like : Like (flattenBack (f .lines)) b) where
     abbrev g : Formatter

@@ -36,5 +36,6 @@ pub mod SplitSizes
 -- readings and calls, computed
 pub mod Readings
 pub mod OperatorReadings
+pub mod BlockReadings
 pub mod CallExamples
 pub mod QuotedExamples

@@ -6,7 +6,7 @@ use mathlib.Core.Bool.{Bool, true, false, not, _&&_, _||_}
 use mathlib.Core.List.{List, [], _∷_, foldl, map}
 use mathlib.Core.Path.{_≡_, refl, sym, ap, _∙_}
 use lib.Dec.{leb}
-use lib.ListN.{drop}
+use lib.ListN.{length, drop, length-map}
 use Rattle.unicode.specs.Unicode.{trim}
 use Rattle.rules.specs.Basics.{choose, is, isEmpty, isOpener, isCloser}
 use Rattle.rules.specs.Scan.{Cell, classify, isCode}
@@ -16,7 +16,7 @@ use Rattle.rules.specs.Else.{isPlainElse, canJoin}
 use Rattle.rules.specs.Options.{Options}
 use Rattle.rules.specs.Lines.{asStr, linesOf}
 use Rattle.rules.specs.Brackets.{Entry, Open, opened, leadingClosers, push, popFrom, bracketStep, scanBrackets, levels, countBrackets}
-use Rattle.rules.specs.Line.{Formatter, start, asWritten, keptLine, blankLine, elseLine, linesBefore, levelOf, maySplit, laid, placedLine, spacedLine, protects, codeLine, inCodeNow, anyLine, formatLine}
+use Rattle.rules.specs.Line.{Formatter, start, asWritten, scannedPart, closersIn, keptStack, keptLine, protectedAfter, protectedLine, inBlock, blankLine, elseLine, linesBefore, levelOf, maySplit, laid, placedLine, spacedLine, protects, codeLine, inCodeNow, anyLine, formatLine}
 use Rattle.rules.specs.Assembly.{Formatted, endingOf, finish, formatLines, formatWith}
 use Rattle.rules.specs.declared.Carry.{Carry}
 use Rattle.rules.specs.declared.Ignore.{Ignore}
@@ -127,9 +127,22 @@ module _ (o : Options) (f : Formatter) where
   unfolding laid maySplit
   laid-same marker line = rw level-same
 
-  struck-kept : (shown : List ℕ) (n : ℕ) (line : List ℕ) (i : Ignore) → struck (keptLine f shown n line i) ≡ struck (keptLine (struck f) shown n line i)
+  stack-same : (raw : List ℕ) → map bare (keptStack f raw) ≡ map bare (keptStack (struck f) raw)
+  unfolding keptStack
+  stack-same raw = count-same (f .number) (closersIn (f .carry) raw) (classify (f .carry) (scannedPart (f .carry) raw)) (f .stack)
+
+  struck-kept : (shown raw : List ℕ) (i : Ignore) → struck (keptLine f shown raw i) ≡ struck (keptLine (struck f) shown raw i)
   unfolding keptLine
-  struck-kept shown n line i = rw (count-same (f .number) n (classify (f .carry) line) (f .stack))
+  struck-kept shown raw i = rw (stack-same raw)
+
+  -- as many brackets are open
+  open-same : (raw : List ℕ) → length (keptStack f raw) ≡ length (keptStack (struck f) raw)
+  open-same raw = sym (length-map (keptStack f raw) bare) ∙ ap length (stack-same raw) ∙ length-map (keptStack (struck f) raw) bare
+
+  struck-protected : (raw : List ℕ) → struck (protectedLine f raw) ≡ struck (protectedLine (struck f) raw)
+  struck-protected raw =
+      struck-kept raw raw (protectedAfter (f .ignore) (length (f .stack)) (length (keptStack f raw)))
+      ∙ rw (open-same raw, ← length-map (f .stack) bare)
 
   struck-blank : struck (blankLine f) ≡ struck (blankLine (struck f))
   unfolding blankLine
@@ -152,14 +165,15 @@ module _ (o : Options) (f : Formatter) where
   unfolding codeLine
   struck-code raw =
       both struck (protects (f .ignore) || (isMarker (classify Carry.Code (trim raw)) && hasCode (classify Carry.Code (trim raw))))
-      (struck-kept raw (leadingClosers (trim raw)) (trim raw) Ignore.Nothing)
+      (struck-protected raw)
       (struck-spaced (isMarker (classify Carry.Code (trim raw))) (respaced (trim raw)))
 
   struck-line : (raw : List ℕ) → struck (formatLine o f raw) ≡ struck (formatLine o (struck f) raw)
   unfolding formatLine anyLine
   struck-line raw =
-      both struck (inCodeNow (f .carry)) (both struck (isEmpty (trim raw)) struck-blank (struck-code raw))
-      (struck-kept (asWritten (f .carry) raw) 0 raw (f .ignore))
+      both struck (inBlock (f .ignore)) (struck-protected raw)
+      (both struck (inCodeNow (f .carry)) (both struck (isEmpty (trim raw)) struck-blank (struck-code raw))
+      (struck-kept (asWritten (f .carry) raw) raw (f .ignore)))
 
 -- ---- all lines
 

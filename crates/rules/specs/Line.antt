@@ -3,8 +3,8 @@ use Prim.Native.Nat.{ℕ, _+_}
 use mathlib.Core.Bool.{Bool, true, false, not, _&&_, _||_}
 use mathlib.Core.List.{List, [], _∷_, _++_, reverseAux}
 use mathlib.Core.Option.{Option, none, some}
-use lib.Dec.{eqb}
-use lib.ListN.{drop}
+use lib.Dec.{eqb, ltb}
+use lib.ListN.{length, drop}
 use Rattle.unicode.specs.Unicode.{trim, trimEnd}
 use Rattle.rules.specs.Basics.{choose, is, codes, at, lastIs, isEmpty}
 use Rattle.rules.specs.Scan.{classify, carryAfter, allCodeOrStr}
@@ -61,23 +61,45 @@ after f lines stack prev ignore carry =
       blankNames = f .blankNames;
     }
 
--- A line that is kept goes out as `shown`. Its brackets are counted, n leading closers popping first, and it becomes the previous line, trimmed.
-unfoldable pub keptLine : Formatter → List ℕ → ℕ → List ℕ → Ignore → Formatter
-keptLine f shown n line ignore =
-    after f (shown ∷ f .lines) (countBrackets (f .number) n (classify (f .carry) line) (f .stack)) (trim line) ignore (carryAfter (f .carry) line)
+-- A line that starts in code is scanned without the white space around it; one that starts inside a comment or a prefab has no leading closers.
+unfoldable pub scannedPart : Carry → List ℕ → List ℕ
+scannedPart Carry.Code raw = trim raw
+scannedPart (Carry.Block d) raw = raw
+scannedPart Carry.Prefab raw = raw
 
--- A line starting inside a comment is trimmed at its end; one inside a prefab is kept whole. It has no leading closers.
+unfoldable pub closersIn : Carry → List ℕ → ℕ
+closersIn Carry.Code raw = leadingClosers (trim raw)
+closersIn (Carry.Block d) raw = 0
+closersIn Carry.Prefab raw = 0
+
+-- the brackets open after a line that is kept
+unfoldable pub keptStack : Formatter → List ℕ → List Entry
+keptStack f raw = countBrackets (f .number) (closersIn (f .carry) raw) (classify (f .carry) (scannedPart (f .carry) raw)) (f .stack)
+
+-- A line that is kept goes out as `shown`. Its brackets are counted, and it becomes the previous line, trimmed.
+unfoldable pub keptLine : Formatter → List ℕ → List ℕ → Ignore → Formatter
+keptLine f shown raw ignore =
+    after f (shown ∷ f .lines) (keptStack f raw) (trim raw) ignore (carryAfter (f .carry) (scannedPart (f .carry) raw))
+
+-- A line starting inside a comment is trimmed at its end; one inside a prefab is kept whole.
 unfoldable pub asWritten : Carry → List ℕ → List ℕ
 asWritten Carry.Code raw = raw
 asWritten (Carry.Block d) raw = trimEnd raw
 asWritten Carry.Prefab raw = raw
 
 abbrev pub insideLine : Formatter → List ℕ → Formatter
-insideLine f raw = keptLine f (asWritten (f .carry) raw) 0 raw (f .ignore)
+insideLine f raw = keptLine f (asWritten (f .carry) raw) raw (f .ignore)
 
--- A protected line is kept as written. A protected marker protects nothing.
+-- A lone marker protects the next line that is not blank and, if that leaves more brackets open than before it, every line up to and with
+-- the first that ends with the earlier count or below.
+unfoldable pub protectedAfter : Ignore → ℕ → ℕ → Ignore
+protectedAfter Ignore.Nothing before now = Ignore.Nothing
+protectedAfter Ignore.NextLine before now = choose (ltb before now) (Ignore.Block before) Ignore.Nothing
+protectedAfter (Ignore.Block earlier) before now = choose (ltb earlier now) (Ignore.Block earlier) Ignore.Nothing
+
+-- A protected line is kept as written. A marker on it protects nothing.
 abbrev pub protectedLine : Formatter → List ℕ → Formatter
-protectedLine f raw = keptLine f raw (leadingClosers (trim raw)) (trim raw) Ignore.Nothing
+protectedLine f raw = keptLine f raw raw (protectedAfter (f .ignore) (length (f .stack)) (length (keptStack f raw)))
 
 -- Of blank lines in a row one is written, and none before the first written line. A pending marker stays pending.
 unfoldable pub blankLine : Formatter → Formatter
@@ -177,6 +199,12 @@ spacedLine o f marker line = choose (isPlainElse line && canJoin (f .lines)) (el
 abbrev pub protects : Ignore → Bool
 protects Ignore.Nothing = false
 protects Ignore.NextLine = true
+protects (Ignore.Block n) = true
+
+abbrev pub inBlock : Ignore → Bool
+inBlock Ignore.Nothing = false
+inBlock Ignore.NextLine = false
+inBlock (Ignore.Block n) = true
 
 unfoldable pub codeLine : Options → Formatter → List ℕ → Formatter
 codeLine o f raw =
@@ -189,9 +217,12 @@ inCodeNow Carry.Code = true
 inCodeNow (Carry.Block d) = false
 inCodeNow Carry.Prefab = false
 
+-- in a protected block every line is kept as written, blank ones and those of comments and prefabs too
 unfoldable pub anyLine : Options → Formatter → List ℕ → Formatter
 anyLine o f raw =
-    choose (inCodeNow (f .carry)) (choose (isEmpty (trim raw)) (blankLine f) (codeLine o f raw)) (insideLine f raw)
+    choose (inBlock (f .ignore)) (protectedLine f raw)
+    (choose (inCodeNow (f .carry)) (choose (isEmpty (trim raw)) (blankLine f) (codeLine o f raw))
+    (insideLine f raw))
 
 -- the next source line is read
 abbrev pub readOn : Formatter → Formatter

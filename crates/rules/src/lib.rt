@@ -43,10 +43,12 @@ pub enum Gap {
     Space,
 }
 
-// What a marker protects: nothing, or the next line that is not blank.
+// What a marker protects: nothing, the next line that is not blank, or a block up to and with the first line that leaves so many brackets open or
+// fewer.
 pub enum Ignore {
     Nothing,
     NextLine,
+    Block(usize),
 }
 
 pub enum LineEnding {

@@ -149,24 +149,31 @@ written-within Carry.Code raw = omega arith
 written-within (Carry.Block d) raw = length-trimEnd raw
 written-within Carry.Prefab raw = omega arith
 
+scanned-within : (y : Carry) (raw : List ℕ) → length (scannedPart y raw) ≤ length raw
+unfolding scannedPart
+scanned-within Carry.Code raw = length-trim raw
+scanned-within (Carry.Block d) raw = omega arith
+scanned-within Carry.Prefab raw = omega arith
+
 module _ (f : Formatter) (height long : ℕ) (w : Within height long f) where
-  kept-within : (size : ℕ) (shown line : List ℕ) (n : ℕ) (ignore : Ignore) → length shown ≤ size → length line ≤ size
-      → Grown size height long (keptLine f shown n line ignore)
-  unfolding keptLine room
-  kept-within size shown line n ignore h k =
+  kept-within : (shown raw : List ℕ) (ignore : Ignore) → length shown ≤ length raw → Grown (length raw) height long (keptLine f shown raw ignore)
+  unfolding keptLine keptStack room
+  kept-within shown raw ignore h =
+      let line : List ℕ = scannedPart (f .carry) raw in
       record {
         high = omega (
           arith,
           w .high,
-          count-height n (classify (f .carry) line) (f .stack),
+          count-height (closersIn (f .carry) raw) (classify (f .carry) line) (f .stack),
           ap (count isOpener) (chars-classify (f .carry) line),
           count-length isOpener line,
+          scanned-within (f .carry) raw,
         );
         fits = omega (arith, w .fits);
       }
 
   inside-within : (raw : List ℕ) → Grown (length raw) height long (insideLine f raw)
-  inside-within raw = kept-within (length raw) (asWritten (f .carry) raw) raw 0 (f .ignore) (written-within (f .carry) raw) (omega arith)
+  inside-within raw = kept-within (asWritten (f .carry) raw) raw (f .ignore) (written-within (f .carry) raw)
 
   blank-line-within : (n : ℕ) → Grown n height long (blankLine f)
   unfolding blankLine room
@@ -176,7 +183,7 @@ module _ (f : Formatter) (height long : ℕ) (w : Within height long f) where
       (λ h. record { high = omega (arith, w .high); fits = omega (arith, w .fits) })
 
   protected-within : (raw : List ℕ) → Grown (length raw) height long (protectedLine f raw)
-  protected-within raw = kept-within (length raw) raw (trim raw) (leadingClosers (trim raw)) Ignore.Nothing (omega arith) (length-trim raw)
+  protected-within raw = kept-within raw raw (protectedAfter (f .ignore) (length (f .stack)) (length (keptStack f raw))) (omega arith)
 
   module _ (l : List ℕ) where
     else-line-within : Grown (length l) height long (elseLine f (respaced l))

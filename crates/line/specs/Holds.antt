@@ -106,7 +106,7 @@ pub record Stepped (g : Formatter → Formatter) (n unit : ℕ) (eol : List ℕ)
   pub at : st′ .text .at .0 ≤ st .text .at .0 + (n + 1) * growth
   pub runs : Runs unit st scratch → Runs unit st′ scratch′
   pub depth : st′ .nesting .depth ≤ st .nesting .depth + n
-  pub line : st′ .nesting .line ≤ st .nesting .line + 1
+  pub line : st′ .nesting .line ≡ st .nesting .line
   pub carry : carryDepth (st′ .carry) ≤ carryDepth (st .carry) + 2 * n
   pub imports : st′ .imports ≤ st .imports + 1
   pub blanks : st′ .blanks ≤ st .blanks + 2 * n

@@ -108,7 +108,7 @@ stacked-past {x} {y} w base (suc n) h =
 
 pub nested-past : {x y : List ℕ} {a e : ℕ} {base : ℕ} {b : Nesting} → Only x y a e → e ≤ base → Nested x base b → Nested y base b
 nested-past {base = base} {b = b} w h n =
-    record { fits = omega (arith, n .fits, w .long); runs = n .runs ∙ ap levels (sym (stacked-past w base (b .depth) h)) }
+    record { fits = omega (arith, n .fits, w .long); runs = n .runs ∙ ap levels (sym (stacked-past w base (b .depth) h)); line = n .line }
 
 -- ---- the levels of the stack
 
@@ -158,8 +158,9 @@ module _ (buf : List ℕ) (base end depth levels₁ : ℕ) (w : Popping buf base
     pub popping-more : Popping buf base end (depth - 1) (levels₁ - r)
     popping-more = record { from = omega arith; fits = omega (arith, w .fits); runs = omega (arith, top) }
 
-  pub popping-end : (b : Nesting) (n : ℕ) → end ≡ b .depth - n → depth ≤ end → Popped buf base b n (record { depth = depth; levels = levels₁; line = b .line })
-  popping-end b n e h = record { depth = omega (arith, w .from); nested = record { fits = w .fits; runs = w .runs }; line = refl }
+  pub popping-end : (b : Nesting) (n : ℕ) → Nested buf base b → end ≡ b .depth - n → depth ≤ end → Popped buf base b n (record { depth = depth; levels = levels₁; line = b .line })
+  popping-end b n k e h =
+      record { depth = omega (arith, w .from); nested = record { fits = w .fits; runs = w .runs; line = k .line }; line = refl }
 
 -- ---- an entry
 

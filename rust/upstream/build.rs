@@ -1,7 +1,7 @@
 //! Brings the Rust formatter from `WIRESCRIPT_SRC` (by default `../shared/docs/src`
 //! beside the repository) into the build folder. The four files are copied as they
-//! are; one line is appended to format.rs, `pub mod reach;`, so that `src/reach.rs`
-//! becomes a child of that module and can call its private functions. The test module
+//! are; two modules are appended to format.rs, so that `src/reach.rs` and `src/blocks.rs`
+//! become children of that module and can call its private functions. The test module
 //! that format.rs names isn't there; an empty file stands for it.
 
 use std::path::{Path, PathBuf};
@@ -20,11 +20,13 @@ fn main() {
         fs::write(out.join(name), read(&analysis.join(name))).expect("written");
     }
     fs::write(out.join("format/tests.rs"), "").expect("written");
-    let reach = here.join("src/reach.rs");
-    println!("cargo::rerun-if-changed={}", reach.display());
-    let format = read(&analysis.join("format.rs"));
-    let appended = format!("{format}\n#[path = {reach:?}]\npub mod reach;\n");
-    fs::write(out.join("format.rs"), appended).expect("written");
+    let mut format = read(&analysis.join("format.rs"));
+    for child in ["reach", "blocks"] {
+        let path = here.join(format!("src/{child}.rs"));
+        println!("cargo::rerun-if-changed={}", path.display());
+        format.push_str(&format!("\n#[path = {path:?}]\npub mod {child};\n"));
+    }
+    fs::write(out.join("format.rs"), format).expect("written");
     fs::write(out.join("upstream.rs"), "pub mod format;\n").expect("written");
 }
 

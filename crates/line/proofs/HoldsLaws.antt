@@ -2,6 +2,7 @@
 --     initial-holds, initial-runs, initial-small            before the first line
 --     first-line, takes-join              what the kind of the newest line says of the lines
 --     declaration-bytes, brace-bytes, prev-bytes, carry-bytes     facts of a line, found on its bytes
+--     length-stacked                      so many entries
 --     stack-scanned, stack-counted        the stack after `scan_brackets` on a line's bytes is the definition's on its characters
 --     cells-decoded                       the cells of a line and its class bytes are those of its characters
 --     classes-front, front-only           the class bytes that `classify` wrote to the front of scratch; the rest is as it was
@@ -12,7 +13,7 @@ use Prim.Native.Nat.{ℕ, zero, suc, _+_, _-_, _*_, _^_, _≤_, _<_}
 use native.Mathlib.Omega.{arith}
 use mathlib.Core.Bool.{Bool, true, false, not, _&&_}
 use mathlib.Core.List.{List, [], _∷_, _++_, append-nil}
-use mathlib.Core.Path.{_≡_, refl, sym, ap, _∙_}
+use mathlib.Core.Path.{_≡_, refl, sym, ap, _∙_, subst}
 use lib.ListN.{length, take, drop, length-append, length-drop, drop-of-length-le}
 use lib.Seq.{take-at, drop-at, take-nil, length-take-le}
 use Rattle.unicode.specs.Unicode.{encode, chars, decode, trimStart, trimEnd, trim, WellFormed}
@@ -45,11 +46,11 @@ use Rattle.format.specs.declared.words.Declaration.{Declaration}
 use Rattle.line.specs.declared.formatter.Prev.{Prev}
 use Rattle.format.specs.Else.{Facts}
 use Rattle.format.specs.declared.else_line.LineFacts.{LineFacts}
-use Rattle.brackets.proofs.StackLaws.{stacked-drop}
+use Rattle.brackets.proofs.StackLaws.{stacked-drop, stacked-past}
 use Rattle.text.specs.Text.{isFirst, isJoinable, Line}
 use Rattle.text.proofs.LinesLaws.{kind-first, kind-joinable}
 use Rattle.text.proofs.StepLaws.{text-nothing, nothing-ordered}
-use Rattle.line.specs.Holds.{Record, prevOf, initial, Holds, Runs, Small, Ready, TrimmedLine, Classes}
+use Rattle.line.specs.Holds.{Record, prevOf, initial, Holds, Runs, Small, Ready, Stepped, TrimmedLine, Classes}
 use Rattle.line.specs.Scratch.{stackAt}
 
 -- ---- before the first line
@@ -109,6 +110,11 @@ pub carry-bytes : (y : Carry) (line : List ℕ) → WellFormed line → carryAft
 carry-bytes y = on-decode (carryAfter y) (carryAfter y) (carry-encode y)
 
 -- ---- the stack
+
+pub length-stacked : (buf : List ℕ) (base n : ℕ) → length (stacked buf base n) ≡ n
+unfolding stacked
+length-stacked buf base zero = refl
+length-stacked buf base (suc n) = ap suc (length-stacked buf base n)
 
 module _
     {y after : Carry} {line scratch : List ℕ} {at : ℕ} (well : WellFormed line) (classes : Classes y line scratch at after)
@@ -193,6 +199,60 @@ module _ {st : Record} {scratch : List ℕ} {unit n : ℕ} (ready : Ready st scr
 
   pub push-room : (m : ℕ) → m ≤ n → st .text .at .0 + 2 + (length (times 0 []) + m) < 2 ^ 64
   push-room m h = omega (arith, ap length (times-nil 0), ready .small .at, ready .depth, ready .limit)
+
+-- ---- what is ready for a line is ready for a shorter one, in a scratch as long
+
+runs-past : {unit : ℕ} {st : Record} {s₀ s₁ : List ℕ} {m : ℕ} → Only s₀ s₁ 0 m → m ≤ stackAt unit → Runs unit st s₀ → Runs unit st s₁
+runs-past {unit = unit} {st = st} o k r = record { is = r .is ∙ ap levels (sym (stacked-past o (stackAt unit) (st .nesting .depth) k)) }
+
+pub ready-as : {st : Record} {scratch : List ℕ} {unit n : ℕ} (scratch′ : List ℕ) (m e : ℕ) → Ready st scratch unit n → Only scratch scratch′ 0 e → e ≤ stackAt unit → m ≤ n
+    → Ready st scratch′ unit m
+ready-as scratch′ m e r o k h =
+    record {
+      small = r .small;
+      depth = omega (arith, r .depth);
+      runs = runs-past o k (r .runs);
+      line = r .line;
+      carry = omega (arith, r .carry);
+      imports = r .imports;
+      blanks = omega (arith, r .blanks);
+      limit = r .limit;
+      room = omega (arith, r .room, o .long);
+    }
+
+-- ---- a step that starts after scratch was used before the stack
+
+pub holds-past : {eol : List ℕ} {unit : ℕ} {f : Formatter} {st : Record} {out s₀ s₁ : List ℕ} {m : ℕ} → Only s₀ s₁ 0 m → m ≤ stackAt unit
+    → Holds eol unit f st out s₀ → Holds eol unit f st out s₁
+holds-past {unit = unit} {st = st} o k h =
+    record {
+      text = h .text;
+      stack = stacked-past o (stackAt unit) (st .nesting .depth) k ∙ h .stack;
+      running = h .running;
+      number = h .number;
+      blank = h .blank;
+      prev = h .prev;
+      ignore = h .ignore;
+      carry = h .carry;
+      imports = h .imports;
+      blanks = h .blanks;
+    }
+
+pub stepped-as : {g : Formatter → Formatter} {n unit : ℕ} {eol : List ℕ} {st st′ : Record} {out s₁ out′ s₂ : List ℕ} (g′ : Formatter → Formatter) (n′ : ℕ) (s₀ : List ℕ) {m : ℕ}
+    → Only s₀ s₁ 0 m → m ≤ stackAt unit → n ≤ n′ → ((f : Formatter) → Holds eol unit f st out s₀ → g f ≡ g′ f)
+    → Stepped g n unit eol st out s₁ st′ out′ s₂ → Stepped g′ n′ unit eol st out s₀ st′ out′ s₂
+stepped-as {g} {n} {unit} {eol} {st} {st′} {out} {s₁} {out′} {s₂} g′ n′ s₀ o k h e w =
+    record {
+      holds = λ f x. subst (λ (y : Formatter). Holds eol unit y st′ out′ s₂) (e f x) (w .holds f (holds-past o k x));
+      ordered = w .ordered;
+      at = omega (arith, w .at);
+      runs = λ x. w .runs (runs-past o k x);
+      depth = omega (arith, w .depth);
+      line = w .line;
+      carry = omega (arith, w .carry);
+      imports = w .imports;
+      blanks = omega (arith, w .blanks);
+    }
 
 -- ---- a trimmed line
 

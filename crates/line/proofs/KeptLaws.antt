@@ -14,8 +14,8 @@ use Rattle.buffer.specs.Repeat.{times}
 use Rattle.rules.specs.Basics.{choose, isEmpty}
 use Rattle.rules.specs.Scan.{classify, carryAfter}
 use Rattle.rules.specs.ClassBytes.{cellsOf}
-use Rattle.rules.specs.Brackets.{leadingClosers, scanBrackets, countBrackets, levels}
-use Rattle.rules.specs.Line.{Formatter, keptLine, asWritten, blankLine}
+use Rattle.rules.specs.Brackets.{Entry, scanBrackets, countBrackets, levels}
+use Rattle.rules.specs.Line.{Formatter, scannedPart, closersIn, keptStack, protectedAfter, keptLine, asWritten, blankLine}
 use Rattle.rules.specs.declared.Carry.{Carry}
 use Rattle.rules.specs.declared.Ignore.{Ignore}
 use Rattle.rules.proofs.Choose.{choose-true}
@@ -28,9 +28,9 @@ use Rattle.text.specs.Text.{isFirst, Adds}
 use Rattle.text.specs.declared.Written.{Written}
 use Rattle.text.proofs.StepLaws.{grown-ordered}
 use Rattle.line.specs.declared.formatter.Prev.{Prev}
-use Rattle.line.specs.Holds.{Record, prevOf, Holds, Small, Ready, Stepped, Blanked, TrimmedLine, Classes, keptLen, insideOf, protectedOf}
+use Rattle.line.specs.Holds.{Record, prevOf, Holds, Small, Ready, Stepped, Blanked, TrimmedLine, Classes, shownLen, partOf, ClosersOf, ShownPart, keptBy, rawBy}
 use Rattle.line.specs.Scratch.{stackAt}
-use Rattle.line.proofs.HoldsLaws.{first-line, prev-bytes, carry-bytes, stack-scanned, stack-counted, classes-front, front-only, trimmed-line}
+use Rattle.line.proofs.HoldsLaws.{first-line, prev-bytes, carry-bytes, stack-scanned, stack-counted, length-stacked, classes-front, front-only, line-room, ready-as, stepped-as}
 
 -- ---- a blank line
 
@@ -95,20 +95,58 @@ module _ (eol : List ℕ) (st : Record) (out : List ℕ) (r : Bool) (s : Small s
         };
       }
 
--- ---- a protected line
+-- ---- a line that is kept
 
-pub protected-step : (raw line out out′ scratch scratch′ eol : List ℕ) (unit : ℕ) (st : Record) (u : Written) (closers : ℕ) (left deep : Nesting) (prev : Prev) (after : Carry)
-    → st .carry ≡ Carry.Code → WellFormed raw → TrimmedLine raw line → Classes Carry.Code line scratch 0 after
-    → Adds eol false (times 0 [] ++ decode raw) out (st .text) out′ u
-    → Closers line closers → Popped scratch (stackAt unit) (st .nesting) closers left
-    → BracketsDone scratch scratch′ (stackAt unit) left (length line)
-    (scanBrackets (left .line) (drop closers (cellsOf line (part scratch 0 (0 + length line)))) (stacked scratch (stackAt unit) (left .depth))) deep
-    → prev ≡ prevOf line
-    → Stepped (protectedOf (decode raw)) (length raw) unit eol st out scratch
-    (record { text = u; nesting = deep; blank = false; prev = prev; ignore = Ignore.Nothing; carry = after; imports = st .imports; blanks = st .blanks })
+-- the part that is scanned
+part-well : (y : Carry) {raw line : List ℕ} → WellFormed raw → TrimmedLine raw line → WellFormed (partOf y raw line)
+part-well Carry.Code w t = t .well
+part-well (Carry.Block d) w t = w
+part-well Carry.Prefab w t = w
+
+pub part-short : (y : Carry) {raw line : List ℕ} → TrimmedLine raw line → length (partOf y raw line) ≤ length raw
+part-short Carry.Code t = t .short
+part-short (Carry.Block d) t = omega arith
+part-short Carry.Prefab t = omega arith
+
+part-text : (y : Carry) {raw line : List ℕ} → TrimmedLine raw line → decode (partOf y raw line) ≡ scannedPart y (decode raw)
+unfolding scannedPart
+part-text Carry.Code t = t .text
+part-text (Carry.Block d) t = refl
+part-text Carry.Prefab t = refl
+
+module _ {scratch scratch′ : List ℕ} {base : ℕ} {b left deep : Nesting} {s : List Entry} (e : stacked scratch base (b .depth) ≡ s) where
+  -- the brackets after a part none of whose closers pop first
+  stack-plain : (y : Carry) {after : Carry} {n closers : ℕ} (raw : List ℕ) → WellFormed raw → Classes y raw scratch 0 after → closers ≡ 0 → Popped scratch base b closers left
+      → BracketsDone scratch scratch′ base left n (scanBrackets (left .line) (drop closers (cellsOf raw (part scratch 0 (0 + length raw)))) (stacked scratch base (left .depth))) deep
+      → stacked scratch′ base (deep .depth) ≡ countBrackets (b .line) 0 (classify y (decode raw)) s
+  unfolding countBrackets
+  stack-plain y raw w classes z l v =
+      let d : left .depth ≡ b .depth = omega (arith, l .depth, z) in
+      stack-scanned w classes (rw z at v) (ap (stacked scratch base) d ∙ e) ∙ ap (λ (k : ℕ). scanBrackets k (classify y (decode raw)) s) (l .line)
+
+  -- and after any
+  pub kept-stack : (y : Carry) {after : Carry} {n closers : ℕ} (raw line : List ℕ) → WellFormed raw → TrimmedLine raw line → Classes y (partOf y raw line) scratch 0 after
+      → ClosersOf y line closers → Popped scratch base b closers left
+      → BracketsDone scratch scratch′ base left n
+      (scanBrackets (left .line) (drop closers (cellsOf (partOf y raw line) (part scratch 0 (0 + length (partOf y raw line))))) (stacked scratch base (left .depth))) deep
+      → stacked scratch′ base (deep .depth) ≡ countBrackets (b .line) (closersIn y (decode raw)) (classify y (scannedPart y (decode raw))) s
+  unfolding closersIn scannedPart
+  kept-stack Carry.Code raw line w t classes k l v = rw (t .text) at (stack-counted (t .well) classes k l v e)
+  kept-stack (Carry.Block d) raw line w t classes k l v = stack-plain (Carry.Block d) raw w classes k l v
+  kept-stack Carry.Prefab raw line w t classes k l v = stack-plain Carry.Prefab raw w classes k l v
+
+pub kept-step : (raw line part₀ out out′ scratch scratch′ eol : List ℕ) (unit shown : ℕ) (st : Record) (u : Written) (closers : ℕ) (left deep : Nesting) (prev : Prev) (after : Carry) (guards : Ignore)
+    → WellFormed raw → TrimmedLine raw line → Classes (st .carry) (partOf (st .carry) raw line) scratch 0 after → ShownPart raw shown
+    → Adds eol false (times 0 [] ++ decode (take shown raw)) out (st .text) out′ u
+    → ClosersOf (st .carry) line closers → Popped scratch (stackAt unit) (st .nesting) closers left → part₀ ≡ partOf (st .carry) raw line
+    → BracketsDone scratch scratch′ (stackAt unit) left (length part₀)
+    (scanBrackets (left .line) (drop closers (cellsOf part₀ (part scratch 0 (0 + length part₀)))) (stacked scratch (stackAt unit) (left .depth))) deep
+    → prev ≡ prevOf line → guards ≡ protectedAfter (st .ignore) (st .nesting .depth) (deep .depth)
+    → Stepped (keptBy (decode (take shown raw)) (decode raw)) (length raw) unit eol st out scratch
+    (record { text = u; nesting = deep; blank = false; prev = prev; ignore = guards; carry = after; imports = st .imports; blanks = st .blanks })
     out′ scratch′
-unfolding keptLine times choose
-protected-step raw line out out′ scratch scratch′ eol unit st u closers left deep prev after code well t classes w k l v ep =
+unfolding keptLine keptStack times choose
+kept-step raw line part₀ out out′ scratch scratch′ eol unit shown st u closers left deep prev after guards well t classes p w k l ip v ep eg =
     record {
       holds = λ f h. record {
         text = w .text (f .lines) (h .text);
@@ -116,90 +154,82 @@ protected-step raw line out out′ scratch scratch′ eol unit st u closers left
         running = v .runs ∙ ap levels (stack-after f h);
         number = v .line ∙ l .line ∙ h .number;
         blank = refl;
-        prev = ep ∙ prev-bytes line (t .well) ∙ ap prevOf (t .text ∙ sym (trim-twice (decode raw)));
-        ignore = refl;
-        carry = rw (in-code f h) at (classes .leaves ∙ carry-bytes Carry.Code line (t .well) ∙ ap (carryAfter Carry.Code) (t .text));
+        prev = ep ∙ prev-bytes line (t .well) ∙ ap prevOf (t .text);
+        ignore = eg ∙ rw (h .ignore, before f h, now f h);
+        carry = classes .leaves ∙ carry-bytes (st .carry) (partOf (st .carry) raw line) (part-well (st .carry) well t) ∙ rw (part-text (st .carry) t, h .carry);
         imports = h .imports;
         blanks = h .blanks;
       };
       ordered = grown-ordered (w .grown);
-      at = omega (arith, w .grown .at, ap length well);
+      at = omega (arith, w .grown .at, ap length (p .well), length-take-le shown raw (p .fits), p .fits);
       runs = λ q. record { is = v .runs };
-      depth = omega (arith, v .most, l .depth, t .short);
+      depth = omega (arith, v .most, l .depth, part-short (st .carry) t, ap length ip);
       line = omega (arith, v .line, l .line);
-      carry = omega (arith, classes .depth, t .short);
+      carry = omega (arith, classes .depth, part-short (st .carry) t);
       imports = omega arith;
       blanks = omega arith;
     }
   where
-    in-code : (f : Formatter) → Holds eol unit f st out scratch → Carry.Code ≡ f .carry
-    in-code f h = sym code ∙ h .carry
-
     stack-after : (f : Formatter) → Holds eol unit f st out scratch
         → stacked scratch′ (stackAt unit) (deep .depth)
-        ≡ countBrackets (f .number) (leadingClosers (trim (decode raw))) (classify (f .carry) (trim (decode raw))) (f .stack)
-    stack-after f h = rw (t .text, in-code f h, h .number) at (stack-counted (t .well) classes k l v (h .stack))
+        ≡ countBrackets (f .number) (closersIn (f .carry) (decode raw)) (classify (f .carry) (scannedPart (f .carry) (decode raw))) (f .stack)
+    stack-after f h = rw (h .carry, h .number) at (kept-stack (h .stack) (st .carry) raw line well t classes k l (rw ip at v))
 
--- ---- a line that starts inside a comment or a prefab
+    before : (f : Formatter) → Holds eol unit f st out scratch → st .nesting .depth ≡ length (f .stack)
+    before f h = sym (length-stacked scratch (stackAt unit) (st .nesting .depth)) ∙ ap length (h .stack)
+
+    now : (f : Formatter) → Holds eol unit f st out scratch
+        → deep .depth ≡ length (countBrackets (f .number) (closersIn (f .carry) (decode raw)) (classify (f .carry) (scannedPart (f .carry) (decode raw))) (f .stack))
+    now f h = sym (length-stacked scratch′ (stackAt unit) (deep .depth)) ∙ ap length (stack-after f h)
+
+-- a line in code, whole
+pub whole-shown : (raw : List ℕ) → WellFormed raw → ShownPart raw (length raw)
+whole-shown raw well = record { fits = omega arith; well = rw (take-length raw) well }
+
+pub code-part : {y after : Carry} {raw line scratch : List ℕ} → y ≡ Carry.Code → Classes Carry.Code line scratch 0 after → Classes y (partOf y raw line) scratch 0 after
+code-part e c = rw e c
+
+-- ---- a line of a protected block, or one that starts inside a comment or a prefab
 
 -- what of it is written
-pub record Shown (y : Carry) (raw : List ℕ) (kept : ℕ) : Type 0 where
-  pub fits : kept ≤ length raw
-  pub short : length (take kept raw) ≤ length raw
-  pub well : WellFormed (take kept raw)
-  pub text : decode (take kept raw) ≡ asWritten y (decode raw)
+pub record Shown (guarded : Bool) (y : Carry) (raw : List ℕ) (n : ℕ) : Type 0 where
+  pub part : ShownPart raw n
+  pub text : decode (take n raw) ≡ choose guarded (decode raw) (asWritten y (decode raw))
 
-shown-whole : (y : Carry) (raw : List ℕ) → WellFormed raw → decode raw ≡ asWritten y (decode raw) → Shown y raw (length raw)
-shown-whole y raw well e = let w : take (length raw) raw ≡ raw = take-length raw in record { fits = omega arith; short = rw w (omega arith); well = rw w well; text = rw w e }
+shown-whole : (guarded : Bool) (y : Carry) (raw : List ℕ) → WellFormed raw → decode raw ≡ choose guarded (decode raw) (asWritten y (decode raw)) → Shown guarded y raw (length raw)
+shown-whole guarded y raw well e = record { part = whole-shown raw well; text = rw (take-length raw) e }
 
-shown-by : (y : Carry) (raw : List ℕ) (tail : ℕ) → WellFormed raw → TrimmedEnd raw tail → Shown y raw (keptLen y tail (length raw))
-unfolding asWritten
-shown-by Carry.Code raw tail well e = shown-whole Carry.Code raw well refl
-shown-by (Carry.Block d) raw tail well e =
-    record { fits = e .fits; short = omega (arith, length-take-le tail raw (e .fits), e .fits); well = e .well; text = e .text }
-shown-by Carry.Prefab raw tail well e = shown-whole Carry.Prefab raw well refl
+shown-by : (guarded : Bool) (y : Carry) (raw : List ℕ) (tail : ℕ) → WellFormed raw → TrimmedEnd raw tail → Shown guarded y raw (shownLen guarded y tail (length raw))
+unfolding asWritten choose
+shown-by true y raw tail well e = shown-whole true y raw well refl
+shown-by false Carry.Code raw tail well e = shown-whole false Carry.Code raw well refl
+shown-by false (Carry.Block d) raw tail well e = record { part = record { fits = e .fits; well = e .well }; text = e .text }
+shown-by false Carry.Prefab raw tail well e = shown-whole false Carry.Prefab raw well refl
 
-pub shown : (y : Carry) (raw : List ℕ) (tail kept : ℕ) → WellFormed raw → TrimmedEnd raw tail → kept ≡ keptLen y tail (length raw) → Shown y raw kept
-shown y raw tail kept well e k = rw k (shown-by y raw tail well e)
+pub shown : (guarded : Bool) (y : Carry) (raw : List ℕ) (tail n : ℕ) → WellFormed raw → TrimmedEnd raw tail → n ≡ shownLen guarded y tail (length raw) → Shown guarded y raw n
+shown guarded y raw tail n well e k = rw k (shown-by guarded y raw tail well e)
 
-pub inside-step : (raw out out′ scratch w scratch′ eol : List ℕ) (unit : ℕ) (st : Record) (u : Written) (tail start kept : ℕ) (deep : Nesting) (prev : Prev) (after : Carry)
-    → Ready st scratch unit (length raw) → WellFormed raw → Classified (st .carry) raw (take (length raw) scratch) w after
-    → TrimmedEnd raw tail → TrimmedStart (take tail raw) start → kept ≡ keptLen (st .carry) tail (length raw)
-    → Adds eol false (times 0 [] ++ decode (take kept raw)) out (st .text) out′ u
-    → BracketsDone (w ++ drop (length raw) scratch) scratch′ (stackAt unit) (st .nesting) (length raw)
-    (scanBrackets (st .nesting .line) (drop 0 (cellsOf raw (part (w ++ drop (length raw) scratch) 0 (0 + length raw)))) (stacked (w ++ drop (length raw) scratch) (stackAt unit) (st .nesting .depth))) deep
-    → prev ≡ prevOf (take (tail - start) (drop start raw))
-    → Stepped (insideOf (decode raw)) (length raw) unit eol st out scratch
-    (record { text = u; nesting = deep; blank = false; prev = prev; ignore = st .ignore; carry = after; imports = st .imports; blanks = st .blanks })
-    out′ scratch′
-unfolding keptLine countBrackets times choose
-inside-step raw out out′ scratch w scratch′ eol unit st u tail start kept deep prev after ready well classified e s k a v ep =
-    let room : length raw ≤ length scratch = omega (arith, ready .depth, ready .room) in
-    let t : TrimmedLine raw (take (tail - start) (drop start raw)) = trimmed-line raw tail start e s in
-    let x : Shown (st .carry) raw kept = shown (st .carry) raw tail kept well e k in
-    let low : stacked (w ++ drop (length raw) scratch) (stackAt unit) (st .nesting .depth) ≡ stacked scratch (stackAt unit) (st .nesting .depth) =
-    stacked-past (front-only raw scratch w room classified) (stackAt unit) (st .nesting .depth) (omega (arith, ready .depth)) in
-    let after-it : (f : Formatter) → Holds eol unit f st out scratch → stacked scratch′ (stackAt unit) (deep .depth) ≡ scanBrackets (f .number) (classify (f .carry) (decode raw)) (f .stack) =
-    λ f h. rw (h .carry, h .number) at (stack-scanned well (classes-front raw scratch w room classified) v (low ∙ h .stack)) in
-    record {
-      holds = λ f h. record {
-        text = rw (x .text, h .carry) at (a .text (f .lines) (h .text));
-        stack = after-it f h;
-        running = v .runs ∙ ap levels (after-it f h);
-        number = v .line ∙ h .number;
-        blank = refl;
-        prev = ep ∙ prev-bytes (take (tail - start) (drop start raw)) (t .well) ∙ ap prevOf (t .text);
-        ignore = h .ignore;
-        carry = classified .carry ∙ carry-bytes (st .carry) raw well ∙ ap (λ (y : Carry). carryAfter y (decode raw)) (h .carry);
-        imports = h .imports;
-        blanks = h .blanks;
-      };
-      ordered = grown-ordered (a .grown);
-      at = omega (arith, a .grown .at, ap length (x .well), x .short);
-      runs = λ q. record { is = v .runs };
-      depth = omega (arith, v .most);
-      line = omega (arith, v .line);
-      carry = omega (arith, classified .depth);
-      imports = omega arith;
-      blanks = omega arith;
-    }
+pub raw-step : (guarded : Bool) (raw line part₀ out out′ scratch w scratch′ eol : List ℕ) (unit tail n : ℕ) (st r : Record) (after : Carry)
+    → Ready st scratch unit (length raw) → WellFormed raw → TrimmedLine raw line → TrimmedEnd raw tail → part₀ ≡ partOf (st .carry) raw line
+    → Classified (st .carry) part₀ (take (length part₀) scratch) w after → n ≡ shownLen guarded (st .carry) tail (length raw)
+    → Stepped (keptBy (decode (take n raw)) (decode raw)) (length raw) unit eol st out (w ++ drop (length part₀) scratch) r out′ scratch′
+    → Stepped (rawBy guarded (decode raw)) (length raw) unit eol st out scratch r out′ scratch′
+raw-step guarded raw line part₀ out out′ scratch w scratch′ eol unit tail n st r after ready well t e ip c k v =
+    let short : length part₀ ≤ length raw = omega (arith, ap length ip, part-short (st .carry) t) in
+    stepped-as _ _ scratch (front-only part₀ scratch w (line-room ready part₀ short) c) (omega (arith, ready .depth)) (omega arith)
+    (λ f h. ap (λ (x : List ℕ). keptLine f x (decode raw)) (shown guarded (st .carry) raw tail n well e k .text ∙ rw (h .carry))) v
+
+-- what `kept_line` asks after `classify`
+pub raw-classes : (raw line part₀ scratch w : List ℕ) (unit : ℕ) (st : Record) (after : Carry)
+    → Ready st scratch unit (length raw) → TrimmedLine raw line → part₀ ≡ partOf (st .carry) raw line → Classified (st .carry) part₀ (take (length part₀) scratch) w after
+    → Classes (st .carry) (partOf (st .carry) raw line) (w ++ drop (length part₀) scratch) 0 after
+raw-classes raw line part₀ scratch w unit st after ready t ip c =
+    let short : length part₀ ≤ length raw = omega (arith, ap length ip, part-short (st .carry) t) in
+    rw ip at (classes-front part₀ scratch w (line-room ready part₀ short) c)
+
+pub raw-ready : (raw line part₀ scratch w : List ℕ) (unit : ℕ) (st : Record) (after : Carry)
+    → Ready st scratch unit (length raw) → TrimmedLine raw line → part₀ ≡ partOf (st .carry) raw line → Classified (st .carry) part₀ (take (length part₀) scratch) w after
+    → Ready st (w ++ drop (length part₀) scratch) unit (length raw)
+raw-ready raw line part₀ scratch w unit st after ready t ip c =
+    let short : length part₀ ≤ length raw = omega (arith, ap length ip, part-short (st .carry) t) in
+    ready-as _ _ _ ready (front-only part₀ scratch w (line-room ready part₀ short) c) (omega (arith, ready .depth)) (omega arith)

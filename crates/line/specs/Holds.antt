@@ -1,21 +1,22 @@
 -- What the code holds of the formatter's record, and what a step of the code does.
 use Prim.Native.Nat.{ℕ, _+_, _*_, _≤_, _^_}
-use mathlib.Core.Bool.{true, false}
+use mathlib.Core.Bool.{Bool, true, false}
 use mathlib.Core.List.{List}
 use mathlib.Core.Path.{_≡_}
-use lib.ListN.{length}
+use lib.ListN.{length, take}
 use Rattle.unicode.specs.Unicode.{decode, trim, WellFormed}
 use Rattle.buffer.specs.Buffer.{part}
-use Rattle.rules.specs.Basics.{is, lastIs}
+use Rattle.rules.specs.Basics.{choose, is, lastIs}
 use Rattle.rules.specs.Scan.{classify, carryAfter}
 use Rattle.rules.specs.ClassBytes.{classBytes}
 use Rattle.rules.specs.Options.{Options, maxIndent, allBlank}
 use Rattle.rules.specs.Refusals.{maxSource}
 use Rattle.rules.specs.Brackets.{levels}
-use Rattle.rules.specs.Line.{Formatter, insideLine, blankLine, protectedLine}
+use Rattle.rules.specs.Line.{Formatter, asWritten, keptLine, blankLine}
 use Rattle.rules.specs.declared.Carry.{Carry}
 use Rattle.rules.specs.declared.Ignore.{Ignore}
 use Rattle.basics.specs.Depth.{carryDepth}
+use Rattle.basics.specs.Closers.{Closers}
 use Rattle.brackets.specs.Stack.{stacked}
 use Rattle.format.specs.Words.{declarationOf}
 use Rattle.format.specs.declared.words.Declaration.{Declaration}
@@ -137,14 +138,33 @@ pub record Classes (y : Carry) (line scratch : List ℕ) (at : ℕ) (after : Car
   pub leaves : after ≡ carryAfter y line
   pub depth : carryDepth after ≤ carryDepth y + length line
 
--- how much of a line that starts inside a comment or a prefab is written
-abbrev pub keptLen : Carry → ℕ → ℕ → ℕ
-keptLen Carry.Code tail len = len
-keptLen (Carry.Block d) tail len = tail
-keptLen Carry.Prefab tail len = len
+-- how much of a kept line is written: all of it, or, where it isn't protected and starts inside a comment, as far as its end is trimmed to
+abbrev pub shownLen : Bool → Carry → ℕ → ℕ → ℕ
+shownLen true y tail len = len
+shownLen false Carry.Code tail len = len
+shownLen false (Carry.Block d) tail len = tail
+shownLen false Carry.Prefab tail len = len
 
-abbrev pub insideOf : List ℕ → Formatter → Formatter
-insideOf raw f = insideLine f raw
+-- the part of a kept line that is scanned; line is raw trimmed
+abbrev pub partOf : Carry → List ℕ → List ℕ → List ℕ
+partOf Carry.Code raw line = line
+partOf (Carry.Block d) raw line = raw
+partOf Carry.Prefab raw line = raw
 
-abbrev pub protectedOf : List ℕ → Formatter → Formatter
-protectedOf raw f = protectedLine f raw
+-- the closers that pop first
+abbrev pub ClosersOf : Carry → List ℕ → ℕ → Type 0
+ClosersOf Carry.Code line n = Closers line n
+ClosersOf (Carry.Block d) line n = n ≡ 0
+ClosersOf Carry.Prefab line n = n ≡ 0
+
+-- so many bytes of it are written
+pub record ShownPart (raw : List ℕ) (shown : ℕ) : Type 0 where
+  pub fits : shown ≤ length raw
+  pub well : WellFormed (take shown raw)
+
+abbrev pub keptBy : List ℕ → List ℕ → Formatter → Formatter
+keptBy shown raw f = keptLine f shown raw
+
+-- a line of a protected block, or one that starts inside a comment or a prefab
+abbrev pub rawBy : Bool → List ℕ → Formatter → Formatter
+rawBy guarded raw f = keptLine f (choose guarded raw (asWritten (f .carry) raw)) raw

@@ -1,10 +1,11 @@
 // Lines that go out as they are: inside a comment or a prefab, blank, protected.
 ghost use mathlib.Core.Path.{_≡_};
 ghost use mathlib.Core.Bool.{not, _&&_};
-ghost use lib.ListN.{length};
+ghost use lib.ListN.{length, take};
 ghost use Rattle.unicode.specs.Unicode.{decode, WellFormed};
 ghost use Rattle.rules.specs.Lines.{asStr};
-ghost use Rattle.line.specs.Holds.{Small, Ready, Stepped, Blanked, TrimmedLine, Classes, keptLen, insideOf, protectedOf};
+ghost use Rattle.rules.specs.Line.{blockAfter, protectedAfter};
+ghost use Rattle.line.specs.Holds.{Small, Ready, Stepped, Blanked, TrimmedLine, Classes, shownLen, partOf, ClosersOf, ShownPart, keptBy, rawBy};
 use crate::formatter::Formatter;
 use crate::formatter::prev_of;
 use crate::scratch::STACK;
@@ -23,10 +24,13 @@ fn takes_else(facts: LineFacts) -> bool
     facts.brace
 }
 
-// How much of a line that starts inside a comment or a prefab is written: a comment's is trimmed at its end.
-fn kept_len(carry: Carry, tail: usize, len: usize) -> usize
-    ensures { λ r. ⌜ r ≡ keptLen carry tail len ⌝ }
+// How much of a kept line is written: all of it, or, where it isn't protected and starts inside a comment, as far as its end is trimmed to.
+fn shown_len(guarded: bool, carry: Carry, tail: usize, len: usize) -> usize
+    ensures { λ r. ⌜ r ≡ shownLen guarded carry tail len ⌝ }
 {
+    if guarded {
+        return len;
+    }
     match carry {
         Carry::Code => len,
         Carry::Block(_) => tail,
@@ -34,46 +38,133 @@ fn kept_len(carry: Carry, tail: usize, len: usize) -> usize
     }
 }
 
-// A line that starts inside a comment or a prefab.
-pub fn inside_line(
+// The part of a kept line that is scanned. line is raw trimmed.
+fn scanned_part<'a>(carry: Carry, raw: &'a [u8], line: &'a [u8]) -> &'a [u8]
+    ensures { λ r. ⌜ now r ≡ partOf carry (now (raw .entry)) (now (line .entry)) ⌝ }
+{
+    match carry {
+        Carry::Code => line,
+        Carry::Block(_) => raw,
+        Carry::Prefab => raw,
+    }
+}
+
+// The closers that pop first: a line that starts inside a comment or a prefab has none.
+fn closers_of(carry: Carry, line: &[u8]) -> usize
+    ensures { λ r. ⌜ ClosersOf carry (now (line .entry)) r ⌝ }
+{
+    match carry {
+        Carry::Code => brackets::leading_closers(line),
+        Carry::Block(_) => 0,
+        Carry::Prefab => 0,
+    }
+}
+
+// A block goes on while more brackets are open than before it.
+fn block_after(earlier: usize, now: usize) -> Ignore
+    ensures { λ r. ⌜ r ≡ blockAfter earlier now ⌝ }
+{
+    if earlier < now {
+        return Ignore::Block(earlier);
+    }
+    Ignore::Nothing
+}
+
+// What is protected after a line that found `before` brackets open and leaves `now`.
+fn protected_after(ignore: Ignore, before: usize, now: usize) -> Ignore
+    ensures { λ r. ⌜ r ≡ protectedAfter ignore before now ⌝ }
+{
+    match ignore {
+        Ignore::Nothing => Ignore::Nothing,
+        Ignore::NextLine => block_after(before, now),
+        Ignore::Block(earlier) => block_after(earlier, now),
+    }
+}
+
+// Of a line that is kept: how many of its bytes are written, what it leaves open, and the ending that the text's lines get.
+pub struct Kept {
+    pub shown: usize,
+    pub after: Carry,
+    pub ending: LineEnding,
+}
+
+// A line that is kept. line is raw trimmed; the class bytes of the part that is scanned stand at the front of scratch.
+pub fn kept_line(
     raw: &[u8],
+    line: &[u8],
+    k: Kept,
     out: &mut [u8],
     scratch: &mut [u8],
     unit: usize,
-    ending: LineEnding,
     st: Formatter,
 ) -> Formatter
     requires { ⌜ Ready st (now scratch) unit (length (now raw)) ⌝ }
     requires { ⌜ WellFormed (now raw) ⌝ }
-    ensures { λ r. ⌜ Stepped (insideOf (decode (now (raw .entry)))) (length (now (raw .entry))) unit (asStr ending) st (now (out .entry)) (now (scratch .entry)) r (now (out .exit)) (now (scratch .exit)) ⌝ }
+    requires { ⌜ TrimmedLine (now raw) (now line) ⌝ }
+    requires { ⌜ Classes (st .carry) (partOf (st .carry) (now raw) (now line)) (now scratch) 0 (k .after) ⌝ }
+    requires { ⌜ ShownPart (now raw) (k .shown) ⌝ }
+    ensures { λ r. ⌜ Stepped (keptBy (decode (take (k .shown) (now (raw .entry)))) (decode (now (raw .entry)))) (length (now (raw .entry))) unit (asStr (k .ending)) st
+        (now (out .entry)) (now (scratch .entry)) r (now (out .exit)) (now (scratch .exit)) ⌝ }
 {
     let t = st.text;
     let nesting = st.nesting;
     let ignore = st.ignore;
     let carry = st.carry;
-    let n = raw.len();
-    let after = scan::classify(raw, carry, &mut scratch[..n]);
-    let tail = unicode::trim_end(raw);
-    let start = unicode::trim_start(&raw[..tail]);
-    let line = &raw[start..tail];
-    let kept = kept_len(carry, tail, n);
-    let shown = &raw[..kept];
+    let after = k.after;
+    let ending = k.ending;
+    let n = k.shown;
+    let shown = &raw[..n];
     let facts = format::else_line::line_facts(shown);
     let joins = takes_else(facts);
     let next = text::push_line(out, t, ending, false, b"", 0, shown, facts.trimmed, joins);
+    let closers = closers_of(carry, line);
     let base = STACK * unit;
-    let deep = brackets::scan_brackets(raw, scratch, 0, base, nesting, 0);
+    let left = brackets::pop_closers(scratch, base, nesting, closers);
+    let part = scanned_part(carry, raw, line);
+    let deep = brackets::scan_brackets(part, scratch, 0, base, left, closers);
     let prev = prev_of(line);
+    let guards = protected_after(ignore, nesting.depth, deep.depth);
     Formatter {
         text: next,
         nesting: deep,
         blank: false,
         prev,
-        ignore,
+        ignore: guards,
         carry: after,
         imports: st.imports,
         blanks: st.blanks,
     }
+}
+
+// A line of a protected block, or one that starts inside a comment or a prefab.
+pub fn raw_line(
+    raw: &[u8],
+    guarded: bool,
+    ending: LineEnding,
+    out: &mut [u8],
+    scratch: &mut [u8],
+    unit: usize,
+    st: Formatter,
+) -> Formatter
+    requires { ⌜ Ready st (now scratch) unit (length (now raw)) ⌝ }
+    requires { ⌜ WellFormed (now raw) ⌝ }
+    ensures { λ r. ⌜ Stepped (rawBy guarded (decode (now (raw .entry)))) (length (now (raw .entry))) unit (asStr ending) st (now (out .entry)) (now (scratch .entry)) r
+        (now (out .exit)) (now (scratch .exit)) ⌝ }
+{
+    let carry = st.carry;
+    let tail = unicode::trim_end(raw);
+    let start = unicode::trim_start(&raw[..tail]);
+    let line = &raw[start..tail];
+    let part = scanned_part(carry, raw, line);
+    let n = part.len();
+    let after = scan::classify(part, carry, &mut scratch[..n]);
+    let shown = shown_len(guarded, carry, tail, raw.len());
+    let k = Kept {
+        shown,
+        after,
+        ending,
+    };
+    kept_line(raw, line, k, out, scratch, unit, st)
 }
 
 // Of blank lines in a row one is written, and none before the first line. A pending marker stays pending.
@@ -101,46 +192,6 @@ pub fn blank_line(out: &mut [u8], ending: LineEnding, st: Formatter) -> Formatte
         prev,
         ignore: pending,
         carry,
-        imports: st.imports,
-        blanks: st.blanks,
-    }
-}
-
-// A protected line is kept as written. line is raw trimmed; its class bytes stand at the front of scratch, and it leaves `after` open.
-pub fn protected_line(
-    raw: &[u8],
-    line: &[u8],
-    out: &mut [u8],
-    scratch: &mut [u8],
-    unit: usize,
-    ending: LineEnding,
-    after: Carry,
-    st: Formatter,
-) -> Formatter
-    requires { ⌜ Ready st (now scratch) unit (length (now raw)) ⌝ }
-    requires { ⌜ st .carry ≡ Carry.Code ⌝ }
-    requires { ⌜ WellFormed (now raw) ⌝ }
-    requires { ⌜ TrimmedLine (now raw) (now line) ⌝ }
-    requires { ⌜ Classes Carry.Code (now line) (now scratch) 0 after ⌝ }
-    ensures { λ r. ⌜ Stepped (protectedOf (decode (now (raw .entry)))) (length (now (raw .entry))) unit (asStr ending) st (now (out .entry)) (now (scratch .entry)) r (now (out .exit)) (now (scratch .exit)) ⌝ }
-{
-    let t = st.text;
-    let nesting = st.nesting;
-    let facts = format::else_line::line_facts(raw);
-    let joins = takes_else(facts);
-    let next = text::push_line(out, t, ending, false, b"", 0, raw, facts.trimmed, joins);
-    let closers = brackets::leading_closers(line);
-    let base = STACK * unit;
-    let left = brackets::pop_closers(scratch, base, nesting, closers);
-    let deep = brackets::scan_brackets(line, scratch, 0, base, left, closers);
-    let prev = prev_of(line);
-    Formatter {
-        text: next,
-        nesting: deep,
-        blank: false,
-        prev,
-        ignore: Ignore::Nothing,
-        carry: after,
         imports: st.imports,
         blanks: st.blanks,
     }

@@ -6,7 +6,7 @@ use Rattle.rules.specs.Options.{allBlank, validIndent, indentWith, inden
 use Rattle.rules.specs.Lines.{asStr, dropCr, linesOf, crlfs, dominantIn, endsInLf}
 use Rattle.rules.specs.Scan.{inCode, inQuoted, inInterp, inInner, inBlock, inPrefab, charsOf, classesOf, scan, final, classify, carryAfter, before, from, allCodeOrStr}
 use Rattle.rules.specs.ClassBytes.{cellsOf}
-use Rattle.rules.specs.Line.{scannedPart, closersIn, keptStack, keptLine, protectedAfter, asWritten, blankLine, elseLine, dropBlank, linesBefore, continues, levelOf, orOperation, broken, maySplit, splitWide, laid, placedLine, spacedLine, codeLine, anyLine, formatLine}
+use Rattle.rules.specs.Line.{scannedPart, closersIn, keptStack, keptLine, blockAfter, protectedAfter, asWritten, blankLine, elseLine, dropBlank, linesBefore, continues, levelOf, orOperation, broken, maySplit, splitWide, laid, placedLine, spacedLine, codeLine, anyLine, formatLine}
 use Rattle.rules.specs.Operators.{indexIn, startsOne, startsOperator}
 use Rattle.rules.specs.Words.{startsWithWord, whiteOrParen, startsWithOneOf, startsWithBinaryOp, sameDeclaration, dropSlashes, isMarkerText, isMarker, hasCode}
 use Rattle.rules.specs.Spacing.{consBlank, trimBlanks, putPlain, putAfterComma, putAt, normalizeSpacing}
@@ -24,5 +24,5 @@ use Rattle.rules.specs.Prefabs.{opens, stays, leftOpen, prefabsFrom, pre
 use Rattle.rules.specs.Quoted.{closing, quotedAt, quotedIn, quotedFrom, quotedOf}
 
 unfoldable pub computing : Unit {0}
-unfolding isScalar encodeChar encode tail second seqLen codeOf chars wellFormed units width isWhite trimStart consTrimmed trimEnd trim times choose isIdent same oneOf startsWith firstIs lastIs leading startsThen keep count atSep splitOn allBlank validIndent indentWith indentOf measure overWide asStr dropCr linesOf crlfs dominantIn endsInLf inCode inQuoted inInterp inInner inBlock inPrefab charsOf classesOf scan final classify carryAfter before from allCodeOrStr cellsOf asWritten blankLine elseLine dropBlank linesBefore continues levelOf orOperation broken laid placedLine spacedLine codeLine anyLine formatLine startsWithWord whiteOrParen startsWithOneOf startsWithBinaryOp sameDeclaration dropSlashes isMarkerText isMarker hasCode consBlank trimBlanks putPlain putAfterComma putAt normalizeSpacing startsIf whiteOrBrace isPlainElse joinable canJoin joinElse leadingClosers push bracketStep scanBrackets levels countBrackets openLines consName namesOf blanksOf addName fillNames importLines importParts closedImport openedImport startsImport splitImport precedence endsOperand token operator escape bracket isSign oneCharStep twoCharStep codeStep freshStep opStepAt marksFrom topLevelOps deeper shallower balanceStep isBalanced wordOn hasWordFrom hasWord looser loosest atMark cutBefore trimmed breakAt splitOnce nextBreak breakOn breakFirst layPieces splitOperation endingOf dropEmpty joined lastEnding finish formatLines formatWith validOptions optionsOf formatted textOf outcomeOf filled outputOf listed openedOf inInterpolation kinds rustLines kindIn textKindAt kindOutcomeOf tabSize sizeOf startsWithTab spacesFor resized indentFrom widthFrom endingFrom newlineFrom tooLarge configured withEditorConfig keptLine scannedPart closersIn keptStack protectedAfter maySplit splitWide popFrom refuseIf tested longSource badOption shortScratch illFormed shortOutput noPlace shortList printWidthNamed endOfLineNamed finalNewlineNamed isNamed verdictOf classKind unordered shortKinds indexIn startsOne startsOperator opens stays leftOpen prefabsFrom prefabsOf ended closing quotedAt quotedIn quotedFrom quotedOf
+unfolding isScalar encodeChar encode tail second seqLen codeOf chars wellFormed units width isWhite trimStart consTrimmed trimEnd trim times choose isIdent same oneOf startsWith firstIs lastIs leading startsThen keep count atSep splitOn allBlank validIndent indentWith indentOf measure overWide asStr dropCr linesOf crlfs dominantIn endsInLf inCode inQuoted inInterp inInner inBlock inPrefab charsOf classesOf scan final classify carryAfter before from allCodeOrStr cellsOf asWritten blankLine elseLine dropBlank linesBefore continues levelOf orOperation broken laid placedLine spacedLine codeLine anyLine formatLine startsWithWord whiteOrParen startsWithOneOf startsWithBinaryOp sameDeclaration dropSlashes isMarkerText isMarker hasCode consBlank trimBlanks putPlain putAfterComma putAt normalizeSpacing startsIf whiteOrBrace isPlainElse joinable canJoin joinElse leadingClosers push bracketStep scanBrackets levels countBrackets openLines consName namesOf blanksOf addName fillNames importLines importParts closedImport openedImport startsImport splitImport precedence endsOperand token operator escape bracket isSign oneCharStep twoCharStep codeStep freshStep opStepAt marksFrom topLevelOps deeper shallower balanceStep isBalanced wordOn hasWordFrom hasWord looser loosest atMark cutBefore trimmed breakAt splitOnce nextBreak breakOn breakFirst layPieces splitOperation endingOf dropEmpty joined lastEnding finish formatLines formatWith validOptions optionsOf formatted textOf outcomeOf filled outputOf listed openedOf inInterpolation kinds rustLines kindIn textKindAt kindOutcomeOf tabSize sizeOf startsWithTab spacesFor resized indentFrom widthFrom endingFrom newlineFrom tooLarge configured withEditorConfig keptLine scannedPart closersIn keptStack blockAfter protectedAfter maySplit splitWide popFrom refuseIf tested longSource badOption shortScratch illFormed shortOutput noPlace shortList printWidthNamed endOfLineNamed finalNewlineNamed isNamed verdictOf classKind unordered shortKinds indexIn startsOne startsOperator opens stays leftOpen prefabsFrom prefabsOf ended closing quotedAt quotedIn quotedFrom quotedOf
 computing = tt

@@ -5,7 +5,6 @@ use mathlib.Core.Bool.{Bool, true, false}
 use mathlib.Core.List.{List, [], _∷_, _++_, flatten, foldl, append-assoc, append-nil}
 use mathlib.Core.Option.{Option, none, some}
 use mathlib.Core.Path.{_≡_, refl, sym}
-use lib.ListN.{length}
 use Rattle.unicode.specs.Unicode.{isWhite, trim}
 use Rattle.unicode.proofs.Trim.{White}
 use Rattle.rules.specs.Basics.{choose, codes, isEmpty}
@@ -16,7 +15,7 @@ use Rattle.rules.specs.Spacing.{normalizeSpacing}
 use Rattle.rules.specs.Words.{isMarker}
 use Rattle.rules.specs.Else.{joinElse}
 use Rattle.rules.specs.SplitImport.{Laid, splitImport}
-use Rattle.rules.specs.Line.{Formatter, asWritten, keptStack, keptLine, insideLine, protectedAfter, blankLine, protectedLine, elseLine, dropBlank, linesBefore, levelOf, oneLine, orOperation, broken, splitWide, laid, placedLine, spacedLine, codeLine, anyLine, formatLine}
+use Rattle.rules.specs.Line.{Formatter, asWritten, keptLine, insideLine, blankLine, protectedLine, elseLine, dropBlank, linesBefore, levelOf, oneLine, orOperation, broken, splitWide, laid, placedLine, spacedLine, codeLine, anyLine, formatLine}
 use Rattle.rules.specs.Brackets.{leadingClosers}
 use Rattle.rules.specs.Operators.{strengths}
 use Rattle.rules.specs.declared.Carry.{Carry}
@@ -110,12 +109,12 @@ module _ (o : Options) (white : White (o .indent)) (src : List ℕ) (f : Formatt
   push raw l e = like-append (like-refl (flattenBack (f .lines))) e
 
   -- a line that is kept
-  holds-kept : (raw shown : List ℕ) (i : Ignore) → Like shown raw → Holds o (src ++ raw) (keptLine f shown raw i)
+  holds-kept : (raw shown : List ℕ) → Like shown raw → Holds o (src ++ raw) (keptLine f shown raw)
   unfolding keptLine
-  holds-kept raw shown i e = grow raw (shown ∷ f .lines) (push raw shown e)
+  holds-kept raw shown e = grow raw (shown ∷ f .lines) (push raw shown e)
 
   holds-inside : (raw : List ℕ) → Holds o (src ++ raw) (insideLine f raw)
-  holds-inside raw = holds-kept raw (asWritten (f .carry) raw) (f .ignore) (like-asWritten (f .carry) raw)
+  holds-inside raw = holds-kept raw (asWritten (f .carry) raw) (like-asWritten (f .carry) raw)
 
   holds-blank : (raw : List ℕ) → Like [] raw → Holds o (src ++ raw) (blankLine f)
   unfolding blankLine
@@ -125,7 +124,7 @@ module _ (o : Options) (white : White (o .indent)) (src : List ℕ) (f : Formatt
       (λ t. grow raw ([] ∷ f .lines) (push raw [] e))
 
   holds-protected : (raw : List ℕ) → Holds o (src ++ raw) (protectedLine f raw)
-  holds-protected raw = holds-kept raw raw (protectedAfter (f .ignore) (length (f .stack)) (length (keptStack f raw))) (like-refl raw)
+  holds-protected raw = holds-kept raw raw (like-refl raw)
 
   holds-else : (raw line : List ℕ) → Like line raw → Holds o (src ++ raw) (elseLine f line)
   unfolding elseLine

@@ -16,7 +16,7 @@ use Rattle.rules.specs.Else.{isPlainElse, canJoin}
 use Rattle.rules.specs.Options.{Options}
 use Rattle.rules.specs.Lines.{asStr, linesOf}
 use Rattle.rules.specs.Brackets.{Entry, Open, opened, leadingClosers, push, popFrom, bracketStep, scanBrackets, levels, countBrackets}
-use Rattle.rules.specs.Line.{Formatter, start, asWritten, scannedPart, closersIn, keptStack, keptLine, protectedAfter, protectedLine, inBlock, blankLine, elseLine, linesBefore, levelOf, maySplit, laid, placedLine, spacedLine, protects, codeLine, inCodeNow, anyLine, formatLine}
+use Rattle.rules.specs.Line.{Formatter, start, asWritten, scannedPart, closersIn, keptStack, keptLine, protectedAfter, inBlock, blankLine, elseLine, linesBefore, levelOf, maySplit, laid, placedLine, spacedLine, protects, codeLine, inCodeNow, anyLine, formatLine}
 use Rattle.rules.specs.Assembly.{Formatted, endingOf, finish, formatLines, formatWith}
 use Rattle.rules.specs.declared.Carry.{Carry}
 use Rattle.rules.specs.declared.Ignore.{Ignore}
@@ -131,18 +131,13 @@ module _ (o : Options) (f : Formatter) where
   unfolding keptStack
   stack-same raw = count-same (f .number) (closersIn (f .carry) raw) (classify (f .carry) (scannedPart (f .carry) raw)) (f .stack)
 
-  struck-kept : (shown raw : List ℕ) (i : Ignore) → struck (keptLine f shown raw i) ≡ struck (keptLine (struck f) shown raw i)
-  unfolding keptLine
-  struck-kept shown raw i = rw (stack-same raw)
-
   -- as many brackets are open
   open-same : (raw : List ℕ) → length (keptStack f raw) ≡ length (keptStack (struck f) raw)
   open-same raw = sym (length-map (keptStack f raw) bare) ∙ ap length (stack-same raw) ∙ length-map (keptStack (struck f) raw) bare
 
-  struck-protected : (raw : List ℕ) → struck (protectedLine f raw) ≡ struck (protectedLine (struck f) raw)
-  struck-protected raw =
-      struck-kept raw raw (protectedAfter (f .ignore) (length (f .stack)) (length (keptStack f raw)))
-      ∙ rw (open-same raw, ← length-map (f .stack) bare)
+  struck-kept : (shown raw : List ℕ) → struck (keptLine f shown raw) ≡ struck (keptLine (struck f) shown raw)
+  unfolding keptLine
+  struck-kept shown raw = rw (stack-same raw, open-same raw, ← length-map (f .stack) bare)
 
   struck-blank : struck (blankLine f) ≡ struck (blankLine (struck f))
   unfolding blankLine
@@ -165,15 +160,15 @@ module _ (o : Options) (f : Formatter) where
   unfolding codeLine
   struck-code raw =
       both struck (protects (f .ignore) || (isMarker (classify Carry.Code (trim raw)) && hasCode (classify Carry.Code (trim raw))))
-      (struck-protected raw)
+      (struck-kept raw raw)
       (struck-spaced (isMarker (classify Carry.Code (trim raw))) (respaced (trim raw)))
 
   struck-line : (raw : List ℕ) → struck (formatLine o f raw) ≡ struck (formatLine o (struck f) raw)
   unfolding formatLine anyLine
   struck-line raw =
-      both struck (inBlock (f .ignore)) (struck-protected raw)
+      both struck _ (struck-kept raw raw)
       (both struck (inCodeNow (f .carry)) (both struck (isEmpty (trim raw)) struck-blank (struck-code raw))
-      (struck-kept (asWritten (f .carry) raw) raw (f .ignore)))
+      (struck-kept (asWritten (f .carry) raw) raw))
 
 -- ---- all lines
 

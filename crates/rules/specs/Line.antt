@@ -76,10 +76,22 @@ closersIn Carry.Prefab raw = 0
 unfoldable pub keptStack : Formatter → List ℕ → List Entry
 keptStack f raw = countBrackets (f .number) (closersIn (f .carry) raw) (classify (f .carry) (scannedPart (f .carry) raw)) (f .stack)
 
+-- A lone marker protects the next line that is not blank and, if that leaves more brackets open than before it, every line up to and with
+-- the first that ends with the earlier count or below. A marker on a protected line protects nothing.
+unfoldable pub blockAfter : ℕ → ℕ → Ignore
+blockAfter earlier now = choose (ltb earlier now) (Ignore.Block earlier) Ignore.Nothing
+
+unfoldable pub protectedAfter : Ignore → ℕ → ℕ → Ignore
+protectedAfter Ignore.Nothing before now = Ignore.Nothing
+protectedAfter Ignore.NextLine before now = blockAfter before now
+protectedAfter (Ignore.Block earlier) before now = blockAfter earlier now
+
 -- A line that is kept goes out as `shown`. Its brackets are counted, and it becomes the previous line, trimmed.
-unfoldable pub keptLine : Formatter → List ℕ → List ℕ → Ignore → Formatter
-keptLine f shown raw ignore =
-    after f (shown ∷ f .lines) (keptStack f raw) (trim raw) ignore (carryAfter (f .carry) (scannedPart (f .carry) raw))
+unfoldable pub keptLine : Formatter → List ℕ → List ℕ → Formatter
+keptLine f shown raw =
+    after f (shown ∷ f .lines) (keptStack f raw) (trim raw)
+    (protectedAfter (f .ignore) (length (f .stack)) (length (keptStack f raw)))
+    (carryAfter (f .carry) (scannedPart (f .carry) raw))
 
 -- A line starting inside a comment is trimmed at its end; one inside a prefab is kept whole.
 unfoldable pub asWritten : Carry → List ℕ → List ℕ
@@ -88,18 +100,11 @@ asWritten (Carry.Block d) raw = trimEnd raw
 asWritten Carry.Prefab raw = raw
 
 abbrev pub insideLine : Formatter → List ℕ → Formatter
-insideLine f raw = keptLine f (asWritten (f .carry) raw) raw (f .ignore)
+insideLine f raw = keptLine f (asWritten (f .carry) raw) raw
 
--- A lone marker protects the next line that is not blank and, if that leaves more brackets open than before it, every line up to and with
--- the first that ends with the earlier count or below.
-unfoldable pub protectedAfter : Ignore → ℕ → ℕ → Ignore
-protectedAfter Ignore.Nothing before now = Ignore.Nothing
-protectedAfter Ignore.NextLine before now = choose (ltb before now) (Ignore.Block before) Ignore.Nothing
-protectedAfter (Ignore.Block earlier) before now = choose (ltb earlier now) (Ignore.Block earlier) Ignore.Nothing
-
--- A protected line is kept as written. A marker on it protects nothing.
+-- A protected line is kept as written.
 abbrev pub protectedLine : Formatter → List ℕ → Formatter
-protectedLine f raw = keptLine f raw raw (protectedAfter (f .ignore) (length (f .stack)) (length (keptStack f raw)))
+protectedLine f raw = keptLine f raw raw
 
 -- Of blank lines in a row one is written, and none before the first written line. A pending marker stays pending.
 unfoldable pub blankLine : Formatter → Formatter

@@ -156,9 +156,9 @@ scanned-within (Carry.Block d) raw = omega arith
 scanned-within Carry.Prefab raw = omega arith
 
 module _ (f : Formatter) (height long : ℕ) (w : Within height long f) where
-  kept-within : (shown raw : List ℕ) (ignore : Ignore) → length shown ≤ length raw → Grown (length raw) height long (keptLine f shown raw ignore)
+  kept-within : (shown raw : List ℕ) → length shown ≤ length raw → Grown (length raw) height long (keptLine f shown raw)
   unfolding keptLine keptStack room
-  kept-within shown raw ignore h =
+  kept-within shown raw h =
       let line : List ℕ = scannedPart (f .carry) raw in
       record {
         high = omega (
@@ -173,7 +173,7 @@ module _ (f : Formatter) (height long : ℕ) (w : Within height long f) where
       }
 
   inside-within : (raw : List ℕ) → Grown (length raw) height long (insideLine f raw)
-  inside-within raw = kept-within (asWritten (f .carry) raw) raw (f .ignore) (written-within (f .carry) raw)
+  inside-within raw = kept-within (asWritten (f .carry) raw) raw (written-within (f .carry) raw)
 
   blank-line-within : (n : ℕ) → Grown n height long (blankLine f)
   unfolding blankLine room
@@ -183,7 +183,7 @@ module _ (f : Formatter) (height long : ℕ) (w : Within height long f) where
       (λ h. record { high = omega (arith, w .high); fits = omega (arith, w .fits) })
 
   protected-within : (raw : List ℕ) → Grown (length raw) height long (protectedLine f raw)
-  protected-within raw = kept-within raw raw (protectedAfter (f .ignore) (length (f .stack)) (length (keptStack f raw))) (omega arith)
+  protected-within raw = kept-within raw raw (omega arith)
 
   module _ (l : List ℕ) where
     else-line-within : Grown (length l) height long (elseLine f (respaced l))

@@ -94,11 +94,6 @@ front-has line scratch unit r = omega (arith, front-fits line scratch unit r)
 
 -- ---- its brackets
 
-length-stacked : (buf : List ℕ) (base n : ℕ) → length (stacked buf base n) ≡ n
-unfolding stacked
-length-stacked buf base zero = refl
-length-stacked buf base (suc n) = ap suc (length-stacked buf base n)
-
 -- the stack after a line whose leading closers popped before
 module _ {y after : Carry} {line scratch : List ℕ} {at : ℕ} (well : WellFormed line) (classes : Classes y line scratch at after) where
   stack-dropped : {scratch′ : List ℕ} {base n closers : ℕ} {left deep : Nesting} → Closers line closers

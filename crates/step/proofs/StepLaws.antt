@@ -5,7 +5,7 @@ use mathlib.Core.Bool.{Bool, true, false, _&&_, _||_, or-true, true≢false, fal
 use mathlib.Core.List.{List, _++_}
 use mathlib.Core.Path.{_≡_, refl, sym, ap, _∙_, subst}
 use lib.ListN.{length, take, drop, length-drop}
-use lib.Seq.{length-take-le}
+use lib.Seq.{take-length, length-take-le}
 use Rattle.unicode.specs.Unicode.{chars, decode, trimEnd, trim}
 use Rattle.unicode.specs.Places.{TrimmedStart, TrimmedEnd}
 use Rattle.unicode.proofs.Tests.{and-left}
@@ -17,7 +17,7 @@ use Rattle.rules.specs.Brackets.{leadingClosers, countBrackets, levels}
 use Rattle.rules.specs.Words.{isMarker, hasCode}
 use Rattle.rules.specs.Else.{isPlainElse, canJoin}
 use Rattle.rules.specs.Options.{Options}
-use Rattle.rules.specs.Line.{Formatter, elseLine, placedLine, spacedLine, protects, protectedLine, codeLine, inCodeNow, blankLine, anyLine}
+use Rattle.rules.specs.Line.{Formatter, elseLine, placedLine, spacedLine, protects, protectedLine, codeLine, inBlock, inCodeNow, blankLine, anyLine}
 use Rattle.rules.specs.Spacing.{respaced}
 use Rattle.rules.specs.declared.Carry.{Carry}
 use Rattle.rules.specs.declared.Ignore.{Ignore}
@@ -31,9 +31,9 @@ use Rattle.brackets.proofs.StackLaws.{stacked-past, stacked-drop}
 use Rattle.rules.proofs.StartsBytes.{closers-encode}
 use Rattle.line.specs.Scratch.{stackAt}
 use Rattle.format.proofs.ElseLaws.{decode-some}
-use Rattle.line.specs.Holds.{Record, prevOf, Holds, Runs, Ready, Stepped, TrimmedLine, Classes, Uses, insideOf, protectedOf}
+use Rattle.line.specs.Holds.{Record, prevOf, Holds, Runs, Ready, Stepped, TrimmedLine, Classes, Uses, keptBy, rawBy}
 use Rattle.line.specs.declared.style.Style.{Style}
-use Rattle.line.proofs.HoldsLaws.{carry-bytes, classes-front, front-only, line-room, trimmed-line, start-within}
+use Rattle.line.proofs.HoldsLaws.{ready-as, holds-past, stepped-as, carry-bytes, classes-front, front-only, line-room, trimmed-line, start-within}
 use Rattle.place.specs.Placing.{spacedBy}
 use Rattle.step.specs.declared.Going.{Going}
 use Rattle.step.specs.declared.Marker.{Marker}
@@ -42,62 +42,10 @@ use Rattle.step.specs.Going.{markerIn, isKept, isAlone, SolidLine, Marks
 use Rattle.step.proofs.MarkerLaws.{found, else-closers, alone-other}
 use Rattle.step.proofs.GoingLaws.{front-part}
 
--- ---- what is ready for a line is ready for a shorter one, in a scratch as long
-
-runs-past : {unit : ℕ} {st : Record} {s₀ s₁ : List ℕ} {m : ℕ} → Only s₀ s₁ 0 m → m ≤ stackAt unit → Runs unit st s₀ → Runs unit st s₁
-runs-past {unit = unit} {st = st} o k r = record { is = r .is ∙ ap levels (sym (stacked-past o (stackAt unit) (st .nesting .depth) k)) }
-
-pub ready-as : {st : Record} {scratch : List ℕ} {unit n : ℕ} (scratch′ : List ℕ) (m e : ℕ) → Ready st scratch unit n → Only scratch scratch′ 0 e → e ≤ stackAt unit → m ≤ n
-    → Ready st scratch′ unit m
-ready-as scratch′ m e r o k h =
-    record {
-      small = r .small;
-      depth = omega (arith, r .depth);
-      runs = runs-past o k (r .runs);
-      line = r .line;
-      carry = omega (arith, r .carry);
-      imports = r .imports;
-      blanks = omega (arith, r .blanks);
-      limit = r .limit;
-      room = omega (arith, r .room, o .long);
-    }
+-- ---- what is ready for a line leaves room for it
 
 pub ready-room : {st : Record} {scratch : List ℕ} {unit n : ℕ} (scratch′ : List ℕ) → Ready st scratch unit n → length scratch′ ≡ length scratch → LineRoom scratch′ unit n
 ready-room scratch′ r e = record { short = omega (arith, r .depth); limit = r .limit; room = omega (arith, r .room) }
-
--- ---- a step that starts after scratch was used before the stack
-
-holds-past : {eol : List ℕ} {unit : ℕ} {f : Formatter} {st : Record} {out s₀ s₁ : List ℕ} {m : ℕ} → Only s₀ s₁ 0 m → m ≤ stackAt unit
-    → Holds eol unit f st out s₀ → Holds eol unit f st out s₁
-holds-past {unit = unit} {st = st} o k h =
-    record {
-      text = h .text;
-      stack = stacked-past o (stackAt unit) (st .nesting .depth) k ∙ h .stack;
-      running = h .running;
-      number = h .number;
-      blank = h .blank;
-      prev = h .prev;
-      ignore = h .ignore;
-      carry = h .carry;
-      imports = h .imports;
-      blanks = h .blanks;
-    }
-
-stepped-as : {g : Formatter → Formatter} {n unit : ℕ} {eol : List ℕ} {st st′ : Record} {out s₁ out′ s₂ : List ℕ} (g′ : Formatter → Formatter) (n′ : ℕ) (s₀ : List ℕ) {m : ℕ}
-    → Only s₀ s₁ 0 m → m ≤ stackAt unit → n ≤ n′ → ((f : Formatter) → Holds eol unit f st out s₀ → g f ≡ g′ f)
-    → Stepped g n unit eol st out s₁ st′ out′ s₂ → Stepped g′ n′ unit eol st out s₀ st′ out′ s₂
-stepped-as {g} {n} {unit} {eol} {st} {st′} {out} {s₁} {out′} {s₂} g′ n′ s₀ o k h e w =
-    record {
-      holds = λ f x. subst (λ (y : Formatter). Holds eol unit y st′ out′ s₂) (e f x) (w .holds f (holds-past o k x));
-      ordered = w .ordered;
-      at = omega (arith, w .at);
-      runs = λ x. w .runs (runs-past o k x);
-      depth = omega (arith, w .depth);
-      line = w .line;
-      carry = omega (arith, w .carry);
-      imports = w .imports;
-      blanks = omega (arith, w .blanks);
-    }
 
 -- ---- a line that is spaced
 
@@ -228,11 +176,12 @@ module _
     module _ {eol out out′ s₂ : List ℕ} {r : Record} where
       -- kept as written
       pub code-protected : (m : Marker) (b : Bool) → m ≡ markerIn (decode line) → b ≡ isKept (st .ignore) m → b ≡ true
-          → Stepped (protectedOf (decode raw)) (length raw) unit eol st out (w ++ drop (length line) s₀) r out′ s₂
+          → Stepped (keptBy (decode (take (length raw) raw)) (decode raw)) (length raw) unit eol st out (w ++ drop (length line) s₀) r out′ s₂
           → (o : Options) → Stepped (codeLineBy o (decode raw)) (length raw) unit eol st out s₀ r out′ s₂
       code-protected m b d e q v o =
           stepped-as _ _ s₀ only within (omega arith)
-          (λ f h. code-kept o f (decode raw) (decode line) (t .text) (rw (h .ignore) at (keeps (decode line) (st .ignore) m d (sym e ∙ q))))
+          (λ f h. ap (λ (x : List ℕ). keptBy (decode x) (decode raw) f) (take-length raw)
+              ∙ code-kept o f (decode raw) (decode line) (t .text) (rw (h .ignore) at (keeps (decode line) (st .ignore) m d (sym e ∙ q))))
           v
 
       -- spaced, with or without a marker that stands alone
@@ -265,26 +214,40 @@ code-carry Carry.Code b e q = refl
 code-carry (Carry.Block d) b e q = absurd (true≢false (sym q ∙ e))
 code-carry Carry.Prefab b e q = absurd (true≢false (sym q ∙ e))
 
-module _ {st : Record} {s₀ out eol : List ℕ} {unit : ℕ} (b : Bool) (e : b ≡ inCodeNow (st .carry)) where
-  in-now : {f : Formatter} → Holds eol unit f st out s₀ → inCodeNow (f .carry) ≡ b
-  in-now h = ap inCodeNow (sym (h .carry)) ∙ sym e
+module _ {st : Record} {s₀ out eol : List ℕ} {unit : ℕ} (p : Bool) (ep : p ≡ inBlock (st .ignore)) where
+  in-block : {f : Formatter} → Holds eol unit f st out s₀ → inBlock (f .ignore) ≡ p
+  in-block h = ap inBlock (sym (h .ignore)) ∙ sym ep
 
   module _ {r : Record} {out′ s₂ : List ℕ} (raw : List ℕ) (o : Options) where
-    pub format-inside : b ≡ false → Stepped (insideOf (decode raw)) (length raw) unit eol st out s₀ r out′ s₂ → Stepped (anyLineBy o (decode raw)) (length raw) unit eol st out s₀ r out′ s₂
-    unfolding anyLine
-    format-inside q v = stepped-as _ _ s₀ (only-same s₀ 0 0) (omega arith) (omega arith) (λ f h. sym (choose-false _ _ _ (in-now h ∙ q))) v
+    abbrev Any : Type 0
+    Any = Stepped (anyLineBy o (decode raw)) (length raw) unit eol st out s₀ r out′ s₂
 
-    pub format-code : b ≡ true → isEmpty (trim (decode raw)) ≡ false → Stepped (codeLineBy o (decode raw)) (length raw) unit eol st out s₀ r out′ s₂
-        → Stepped (anyLineBy o (decode raw)) (length raw) unit eol st out s₀ r out′ s₂
-    unfolding anyLine
-    format-code q z v =
-        stepped-as _ _ s₀ (only-same s₀ 0 0) (omega arith) (omega arith) (λ f h. sym (choose-true _ _ _ (in-now h ∙ q) ∙ choose-false _ _ _ z)) v
+    -- a line of a protected block
+    pub format-block : p ≡ true → Stepped (rawBy true (decode raw)) (length raw) unit eol st out s₀ r out′ s₂ → Any
+    unfolding anyLine choose
+    format-block q v = stepped-as _ _ s₀ (only-same s₀ 0 0) (omega arith) (omega arith) (λ f h. sym (choose-true _ _ _ (in-block h ∙ q))) v
 
-    pub format-blank : b ≡ true → isEmpty (trim (decode raw)) ≡ true → Stepped blankLine 0 unit eol st out s₀ r out′ s₂
-        → Stepped (anyLineBy o (decode raw)) (length raw) unit eol st out s₀ r out′ s₂
-    unfolding anyLine
-    format-blank q z v =
-        stepped-as _ _ s₀ (only-same s₀ 0 0) (omega arith) (omega arith) (λ f h. sym (choose-true _ _ _ (in-now h ∙ q) ∙ choose-true _ _ _ z)) v
+    module _ (free : p ≡ false) (b : Bool) (e : b ≡ inCodeNow (st .carry)) where
+      in-now : {f : Formatter} → Holds eol unit f st out s₀ → inCodeNow (f .carry) ≡ b
+      in-now h = ap inCodeNow (sym (h .carry)) ∙ sym e
+
+      pub format-inside : b ≡ false → Stepped (rawBy false (decode raw)) (length raw) unit eol st out s₀ r out′ s₂ → Any
+      unfolding anyLine choose
+      format-inside q v =
+          stepped-as _ _ s₀ (only-same s₀ 0 0) (omega arith) (omega arith)
+          (λ f h. sym (choose-false _ _ _ (in-block h ∙ free) ∙ choose-false _ _ _ (in-now h ∙ q))) v
+
+      pub format-code : b ≡ true → isEmpty (trim (decode raw)) ≡ false → Stepped (codeLineBy o (decode raw)) (length raw) unit eol st out s₀ r out′ s₂ → Any
+      unfolding anyLine
+      format-code q z v =
+          stepped-as _ _ s₀ (only-same s₀ 0 0) (omega arith) (omega arith)
+          (λ f h. sym (choose-false _ _ _ (in-block h ∙ free) ∙ choose-true _ _ _ (in-now h ∙ q) ∙ choose-false _ _ _ z)) v
+
+      pub format-blank : b ≡ true → isEmpty (trim (decode raw)) ≡ true → Stepped blankLine 0 unit eol st out s₀ r out′ s₂ → Any
+      unfolding anyLine
+      format-blank q z v =
+          stepped-as _ _ s₀ (only-same s₀ 0 0) (omega arith) (omega arith)
+          (λ f h. sym (choose-false _ _ _ (in-block h ∙ free) ∙ choose-true _ _ _ (in-now h ∙ q) ∙ choose-true _ _ _ z)) v
 
 -- a trimmed line, blank or not
 module _ (raw : List ℕ) (tail start : ℕ) (e : TrimmedEnd raw tail) (s : TrimmedStart (take tail raw) start) where

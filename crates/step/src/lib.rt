@@ -6,7 +6,7 @@ ghost use lib.ListN.{length};
 ghost use Rattle.unicode.specs.Unicode.{encode, decode, WellFormed};
 ghost use Rattle.rules.specs.Basics.{isEmpty};
 ghost use Rattle.rules.specs.Lines.{asStr};
-ghost use Rattle.rules.specs.Line.{protects, inCodeNow};
+ghost use Rattle.rules.specs.Line.{protects, inBlock, inCodeNow};
 ghost use Rattle.rules.specs.Options.{Options};
 ghost use Rattle.rules.specs.Scan.{classify};
 ghost use Rattle.rules.specs.Spacing.{respaced};
@@ -22,6 +22,7 @@ use brackets::Nesting;
 use line::formatter::Formatter;
 use line::formatter::Prev;
 use line::formatter::prev_of;
+use line::kept::Kept;
 use line::scratch::RECLASSED;
 use line::scratch::RESPACED;
 use line::scratch::STACK;
@@ -251,6 +252,18 @@ fn protects_next(ignore: Ignore) -> bool
     match ignore {
         Ignore::Nothing => false,
         Ignore::NextLine => true,
+        Ignore::Block(_) => true,
+    }
+}
+
+// Whether the line is one of a protected block.
+fn in_block(ignore: Ignore) -> bool
+    ensures { λ r. ⌜ r ≡ inBlock ignore ⌝ }
+{
+    match ignore {
+        Ignore::Nothing => false,
+        Ignore::NextLine => false,
+        Ignore::Block(_) => true,
     }
 }
 
@@ -300,8 +313,12 @@ fn code_line(
     let pending = st.ignore;
     let marker = marker_in(line, &scratch[..n]);
     if is_kept(pending, marker) {
-        let ending = style.ending;
-        return line::kept::protected_line(raw, line, out, scratch, unit, ending, after, st);
+        let k = Kept {
+            shown: raw.len(),
+            after,
+            ending: style.ending,
+        };
+        return line::kept::kept_line(raw, line, k, out, scratch, unit, st);
     }
     let alone = is_alone(marker);
     spaced_line(line, scratch, unit, after, alone, indent, style, out, st)
@@ -333,17 +350,20 @@ pub fn line_step(
     requires { ⌜ ValidIndent (now indent) ⌝ }
     ensures { λ r. ⌜ ((o : Options) → Uses o (now (indent .entry)) style → Stepped (anyLineBy o (decode (now (raw .entry)))) (length (now (raw .entry))) unit (asStr (style .ending)) st (now (out .entry)) (now (scratch .entry)) r (now (out .exit)) (now (scratch .exit))) ⌝ }
 {
+    let pending = st.ignore;
+    let ending = style.ending;
+    if in_block(pending) {
+        return line::kept::raw_line(raw, true, ending, out, scratch, unit, st);
+    }
     let carry = st.carry;
     if in_code(carry) {
         let tail = unicode::trim_end(raw);
         let start = unicode::trim_start(&raw[..tail]);
         if start == tail {
-            let ending = style.ending;
             return line::kept::blank_line(out, ending, st);
         }
         let line = &raw[start..tail];
         return code_line(raw, line, scratch, unit, indent, style, out, st);
     }
-    let ending = style.ending;
-    line::kept::inside_line(raw, out, scratch, unit, ending, st)
+    line::kept::raw_line(raw, false, ending, out, scratch, unit, st)
 }

@@ -46,6 +46,18 @@ pub struct Chosen {
     pub never: bool,
 }
 
+/// The Rust's text and counts; where the source has a protected block, which the Rust doesn't have,
+/// those of the model.
+fn by_rust(source: &str, options: &FormatOptions) -> upstream::Counted {
+    if source.contains("fmt-ignore") {
+        let blocks = upstream::format_blocks(source, options);
+        if blocks.any {
+            return blocks.counted;
+        }
+    }
+    upstream::format_counted(source, options)
+}
+
 impl From<FormatOptions> for Chosen {
     fn from(rust: FormatOptions) -> Self {
         Self { rust, never: false }
@@ -70,7 +82,7 @@ impl Chosen {
 
     /// The text and the counts of a source.
     pub fn format(&self, source: &str) -> upstream::Counted {
-        let mut counted = upstream::format_counted(source, &self.rust);
+        let mut counted = by_rust(source, &self.rust);
         if self.never {
             let text = counted.text.strip_suffix('\n').expect("an ending");
             counted.text = match self.ending(source) {

@@ -39,6 +39,12 @@ pub const ALPHABETS: &[(&str, &[&str])] = &[
     ]),
 ];
 
+/// What may stand behind a lone marker, and in the block that it protects.
+#[rustfmt::skip]
+pub const BLOCKS: [&str; 13] = [
+    "(", ")", "{", "}", "\n", " ", "/*", "*/", "$```", "```", "else", " a ,", "// fmt-ignore\n",
+];
+
 /// How many sources of `length` letters there are.
 pub fn count(alphabet: &[&str], length: u32) -> u64 {
     (alphabet.len() as u64).pow(length)

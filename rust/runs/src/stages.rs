@@ -56,6 +56,9 @@ impl Stage {
     }
 }
 
+/// The stages whose sources have protected blocks, which the Rust doesn't have.
+pub const BLOCKS: [&str; 2] = ["short blocks", "blocks"];
+
 /// The stage that takes longest for each check.
 pub const LONG: &str = "long sources";
 
@@ -130,6 +133,20 @@ pub fn all(seed: u64) -> Vec<Stage> {
     }));
     stages.push(Stage::new("safe", None, move |n| {
         Check::Safe(safe(&mut random(6, n)))
+    }));
+    stages.push(short_blocks(5));
+    stages.push(Stage::new(BLOCKS[1], None, move |n| {
+        let mut r = random(7, n);
+        let mut source = sources::tokens(&mut r, 6);
+        for _ in 0..=r.below(3) {
+            source.push_str("\n// fmt-ignore\n");
+            source.push_str(["(", "{\n", " [a", "{ {"][r.below(4)]);
+            source.push_str(&sources::tokens(&mut r, 12));
+        }
+        Check::Format(Call {
+            output: sources::room(&mut r),
+            ..Call::new(source, &sources::options(&mut r))
+        })
     }));
     stages
 }
@@ -232,6 +249,23 @@ fn every(
         Check::Format(Call {
             output: sources::room(&mut r),
             ..Call::new(source, &options)
+        })
+    })
+}
+
+/// A lone marker, and behind it every text over an alphabet up to a length.
+fn short_blocks(most: u32) -> Stage {
+    let alphabet = &sources::BLOCKS;
+    let count = (0..=most)
+        .map(|length| sources::count(alphabet, length))
+        .sum();
+    Stage::new(BLOCKS[0], Some(count), move |n| {
+        let n = scatter(n, count);
+        let source = format!("// fmt-ignore\n{}", numbered(alphabet, n));
+        let mut r = Random::new(n);
+        Check::Format(Call {
+            output: sources::room(&mut r),
+            ..Call::new(source, &sources::options(&mut r))
         })
     })
 }

@@ -4,6 +4,7 @@
 
 include!(concat!(env!("OUT_DIR"), "/upstream.rs"));
 
+pub use format::blocks::{Blocks, format_blocks};
 pub use format::reach::{
     Carry, Class, Counted, Prepared, TextKind, classify, format_counted, normalize_spacing,
     scan_brackets, text_kind_at, with_resolved,

@@ -179,7 +179,7 @@ pub fn format_counted(source: &str, opts: &FormatOptions) -> Counted {
 }
 
 /// The lines of the import that `f.line(raw)` will break, and its blank names.
-fn import_of(f: &Formatter, raw: &str) -> Option<(Vec<String>, usize)> {
+pub(super) fn import_of(f: &Formatter, raw: &str) -> Option<(Vec<String>, usize)> {
     let max = f.opts.print_width?;
     let trimmed = raw.trim();
     if f.carry != RustCarry::Code || f.ignore_next || !trimmed.starts_with("import") {

@@ -20,7 +20,7 @@ const LONGEST_ANSWER: usize = 4000;
 fn case(call: &Call) -> Option<Vec<u8>> {
     let options = call.options().filter(|o| !o.never)?.rust;
     let source = str::from_utf8(&call.source).ok()?;
-    if source.len() > LONGEST_SOURCE {
+    if source.len() > LONGEST_SOURCE || upstream::format_blocks(source, &options).any {
         return None;
     }
     let answer = upstream::format_with(source, &options);
@@ -54,6 +54,11 @@ fn case(call: &Call) -> Option<Vec<u8>> {
     )
 }
 
+/// The stages that a case is taken from.
+fn has_cases(name: &str) -> bool {
+    name != stages::LONG && !stages::BLOCKS.contains(&name)
+}
+
 /// How many cases of a stage stand in a row: the random stages have more.
 fn share(stage: &Stage) -> u64 {
     if stage.count.is_some() { 1 } else { 6 }
@@ -64,7 +69,7 @@ fn cases(seed: u64, count: usize, out: &mut impl Write) -> io::Result<()> {
     let stages = stages::all(seed);
     let mut seen = HashSet::new();
     for round in 0.. {
-        for stage in stages.iter().filter(|stage| stage.name != stages::LONG) {
+        for stage in stages.iter().filter(|stage| has_cases(&stage.name)) {
             for number in share(stage) * round..share(stage) * (round + 1) {
                 if seen.len() == count {
                     return Ok(());

@@ -1,6 +1,6 @@
 use borrow.Author.Needs.{needs}
-use Rattle.line.proofs.kept.kept_len.Statement.{statement}
-use Rattle.line.proofs.kept.kept_len.Tie as tie
+use Rattle.line.proofs.kept.closers_of.Statement.{statement}
+use Rattle.line.proofs.kept.closers_of.Tie as tie
 
 enum-told : tie.Need-enum-told
 enum-told c = search needs
@@ -20,5 +20,5 @@ returns-2 c = search needs
 returns-3 : tie.Need-returns-3
 returns-3 c = search needs
 
-pub kept-len-spec : {M : Type 1} → statement M
-kept-len-spec = tie.close (tie.spec enum-told enum-told-2 enum-told-3 returns returns-2 returns-3)
+pub closers-of-spec : {M : Type 1} → statement M
+closers-of-spec = tie.close (tie.spec enum-told enum-told-2 enum-told-3 returns returns-2 returns-3)

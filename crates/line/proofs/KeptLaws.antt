@@ -3,7 +3,7 @@ use Prim.Native.Nat.{ℕ, _+_, _-_, _*_, _≤_}
 use native.Mathlib.Omega.{arith}
 use mathlib.Core.Bool.{Bool, true, false, _||_}
 use mathlib.Core.List.{List, [], _++_}
-use mathlib.Core.Path.{_≡_, refl, sym, ap, _∙_}
+use mathlib.Core.Path.{_≡_, refl, sym, ap, _∙_, subst}
 use lib.ListN.{length, take, drop}
 use lib.Seq.{take-length, length-take-le}
 use Rattle.unicode.specs.Unicode.{encode, chars, decode, trim, WellFormed}
@@ -15,7 +15,7 @@ use Rattle.rules.specs.Basics.{choose, isEmpty}
 use Rattle.rules.specs.Scan.{classify, carryAfter}
 use Rattle.rules.specs.ClassBytes.{cellsOf}
 use Rattle.rules.specs.Brackets.{Entry, scanBrackets, countBrackets, levels}
-use Rattle.rules.specs.Line.{Formatter, scannedPart, closersIn, keptStack, protectedAfter, keptLine, asWritten, blankLine}
+use Rattle.rules.specs.Line.{Formatter, scannedPart, closersIn, keptStack, blockAfter, protectedAfter, keptLine, asWritten, blankLine}
 use Rattle.rules.specs.declared.Carry.{Carry}
 use Rattle.rules.specs.declared.Ignore.{Ignore}
 use Rattle.rules.proofs.Choose.{choose-true}
@@ -28,7 +28,7 @@ use Rattle.text.specs.Text.{isFirst, Adds}
 use Rattle.text.specs.declared.Written.{Written}
 use Rattle.text.proofs.StepLaws.{grown-ordered}
 use Rattle.line.specs.declared.formatter.Prev.{Prev}
-use Rattle.line.specs.Holds.{Record, prevOf, Holds, Small, Ready, Stepped, Blanked, TrimmedLine, Classes, shownLen, partOf, ClosersOf, ShownPart, keptBy, rawBy}
+use Rattle.line.specs.Holds.{Record, prevOf, Holds, Small, Ready, Stepped, Blanked, TrimmedLine, Classes, shownLen, partOf, popFirst, ClosersOf, ShownPart, keptBy, rawBy}
 use Rattle.line.specs.Scratch.{stackAt}
 use Rattle.line.proofs.HoldsLaws.{first-line, prev-bytes, carry-bytes, stack-scanned, stack-counted, length-stacked, classes-front, front-only, line-room, ready-as, stepped-as}
 
@@ -95,7 +95,31 @@ module _ (eol : List ℕ) (st : Record) (out : List ℕ) (r : Bool) (s : Small s
         };
       }
 
+-- ---- what is protected after a line
+
+pub guards-nothing : (i : Ignore) (before now : ℕ) → i ≡ Ignore.Nothing → Ignore.Nothing ≡ protectedAfter i before now
+unfolding protectedAfter
+guards-nothing i before now e = rw e
+
+pub guards-next : (i r : Ignore) (before now : ℕ) → i ≡ Ignore.NextLine → r ≡ blockAfter before now → r ≡ protectedAfter i before now
+unfolding protectedAfter
+guards-next i r before now e h = rw e h
+
+pub guards-block : (i r : Ignore) (earlier before now : ℕ) → i ≡ Ignore.Block earlier → r ≡ blockAfter earlier now → r ≡ protectedAfter i before now
+unfolding protectedAfter
+guards-block i r earlier before now e h = rw e h
+
 -- ---- a line that is kept
+
+-- the closers that pop first
+pub closers-code : (y : Carry) (line : List ℕ) (n : ℕ) → y ≡ Carry.Code → Closers line n → ClosersOf y line n
+closers-code y line n e k = rw e (record { is = k })
+
+pub closers-block : (y : Carry) (line : List ℕ) (d : ℕ) → y ≡ Carry.Block d → ClosersOf y line 0
+closers-block y line d e = rw e (record { is = refl })
+
+pub closers-prefab : (y : Carry) (line : List ℕ) → y ≡ Carry.Prefab → ClosersOf y line 0
+closers-prefab y line e = rw e (record { is = refl })
 
 -- the part that is scanned
 part-well : (y : Carry) {raw line : List ℕ} → WellFormed raw → TrimmedLine raw line → WellFormed (partOf y raw line)
@@ -107,6 +131,9 @@ pub part-short : (y : Carry) {raw line : List ℕ} → TrimmedLine raw line → 
 part-short Carry.Code t = t .short
 part-short (Carry.Block d) t = omega arith
 part-short Carry.Prefab t = omega arith
+
+pub part-fits : (y : Carry) (raw line part₀ : List ℕ) → TrimmedLine raw line → part₀ ≡ partOf y raw line → length part₀ ≤ length raw
+part-fits y raw line part₀ t e = omega (arith, ap length e, part-short y t)
 
 part-text : (y : Carry) {raw line : List ℕ} → TrimmedLine raw line → decode (partOf y raw line) ≡ scannedPart y (decode raw)
 unfolding scannedPart
@@ -126,7 +153,7 @@ module _ {scratch scratch′ : List ℕ} {base : ℕ} {b left deep : Nesting} {s
 
   -- and after any
   pub kept-stack : (y : Carry) {after : Carry} {n closers : ℕ} (raw line : List ℕ) → WellFormed raw → TrimmedLine raw line → Classes y (partOf y raw line) scratch 0 after
-      → ClosersOf y line closers → Popped scratch base b closers left
+      → popFirst y line closers → Popped scratch base b closers left
       → BracketsDone scratch scratch′ base left n
       (scanBrackets (left .line) (drop closers (cellsOf (partOf y raw line) (part scratch 0 (0 + length (partOf y raw line))))) (stacked scratch base (left .depth))) deep
       → stacked scratch′ base (deep .depth) ≡ countBrackets (b .line) (closersIn y (decode raw)) (classify y (scannedPart y (decode raw))) s
@@ -173,7 +200,7 @@ kept-step raw line part₀ out out′ scratch scratch′ eol unit shown st u clo
     stack-after : (f : Formatter) → Holds eol unit f st out scratch
         → stacked scratch′ (stackAt unit) (deep .depth)
         ≡ countBrackets (f .number) (closersIn (f .carry) (decode raw)) (classify (f .carry) (scannedPart (f .carry) (decode raw))) (f .stack)
-    stack-after f h = rw (h .carry, h .number) at (kept-stack (h .stack) (st .carry) raw line well t classes k l (rw ip at v))
+    stack-after f h = rw (h .carry, h .number) at (kept-stack (h .stack) (st .carry) raw line well t classes (k .is) l (rw ip at v))
 
     before : (f : Formatter) → Holds eol unit f st out scratch → st .nesting .depth ≡ length (f .stack)
     before f h = sym (length-stacked scratch (stackAt unit) (st .nesting .depth)) ∙ ap length (h .stack)
@@ -182,12 +209,15 @@ kept-step raw line part₀ out out′ scratch scratch′ eol unit shown st u clo
         → deep .depth ≡ length (countBrackets (f .number) (closersIn (f .carry) (decode raw)) (classify (f .carry) (scannedPart (f .carry) (decode raw))) (f .stack))
     now f h = sym (length-stacked scratch′ (stackAt unit) (deep .depth)) ∙ ap length (stack-after f h)
 
+pub shown-short : {raw : List ℕ} {n : ℕ} → ShownPart raw n → length (take n raw) ≤ length raw
+shown-short {raw} {n} p = omega (arith, length-take-le n raw (p .fits), p .fits)
+
 -- a line in code, whole
 pub whole-shown : (raw : List ℕ) → WellFormed raw → ShownPart raw (length raw)
 whole-shown raw well = record { fits = omega arith; well = rw (take-length raw) well }
 
-pub code-part : {y after : Carry} {raw line scratch : List ℕ} → y ≡ Carry.Code → Classes Carry.Code line scratch 0 after → Classes y (partOf y raw line) scratch 0 after
-code-part e c = rw e c
+pub code-part : {y after : Carry} (raw : List ℕ) {line scratch : List ℕ} → y ≡ Carry.Code → Classes Carry.Code line scratch 0 after → Classes y (partOf y raw line) scratch 0 after
+code-part raw e c = rw e c
 
 -- ---- a line of a protected block, or one that starts inside a comment or a prefab
 
@@ -225,7 +255,7 @@ pub raw-classes : (raw line part₀ scratch w : List ℕ) (unit : ℕ) (st : Rec
     → Classes (st .carry) (partOf (st .carry) raw line) (w ++ drop (length part₀) scratch) 0 after
 raw-classes raw line part₀ scratch w unit st after ready t ip c =
     let short : length part₀ ≤ length raw = omega (arith, ap length ip, part-short (st .carry) t) in
-    rw ip at (classes-front part₀ scratch w (line-room ready part₀ short) c)
+    subst (λ (p : List ℕ). Classes (st .carry) p (w ++ drop (length part₀) scratch) 0 after) ip (classes-front part₀ scratch w (line-room ready part₀ short) c)
 
 pub raw-ready : (raw line part₀ scratch w : List ℕ) (unit : ℕ) (st : Record) (after : Carry)
     → Ready st scratch unit (length raw) → TrimmedLine raw line → part₀ ≡ partOf (st .carry) raw line → Classified (st .carry) part₀ (take (length part₀) scratch) w after

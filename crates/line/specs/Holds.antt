@@ -152,10 +152,13 @@ partOf (Carry.Block d) raw line = raw
 partOf Carry.Prefab raw line = raw
 
 -- the closers that pop first
-abbrev pub ClosersOf : Carry → List ℕ → ℕ → Type 0
-ClosersOf Carry.Code line n = Closers line n
-ClosersOf (Carry.Block d) line n = n ≡ 0
-ClosersOf Carry.Prefab line n = n ≡ 0
+abbrev pub popFirst : Carry → List ℕ → ℕ → Type 0
+popFirst Carry.Code line n = Closers line n
+popFirst (Carry.Block d) line n = n ≡ 0
+popFirst Carry.Prefab line n = n ≡ 0
+
+pub record ClosersOf (y : Carry) (line : List ℕ) (n : ℕ) : Type 0 where
+  pub is : popFirst y line n
 
 -- so many bytes of it are written
 pub record ShownPart (raw : List ℕ) (shown : ℕ) : Type 0 where

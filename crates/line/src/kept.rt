@@ -4,7 +4,7 @@ ghost use mathlib.Core.Bool.{not, _&&_};
 ghost use lib.ListN.{length, take};
 ghost use Rattle.unicode.specs.Unicode.{decode, WellFormed};
 ghost use Rattle.rules.specs.Lines.{asStr};
-ghost use Rattle.rules.specs.Line.{blockAfter, protectedAfter};
+ghost use Rattle.rules.specs.Line.{inBlock, blockAfter, protectedAfter};
 ghost use Rattle.line.specs.Holds.{Small, Ready, Stepped, Blanked, TrimmedLine, Classes, shownLen, partOf, ClosersOf, ShownPart, keptBy, rawBy};
 use crate::formatter::Formatter;
 use crate::formatter::prev_of;
@@ -60,6 +60,17 @@ fn closers_of(carry: Carry, line: &[u8]) -> usize
     }
 }
 
+// Whether the line is one of a protected block.
+pub fn in_block(ignore: Ignore) -> bool
+    ensures { λ r. ⌜ r ≡ inBlock ignore ⌝ }
+{
+    match ignore {
+        Ignore::Nothing => false,
+        Ignore::NextLine => false,
+        Ignore::Block(_) => true,
+    }
+}
+
 // A block goes on while more brackets are open than before it.
 fn block_after(earlier: usize, now: usize) -> Ignore
     ensures { λ r. ⌜ r ≡ blockAfter earlier now ⌝ }
@@ -89,9 +100,9 @@ pub struct Kept {
 }
 
 // A line that is kept. line is raw trimmed; the class bytes of the part that is scanned stand at the front of scratch.
-pub fn kept_line(
-    raw: &[u8],
-    line: &[u8],
+pub fn kept_line<'a>(
+    raw: &'a [u8],
+    line: &'a [u8],
     k: Kept,
     out: &mut [u8],
     scratch: &mut [u8],

@@ -6,7 +6,7 @@ ghost use lib.ListN.{length};
 ghost use Rattle.unicode.specs.Unicode.{encode, decode, WellFormed};
 ghost use Rattle.rules.specs.Basics.{isEmpty};
 ghost use Rattle.rules.specs.Lines.{asStr};
-ghost use Rattle.rules.specs.Line.{protects, inBlock, inCodeNow};
+ghost use Rattle.rules.specs.Line.{protects, inCodeNow};
 ghost use Rattle.rules.specs.Options.{Options};
 ghost use Rattle.rules.specs.Scan.{classify};
 ghost use Rattle.rules.specs.Spacing.{respaced};
@@ -256,17 +256,6 @@ fn protects_next(ignore: Ignore) -> bool
     }
 }
 
-// Whether the line is one of a protected block.
-fn in_block(ignore: Ignore) -> bool
-    ensures { λ r. ⌜ r ≡ inBlock ignore ⌝ }
-{
-    match ignore {
-        Ignore::Nothing => false,
-        Ignore::NextLine => false,
-        Ignore::Block(_) => true,
-    }
-}
-
 // Whether the line is kept as written: a marker is pending, or one stands after its code.
 fn is_kept(pending: Ignore, marker: Marker) -> bool
     ensures { λ r. ⌜ r ≡ isKept pending marker ⌝ }
@@ -352,7 +341,7 @@ pub fn line_step(
 {
     let pending = st.ignore;
     let ending = style.ending;
-    if in_block(pending) {
+    if line::kept::in_block(pending) {
         return line::kept::raw_line(raw, true, ending, out, scratch, unit, st);
     }
     let carry = st.carry;

@@ -29,7 +29,7 @@ use Rattle.basics.proofs.OnlyLaws.{only-same, only-wider, only-then, only-part-
 use Rattle.buffer.proofs.RegionLaws.{length-part}
 use Rattle.line.specs.Holds.{Classes}
 use Rattle.line.specs.Scratch.{respacedAt, reclassedAt, stackAt}
-use Rattle.line.proofs.HoldsLaws.{cells-decoded}
+use Rattle.line.proofs.HoldsLaws.{cells-decoded, length-stacked}
 use Rattle.step.specs.declared.Going.{Going}
 use Rattle.step.specs.Going.{LineRoom, goingLine, Goes, Went, BracketsCounted}
 

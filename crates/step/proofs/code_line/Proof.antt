@@ -2,6 +2,7 @@ use native.Mathlib.Omega.{arith}
 use Rattle.rules.specs.declared.Carry.{Carry}
 use Rattle.line.proofs.HoldsLaws.{front-size, classify-room}
 use Rattle.step.proofs.StepLaws.{code-classes, code-bytes, code-ready, line-ready, solid, marks-of, code-protected, code-open}
+use Rattle.line.proofs.KeptLaws.{whole-shown, code-part}
 use borrow.Author.Needs.{needs}
 use Rattle.step.proofs.code_line.Statement.{statement}
 use Rattle.step.proofs.code_line.Tie as tie
@@ -39,13 +40,13 @@ marker-in-requires c κs =
 is-kept-requires : tie.Need-is-kept-requires
 is-kept-requires c κs = search needs
 
-protected-line-requires : tie.Need-protected-line-requires
-protected-line-requires c κs =
+kept-line-requires : tie.Need-kept-line-requires
+kept-line-requires c κs =
     let a = c .before .before .before .before .before .before .before .before in
     let s = a .before .before .before .before .before .before .before in
     let t = s .pre .1 .1 .1 .0 in
     let k = a .classify .ensures in
-    (code-ready _ _ (s .pre .0) t k, (s .pre .1 .0, (s .pre .1 .1 .0, (t, code-classes _ _ (s .pre .0) t k))))
+    (code-ready _ _ (s .pre .0) t k, (s .pre .1 .1 .0, (t, (code-part _ (s .pre .1 .0) (code-classes _ _ (s .pre .0) t k), whole-shown _ (s .pre .1 .1 .0)))))
 
 same-length : tie.Need-same-length
 same-length c = search needs
@@ -61,7 +62,7 @@ returns c =
     let e = d .before in
     let g = e .before .before .before .before in
     let s = g .before .before .before .before .before .before .before in
-    λ o u. code-protected _ _ (s .pre .0) (s .pre .1 .1 .1 .0) (g .classify .ensures) _ _ (e .marker-in .ensures) (d .is-kept .ensures) (b .if1 .taken) (a .protected-line .ensures) o
+    λ o u. code-protected _ _ (s .pre .0) (s .pre .1 .1 .1 .0) (g .classify .ensures) _ _ (e .marker-in .ensures) (d .is-kept .ensures) (b .if1 .taken) (a .kept-line .ensures) o
 
 is-alone-requires : tie.Need-is-alone-requires
 is-alone-requires c κs = search needs
@@ -104,7 +105,7 @@ code-line-spec =
     slice-aggregate-marker-in
     marker-in-requires
     is-kept-requires
-    protected-line-requires
+    kept-line-requires
     same-length
     same-length-2
     returns

@@ -30,7 +30,14 @@ fn format_default(source: &[u8], output: &mut [u8; MAX_TEXT]) -> Answer
 {
     let mut scratch = [0u8; call::FORMAT_SCRATCH * MAX_INPUT + 256];
     let mut opened = [0u64; 0];
-    call::format_call(source, b"  ", OptionNumbers::DEFAULTS, output, &mut opened, &mut scratch)
+    call::format_call(
+        source,
+        b"  ",
+        OptionNumbers::DEFAULTS,
+        output,
+        &mut opened,
+        &mut scratch,
+    )
 }
 
 // Writes the text of the source, or its refusal, over the front of output and zeros after it, and gives its length.

@@ -1,7 +1,7 @@
 //! A child of the upstream module `format`: its loop over the lines, with the protected blocks of
 //! request C-15, which the Rust doesn't have.
 
-use super::reach::{Counted, import_of};
+use super::reach::{Counted, import_of, note_brackets};
 use super::scan::Carry;
 use super::{FormatOptions, Formatter, LineEnding};
 
@@ -24,10 +24,13 @@ pub fn format_blocks(source: &str, opts: &FormatOptions) -> Blocks {
     // in a block, how many brackets were open before its first line
     let mut block = None;
     let (mut any, mut imports_split, mut blank_names) = (false, 0, 0);
-    for raw in source.split('\n') {
+    let mut open_lines = Vec::new();
+    for (number, raw) in source.split('\n').enumerate() {
         let raw = raw.strip_suffix('\r').unwrap_or(raw);
+        let carry = f.carry;
         if let Some(earlier) = block {
             keep(&mut f, raw);
+            note_brackets(&f, carry, raw, number as u64, &mut open_lines);
             block = block.filter(|_| f.stack.len() > earlier);
             continue;
         }
@@ -38,6 +41,7 @@ pub fn format_blocks(source: &str, opts: &FormatOptions) -> Blocks {
             blank_names += blanks;
         }
         f.line(raw);
+        note_brackets(&f, carry, raw, number as u64, &mut open_lines);
         if guarded && f.stack.len() > before {
             (block, any) = (Some(before), true);
         }
@@ -46,6 +50,7 @@ pub fn format_blocks(source: &str, opts: &FormatOptions) -> Blocks {
         text: finish(f.lines, source, opts),
         imports_split,
         blank_names,
+        open_lines,
     };
     Blocks { counted, any }
 }

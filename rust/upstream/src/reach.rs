@@ -181,7 +181,7 @@ pub fn format_counted(source: &str, opts: &FormatOptions) -> Counted {
 
 /// The lines of the open brackets after the line with this number, which `f` has just read: each
 /// opener in code adds the number, each closer takes the newest line off.
-fn note_brackets(f: &Formatter, carry: RustCarry, raw: &str, number: u64, open: &mut Vec<u64>) {
+pub(super) fn note_brackets(f: &Formatter, carry: RustCarry, raw: &str, number: u64, open: &mut Vec<u64>) {
     let inside = carry != RustCarry::Code;
     if !inside && raw.trim().is_empty() {
         return;

@@ -4,8 +4,9 @@ use Prim.Native.String.{String}
 use mathlib.Core.Bool.{true, false}
 use mathlib.Core.List.{List, [], _∷_, _++_, map}
 use mathlib.Core.Path.{_≡_, refl}
-use lib.ListN.{length, replicate}
+use lib.ListN.{length, take, replicate}
 use Rattle.rules.specs.Basics.{choose, codes}
+use Rattle.rules.specs.Strengths.{builtIn}
 use Rattle.rules.specs.Options.{Options, SettingStep, defaults, withIndent, indentWith, spaces, tab}
 use Rattle.rules.specs.Assembly.{formatWith, formatWirescript}
 use Rattle.rules.specs.Choices.{Choices, defaultNumbers, printWidthNamed, endOfLineNamed, finalNewlineNamed, validOptions, optionsOf}
@@ -38,27 +39,45 @@ abbrev call : List ℕ → List ℕ → ℕ → ℕ → ℕ → ℕ → ℕ → 
 call source indent set width ending newline scratch output =
     record {
       source = source;
-      choices = record { indent = indent; numbers = record { «width_set» = set; width = width; «line_ending» = ending; «final_newline» = newline } };
+      choices =
+          record {
+            indent = indent;
+            numbers = record { «width_set» = set; width = width; «line_ending» = ending; «final_newline» = newline };
+            strengths = builtIn;
+          };
       output = output;
       scratch = scratch;
     }
 
+-- the default numbers and table
+abbrev plainly : List ℕ → Choices
+plainly indent = record { indent = indent; numbers = defaultNumbers; strengths = builtIn }
+
 -- with the default options
 abbrev plain : List ℕ → ℕ → ℕ → Call
-plain source scratch output =
-    record { source = source; choices = record { indent = defaults .indent; numbers = defaultNumbers }; output = output; scratch = scratch }
+plain source scratch output = record { source = source; choices = plainly (defaults .indent); output = output; scratch = scratch }
 
--- the default numbers and two spaces name the defaults
-pub defaults-named : optionsOf (record { indent = defaults .indent; numbers = defaultNumbers }) ≡ defaults
+-- with a table of strengths
+abbrev loaded : List ℕ → List ℕ → ℕ → ℕ → Call
+loaded table source scratch output =
+    record {
+      source = source;
+      choices = record { indent = defaults .indent; numbers = defaultNumbers; strengths = table };
+      output = output;
+      scratch = scratch;
+    }
+
+-- the default numbers, two spaces and the built-in table name the defaults
+pub defaults-named : optionsOf (plainly (defaults .indent)) ≡ defaults
 unfolding computing
 defaults-named = refl
 
-pub defaults-valid : validOptions (record { indent = defaults .indent; numbers = defaultNumbers }) ≡ true
+pub defaults-valid : validOptions (plainly (defaults .indent)) ≡ true
 unfolding computing
 defaults-valid = refl
 
 -- format_wirescript is what the default numbers and an indent give
-pub wirescript-choices : (indent source : List ℕ) → formatWith (optionsOf (record { indent = indent; numbers = defaultNumbers })) source ≡ formatWirescript indent source
+pub wirescript-choices : (indent source : List ℕ) → formatWith (optionsOf (plainly indent)) source ≡ formatWirescript indent source
 unfolding optionsOf printWidthNamed endOfLineNamed finalNewlineNamed
 wirescript-choices indent source = refl
 
@@ -96,6 +115,12 @@ calls =
     ∷ (call [] [] 2 100 0 1 256 1, bad)
     ∷ (call [] [] 1 100 3 1 256 1, bad)
     ∷ (call [] [] 1 100 0 2 256 1, bad)
+    -- a table of strengths: its length, then its last four bits, before everything else
+    ∷ (loaded (take 10 builtIn) [] 256 1, Outcome.Refused Refusal.StrengthsLength)
+    ∷ (loaded (builtIn ++ (0 ∷ [])) [] 256 1, Outcome.Refused Refusal.StrengthsLength)
+    ∷ (loaded [] (0xFF ∷ []) 0 0, Outcome.Refused Refusal.StrengthsLength)
+    ∷ (loaded (take 10 builtIn ++ (0xC1 ∷ [])) (0xFF ∷ []) 0 0, Outcome.Refused Refusal.StrengthsBits)
+    ∷ (loaded (replicate 11 0xF0) [] 256 1, fine 1)
     -- the first that applies is given
     ∷ (call (0xFF ∷ []) (codes "q") 1 100 0 1 0 0, bad)
     ∷ (plain (0xFF ∷ []) 263 0, Outcome.Refused (Refusal.ScratchShort 264))
@@ -239,6 +264,7 @@ steps =
         printWidth = PrintWidth.Off;
         endOfLine = EndOfLine.Set LineEnding.Crlf;
         insertFinalNewline = FinalNewline.AsSource;
+        strengths = defaults .strengths;
       }),
     )
     ∷ []

@@ -21,6 +21,7 @@ atWidth n =
       printWidth = PrintWidth.Columns n;
       endOfLine = defaults .endOfLine;
       insertFinalNewline = defaults .insertFinalNewline;
+      strengths = defaults .strengths;
     }
 
 abbrev noFinalNewline : Options
@@ -30,6 +31,7 @@ noFinalNewline =
       printWidth = defaults .printWidth;
       endOfLine = defaults .endOfLine;
       insertFinalNewline = FinalNewline.AsSource;
+      strengths = defaults .strengths;
     }
 
 abbrev pub expected : Case → Formatted

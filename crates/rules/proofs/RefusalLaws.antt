@@ -29,6 +29,8 @@ numbered (Refusal.NotUtf8 n) e = omega arith
 numbered (Refusal.OutputShort n) e = omega arith
 numbered Refusal.PlacesUnordered e = omega arith
 numbered Refusal.KindsShort e = omega arith
+numbered Refusal.StrengthsLength e = omega arith
+numbered Refusal.StrengthsBits e = omega arith
 
 -- ---- one test
 

@@ -73,12 +73,13 @@ pub fn answer_of(o: Outcome) -> Answer
     ensures { λ r. ⌜ r ≡ answerOf o ⌝ }
 {
     match o {
-        Outcome::Formatted(length, imports, blanks) => Answer {
+        Outcome::Formatted(length, imports, blanks, brackets) => Answer {
             refusal: 0,
             place: 0,
             length: length as u64,
             imports_split: imports as u64,
             blank_names: blanks as u64,
+            open_brackets: brackets as u64,
         },
         Outcome::Refused(r) => Answer {
             refusal: number_of(r),
@@ -86,6 +87,7 @@ pub fn answer_of(o: Outcome) -> Answer
             length: 0,
             imports_split: 0,
             blank_names: 0,
+            open_brackets: 0,
         },
     }
 }

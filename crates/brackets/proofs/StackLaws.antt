@@ -1,5 +1,5 @@
 -- Laws of the stack in scratch, and the loops over a line's brackets.
-use Prim.Native.Nat.{ℕ, zero, suc, _+_, _-_, _≤_, _<_, zero-le}
+use Prim.Native.Nat.{ℕ, zero, suc, _+_, _-_, _*_, _/_, _%_, _≤_, _<_, zero-le}
 use mathlib.Core.Bool.{Bool, true, false, not, _||_, true≢false}
 use mathlib.Core.List.{List, [], _∷_, foldl}
 use mathlib.Core.Path.{_≡_, refl, sym, ap, subst, _∙_}
@@ -8,22 +8,23 @@ use native.Mathlib.Numerals.{add-one}
 use native.Mathlib.Omega.{arith}
 use borrow.Author.Tests.{ne-eqb, eqb-true, le-leb, lt-leb}
 use lib.Dec.{eqb, leb}
-use lib.ListN.{length, getD, drop, set, drop-of-length-le}
+use lib.ListN.{length, getD, drop, set, length-set, drop-of-length-le}
 use lib.Seq.{getD-set-same, getD-set-other, drop-cons}
 use Rattle.buffer.specs.Buffer.{part}
 use Rattle.unicode.proofs.Tests.{by-test}
 use Rattle.rules.specs.Basics.{choose, isCloser, leading}
 use Rattle.rules.specs.Scan.{Cell, cell, isCode}
 use Rattle.rules.specs.ClassBytes.{classOf, cellsOf}
+use Rattle.rules.specs.Refusals.{maxSource}
 use Rattle.rules.specs.Brackets.{Entry, Open, opened, escaped, push, popFrom, pop, bracketStep, scanBrackets, leadingClosers, levels}
 use Rattle.rules.proofs.Choose.{choose-case, choose-true, choose-false}
 use Rattle.rules.proofs.CellsLaws.{drop-cells, cells-at, cells-end}
 use Rattle.basics.specs.Region.{Only}
 use Rattle.basics.specs.Closers.{Closers}
-use Rattle.brackets.specs.Stack.{entryOf, stacked, Nested, Popped, Tallies, mayTurn, StackRoom, Turned, StackFits, BracketsDone}
+use Rattle.brackets.specs.Stack.{entrySize, addsOf, entryAt, stacked, EntryRoom, EntryPut, Nested, Popped, Tallies, mayTurn, StackRoom, Turned, StackFits, BracketsDone}
 use Rattle.brackets.specs.declared.Nesting.{Nesting}
 use Rattle.brackets.specs.declared.Tally.{Tally}
-use Rattle.basics.proofs.OnlyLaws.{only-same, only-set, only-wider, only-then, only-past, read-now}
+use Rattle.basics.proofs.OnlyLaws.{only-same, only-set, only-wider, only-then, only-at, only-past, read-now}
 use Rattle.buffer.proofs.RegionLaws.{length-part}
 
 -- ---- leading closers
@@ -59,18 +60,24 @@ module _ (line : List ℕ) (i : ℕ) (w : Closing line i) where
 
 -- ---- the stack
 
--- a write at or above its height
-stacked-set : (buf : List ℕ) (base n m v : ℕ) → base + n ≤ m → stacked (set buf m v) base n ≡ stacked buf base n
-unfolding stacked
-stacked-set buf base zero m v h = refl
-stacked-set buf base (suc n) m v h =
-    rw (getD-set-other buf m (base + n) v 0 (λ e. absurd (omega arith)), stacked-set buf base n m v (omega arith))
+-- an entry that a change leaves
+entry-same : (x y : List ℕ) (p : ℕ) → ((i : ℕ) → p ≤ i → i < p + entrySize → getD y i 0 ≡ getD x i 0) → entryAt y p ≡ entryAt x p
+unfolding entryAt
+entry-same x y p e = rw (e p (omega arith) (omega arith), e (p + 1) (omega arith) (omega arith), e (p + 2) (omega arith) (omega arith))
 
-stacked-push : (buf : List ℕ) (base n v : ℕ) → base + n < length buf → stacked (set buf (base + n) v) base (n + 1) ≡ entryOf v ∷ stacked buf base n
+-- a stack that stands before the region that changed
+stacked-below : {x y : List ℕ} {a e : ℕ} → Only x y a e → (base n : ℕ) → base + entrySize * n ≤ a → stacked y base n ≡ stacked x base n
 unfolding stacked
-stacked-push buf base n v h = rw (add-one n, getD-set-same buf (base + n) v 0, stacked-set buf base n (base + n) v (omega arith))
+stacked-below w base zero h = refl
+stacked-below {x} {y} w base (suc n) h =
+    rw (entry-same x y (base + entrySize * n) (λ i l k. only-at w i (omega arith)), stacked-below w base n (omega arith))
 
-stacked-top : (buf : List ℕ) (base n : ℕ) → (n ≡ 0 → ⊥) → stacked buf base n ≡ entryOf (getD buf (base + (n - 1)) 0) ∷ stacked buf base (n - 1)
+stacked-push : (buf : List ℕ) (base n level line : ℕ) (after : List ℕ) → EntryPut buf (base + entrySize * n) level line after
+    → stacked after base (n + 1) ≡ record { adds = not (eqb level 0); line = line } ∷ stacked buf base n
+unfolding stacked
+stacked-push buf base n level line after w = rw (add-one n, w .is, stacked-below (w .only) base n (omega arith))
+
+stacked-top : (buf : List ℕ) (base n : ℕ) → (n ≡ 0 → ⊥) → stacked buf base n ≡ entryAt buf (base + entrySize * (n - 1)) ∷ stacked buf base (n - 1)
 unfolding stacked
 stacked-top buf base zero h = absurd (h refl)
 stacked-top buf base (suc n) h = let e : suc n - 1 ≡ n = omega arith in rw e
@@ -96,17 +103,23 @@ stacked-drop buf base (suc depth) (suc n) =
 pub stacked-past : {x y : List ℕ} {a e : ℕ} → Only x y a e → (base n : ℕ) → e ≤ base → stacked y base n ≡ stacked x base n
 unfolding stacked
 stacked-past w base zero h = refl
-stacked-past w base (suc n) h = rw (only-past w (base + n) (omega arith), stacked-past w base n h)
+stacked-past {x} {y} w base (suc n) h =
+    rw (entry-same x y (base + entrySize * n) (λ i l k. only-past w i (omega arith)), stacked-past w base n h)
 
 pub nested-past : {x y : List ℕ} {a e : ℕ} {base : ℕ} {b : Nesting} → Only x y a e → e ≤ base → Nested x base b → Nested y base b
 nested-past {base = base} {b = b} w h n =
-    record { fits = omega (arith, n .fits, w .long); runs = n .runs ∙ ap levels (sym (stacked-past w base (b .depth) h)) }
+    record { fits = omega (arith, n .fits, w .long); runs = n .runs ∙ ap levels (sym (stacked-past w base (b .depth) h)); line = n .line }
 
 -- ---- the levels of the stack
 
-levels-cons : (x : Entry) (s : List Entry) → levels (x ∷ s) ≡ choose x 1 0 + levels s
+levels-cons : (x : Entry) (s : List Entry) → levels (x ∷ s) ≡ choose (x .adds) 1 0 + levels s
 unfolding levels
 levels-cons x s = refl
+
+-- whether an entry added a level stands in its first byte
+adds-at : (buf : List ℕ) (p : ℕ) → entryAt buf p .adds ≡ addsOf (getD buf p 0)
+unfolding entryAt
+adds-at buf p = refl
 
 pub levels-most : (buf : List ℕ) (base n : ℕ) → levels (stacked buf base n) ≤ n
 unfolding stacked levels
@@ -116,24 +129,26 @@ levels-most buf base (suc n) =
     choose-case (λ (m : ℕ). m + levels (stacked buf base n) ≤ suc n) (λ e. omega arith) (λ e. omega arith)
 
 levels-top : (buf : List ℕ) (base n : ℕ) → (n ≡ 0 → ⊥)
-    → levels (stacked buf base n) ≡ choose (entryOf (getD buf (base + (n - 1)) 0)) 1 0 + levels (stacked buf base (n - 1))
-levels-top buf base n h = ap levels (stacked-top buf base n h) ∙ levels-cons _ _
+    → levels (stacked buf base n) ≡ choose (addsOf (getD buf (base + entrySize * (n - 1)) 0)) 1 0 + levels (stacked buf base (n - 1))
+levels-top buf base n h =
+    ap levels (stacked-top buf base n h) ∙ levels-cons _ _
+    ∙ ap (λ (b : Bool). choose b 1 0 + levels (stacked buf base (n - 1))) (adds-at buf (base + entrySize * (n - 1)))
 
-levels-push : (buf : List ℕ) (base n v : ℕ) → base + n < length buf
-    → levels (stacked (set buf (base + n) v) base (n + 1)) ≡ choose (entryOf v) 1 0 + levels (stacked buf base n)
-levels-push buf base n v h = ap levels (stacked-push buf base n v h) ∙ levels-cons _ _
+levels-push : (buf : List ℕ) (base n level line : ℕ) (after : List ℕ) → EntryPut buf (base + entrySize * n) level line after
+    → levels (stacked after base (n + 1)) ≡ choose (not (eqb level 0)) 1 0 + levels (stacked buf base n)
+levels-push buf base n level line after w = ap levels (stacked-push buf base n level line after w) ∙ levels-cons _ _
 
 -- the loop of `pop_closers`: `end` brackets are left at its end
 pub record Popping (buf : List ℕ) (base end depth levels₁ : ℕ) : Type 0 where
   pub from : end ≤ depth
-  pub fits : base + depth ≤ length buf
+  pub fits : base + entrySize * depth ≤ length buf
   pub runs : levels₁ ≡ levels (stacked buf base depth)
 
 pub popping-start : (buf : List ℕ) (base : ℕ) (b : Nesting) (n end : ℕ) → Nested buf base b → end ≡ b .depth - n → Popping buf base end (b .depth) (b .levels)
 popping-start buf base b n end w e = record { from = omega (arith, e); fits = w .fits; runs = w .runs }
 
 module _ (buf : List ℕ) (base end depth levels₁ : ℕ) (w : Popping buf base end depth levels₁) where
-  module _ (h : end < depth) (r : ℕ) (e : r ≡ choose (entryOf (getD buf (base + (depth - 1)) 0)) 1 0) where
+  module _ (h : end < depth) (r : ℕ) (e : r ≡ choose (addsOf (getD buf (base + entrySize * (depth - 1)) 0)) 1 0) where
     top : levels₁ ≡ r + levels (stacked buf base (depth - 1))
     top = w .runs ∙ levels-top buf base depth (λ z. absurd (omega arith)) ∙ ap (λ (k : ℕ). k + levels (stacked buf base (depth - 1))) (sym e)
 
@@ -143,89 +158,152 @@ module _ (buf : List ℕ) (base end depth levels₁ : ℕ) (w : Popping buf base
     pub popping-more : Popping buf base end (depth - 1) (levels₁ - r)
     popping-more = record { from = omega arith; fits = omega (arith, w .fits); runs = omega (arith, top) }
 
-  pub popping-end : (b : Nesting) (n : ℕ) → end ≡ b .depth - n → depth ≤ end → Popped buf base b n (record { depth = depth; levels = levels₁ })
-  popping-end b n e h = record { depth = omega (arith, w .from); nested = record { fits = w .fits; runs = w .runs } }
+  pub popping-end : (b : Nesting) (n : ℕ) → Nested buf base b → end ≡ b .depth - n → depth ≤ end → Popped buf base b n (record { depth = depth; levels = levels₁; line = b .line })
+  popping-end b n k e h =
+      record { depth = omega (arith, w .from); nested = record { fits = w .fits; runs = w .runs; line = k .line }; line = refl }
+
+-- ---- an entry
+
+pub line-read : (buf : List ℕ) (p a b c : ℕ) → a ≡ getD buf p 0 / 2 → b ≡ getD buf (p + 1) 0 → c ≡ getD buf (p + 2) 0
+    → a * 65536 + b * 256 + c ≡ entryAt buf p .line
+unfolding entryAt
+line-read buf p a b c e f g = rw (e, f, g)
+
+-- its three bytes
+abbrev firstByte : ℕ → ℕ → ℕ
+firstByte level line = level + 2 * (line / 256 / 256)
+
+abbrev withEntry : List ℕ → ℕ → ℕ → ℕ → List ℕ
+withEntry buf p level line = set (set (set buf p (firstByte level line)) (p + 1) (line / 256 % 256)) (p + 2) (line % 256)
+
+module _ (buf : List ℕ) (p level line : ℕ) (w : EntryRoom buf p level line) where
+  abbrev one : List ℕ
+  one = set buf p (firstByte level line)
+
+  abbrev two : List ℕ
+  two = set one (p + 1) (line / 256 % 256)
+
+  two-long : length two ≡ length buf
+  two-long = length-set one (p + 1) (line / 256 % 256) ∙ length-set buf p (firstByte level line)
+
+  first-put : getD (withEntry buf p level line) p 0 ≡ firstByte level line
+  first-put =
+      getD-set-other two (p + 2) p (line % 256) 0 (λ e. absurd (omega arith))
+      ∙ getD-set-other one (p + 1) p (line / 256 % 256) 0 (λ e. absurd (omega arith))
+      ∙ getD-set-same buf p (firstByte level line) 0 (omega (arith, w .place))
+
+  second-put : getD (withEntry buf p level line) (p + 1) 0 ≡ line / 256 % 256
+  second-put =
+      getD-set-other two (p + 2) (p + 1) (line % 256) 0 (λ e. absurd (omega arith))
+      ∙ getD-set-same one (p + 1) (line / 256 % 256) 0 (omega (arith, w .place, length-set buf p (firstByte level line)))
+
+  third-put : getD (withEntry buf p level line) (p + 2) 0 ≡ line % 256
+  third-put = getD-set-same two (p + 2) (line % 256) 0 (omega (arith, w .place, two-long))
+
+  pub entry-put : EntryPut buf p level line (withEntry buf p level line)
+  unfolding entryAt
+  entry-put =
+      let a : firstByte level line % 2 ≡ level = omega (arith, w .bit) in
+      let l : firstByte level line / 2 * 65536 + line / 256 % 256 * 256 + line % 256 ≡ line = omega (arith, w .bit) in
+      record {
+        is = rw (first-put, second-put, third-put, a, l);
+        only =
+            only-then (only-set buf p (firstByte level line) p (p + entrySize) (omega arith) (omega arith))
+            (only-then (only-set one (p + 1) (line / 256 % 256) p (p + entrySize) (omega arith) (omega arith))
+            (only-set two (p + 2) (line % 256) p (p + entrySize) (omega arith) (omega arith)));
+      }
 
 -- ---- one bracket
 
-flat-entry : (v : ℕ) → v ≡ 0 → _≡_ {A = ℕ} (choose (entryOf v) 1 0) 0
+pub levels-room : (buf : List ℕ) (base : ℕ) (t : Tally) → StackRoom buf base t → t .levels < length buf
+levels-room buf base t w = omega (arith, levels-most buf base (t .depth), w .runs, w .place)
+
+flat-entry : (v : ℕ) → v % 2 ≡ 0 → _≡_ {A = ℕ} (choose (addsOf v) 1 0) 0
 unfolding choose
 flat-entry v e = rw e
 
-level-entry : (v : ℕ) → (v ≡ 0 → ⊥) → _≡_ {A = ℕ} (choose (entryOf v) 1 0) 1
+level-entry : (v : ℕ) → (v % 2 ≡ 0 → ⊥) → _≡_ {A = ℕ} (choose (addsOf v) 1 0) 1
 unfolding choose
-level-entry v e = rw (ne-eqb v 0 e)
+level-entry v e = rw (ne-eqb (v % 2) 0 e)
 
 module _ (buf : List ℕ) (base : ℕ) (t : Tally) (w : StackRoom buf base t) where
-  pub push-flat : t .from < t .levels
-      → Turned push buf base t (set buf (base + t .depth) 0) (record { depth = t .depth + 1; levels = t .levels; from = t .from; esc = false })
+  pub push-room : (level : ℕ) → level ≤ 1 → EntryRoom buf (base + entrySize * t .depth) level (t .line)
+  push-room level h = record { place = w .place; bit = h; early = w .line }
+
+  pub push-flat : (after : List ℕ) → t .from < t .levels → EntryPut buf (base + entrySize * t .depth) 0 (t .line) after
+      → Turned push buf base t after (record { depth = t .depth + 1; levels = t .levels; from = t .from; line = t .line; esc = false })
   unfolding push choose
-  push-flat e =
+  push-flat after e p =
       record {
         is = λ o h.
             (let z : leb (o .added) (o .popped) ≡ false = lt-leb (o .added) (o .popped) (omega (arith, h .net)) in
-            record { stack = rw (stacked-push buf base (t .depth) 0 (w .place), h .stack, z); net = rw z (omega (arith, h .net)); esc = refl });
-        runs = omega (arith, w .runs, levels-push buf base (t .depth) 0 (w .place));
+            record { stack = rw (stacked-push buf base (t .depth) 0 (t .line) after p, h .stack, z, h .line); line = h .line; net = rw z (omega (arith, h .net)); esc = refl });
+        runs = omega (arith, w .runs, levels-push buf base (t .depth) 0 (t .line) after p);
         depth = omega arith;
-        only = only-set buf (base + t .depth) 0 base (base + t .depth + 1) (omega arith) (omega arith);
+        line = refl;
+        only = only-wider base (base + entrySize * t .depth + entrySize) (p .only) (omega arith) (omega arith);
       }
 
-  pub push-level : t .levels ≤ t .from
-      → Turned push buf base t (set buf (base + t .depth) 1) (record { depth = t .depth + 1; levels = t .levels + 1; from = t .from; esc = false })
+  pub push-level : (after : List ℕ) → t .levels ≤ t .from → EntryPut buf (base + entrySize * t .depth) 1 (t .line) after
+      → Turned push buf base t after (record { depth = t .depth + 1; levels = t .levels + 1; from = t .from; line = t .line; esc = false })
   unfolding push choose
-  push-level e =
+  push-level after e p =
       record {
         is = λ o h.
             (let z : leb (o .added) (o .popped) ≡ true = le-leb (o .added) (o .popped) (omega (arith, h .net)) in
-            record { stack = rw (stacked-push buf base (t .depth) 1 (w .place), h .stack, z); net = rw z (omega (arith, h .net)); esc = refl });
-        runs = omega (arith, w .runs, levels-push buf base (t .depth) 1 (w .place));
+            record { stack = rw (stacked-push buf base (t .depth) 1 (t .line) after p, h .stack, z, h .line); line = h .line; net = rw z (omega (arith, h .net)); esc = refl });
+        runs = omega (arith, w .runs, levels-push buf base (t .depth) 1 (t .line) after p);
         depth = omega arith;
-        only = only-set buf (base + t .depth) 1 base (base + t .depth + 1) (omega arith) (omega arith);
+        line = refl;
+        only = only-wider base (base + entrySize * t .depth + entrySize) (p .only) (omega arith) (omega arith);
       }
 
-  pub pop-none : t .depth ≡ 0 → Turned pop buf base t buf (record { depth = t .depth; levels = t .levels; from = t .from; esc = false })
+  pub pop-none : t .depth ≡ 0 → Turned pop buf base t buf (record { depth = t .depth; levels = t .levels; from = t .from; line = t .line; esc = false })
   unfolding popFrom stacked
   pop-none e =
       record {
-        is = λ o h. (let s : o .stack ≡ [] = sym (h .stack) ∙ rw e in rw s (record { stack = rw e; net = h .net; esc = refl }));
+        is = λ o h. (let s : o .stack ≡ [] = sym (h .stack) ∙ rw e in rw s (record { stack = rw e; line = h .line; net = h .net; esc = refl }));
         runs = w .runs;
         depth = omega arith;
+        line = refl;
         only = only-same buf _ _;
       }
 
   module _ (h : t .depth ≡ 0 → ⊥) where
-    top-level : t .levels ≡ choose (entryOf (getD buf (base + (t .depth - 1)) 0)) 1 0 + levels (stacked buf base (t .depth - 1))
+    top-level : t .levels ≡ choose (addsOf (getD buf (base + entrySize * (t .depth - 1)) 0)) 1 0 + levels (stacked buf base (t .depth - 1))
     top-level = w .runs ∙ levels-top buf base (t .depth) h
 
-    popped : (v left : ℕ) (o : Open) → Tallies buf base t o → getD buf (base + (t .depth - 1)) 0 ≡ v → t .levels ≡ choose (entryOf v) 1 0 + left
-        → Tallies buf base (record { depth = t .depth - 1; levels = left; from = t .from; esc = false }) (pop o)
-    unfolding popFrom
-    popped v left o k e n =
-        let s : o .stack ≡ entryOf v ∷ stacked buf base (t .depth - 1) = sym (k .stack) ∙ rw (stacked-top buf base (t .depth) h, e) in
-        rw s (record { stack = refl; net = omega (arith, k .net, n); esc = refl })
+    popped : (left : ℕ) (o : Open) → Tallies buf base t o → t .levels ≡ choose (addsOf (getD buf (base + entrySize * (t .depth - 1)) 0)) 1 0 + left
+        → Tallies buf base (record { depth = t .depth - 1; levels = left; from = t .from; line = t .line; esc = false }) (pop o)
+    unfolding popFrom entryAt
+    popped left o k n =
+        let s : o .stack ≡ entryAt buf (base + entrySize * (t .depth - 1)) ∷ stacked buf base (t .depth - 1) = sym (k .stack) ∙ stacked-top buf base (t .depth) h in
+        rw s (record { stack = refl; line = k .line; net = omega (arith, k .net, n); esc = refl })
 
-    pub pop-flat : getD buf (base + (t .depth - 1)) 0 ≡ 0
-        → Turned pop buf base t buf (record { depth = t .depth - 1; levels = t .levels; from = t .from; esc = false })
+    pub pop-flat : getD buf (base + entrySize * (t .depth - 1)) 0 % 2 ≡ 0
+        → Turned pop buf base t buf (record { depth = t .depth - 1; levels = t .levels; from = t .from; line = t .line; esc = false })
     pop-flat e =
-        let z = flat-entry (getD buf (base + (t .depth - 1)) 0) e in
+        let z = flat-entry (getD buf (base + entrySize * (t .depth - 1)) 0) e in
         record {
-          is = λ o k. popped (getD buf (base + (t .depth - 1)) 0) (t .levels) o k refl (omega (arith, z));
+          is = λ o k. popped (t .levels) o k (omega (arith, z));
           runs = omega (arith, top-level, z);
           depth = omega arith;
+          line = refl;
           only = only-same buf _ _;
         }
 
-    module _ (e : getD buf (base + (t .depth - 1)) 0 ≡ 0 → ⊥) where
+    module _ (e : getD buf (base + entrySize * (t .depth - 1)) 0 % 2 ≡ 0 → ⊥) where
       pub pop-less : 1 ≤ t .levels
-      pop-less = omega (arith, top-level, level-entry (getD buf (base + (t .depth - 1)) 0) e)
+      pop-less = omega (arith, top-level, level-entry (getD buf (base + entrySize * (t .depth - 1)) 0) e)
 
-      pub pop-level : Turned pop buf base t buf (record { depth = t .depth - 1; levels = t .levels - 1; from = t .from; esc = false })
+      pub pop-level : Turned pop buf base t buf (record { depth = t .depth - 1; levels = t .levels - 1; from = t .from; line = t .line; esc = false })
       pop-level =
-          let z = level-entry (getD buf (base + (t .depth - 1)) 0) e in
+          let z = level-entry (getD buf (base + entrySize * (t .depth - 1)) 0) e in
           record {
-            is = λ o k. popped (getD buf (base + (t .depth - 1)) 0) (t .levels - 1) o k refl (omega (arith, top-level, z));
+            is = λ o k. popped (t .levels - 1) o k (omega (arith, top-level, z));
             runs = omega (arith, top-level, z);
             depth = omega arith;
+            line = refl;
             only = only-same buf _ _;
           }
 
@@ -234,15 +312,16 @@ module _ (buf : List ℕ) (base : ℕ) (t : Tally) (w : StackRoom buf base t) wh
 module _ (buf : List ℕ) (base : ℕ) (t : Tally) (r : t .levels ≡ levels (stacked buf base (t .depth))) where
   -- it changes nothing
   pub turn-same : Turned (λ o. o) buf base t buf t
-  turn-same = record { is = λ o h. h; runs = r; depth = omega arith; only = only-same buf _ _ }
+  turn-same = record { is = λ o h. h; runs = r; depth = omega arith; line = refl; only = only-same buf _ _ }
 
   -- it is escaped, or escapes the next
-  pub turn-escaped : (b : Bool) → Turned (escaped b) buf base t buf (record { depth = t .depth; levels = t .levels; from = t .from; esc = b })
+  pub turn-escaped : (b : Bool) → Turned (escaped b) buf base t buf (record { depth = t .depth; levels = t .levels; from = t .from; line = t .line; esc = b })
   turn-escaped b =
       record {
-        is = λ o h. record { stack = h .stack; net = h .net; esc = refl };
+        is = λ o h. record { stack = h .stack; line = h .line; net = h .net; esc = refl };
         runs = r;
         depth = omega arith;
+        line = refl;
         only = only-same buf _ _;
       }
 
@@ -254,6 +333,7 @@ turn-by buf base t {after = after} {u = u} w e =
       is = λ o h. subst (Tallies after base u) (e o h) (w .is o h);
       runs = w .runs;
       depth = w .depth;
+      line = w .line;
       only = w .only;
     }
 
@@ -286,28 +366,30 @@ turn-idle x o r e q =
 
 -- the nesting of a tally
 abbrev pub nestingOf : Tally → Nesting
-nestingOf t = record { depth = t .depth; levels = t .levels }
+nestingOf t = record { depth = t .depth; levels = t .levels; line = t .line }
 
 pub record Scanning (line ks : List ℕ) (n : ℕ) (buf₀ : List ℕ) (base : ℕ) (b : Nesting) (skip : ℕ) (buf : List ℕ) (t : Tally) (i : ℕ) : Type 0 where
   pub o : Open
   pub now : Tallies buf base t o
-  pub same : scanBrackets (drop skip (cellsOf line ks)) (stacked buf₀ base (b .depth)) ≡ foldl bracketStep o (cellsOf (drop i line) (drop i ks)) .stack
+  pub same : scanBrackets (b .line) (drop skip (cellsOf line ks)) (stacked buf₀ base (b .depth)) ≡ foldl bracketStep o (cellsOf (drop i line) (drop i ks)) .stack
   pub runs : t .levels ≡ levels (stacked buf base (t .depth))
+  pub number : t .line ≡ b .line
   pub high : t .depth + skip ≤ b .depth + i
   pub from : skip ≤ i
   pub upto : i ≤ skip + n
-  pub only : Only buf₀ buf base (base + b .depth + n)
+  pub only : Only buf₀ buf base (base + entrySize * (b .depth + n))
 
 pub scanning-start : (line ks : List ℕ) (n : ℕ) (buf : List ℕ) (base : ℕ) (b : Nesting) (skip : ℕ)
     → b .levels ≡ levels (stacked buf base (b .depth))
-    → Scanning line ks n buf base b skip buf (record { depth = b .depth; levels = b .levels; from = b .levels; esc = false }) skip
+    → Scanning line ks n buf base b skip buf (record { depth = b .depth; levels = b .levels; from = b .levels; line = b .line; esc = false }) skip
 unfolding scanBrackets
 scanning-start line ks n buf base b skip r =
     record {
-      o = opened 0 0 false (stacked buf base (b .depth));
-      now = record { stack = refl; net = refl; esc = refl };
+      o = opened (b .line) 0 0 false (stacked buf base (b .depth));
+      now = record { stack = refl; line = refl; net = refl; esc = refl };
       same = rw (drop-cells skip line ks);
       runs = r;
+      number = refl;
       high = omega arith;
       from = omega arith;
       upto = omega arith;
@@ -324,25 +406,27 @@ module _ {line ks : List ℕ} {n : ℕ} {buf₀ : List ℕ} {base : ℕ} {b : Ne
         now = v .is (w .o) (w .now);
         same = w .same ∙ rw (cells-at line ks i (omega arith) (omega arith), p, q);
         runs = v .runs;
+        number = v .line ∙ w .number;
         high = omega (arith, w .high, v .depth);
         from = omega (arith, w .from);
         upto = omega arith;
-        only = only-then (w .only) (only-wider base (base + b .depth + n) (v .only) (omega arith) (omega (arith, w .high, w .from)));
+        only = only-then (w .only) (only-wider base (base + entrySize * (b .depth + n)) (v .only) (omega arith) (omega (arith, w .high, w .from)));
       }
 
   scanning-end : length line ≤ i
-      → BracketsDone buf₀ buf base b n (scanBrackets (drop skip (cellsOf line ks)) (stacked buf₀ base (b .depth))) (record { depth = t .depth; levels = t .levels })
+      → BracketsDone buf₀ buf base b n (scanBrackets (b .line) (drop skip (cellsOf line ks)) (stacked buf₀ base (b .depth))) (record { depth = t .depth; levels = t .levels; line = t .line })
   scanning-end h =
       record {
         is = w .now .stack ∙ sym (w .same ∙ rw (cells-end line ks i h));
         runs = w .runs;
         most = omega (arith, w .high, w .upto);
+        line = w .number;
         only = w .only;
       }
 
   -- there is room for one more
-  pub scanning-room : base + b .depth + n ≤ length buf₀ → i < n → StackRoom buf base t
-  scanning-room f h = record { place = omega (arith, w .high, w .from, w .only .long); runs = w .runs }
+  pub scanning-room : base + entrySize * (b .depth + n) ≤ length buf₀ → b .line ≤ maxSource → i < n → StackRoom buf base t
+  scanning-room f l h = record { place = omega (arith, w .high, w .from, w .only .long); runs = w .runs; line = omega (arith, w .number) }
 
 -- a line apart from scratch
 module _ (line buf₀ : List ℕ) (class base : ℕ) (b : Nesting) (skip : ℕ) (buf : List ℕ) (t : Tally) (i : ℕ) (f : StackFits buf₀ class (length line) base b)
@@ -359,11 +443,11 @@ module _ (line buf₀ : List ℕ) (class base : ℕ) (b : Nesting) (skip : ℕ) 
       scan-more buf t h (turn-by buf base t (turn-same buf base t (w .runs)) (λ o k. turn-idle (cell (getD line i 0) (classOf (getD buf (class + i) 0))) o r (rw (← k .esc) e) q))
 
   pub scan-room : i < length line → StackRoom buf base t
-  scan-room h = scanning-room w (f .stack) h
+  scan-room h = scanning-room w (f .stack) (f .line) h
 
   pub scan-end : length line ≤ i
-      → BracketsDone buf₀ buf base b (length line) (scanBrackets (drop skip (cellsOf line (part buf₀ class (class + length line)))) (stacked buf₀ base (b .depth)))
-      (record { depth = t .depth; levels = t .levels })
+      → BracketsDone buf₀ buf base b (length line) (scanBrackets (b .line) (drop skip (cellsOf line (part buf₀ class (class + length line)))) (stacked buf₀ base (b .depth)))
+      (record { depth = t .depth; levels = t .levels; line = t .line })
   scan-end h = scanning-end w h
 
 -- a line in scratch
@@ -382,9 +466,9 @@ module _ (buf₀ : List ℕ) (at n class base : ℕ) (b : Nesting) (skip : ℕ) 
       scan-at-more buf t h (turn-by buf base t (turn-same buf base t (w .runs)) (λ o k. turn-idle (cell (getD buf (at + i) 0) (classOf (getD buf (class + i) 0))) o r (rw (← k .esc) e) q))
 
   pub scan-at-room : i < n → StackRoom buf base t
-  scan-at-room h = scanning-room w (f .0 .stack) h
+  scan-at-room h = scanning-room w (f .0 .stack) (f .0 .line) h
 
   pub scan-at-end : n ≤ i
-      → BracketsDone buf₀ buf base b n (scanBrackets (drop skip (cellsOf (part buf₀ at (at + n)) (part buf₀ class (class + n)))) (stacked buf₀ base (b .depth)))
-      (record { depth = t .depth; levels = t .levels })
+      → BracketsDone buf₀ buf base b n (scanBrackets (b .line) (drop skip (cellsOf (part buf₀ at (at + n)) (part buf₀ class (class + n)))) (stacked buf₀ base (b .depth)))
+      (record { depth = t .depth; levels = t .levels; line = t .line })
   scan-at-end h = scanning-end w (omega (arith, length-part buf₀ at n (omega arith)))

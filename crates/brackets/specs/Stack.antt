@@ -1,38 +1,75 @@
--- The stack of open brackets as it lies in scratch: from base on, the oldest first, one byte for each.
-use Prim.Native.Nat.{ℕ, zero, suc, _+_, _-_, _≤_, _<_}
+-- The stack of open brackets as it lies in scratch: from base on, the oldest first, three bytes for each.
+use Prim.Native.Nat.{ℕ, zero, suc, _+_, _-_, _*_, _/_, _%_, _≤_, _<_}
 use mathlib.Core.Bool.{Bool, not, _||_}
 use mathlib.Core.List.{List, [], _∷_}
 use mathlib.Core.Path.{_≡_}
-use lib.Dec.{eqb}
+use lib.Dec.{eqb, ltb}
 use lib.ListN.{length, getD}
 use Rattle.unicode.specs.Unicode.{within}
+use Rattle.rules.specs.Basics.{choose}
 use Rattle.rules.specs.Brackets.{Entry, Open, levels}
+use Rattle.rules.specs.Call.{listed}
+use Rattle.rules.specs.Refusals.{maxSource}
 use Rattle.basics.specs.Region.{Only}
 use Rattle.brackets.specs.declared.Nesting.{Nesting}
 use Rattle.brackets.specs.declared.Tally.{Tally}
 
--- the entry that a byte stands for
-abbrev pub entryOf : ℕ → Entry
-entryOf b = not (eqb b 0)
+abbrev pub entrySize : ℕ
+entrySize = 3
+
+-- whether an entry with this first byte added a level
+abbrev pub addsOf : ℕ → Bool
+addsOf b = not (eqb (b % 2) 0)
+
+-- the line that an entry's three bytes hold
+abbrev pub lineOf : ℕ → ℕ → ℕ → ℕ
+lineOf a b c = a / 2 * 65536 + b * 256 + c
+
+-- the entry that stands at p
+unfoldable pub entryAt : List ℕ → ℕ → Entry
+entryAt buf p = record { adds = addsOf (getD buf p 0); line = lineOf (getD buf p 0) (getD buf (p + 1) 0) (getD buf (p + 2) 0) }
 
 -- the stack of n entries, the newest first
 unfoldable pub stacked : List ℕ → ℕ → ℕ → List Entry
 stacked buf base zero = []
-stacked buf base (suc n) = entryOf (getD buf (base + n) 0) ∷ stacked buf base n
+stacked buf base (suc n) = entryAt buf (base + entrySize * n) ∷ stacked buf base n
 
--- The running value: the levels that b keeps are those of the stack that lies in buf.
+-- an entry fits at p; level is 1 or 0
+pub record EntryRoom (buf : List ℕ) (p level line : ℕ) : Type 0 where
+  pub place : p + entrySize ≤ length buf
+  pub bit : level ≤ 1
+  pub early : line ≤ maxSource
+
+-- it was written
+pub record EntryPut (before : List ℕ) (p level line : ℕ) (after : List ℕ) : Type 0 where
+  pub is : entryAt after p ≡ record { adds = not (eqb level 0); line = line }
+  pub only : Only before after p (p + entrySize)
+
+-- what stands at i in the list of the lines
+abbrev pub lineAt : List ℕ → ℕ → ℕ → ℕ → ℕ
+lineAt buf base depth i = choose (ltb i depth) (entryAt buf (base + entrySize * i) .line) 0
+
+-- the lines are listed, as many as fit into n, and r is how many there are
+pub record Listed (lines : List ℕ) (n r : ℕ) (list : List ℕ) : Type 0 where
+  pub holds : list ≡ listed n lines
+  pub count : r ≡ length lines
+
+-- The running value: the levels that b keeps are those of the stack that lies in buf. The line's number fits into an entry.
 pub record Nested (buf : List ℕ) (base : ℕ) (b : Nesting) : Type 0 where
-  pub fits : base + b .depth ≤ length buf
+  pub fits : base + entrySize * b .depth ≤ length buf
   pub runs : b .levels ≡ levels (stacked buf base (b .depth))
+  pub line : b .line ≤ maxSource
 
 -- n closers popped
 pub record Popped (buf : List ℕ) (base : ℕ) (b : Nesting) (n : ℕ) (r : Nesting) : Type 0 where
   pub depth : r .depth ≡ b .depth - n
   pub nested : Nested buf base r
+  pub line : r .line ≡ b .line
 
 -- the code's tally, with the stack that lies in buf, is the rules' record o within a line
 pub record Tallies (buf : List ℕ) (base : ℕ) (t : Tally) (o : Open) : Type 0 where
   pub stack : stacked buf base (t .depth) ≡ o .stack
+  pub line : t .line ≡ o .line
   pub net : o .added + t .from ≡ o .popped + t .levels
   pub esc : t .esc ≡ o .esc
 
@@ -42,25 +79,29 @@ mayTurn c = within 40 41 c || within 91 93 c || within 123 125 c
 
 -- there is room for one more
 pub record StackRoom (buf : List ℕ) (base : ℕ) (t : Tally) : Type 0 where
-  pub place : base + t .depth < length buf
+  pub place : base + entrySize * t .depth + entrySize ≤ length buf
   pub runs : t .levels ≡ levels (stacked buf base (t .depth))
+  pub line : t .line ≤ maxSource
 
 -- one character
 pub record Turned (g : Open → Open) (before : List ℕ) (base : ℕ) (t : Tally) (after : List ℕ) (u : Tally) : Type 0 where
   pub is : (o : Open) → Tallies before base t o → Tallies after base u (g o)
   pub runs : u .levels ≡ levels (stacked after base (u .depth))
   pub depth : u .depth ≤ t .depth + 1
-  pub only : Only before after base (base + t .depth + 1)
+  pub line : u .line ≡ t .line
+  pub only : Only before after base (base + entrySize * t .depth + entrySize)
 
 -- the class bytes of n characters stand before the stack, which has room for n more
 pub record StackFits (buf : List ℕ) (class n base : ℕ) (b : Nesting) : Type 0 where
   pub classes : class + n ≤ base
-  pub stack : base + b .depth + n ≤ length buf
+  pub stack : base + entrySize * (b .depth + n) ≤ length buf
   pub runs : b .levels ≡ levels (stacked buf base (b .depth))
+  pub line : b .line ≤ maxSource
 
 -- a line of n characters: the stack s after it
 pub record BracketsDone (before after : List ℕ) (base : ℕ) (b : Nesting) (n : ℕ) (s : List Entry) (r : Nesting) : Type 0 where
   pub is : stacked after base (r .depth) ≡ s
   pub runs : r .levels ≡ levels (stacked after base (r .depth))
   pub most : r .depth ≤ b .depth + n
-  pub only : Only before after base (base + b .depth + n)
+  pub line : r .line ≡ b .line
+  pub only : Only before after base (base + entrySize * (b .depth + n))

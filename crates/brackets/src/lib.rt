@@ -1,22 +1,28 @@
-// Brackets: leading closers, and the stack of open brackets in scratch, one byte for each: 1 if it added a level, else 0.
+// Brackets: leading closers, and the stack of open brackets in scratch, ENTRY bytes for each: the first one's lowest bit tells whether it added a level,
+// its other bits and the two bytes after it are the source line of the opener.
 ghost use mathlib.Core.Path.{_≡_};
 ghost use mathlib.Core.Bool.{not, _||_};
-ghost use Prim.Native.Nat.{_+_, _-_, _≤_};
+ghost use Prim.Native.Nat.{_+_, _-_, _*_, _≤_, _<_};
 ghost use lib.ListN.{length, drop};
 ghost use Rattle.buffer.specs.Buffer.{part};
 ghost use Rattle.rules.specs.Basics.{choose};
 ghost use Rattle.rules.specs.Scan.{cell};
 ghost use Rattle.rules.specs.ClassBytes.{classOf, cellsOf};
-ghost use Rattle.rules.specs.Brackets.{push, pop, bracketStep, scanBrackets};
+ghost use Rattle.rules.specs.Brackets.{push, pop, bracketStep, scanBrackets, openLines};
+ghost use Rattle.rules.specs.Call.{listed};
 ghost use Rattle.basics.specs.Closers.{Closers};
-ghost use Rattle.brackets.specs.Stack.{entryOf, stacked, Nested, Popped, StackRoom, Turned, StackFits, BracketsDone, mayTurn};
+ghost use Rattle.brackets.specs.Stack.{addsOf, entryAt, entrySize, stacked, Nested, Popped, EntryRoom, EntryPut, StackRoom, Turned, StackFits, BracketsDone, mayTurn, lineAt, Listed};
 use basics::is_closer;
 use basics::is_opener;
 
-// How many brackets are open, and how many of them added a level. The stack itself lies in scratch.
+// The bytes of an entry.
+pub const ENTRY: usize = 3;
+
+// How many brackets are open, how many of them added a level, and the number of the source line that is read. The stack itself lies in scratch.
 pub struct Nesting {
     pub depth: usize,
     pub levels: usize,
+    pub line: usize,
 }
 
 // The same within a line. Its net added count is levels less from; esc tells whether the next character is escaped.
@@ -24,6 +30,7 @@ pub struct Tally {
     pub depth: usize,
     pub levels: usize,
     pub from: usize,
+    pub line: usize,
     pub esc: bool,
 }
 
@@ -49,11 +56,36 @@ fn depth_after(depth: usize, n: usize) -> usize
     if n < depth { depth - n } else { 0 }
 }
 
-// 1 for an entry that added a level, else 0.
-fn level_of(entry: u8) -> usize
-    ensures { λ r. ⌜ r ≡ choose (entryOf entry) 1 0 ⌝ }
+// 1 for an entry that added a level, else 0; of its first byte.
+fn level_of(first: u8) -> usize
+    ensures { λ r. ⌜ r ≡ choose (addsOf first) 1 0 ⌝ }
 {
-    if entry == 0 { 0 } else { 1 }
+    if first % 2 == 0 { 0 } else { 1 }
+}
+
+fn wide(b: u8) -> usize
+    ensures { λ r. ⌜ (r ≡ b) × (r < 256) ⌝ }
+{
+    b as usize
+}
+
+// The line of the entry that stands at p.
+fn read_line(scratch: &[u8], p: usize) -> usize
+    requires { ⌜ p + entrySize ≤ length (now scratch) ⌝ }
+    ensures { λ r. ⌜ r ≡ entryAt (now (scratch .entry)) p .line ⌝ }
+{
+    wide(scratch[p] / 2) * 65536 + wide(scratch[p + 1]) * 256 + wide(scratch[p + 2])
+}
+
+// Writes an entry at p: level is 1 if it added one, else 0.
+fn put_entry(scratch: &mut [u8], p: usize, level: usize, line: usize)
+    requires { ⌜ EntryRoom (now scratch) p level line ⌝ }
+    ensures { λ _. ⌜ EntryPut (now (scratch .entry)) p level line (now (scratch .exit)) ⌝ }
+{
+    let q = line / 256;
+    scratch[p] = (level + 2 * (q / 256)) as u8;
+    scratch[p + 1] = (q % 256) as u8;
+    scratch[p + 2] = (line % 256) as u8;
 }
 
 // The n leading closers of a line: each pops any opener, with the level that it added, and on an empty stack does nothing.
@@ -66,9 +98,13 @@ pub fn pop_closers(scratch: &[u8], base: usize, b: Nesting, n: usize) -> Nesting
     let mut levels = b.levels;
     while end < depth {
         depth -= 1;
-        levels -= level_of(scratch[base + depth]);
+        levels -= level_of(scratch[base + ENTRY * depth]);
     }
-    Nesting { depth, levels }
+    Nesting {
+        depth,
+        levels,
+        line: b.line,
+    }
 }
 
 // An opener: it adds a level only while the net added count is at most 0.
@@ -79,21 +115,24 @@ fn push(scratch: &mut [u8], base: usize, t: Tally) -> Tally
     let n = t.depth;
     let levels = t.levels;
     let from = t.from;
-    let p = base + n;
+    let line = t.line;
+    let p = base + ENTRY * n;
     if from < levels {
-        scratch[p] = 0;
+        put_entry(scratch, p, 0, line);
         return Tally {
             depth: n + 1,
             levels,
             from,
+            line,
             esc: false,
         };
     }
-    scratch[p] = 1;
+    put_entry(scratch, p, 1, line);
     Tally {
         depth: n + 1,
         levels: levels + 1,
         from,
+        line,
         esc: false,
     }
 }
@@ -106,20 +145,23 @@ fn pop(scratch: &[u8], base: usize, t: Tally) -> Tally
     let n = t.depth;
     let levels = t.levels;
     let from = t.from;
+    let line = t.line;
     if n == 0 {
         return Tally {
             depth: n,
             levels,
             from,
+            line,
             esc: false,
         };
     }
     let m = n - 1;
-    if scratch[base + m] == 0 {
+    if scratch[base + ENTRY * m] % 2 == 0 {
         return Tally {
             depth: m,
             levels,
             from,
+            line,
             esc: false,
         };
     }
@@ -127,6 +169,7 @@ fn pop(scratch: &[u8], base: usize, t: Tally) -> Tally
         depth: m,
         levels: levels - 1,
         from,
+        line,
         esc: false,
     }
 }
@@ -175,12 +218,13 @@ pub fn scan_brackets(
     skip: usize,
 ) -> Nesting
     requires { ⌜ StackFits (now scratch) «class_at» (length (now line)) base b ⌝ }
-    ensures { λ r. ⌜ BracketsDone (now (scratch .entry)) (now (scratch .exit)) base b (length (now (line .entry))) (scanBrackets (drop skip (cellsOf (now (line .entry)) (part (now (scratch .entry)) «class_at» («class_at» + length (now (line .entry)))))) (stacked (now (scratch .entry)) base (b .depth))) r ⌝ }
+    ensures { λ r. ⌜ BracketsDone (now (scratch .entry)) (now (scratch .exit)) base b (length (now (line .entry))) (scanBrackets (b .line) (drop skip (cellsOf (now (line .entry)) (part (now (scratch .entry)) «class_at» («class_at» + length (now (line .entry)))))) (stacked (now (scratch .entry)) base (b .depth))) r ⌝ }
 {
     let mut t = Tally {
         depth: b.depth,
         levels: b.levels,
         from: b.levels,
+        line: b.line,
         esc: false,
     };
     let mut i = skip;
@@ -196,6 +240,7 @@ pub fn scan_brackets(
     Nesting {
         depth: t.depth,
         levels: t.levels,
+        line: t.line,
     }
 }
 
@@ -210,12 +255,13 @@ pub fn scan_brackets_at(
     skip: usize,
 ) -> Nesting
     requires { ⌜ (StackFits (now scratch) «class_at» n base b) × («line_at» + n ≤ base) ⌝ }
-    ensures { λ r. ⌜ BracketsDone (now (scratch .entry)) (now (scratch .exit)) base b n (scanBrackets (drop skip (cellsOf (part (now (scratch .entry)) «line_at» («line_at» + n)) (part (now (scratch .entry)) «class_at» («class_at» + n)))) (stacked (now (scratch .entry)) base (b .depth))) r ⌝ }
+    ensures { λ r. ⌜ BracketsDone (now (scratch .entry)) (now (scratch .exit)) base b n (scanBrackets (b .line) (drop skip (cellsOf (part (now (scratch .entry)) «line_at» («line_at» + n)) (part (now (scratch .entry)) «class_at» («class_at» + n)))) (stacked (now (scratch .entry)) base (b .depth))) r ⌝ }
 {
     let mut t = Tally {
         depth: b.depth,
         levels: b.levels,
         from: b.levels,
+        line: b.line,
         esc: false,
     };
     let mut i = skip;
@@ -231,5 +277,31 @@ pub fn scan_brackets_at(
     Nesting {
         depth: t.depth,
         levels: t.levels,
+        line: t.line,
     }
+}
+
+// The line that stands at i in the list of open brackets: the oldest first, 0 after the newest.
+fn line_at(scratch: &[u8], base: usize, depth: usize, i: usize) -> u64
+    requires { ⌜ base + entrySize * depth ≤ length (now scratch) ⌝ }
+    ensures { λ r. ⌜ r ≡ lineAt (now (scratch .entry)) base depth i ⌝ }
+{
+    if i < depth {
+        let p = base + ENTRY * i;
+        return read_line(scratch, p) as u64;
+    }
+    0
+}
+
+// The lines of the open brackets, as many as the list has room for. Gives how many are open.
+pub fn list_lines(scratch: &[u8], base: usize, depth: usize, list: &mut [u64]) -> usize
+    requires { ⌜ base + entrySize * depth ≤ length (now scratch) ⌝ }
+    ensures { λ r. ⌜ Listed (openLines (stacked (now (scratch .entry)) base depth)) (length (now (list .entry))) r (now (list .exit)) ⌝ }
+{
+    let mut i = 0;
+    while i < list.len() {
+        list[i] = line_at(scratch, base, depth, i);
+        i += 1;
+    }
+    depth
 }

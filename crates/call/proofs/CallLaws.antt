@@ -3,7 +3,7 @@
 --     text-short, text-fits                                 the text in the output
 --     test-long, test-option, test-rest                     the tests
 --     ran-refused, ran-formatted                            the outcome of a call; answered the answer
-use Prim.Native.Nat.{ℕ, _≤_, _<_}
+use Prim.Native.Nat.{ℕ, _-_, _≤_, _<_}
 use native.Mathlib.Omega.{arith}
 use mathlib.Core.Bool.{Bool, true, false, not, _&&_}
 use mathlib.Core.List.{List, [], _∷_, _++_}
@@ -11,17 +11,19 @@ use mathlib.Core.Path.{_≡_, refl, sym, ap, _∙_}
 use borrow.Author.Tests.{lt-ltb, le-ltb, leb-true}
 use lib.Dec.{leb}
 use lib.ListN.{length, replicate}
+use lib.Seq.{take-nil}
 use Rattle.unicode.specs.Unicode.{size, decode, WellFormed}
 use Rattle.unicode.proofs.Decode.{test-wf}
 use Rattle.unicode.proofs.Tests.{and-left, and-right}
 use Rattle.rules.specs.Basics.{choose}
 use Rattle.rules.specs.Lines.{asStr, linesOf, dominantIn, endsInLf}
 use Rattle.rules.specs.Options.{Options, allBlank, validIndent, maxIndent}
+use Rattle.rules.specs.Brackets.{openLines}
 use Rattle.rules.specs.Line.{Formatter, start}
 use Rattle.rules.specs.Assembly.{Formatted, endingOf, dropEmpty, joined, lastEnding, finish, formatLines, formatWith}
 use Rattle.rules.specs.Refusals.{maxSource, scratchNeeded, refuseIf, tested, longSource, badOption, shortScratch, illFormed, shortOutput}
 use Rattle.rules.specs.Choices.{validOptions, optionsOf}
-use Rattle.rules.specs.Call.{Call, formatted, textOf, formatScratch, formatTests, verdictOf, outcomeAfter, outcomeOf, answerOf, outputOf}
+use Rattle.rules.specs.Call.{Call, formatted, textOf, formatScratch, formatTests, verdictOf, outcomeAfter, outcomeOf, answerOf, filled, listed, outputOf, openedOf}
 use Rattle.rules.specs.declared.LineEnding.{LineEnding}
 use Rattle.rules.specs.declared.EndOfLine.{EndOfLine}
 use Rattle.rules.specs.declared.FinalNewline.{FinalNewline}
@@ -39,9 +41,11 @@ use Rattle.options.specs.declared.FormatOptions.{FormatOptions}
 use Rattle.options.specs.declared.Changed.{Changed}
 use Rattle.options.proofs.NumbersLaws.{named-valid-is, named-options}
 use Rattle.text.specs.Text.{Finished}
+use Rattle.brackets.specs.Stack.{stacked}
 use Rattle.line.specs.Holds.{Record, Holds, ValidIndent}
+use Rattle.line.specs.Scratch.{stackAt}
 use Rattle.lines.specs.Lines.{Passed, LinesDone}
-use Rattle.call.specs.Formatted.{optionsWith, outcomeIn, Fitted, RefusedCall}
+use Rattle.call.specs.Formatted.{optionsWith, outcomeIn, Told, Fitted, RefusedCall}
 use Rattle.call.specs.Ran.{callOf, Ran}
 use Rattle.call.specs.FormatAnswered.{FormatAnswered}
 
@@ -70,13 +74,17 @@ last-always source k e eol = rw e
 abbrev formattedLines : Options → List ℕ → Formatter
 formattedLines o source = formatLines o (linesOf (decode source)) start
 
--- out₁ is what `format_lines` leaves of the output, out₂ what `finish_text` leaves of it
+-- no bracket is open
+pub none-told : {scratch list work : List ℕ} {k m r : ℕ} → Told (openLines (stacked scratch 0 0)) k m r list work → list ≡ replicate k 0
+unfolding stacked openLines listed filled
+none-told {k = k} w = let e : k - 0 ≡ k = omega arith in w .listed .holds ∙ rw (take-nil k, e)
+
+-- out₁ is what `format_lines` leaves of the output, out₂ what `finish_text` leaves of it; list₁ and scratch₂ are what `list_open` leaves
 module _
     (source indent : List ℕ) (chosen : FormatOptions) (ending : LineEnding) (last : Bool) (st : Record)
-    (out₀ scratch₀ out₁ scratch₁ out₂ scratch₂ : List ℕ) (n : ℕ)
+    (out₀ list₀ scratch₀ out₁ scratch₁ out₂ list₁ scratch₂ : List ℕ) (n r : ℕ)
     (e : ending ≡ endingOf (chosen .«end_of_line») (decode source))
     (l : LinesDone source indent (record { width = chosen .«print_width»; ending = ending }) st out₁ scratch₁)
-    (z : scratch₂ ≡ replicate (length scratch₁) 0)
     (k : (eol : List ℕ) → choose last eol [] ≡ lastEnding (chosen .«insert_final_newline») (decode source) eol)
     (w : Finished (asStr ending) (choose last (asStr ending) []) out₁ (st .text) out₂ n)
     (eo : length out₁ ≡ length out₀) (es : length scratch₁ ≡ length scratch₀) (ef : length out₂ ≡ length out₁)
@@ -99,25 +107,38 @@ module _
     unfolding formatWith finish
     blanks-is = sym (held-here .blanks)
 
+    abbrev openNow : List ℕ
+    openNow = openLines (stacked scratch₁ (stackAt (length source)) (st .nesting .depth))
+
+    brackets-are : formatWith o (decode source) .openBrackets ≡ openNow
+    unfolding formatWith finish
+    brackets-are = ap openLines (sym (held-here .stack))
+
     long-is : size (formatWith o (decode source) .text) ≡ n
     long-is = ap size text-is ∙ sym (w .long (formattedLines o source .lines) (held-here .text))
 
-    pub text-short : length out₂ < n → Fitted (formatWith o (decode source)) (length out₀) (length scratch₀) (Outcome.Refused (Refusal.OutputShort n)) out₂ scratch₂
+    pub text-short : length out₂ < n → Told (openLines (stacked scratch₁ 0 0)) (length list₀) (length scratch₁) r list₁ scratch₂
+        → Fitted (formatWith o (decode source)) (length out₀) (length list₀) (length scratch₀) (Outcome.Refused (Refusal.OutputShort n)) out₂ list₁ scratch₂
     unfolding shortOutput refuseIf choose
-    text-short h =
+    text-short h z =
         record {
           outcome = rw (long-is, lt-ltb (length out₀) n (omega arith));
           output = w .zeros (omega arith) ∙ rw eo;
-          cleared = z ∙ rw es;
+          opened = none-told z;
+          cleared = z .cleared ∙ rw es;
         }
 
-    pub text-fits : n ≤ length out₂ → Fitted (formatWith o (decode source)) (length out₀) (length scratch₀) (Outcome.Formatted n (st .imports) (st .blanks)) out₂ scratch₂
+    pub text-fits : n ≤ length out₂ → Told openNow (length list₀) (length scratch₁) r list₁ scratch₂
+        → Fitted (formatWith o (decode source)) (length out₀) (length list₀) (length scratch₀) (Outcome.Formatted n (st .imports) (st .blanks) r) out₂ list₁ scratch₂
     unfolding shortOutput refuseIf choose
-    text-fits h =
+    text-fits h z =
         record {
-          outcome = rw (long-is, le-ltb (length out₀) n (omega arith), imports-is, blanks-is);
+          outcome =
+              rw (long-is, le-ltb (length out₀) n (omega arith), imports-is, blanks-is, brackets-are)
+              (ap (λ (k : ℕ). Outcome.Formatted n (st .imports) (st .blanks) k) (z .listed .count));
           output = w .text (formattedLines o source .lines) (held-here .text) (omega arith) ∙ rw (eo, ← text-is);
-          cleared = z ∙ rw es;
+          opened = z .listed .holds ∙ ap (listed (length list₀)) (sym brackets-are);
+          cleared = z .cleared ∙ rw es;
         }
 
 -- ---- the tests
@@ -143,12 +164,12 @@ module _ (source : List ℕ) (bad : Bool) (scratch : ℕ) (v : Verdict) (e : v �
 
 -- t is what `from_numbers` gives, v what `test` gives
 module _
-    (source indent : List ℕ) (numbers : OptionNumbers) (output scratch : List ℕ) (t : Changed) (v : Verdict)
+    (source indent : List ℕ) (numbers : OptionNumbers) (output list scratch : List ℕ) (t : Changed) (v : Verdict)
     (named : t ≡ heldNamed (record { indent = indent; numbers = numbers }))
     (tests : v ≡ tested (formatTests source (t .refused) (length scratch)))
   where
     abbrev c : Call
-    c = callOf source indent numbers (length output) (length scratch)
+    c = callOf source indent numbers (length output) (length list) (length scratch)
 
     first-tests : tested (formatTests source (not (validOptions (c .choices))) (length scratch)) ≡ v
     first-tests = ap (λ (b : Bool). tested (formatTests source b (length scratch))) (sym (named-valid-is (c .choices) t named)) ∙ sym tests
@@ -157,11 +178,16 @@ module _
     unfolding outcomeOf verdictOf
     ran-short why e = rw (ends (formatTests source (not (validOptions (c .choices))) (length scratch)) (shortOutput (length (textOf c)) (length output) ∷ []) why (first-tests ∙ e))
 
-    pub ran-refused : (why : Refusal) (r : Outcome) (out work : List ℕ) → v ≡ Verdict.Refused why
-        → RefusedCall why (length output) (length scratch) r out work → Ran c r out work
-    unfolding outputOf
-    ran-refused why r out work e w =
-        record { outcome = w .outcome ∙ sym (ran-short why e); output = w .zeros ∙ rw (ran-short why e); scratch = w .cleared }
+    pub ran-refused : (why : Refusal) (r : Outcome) (out list′ work : List ℕ) → v ≡ Verdict.Refused why
+        → RefusedCall why (length output) (length list) (length scratch) r out list′ work → Ran c r out list′ work
+    unfolding outputOf openedOf
+    ran-refused why r out list′ work e w =
+        record {
+          outcome = w .outcome ∙ sym (ran-short why e);
+          output = w .zeros ∙ rw (ran-short why e);
+          opened = w .none ∙ rw (ran-short why e);
+          scratch = w .cleared;
+        }
 
     module _ (e : v ≡ Verdict.Accepted) where
       admits : Admitted source (c .choices) (length scratch)
@@ -187,23 +213,24 @@ module _
       outcome-is : outcomeOf c ≡ outcomeIn (length output) (formatted c)
       unfolding outcomeOf verdictOf textOf
       outcome-is =
-          ap (λ (u : Verdict). outcomeAfter u (length (textOf c)) (formatted c .importsSplit) (formatted c .blankNames))
+          ap (λ (u : Verdict). outcomeAfter u (length (textOf c)) (formatted c))
           (goes-on (formatTests source (not (validOptions (c .choices))) (length scratch)) (shortOutput (length (textOf c)) (length output) ∷ []) (first-tests ∙ e)
           ∙ one-test (shortOutput (length (textOf c)) (length output)))
 
-      pub ran-formatted : (r : Outcome) (out work : List ℕ)
-          → Fitted (formatWith (optionsWith indent (t .options)) (decode source)) (length output) (length scratch) r out work → Ran c r out work
-      unfolding outputOf textOf
-      ran-formatted r out work w =
+      pub ran-formatted : (r : Outcome) (out list′ work : List ℕ)
+          → Fitted (formatWith (optionsWith indent (t .options)) (decode source)) (length output) (length list) (length scratch) r out list′ work → Ran c r out list′ work
+      unfolding outputOf openedOf textOf
+      ran-formatted r out list′ work w =
           let i : r ≡ outcomeOf c = w .outcome ∙ ap (outcomeIn (length output)) (sym options-are) ∙ sym outcome-is in
-          record { outcome = i; output = w .output ∙ rw (← options-are, i); scratch = w .cleared }
+          record { outcome = i; output = w .output ∙ rw (← options-are, i); opened = w .opened ∙ rw (← options-are, i); scratch = w .cleared }
 
-pub answered : (c : Call) (r : Outcome) (a : Answer) (out work : List ℕ) → Ran c r out work → a ≡ answerOf r → FormatAnswered c a out work
-answered c r a out work w e =
+pub answered : (c : Call) (r : Outcome) (a : Answer) (out list work : List ℕ) → Ran c r out list work → a ≡ answerOf r → FormatAnswered c a out list work
+answered c r a out list work w e =
     let i : a ≡ answerOf (outcomeOf c) = e ∙ ap answerOf (w .outcome) in
     record {
       answer = i;
       output = w .output;
+      opened = w .opened;
       scratch = w .scratch;
       well = answer-well c a out i (w .output);
       kept = answer-kept c a out i (w .output);

@@ -9,10 +9,11 @@ use Rattle.rules.specs.Call.{Call, formatCall}
 use Rattle.rules.specs.Demand3.{Kept}
 use Rattle.rules.specs.declared.Answer.{Answer}
 
--- The answer r to the call c, and what its output and its scratch hold after it.
-pub record FormatAnswered (c : Call) (r : Answer) (out work : List ℕ) : Type 0 where
+-- The answer r to the call c, and what its output, its list of open brackets and its scratch hold after it.
+pub record FormatAnswered (c : Call) (r : Answer) (out list work : List ℕ) : Type 0 where
   pub answer : r ≡ formatCall c .answer
   pub output : out ≡ formatCall c .output
+  pub opened : list ≡ formatCall c .opened
   pub scratch : work ≡ formatCall c .scratch
   -- an accepted call's text, which is as many bytes of the output as the answer says, is well-formed UTF-8
   pub well : r .refusal ≡ 0 → WellFormed (take (r .length) out)

@@ -1,13 +1,16 @@
 // Assembly: all lines of a source, the ending that they get, and the finish.
 ghost use mathlib.Core.Path.{_≡_};
 ghost use mathlib.Core.List.{List, []};
-ghost use Prim.Native.Nat.{ℕ};
+ghost use Prim.Native.Nat.{ℕ, _+_, _*_, _≤_};
 ghost use lib.ListN.{length};
 ghost use Rattle.unicode.specs.Unicode.{decode, WellFormed};
 ghost use Rattle.rules.specs.Basics.{choose};
 ghost use Rattle.rules.specs.Assembly.{endingOf, lastEnding, formatWith};
+ghost use Rattle.rules.specs.Brackets.{openLines};
+ghost use Rattle.brackets.specs.Stack.{entrySize, stacked};
 ghost use Rattle.lines.specs.Lines.{Passed};
-ghost use Rattle.call.specs.Formatted.{Fitted, optionsWith};
+ghost use Rattle.call.specs.Formatted.{Told, Fitted, optionsWith};
+use line::scratch::STACK;
 use line::style::Style;
 use options::FormatOptions;
 use rules::EndOfLine;
@@ -38,16 +41,27 @@ fn has_last_ending(newline: FinalNewline, source: &[u8]) -> bool
     }
 }
 
-// The source's text goes to the output, if it fits. The indent is lent as the host lends it; the struct's own is the same.
+// The lines of the brackets that are open go to the list, of a stack of this depth from base on, and the scratch is cleared. Gives how many are open.
+pub fn list_open(opened: &mut [u64], scratch: &mut [u8], base: usize, depth: usize) -> usize
+    requires { ⌜ base + entrySize * depth ≤ length (now scratch) ⌝ }
+    ensures { λ r. ⌜ Told (openLines (stacked (now (scratch .entry)) base depth)) (length (now (opened .entry))) (length (now (scratch .entry))) r (now (opened .exit)) (now (scratch .exit)) ⌝ }
+{
+    let count = brackets::list_lines(scratch, base, depth, opened);
+    buffer::zero(scratch);
+    count
+}
+
+// The source's text goes to the output, if it fits, and the list gets the open brackets. The indent is lent as the host lends it; the struct's own is the same.
 pub fn format_with(
     source: &[u8],
     indent: &[u8],
     chosen: FormatOptions,
     output: &mut [u8],
+    opened: &mut [u64],
     scratch: &mut [u8],
 ) -> Outcome
     requires { ⌜ Passed (now source) (now indent) (now scratch) ⌝ }
-    ensures { λ r. ⌜ Fitted (formatWith (optionsWith (now (indent .entry)) chosen) (decode (now (source .entry)))) (length (now (output .entry))) (length (now (scratch .entry))) r (now (output .exit)) (now (scratch .exit)) ⌝ }
+    ensures { λ r. ⌜ Fitted (formatWith (optionsWith (now (indent .entry)) chosen) (decode (now (source .entry)))) (length (now (output .entry))) (length (now (opened .entry))) (length (now (scratch .entry))) r (now (output .exit)) (now (opened .exit)) (now (scratch .exit)) ⌝ }
 {
     let width = chosen.print_width;
     let end_of_line = chosen.end_of_line;
@@ -55,12 +69,15 @@ pub fn format_with(
     let ending = ending_of(end_of_line, source);
     let style = Style { width, ending };
     let st = lines::format_lines(source, indent, style, output, scratch);
-    buffer::zero(scratch);
     let t = st.text;
     let last = has_last_ending(newline, source);
     let n = text::finish_text(output, t, ending, last);
     if output.len() < n {
+        list_open(opened, scratch, 0, 0);
         return Outcome::Refused(Refusal::OutputShort(n));
     }
-    Outcome::Formatted(n, st.imports, st.blanks)
+    let nesting = st.nesting;
+    let base = STACK * source.len();
+    let count = list_open(opened, scratch, base, nesting.depth);
+    Outcome::Formatted(n, st.imports, st.blanks, count)
 }

@@ -16,7 +16,7 @@ use rules::Verdict;
 pub mod assembly;
 
 // The bytes of scratch for each of the source's, beside 256.
-pub const FORMAT_SCRATCH: usize = 8;
+pub const FORMAT_SCRATCH: usize = 12;
 
 // Refusals 1 to 4 in number order.
 fn test(source: &[u8], bad_option: bool, scratch: usize) -> Verdict
@@ -33,12 +33,12 @@ fn test(source: &[u8], bad_option: bool, scratch: usize) -> Verdict
     }
 }
 
-// Both buffers are cleared.
-fn refuse(output: &mut [u8], scratch: &mut [u8], why: Refusal) -> Outcome
-    ensures { λ r. ⌜ RefusedCall why (length (now (output .entry))) (length (now (scratch .entry))) r (now (output .exit)) (now (scratch .exit)) ⌝ }
+// All buffers are cleared.
+fn refuse(output: &mut [u8], opened: &mut [u64], scratch: &mut [u8], why: Refusal) -> Outcome
+    ensures { λ r. ⌜ RefusedCall why (length (now (output .entry))) (length (now (opened .entry))) (length (now (scratch .entry))) r (now (output .exit)) (now (opened .exit)) (now (scratch .exit)) ⌝ }
 {
     buffer::zero(output);
-    buffer::zero(scratch);
+    assembly::list_open(opened, scratch, 0, 0);
     Outcome::Refused(why)
 }
 
@@ -48,15 +48,18 @@ fn run_call(
     indent: &[u8],
     numbers: OptionNumbers,
     output: &mut [u8],
+    opened: &mut [u64],
     scratch: &mut [u8],
 ) -> Outcome
-    ensures { λ r. ⌜ Ran (callOf (now (source .entry)) (now (indent .entry)) numbers (length (now (output .entry))) (length (now (scratch .entry)))) r (now (output .exit)) (now (scratch .exit)) ⌝ }
+    ensures { λ r. ⌜ Ran (callOf (now (source .entry)) (now (indent .entry)) numbers (length (now (output .entry))) (length (now (opened .entry))) (length (now (scratch .entry)))) r (now (output .exit)) (now (opened .exit)) (now (scratch .exit)) ⌝ }
 {
     let named = FormatOptions::from_numbers(indent, numbers);
     let chosen = named.options;
     match test(source, named.refused, scratch.len()) {
-        Verdict::Refused(why) => refuse(output, scratch, why),
-        Verdict::Accepted => assembly::format_with(source, indent, chosen, output, scratch),
+        Verdict::Refused(why) => refuse(output, opened, scratch, why),
+        Verdict::Accepted => {
+            assembly::format_with(source, indent, chosen, output, opened, scratch)
+        },
     }
 }
 
@@ -66,10 +69,11 @@ pub fn format_call(
     indent: &[u8],
     numbers: OptionNumbers,
     output: &mut [u8],
+    opened: &mut [u64],
     scratch: &mut [u8],
 ) -> Answer
-    ensures { λ r. ⌜ FormatAnswered (callOf (now (source .entry)) (now (indent .entry)) numbers (length (now (output .entry))) (length (now (scratch .entry)))) r (now (output .exit)) (now (scratch .exit)) ⌝ }
+    ensures { λ r. ⌜ FormatAnswered (callOf (now (source .entry)) (now (indent .entry)) numbers (length (now (output .entry))) (length (now (opened .entry))) (length (now (scratch .entry)))) r (now (output .exit)) (now (opened .exit)) (now (scratch .exit)) ⌝ }
 {
-    let outcome = run_call(source, indent, numbers, output, scratch);
+    let outcome = run_call(source, indent, numbers, output, opened, scratch);
     answer::answer_of(outcome)
 }

@@ -61,6 +61,7 @@ initial-holds eol unit out scratch =
       text = text-nothing eol out;
       stack = refl;
       running = refl;
+      number = refl;
       blank = refl;
       prev = refl;
       ignore = refl;
@@ -120,20 +121,23 @@ module _
 
     -- a line none of whose closers pop first
     pub stack-scanned : {scratch′ : List ℕ} {base n : ℕ} {b deep : Nesting} {s : List Entry}
-        → BracketsDone scratch scratch′ base b n (scanBrackets (drop 0 (cellsOf line (part scratch at (at + length line)))) (stacked scratch base (b .depth))) deep
-        → stacked scratch base (b .depth) ≡ s → stacked scratch′ base (deep .depth) ≡ scanBrackets (classify y (decode line)) s
-    stack-scanned w e = w .is ∙ rw (cells-decoded, e) (brackets-encode (classify y (decode line)) _)
+        → BracketsDone scratch scratch′ base b n (scanBrackets (b .line) (drop 0 (cellsOf line (part scratch at (at + length line)))) (stacked scratch base (b .depth))) deep
+        → stacked scratch base (b .depth) ≡ s → stacked scratch′ base (deep .depth) ≡ scanBrackets (b .line) (classify y (decode line)) s
+    stack-scanned {b = b} w e = w .is ∙ rw (cells-decoded, e) (brackets-encode (b .line) (classify y (decode line)) _)
 
     -- a line whose leading closers pop first
     pub stack-counted : {scratch′ : List ℕ} {base n closers : ℕ} {b left deep : Nesting} {s : List Entry} → Closers line closers
         → Popped scratch base b closers left
-        → BracketsDone scratch scratch′ base left n (scanBrackets (drop closers (cellsOf line (part scratch at (at + length line)))) (stacked scratch base (left .depth))) deep
-        → stacked scratch base (b .depth) ≡ s → stacked scratch′ base (deep .depth) ≡ countBrackets (leadingClosers (decode line)) (classify y (decode line)) s
+        → BracketsDone scratch scratch′ base left n (scanBrackets (left .line) (drop closers (cellsOf line (part scratch at (at + length line)))) (stacked scratch base (left .depth))) deep
+        → stacked scratch base (b .depth) ≡ s
+        → stacked scratch′ base (deep .depth) ≡ countBrackets (b .line) (leadingClosers (decode line)) (classify y (decode line)) s
     unfolding countBrackets
     stack-counted {base = base} {closers = closers} {b = b} {s = s} k l w e =
         let n : closers ≡ leadingClosers (decode line) = k .is ∙ on-decode leadingClosers leadingClosers closers-encode line well in
         let p : stacked scratch base (b .depth - closers) ≡ drop closers s = sym (stacked-drop scratch base (b .depth) closers) ∙ ap (drop closers) e in
-        w .is ∙ rw (l .depth, p, cells-here, n) (ap (λ (r : List ℕ). countBrackets (leadingClosers (decode line)) (classify y r) s) (sym well) ∙ count-closers y (decode line) s)
+        w .is
+        ∙ rw (l .line, l .depth, p, cells-here, n)
+        (ap (λ (r : List ℕ). countBrackets (b .line) (leadingClosers (decode line)) (classify y r) s) (sym well) ∙ count-closers (b .line) y (decode line) s)
 
 -- ---- classes
 
@@ -178,12 +182,14 @@ module _ {st : Record} {scratch : List ℕ} {unit n : ℕ} (ready : Ready st scr
   classify-room y line h k = (omega (arith, front-size line h), omega (arith, ready .carry, ready .limit))
 
   pub stack-room : (buf : List ℕ) (class m : ℕ) (left : Nesting) → length buf ≡ length scratch → class + m ≤ stackAt unit → m ≤ 2 * n → left .depth ≤ st .nesting .depth
-      → left .levels ≡ levels (stacked buf (stackAt unit) (left .depth)) → StackFits buf class m (stackAt unit) left
-  stack-room buf class m left e h k l r = record { classes = h; stack = omega (arith, ready .depth, ready .room); runs = r }
+      → left .line ≡ st .nesting .line → left .levels ≡ levels (stacked buf (stackAt unit) (left .depth)) → StackFits buf class m (stackAt unit) left
+  stack-room buf class m left e h k l q r =
+      record { classes = h; stack = omega (arith, ready .depth, ready .room); runs = r; line = omega (arith, ready .line, ready .limit) }
 
   -- the stack as it is before the line; also after scratch was used before it
   pub stack-nested : Nested scratch (stackAt unit) (st .nesting)
-  stack-nested = record { fits = omega (arith, ready .depth, ready .room); runs = ready .runs .is }
+  stack-nested =
+      record { fits = omega (arith, ready .depth, ready .room); runs = ready .runs .is; line = omega (arith, ready .line, ready .limit) }
 
   pub push-room : (m : ℕ) → m ≤ n → st .text .at .0 + 2 + (length (times 0 []) + m) < 2 ^ 64
   push-room m h = omega (arith, ap length (times-nil 0), ready .small .at, ready .depth, ready .limit)

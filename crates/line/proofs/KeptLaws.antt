@@ -46,6 +46,7 @@ blank-same eol st out s e =
         at = omega arith;
         runs = λ q. q;
         depth = omega arith;
+        line = omega arith;
         carry = omega arith;
         imports = omega arith;
         blanks = omega arith;
@@ -75,6 +76,7 @@ module _ (eol : List ℕ) (st : Record) (out : List ℕ) (r : Bool) (s : Small s
                 text = w .text (f .lines) (h .text);
                 stack = h .stack;
                 running = h .running;
+                number = h .number;
                 blank = refl;
                 prev = h .prev;
                 ignore = h .ignore;
@@ -86,6 +88,7 @@ module _ (eol : List ℕ) (st : Record) (out : List ℕ) (r : Bool) (s : Small s
           at = omega (arith, w .grown .at);
           runs = λ q. record { is = q .is };
           depth = omega arith;
+          line = omega arith;
           carry = omega arith;
           imports = omega arith;
           blanks = omega arith;
@@ -99,7 +102,7 @@ pub protected-step : (raw line out out′ scratch scratch′ eol : List ℕ) (un
     → Adds eol false (times 0 [] ++ decode raw) out (st .text) out′ u
     → Closers line closers → Popped scratch (stackAt unit) (st .nesting) closers left
     → BracketsDone scratch scratch′ (stackAt unit) left (length line)
-    (scanBrackets (drop closers (cellsOf line (part scratch 0 (0 + length line)))) (stacked scratch (stackAt unit) (left .depth))) deep
+    (scanBrackets (left .line) (drop closers (cellsOf line (part scratch 0 (0 + length line)))) (stacked scratch (stackAt unit) (left .depth))) deep
     → prev ≡ prevOf line
     → Stepped (protectedOf (decode raw)) (length raw) unit eol st out scratch
     (record { text = u; nesting = deep; blank = false; prev = prev; ignore = Ignore.Nothing; carry = after; imports = st .imports; blanks = st .blanks })
@@ -111,6 +114,7 @@ protected-step raw line out out′ scratch scratch′ eol unit st u closers left
         text = w .text (f .lines) (h .text);
         stack = stack-after f h;
         running = v .runs ∙ ap levels (stack-after f h);
+        number = v .line ∙ l .line ∙ h .number;
         blank = refl;
         prev = ep ∙ prev-bytes line (t .well) ∙ ap prevOf (t .text ∙ sym (trim-twice (decode raw)));
         ignore = refl;
@@ -122,6 +126,7 @@ protected-step raw line out out′ scratch scratch′ eol unit st u closers left
       at = omega (arith, w .grown .at, ap length well);
       runs = λ q. record { is = v .runs };
       depth = omega (arith, v .most, l .depth, t .short);
+      line = omega (arith, v .line, l .line);
       carry = omega (arith, classes .depth, t .short);
       imports = omega arith;
       blanks = omega arith;
@@ -132,8 +137,8 @@ protected-step raw line out out′ scratch scratch′ eol unit st u closers left
 
     stack-after : (f : Formatter) → Holds eol unit f st out scratch
         → stacked scratch′ (stackAt unit) (deep .depth)
-        ≡ countBrackets (leadingClosers (trim (decode raw))) (classify (f .carry) (trim (decode raw))) (f .stack)
-    stack-after f h = rw (t .text, in-code f h) at (stack-counted (t .well) classes k l v (h .stack))
+        ≡ countBrackets (f .number) (leadingClosers (trim (decode raw))) (classify (f .carry) (trim (decode raw))) (f .stack)
+    stack-after f h = rw (t .text, in-code f h, h .number) at (stack-counted (t .well) classes k l v (h .stack))
 
 -- ---- a line that starts inside a comment or a prefab
 
@@ -162,7 +167,7 @@ pub inside-step : (raw out out′ scratch w scratch′ eol : List ℕ) (unit : �
     → TrimmedEnd raw tail → TrimmedStart (take tail raw) start → kept ≡ keptLen (st .carry) tail (length raw)
     → Adds eol false (times 0 [] ++ decode (take kept raw)) out (st .text) out′ u
     → BracketsDone (w ++ drop (length raw) scratch) scratch′ (stackAt unit) (st .nesting) (length raw)
-    (scanBrackets (drop 0 (cellsOf raw (part (w ++ drop (length raw) scratch) 0 (0 + length raw)))) (stacked (w ++ drop (length raw) scratch) (stackAt unit) (st .nesting .depth))) deep
+    (scanBrackets (st .nesting .line) (drop 0 (cellsOf raw (part (w ++ drop (length raw) scratch) 0 (0 + length raw)))) (stacked (w ++ drop (length raw) scratch) (stackAt unit) (st .nesting .depth))) deep
     → prev ≡ prevOf (take (tail - start) (drop start raw))
     → Stepped (insideOf (decode raw)) (length raw) unit eol st out scratch
     (record { text = u; nesting = deep; blank = false; prev = prev; ignore = st .ignore; carry = after; imports = st .imports; blanks = st .blanks })
@@ -174,13 +179,14 @@ inside-step raw out out′ scratch w scratch′ eol unit st u tail start kept de
     let x : Shown (st .carry) raw kept = shown (st .carry) raw tail kept well e k in
     let low : stacked (w ++ drop (length raw) scratch) (stackAt unit) (st .nesting .depth) ≡ stacked scratch (stackAt unit) (st .nesting .depth) =
     stacked-past (front-only raw scratch w room classified) (stackAt unit) (st .nesting .depth) (omega (arith, ready .depth)) in
-    let after-it : (f : Formatter) → Holds eol unit f st out scratch → stacked scratch′ (stackAt unit) (deep .depth) ≡ scanBrackets (classify (f .carry) (decode raw)) (f .stack) =
-    λ f h. rw (h .carry) at (stack-scanned well (classes-front raw scratch w room classified) v (low ∙ h .stack)) in
+    let after-it : (f : Formatter) → Holds eol unit f st out scratch → stacked scratch′ (stackAt unit) (deep .depth) ≡ scanBrackets (f .number) (classify (f .carry) (decode raw)) (f .stack) =
+    λ f h. rw (h .carry, h .number) at (stack-scanned well (classes-front raw scratch w room classified) v (low ∙ h .stack)) in
     record {
       holds = λ f h. record {
         text = rw (x .text, h .carry) at (a .text (f .lines) (h .text));
         stack = after-it f h;
         running = v .runs ∙ ap levels (after-it f h);
+        number = v .line ∙ h .number;
         blank = refl;
         prev = ep ∙ prev-bytes (take (tail - start) (drop start raw)) (t .well) ∙ ap prevOf (t .text);
         ignore = h .ignore;
@@ -192,6 +198,7 @@ inside-step raw out out′ scratch w scratch′ eol unit st u tail start kept de
       at = omega (arith, a .grown .at, ap length (x .well), x .short);
       runs = λ q. record { is = v .runs };
       depth = omega (arith, v .most);
+      line = omega (arith, v .line);
       carry = omega (arith, classified .depth);
       imports = omega arith;
       blanks = omega arith;

@@ -38,7 +38,7 @@ abbrev pub initial : Record
 initial =
     record {
       text = nothing;
-      nesting = record { depth = 0; levels = 0 };
+      nesting = record { depth = 0; levels = 0; line = 0 };
       blank = false;
       prev = record { declares = Declaration.Nothing; brace = false };
       ignore = Ignore.Nothing;
@@ -47,11 +47,26 @@ initial =
       blanks = 0;
     }
 
+-- the next source line is read
+abbrev pub nextLine : Record → Record
+nextLine st =
+    record {
+      text = st .text;
+      nesting = record { depth = st .nesting .depth; levels = st .nesting .levels; line = st .nesting .line + 1 };
+      blank = st .blank;
+      prev = st .prev;
+      ignore = st .ignore;
+      carry = st .carry;
+      imports = st .imports;
+      blanks = st .blanks;
+    }
+
 -- The code's state st, the output and the scratch hold the definition's record f.
 pub record Holds (eol : List ℕ) (unit : ℕ) (f : Formatter) (st : Record) (out scratch : List ℕ) : Type 0 where
   pub text : Text eol (f .lines) (st .text) out
   pub stack : stacked scratch (stackAt unit) (st .nesting .depth) ≡ f .stack
   pub running : st .nesting .levels ≡ levels (f .stack)
+  pub number : st .nesting .line ≡ f .number
   pub blank : st .blank ≡ f .prevBlank
   pub prev : st .prev ≡ prevOf (f .prev)
   pub ignore : st .ignore ≡ f .ignore
@@ -73,6 +88,7 @@ pub record Ready (st : Record) (scratch : List ℕ) (unit n : ℕ) : Type 0 wher
   pub small : Small st
   pub depth : st .nesting .depth + n ≤ unit
   pub runs : Runs unit st scratch
+  pub line : st .nesting .line ≤ unit
   pub carry : carryDepth (st .carry) + 2 * n ≤ 2 * unit
   pub imports : st .imports ≤ unit
   pub blanks : st .blanks + 2 * n ≤ 2 * unit
@@ -90,6 +106,7 @@ pub record Stepped (g : Formatter → Formatter) (n unit : ℕ) (eol : List ℕ)
   pub at : st′ .text .at .0 ≤ st .text .at .0 + (n + 1) * growth
   pub runs : Runs unit st scratch → Runs unit st′ scratch′
   pub depth : st′ .nesting .depth ≤ st .nesting .depth + n
+  pub line : st′ .nesting .line ≡ st .nesting .line
   pub carry : carryDepth (st′ .carry) ≤ carryDepth (st .carry) + 2 * n
   pub imports : st′ .imports ≤ st .imports + 1
   pub blanks : st′ .blanks ≤ st .blanks + 2 * n

@@ -1,5 +1,5 @@
 -- Scratch, for a source of `unit` bytes: the classes of the line from 0 on, the respaced line, its classes, the stack of open brackets. A respaced line
--- has at most twice the bytes.
+-- has at most twice the bytes, and the stack, while such a line is scanned, room for twice the entries.
 use Prim.Native.Nat.{ℕ, _*_}
 
 abbrev pub respacedAt : ℕ → ℕ
@@ -13,4 +13,4 @@ stackAt unit = 5 * unit
 
 -- how much of it is used
 abbrev pub scratchUsed : ℕ → ℕ
-scratchUsed unit = 7 * unit
+scratchUsed unit = 11 * unit

@@ -1,6 +1,7 @@
 // The formatter's record, by value.
 ghost use mathlib.Core.Path.{_≡_};
-ghost use Rattle.line.specs.Holds.{initial, prevOf};
+ghost use Prim.Native.Nat.{_+_, _<_, _^_};
+ghost use Rattle.line.specs.Holds.{initial, nextLine, prevOf};
 use brackets::Nesting;
 use format::words::Declaration;
 use rules::Carry;
@@ -21,8 +22,8 @@ pub fn prev_of(line: &[u8]) -> Prev
     Prev { declares, brace }
 }
 
-// Of the open brackets it keeps how many there are and how many of them added a level; they lie in scratch. Of the previous line it keeps what
-// later lines ask.
+// Of the open brackets it keeps how many there are and how many of them added a level, with the number of the line that is read; they lie in scratch.
+// Of the previous line it keeps what later lines ask.
 pub struct Formatter {
     pub text: Written,
     pub nesting: Nesting,
@@ -44,6 +45,7 @@ impl Formatter {
             nesting: Nesting {
                 depth: 0,
                 levels: 0,
+                line: 0,
             },
             blank: false,
             prev: Prev {
@@ -54,6 +56,32 @@ impl Formatter {
             carry: Carry::Code,
             imports: 0,
             blanks: 0,
+        }
+    }
+
+    // The next source line is read.
+    pub fn next_line(self) -> Self
+        requires { ⌜ self .nesting .line + 1 < 2 ^ 64 ⌝ }
+        ensures { λ r. ⌜ r ≡ nextLine self ⌝ }
+    {
+        let text = self.text;
+        let nesting = self.nesting;
+        let prev = self.prev;
+        let ignore = self.ignore;
+        let carry = self.carry;
+        Self {
+            text,
+            nesting: Nesting {
+                depth: nesting.depth,
+                levels: nesting.levels,
+                line: nesting.line + 1,
+            },
+            blank: self.blank,
+            prev,
+            ignore,
+            carry,
+            imports: self.imports,
+            blanks: self.blanks,
         }
     }
 }

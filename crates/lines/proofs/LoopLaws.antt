@@ -1,5 +1,5 @@
 -- The loop over the lines: `Reached` before the line that starts at `at`.
-use Prim.Native.Nat.{ℕ, suc, _+_, _-_, _*_, _≤_, _<_, zero-le}
+use Prim.Native.Nat.{ℕ, suc, _+_, _-_, _*_, _^_, _≤_, _<_, zero-le}
 use native.Mathlib.Omega.{arith}
 use mathlib.Core.List.{List, [], _∷_, map}
 use mathlib.Core.Logic.{_⊎_, inl, inr}
@@ -11,7 +11,7 @@ use Rattle.unicode.proofs.Tests.{split}
 use Rattle.buffer.specs.Buffer.{part}
 use Rattle.rules.specs.Lines.{asStr, dropCr, linesOf}
 use Rattle.rules.specs.Options.{Options}
-use Rattle.rules.specs.Line.{Formatter, start, formatLine}
+use Rattle.rules.specs.Line.{Formatter, start, anyLine, readOn, formatLine}
 use Rattle.rules.specs.Assembly.{formatLines}
 use Rattle.rules.specs.declared.EndOfLine.{EndOfLine}
 use Rattle.rules.specs.declared.FinalNewline.{FinalNewline}
@@ -19,7 +19,7 @@ use Rattle.rules.specs.declared.PrintWidth.{PrintWidth}
 use Rattle.basics.specs.Depth.{carryDepth}
 use Rattle.split.specs.Text.{AllWell}
 use Rattle.text.specs.Text.{Ordered}
-use Rattle.line.specs.Holds.{Record, Holds, Runs, Ready, Stepped, Uses, initial, growth}
+use Rattle.line.specs.Holds.{Record, Holds, Runs, Ready, Stepped, Uses, initial, nextLine, growth}
 use Rattle.line.proofs.HoldsLaws.{initial-holds, initial-runs}
 use Rattle.line.specs.declared.style.Style.{Style}
 use Rattle.line_ends.specs.LineEnds.{LineEnd}
@@ -63,6 +63,23 @@ next-line source at e q = go (split e (length source))
           none = λ k. refl;
         }
 
+-- ---- the next line is read
+
+read-on : {eol : List ℕ} {unit : ℕ} {f : Formatter} {st : Record} {out scratch : List ℕ} → Holds eol unit f st out scratch → Holds eol unit (readOn f) (nextLine st) out scratch
+read-on h =
+    record {
+      text = h .text;
+      stack = h .stack;
+      running = h .running;
+      number = ap (λ (n : ℕ). n + 1) (h .number);
+      blank = h .blank;
+      prev = h .prev;
+      ignore = h .ignore;
+      carry = h .carry;
+      imports = h .imports;
+      blanks = h .blanks;
+    }
+
 -- ---- the invariant
 
 -- options with this indent and this width
@@ -86,7 +103,8 @@ pub record Reached (source indent : List ℕ) (style : Style) (out₀ scratch₀
   pub ordered : Ordered (st .text)
   pub place : st .text .at .0 ≤ at * growth
   pub runs : Runs (length source) st scratch
-  pub depth : st .nesting .depth ≤ at
+  pub depth : st .nesting .depth ≤ at - 1
+  pub line : st .nesting .line ≤ at
   pub carry : carryDepth (st .carry) ≤ 2 * at
   pub imports : st .imports ≤ at
   pub blanks : st .blanks ≤ 2 * at
@@ -112,6 +130,7 @@ reached-start source indent style out scratch st p e =
       place = zero-le;
       runs = initial-runs (length source) scratch;
       depth = zero-le;
+      line = zero-le;
       carry = zero-le;
       imports = zero-le;
       blanks = zero-le;
@@ -133,6 +152,7 @@ module _
           small = record { ordered = r .ordered; at = omega (arith, r .place, p .limit) };
           depth = omega (arith, r .depth, raw-long, q .from, q .fits);
           runs = r .runs;
+          line = omega (arith, r .line);
           carry = omega (arith, r .carry, raw-long, q .from, q .fits);
           imports = omega (arith, r .imports);
           blanks = omega (arith, r .blanks, raw-long, q .from, q .fits);
@@ -150,22 +170,29 @@ module _
     reached-well = all-well (next-line source at e q) .0
 
     module _ {st′ : Record} {out′ scratch′ : List ℕ}
-        (w : (o : Options) → Uses o indent style → Stepped (λ f. formatLine o f (decode raw)) (length raw) (length source) (asStr (style .ending)) st out scratch st′ out′ scratch′)
+        (w : (o : Options) → Uses o indent style → Stepped (λ f. anyLine o f (decode raw)) (length raw) (length source) (asStr (style .ending)) st out scratch st′ out′ scratch′)
       where
-        run-on : (n : Next source at e) (o : Options) → Uses o indent style → Running o source (asStr (style .ending)) (n .rest) st′ out′ scratch′
-        unfolding formatLines
+        -- what a step gives for some options
+        stepped : Stepped (λ f. anyLine (someOptions indent (style .width)) f (decode raw)) (length raw) (length source) (asStr (style .ending)) st out scratch st′ out′ scratch′
+        stepped = w (someOptions indent (style .width)) (record { indents = refl; breaks = refl })
+
+        pub number-fits : st′ .nesting .line + 1 < 2 ^ 64
+        number-fits = omega (arith, stepped .line, r .line, p .limit)
+
+        run-on : (n : Next source at e) (o : Options) → Uses o indent style → Running o source (asStr (style .ending)) (n .rest) (nextLine st′) out′ scratch′
+        unfolding formatLines formatLine
         run-on n o u =
             let k = r .run o u in
             record {
               f = formatLine o (k .f) (decode raw);
               same = k .same ∙ ap (λ (ls : List (List ℕ)). formatLines o (map decode ls) (k .f)) (lines-left n);
-              holds = w o u .holds (k .f) (k .holds);
+              holds = read-on (w o u .holds (k .f) (k .holds));
             }
 
-        pub reached-more : length out′ ≡ length out → length scratch′ ≡ length scratch → Reached source indent style out₀ scratch₀ out′ scratch′ st′ (e + 1)
-        reached-more eo es =
+        next-reached : length out′ ≡ length out → length scratch′ ≡ length scratch → Reached source indent style out₀ scratch₀ out′ scratch′ (nextLine st′) (e + 1)
+        next-reached eo es =
             let n = next-line source at e q in
-            let s = w (someOptions indent (style .width)) (record { indents = refl; breaks = refl }) in
+            let s = stepped in
             record {
               within = omega (arith, q .fits);
               left = n .rest;
@@ -175,14 +202,19 @@ module _
               run = run-on n;
               ordered = s .ordered;
               place = omega (arith, s .at, r .place, raw-long, q .from);
-              runs = s .runs (r .runs);
+              runs = record { is = s .runs (r .runs) .is };
               depth = omega (arith, s .depth, r .depth, raw-long, q .from);
+              line = omega (arith, s .line, r .line, raw-long, q .from);
               carry = omega (arith, s .carry, r .carry, raw-long, q .from);
               imports = omega (arith, s .imports, r .imports, q .from);
               blanks = omega (arith, s .blanks, r .blanks, raw-long, q .from);
               as-long = eo ∙ r .as-long;
               as-wide = es ∙ r .as-wide;
             }
+
+        pub reached-more : (next : Record) → next ≡ nextLine st′ → length out′ ≡ length out → length scratch′ ≡ length scratch
+            → Reached source indent style out₀ scratch₀ out′ scratch′ next (e + 1)
+        reached-more next i eo es = subst (λ (x : Record). Reached source indent style out₀ scratch₀ out′ scratch′ x (e + 1)) (sym i) (next-reached eo es)
 
 pub reached-end : {source indent : List ℕ} {style : Style} {out₀ scratch₀ out scratch : List ℕ} {st : Record} {at : ℕ}
     → Reached source indent style out₀ scratch₀ out scratch st at → Passed source indent scratch₀ → length source < at
@@ -194,4 +226,5 @@ reached-end {source = source} {style = style} {out = out} {scratch = scratch} {s
           let e : formatLines o (linesOf (decode source)) start ≡ k .f = k .same ∙ ap (λ (ls : List (List ℕ)). formatLines o (map decode ls) (k .f)) (r .none h) in
           subst (λ (f : Formatter). Holds (asStr (style .ending)) (length source) f st out scratch) (sym e) (k .holds));
       small = record { ordered = r .ordered; at = omega (arith, r .place, r .within, p .limit) };
+      stack = omega (arith, r .depth, r .within, r .as-wide, p .room);
     }

@@ -23,7 +23,8 @@ pub fn format_lines(
     while at <= unit {
         let end = line_end(source, at);
         let raw = without_cr(&source[at..end]);
-        st = line_step(raw, indent, style, out, scratch, unit, st);
+        let read = line_step(raw, indent, style, out, scratch, unit, st);
+        st = read.next_line();
         at = end + 1;
     }
     st

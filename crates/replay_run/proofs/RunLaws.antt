@@ -44,7 +44,7 @@ same-told a b false t =
 
 -- ---- a case beside its answer
 
-module _ (c : Call) (a : Answer) (out work : List ℕ) (f : FormatAnswered c a out work) where
+module _ (c : Call) (a : Answer) (out list work : List ℕ) (f : FormatAnswered c a out list work) where
   number-is : answerOf (outcomeOf c) .refusal ≡ a .refusal
   number-is = ap (λ (b : Answer). b .refusal) (sym (f .answer))
 
@@ -60,14 +60,14 @@ module _ (c : Call) (a : Answer) (out work : List ℕ) (f : FormatAnswered c a o
         let l : a .length ≡ length (textOf c) = ap (λ (b : Answer). b .length) (f .answer) ∙ given .long in
         omega (arith, ap length text-is, length-take (a .length) out)
 
-module _ (list : List ℕ) (c : Case) (n m : ℕ) (a : Answer) (out work : List ℕ) (f : FormatAnswered (callIn list c n m) a out work) where
+module _ (list : List ℕ) (c : Case) (n m : ℕ) (a : Answer) (out opened work : List ℕ) (f : FormatAnswered (callIn list c n m) a out opened work) where
   pub refused : (a .refusal ≡ 0 → ⊥) → false ≡ agrees list c n m
   unfolding agrees choose
-  refused h = rw (number-is _ a out work f, ne-eqb (a .refusal) 0 h)
+  refused h = rw (number-is _ a out opened work f, ne-eqb (a .refusal) 0 h)
 
   pub told : (r : Bool) → a .refusal ≡ 0 → Tells (take (a .length) out) (part list (answerAt c) (endOf c)) r → r ≡ agrees list c n m
   unfolding agrees choose
-  told r z t = same-told _ _ r t ∙ rw (text-is _ a out work f z, number-is _ a out work f, eq-eqb (a .refusal) 0 z)
+  told r z t = same-told _ _ r t ∙ rw (text-is _ a out opened work f z, number-is _ a out opened work f, eq-eqb (a .refusal) 0 z)
 
 -- ---- one step
 

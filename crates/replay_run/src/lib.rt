@@ -64,11 +64,13 @@ fn agrees(list: &[u8], c: Case, output: &mut [u8], scratch: &mut [u8]) -> bool
         line_ending: c.line_ending as u64,
         final_newline: c.final_newline as u64,
     };
+    let mut opened = [0u64; 0];
     let answer = call::format_call(
         &list[source..indent],
         &list[indent..stored],
         numbers,
         output,
+        &mut opened,
         scratch,
     );
     if answer.refusal != 0 {

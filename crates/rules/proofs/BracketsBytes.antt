@@ -32,12 +32,12 @@ step-high b h k o = rw (not-ascii b 92 h refl, steady-opener b h, steady-closer 
 after-after : (t : Bool) (o : Open) → after t (after t o) ≡ after t o
 unfolding after choose
 after-after false o = refl
-after-after true o = go (o .added) (o .popped) (o .esc) (o .stack)
+after-after true o = go (o .line) (o .added) (o .popped) (o .esc) (o .stack)
   where
-    go : (added popped : ℕ) (esc : Bool) (stack : List Entry)
-        → after true (after true (opened added popped esc stack)) ≡ after true (opened added popped esc stack)
-    go added popped true stack = refl
-    go added popped false stack = refl
+    go : (line added popped : ℕ) (esc : Bool) (stack : List Entry)
+        → after true (after true (opened line added popped esc stack)) ≡ after true (opened line added popped esc stack)
+    go line added popped true stack = refl
+    go line added popped false stack = refl
 
 rest-high : (bs : List ℕ) → High bs → (k : Class) (o : Open) → foldl bracketStep (after (isCode k) o) (label k bs) ≡ after (isCode k) o
 unfolding label
@@ -57,9 +57,9 @@ fold-same cells o = fold-encode bracketStep bracketStep _≡_ low high cells o o
         ap (λ (o : Open). bracketStep o (cell c k)) r ∙ step-high c hc k u ∙ sym (rest-high bs hs k u)
         ∙ sym (ap (λ (o : Open). foldl bracketStep o (label k bs)) (step-high b hb k u))
 
-pub brackets-encode : (cells : List Cell) (stack : List Entry) → scanBrackets (encodeCells cells) stack ≡ scanBrackets cells stack
+pub brackets-encode : (k : ℕ) (cells : List Cell) (stack : List Entry) → scanBrackets k (encodeCells cells) stack ≡ scanBrackets k cells stack
 unfolding scanBrackets
-brackets-encode cells stack = ap (λ (o : Open). o .stack) (sym (fold-same cells (opened 0 0 false stack)))
+brackets-encode k cells stack = ap (λ (o : Open). o .stack) (sym (fold-same cells (opened k 0 0 false stack)))
 
 -- ---- after the leading closers
 
@@ -71,12 +71,13 @@ drop-encode (suc n) (x ∷ xs) a =
     rw (encodeChar-1 (x .ch) (ltb-true (x .ch) 0x80 (and-left (ltb (x .ch) 0x80) (allAscii (take n (charsOf xs))) a)))
     (drop-encode n xs (and-right (ltb (x .ch) 0x80) (allAscii (take n (charsOf xs))) a))
 
-pub count-encode : (n : ℕ) (cells : List Cell) (stack : List Entry) → allAscii (take n (charsOf cells)) ≡ true → countBrackets n (encodeCells cells) stack ≡ countBrackets n cells stack
+pub count-encode : (k n : ℕ) (cells : List Cell) (stack : List Entry) → allAscii (take n (charsOf cells)) ≡ true
+    → countBrackets k n (encodeCells cells) stack ≡ countBrackets k n cells stack
 unfolding countBrackets
-count-encode n cells stack a = rw (drop-encode n cells a) (brackets-encode (drop n cells) (drop n stack))
+count-encode k n cells stack a = rw (drop-encode n cells a) (brackets-encode k (drop n cells) (drop n stack))
 
-pub count-closers : (y : Carry) (l : List ℕ) (stack : List Entry)
-    → countBrackets (leadingClosers l) (classify y (encode l)) stack ≡ countBrackets (leadingClosers l) (classify y l) stack
-count-closers y l stack =
+pub count-closers : (k : ℕ) (y : Carry) (l : List ℕ) (stack : List Entry)
+    → countBrackets k (leadingClosers l) (classify y (encode l)) stack ≡ countBrackets k (leadingClosers l) (classify y l) stack
+count-closers k y l stack =
     rw (classify-encode y l)
-    (count-encode (leadingClosers l) (classify y l) stack (ap (λ (s : List ℕ). allAscii (take (leadingClosers l) s)) (chars-classify y l) ∙ closers-ascii l))
+    (count-encode k (leadingClosers l) (classify y l) stack (ap (λ (s : List ℕ). allAscii (take (leadingClosers l) s)) (chars-classify y l) ∙ closers-ascii l))

@@ -34,7 +34,7 @@ use Rattle.rules.proofs.Computing.{computing}
 
 -- ---- calls
 
--- bytes, indent, the four option numbers, lengths of scratch and output
+-- bytes, indent, the four option numbers, lengths of scratch and output; no list of open brackets
 abbrev call : List ℕ → List ℕ → ℕ → ℕ → ℕ → ℕ → ℕ → ℕ → Call
 call source indent set width ending newline scratch output =
     record {
@@ -46,6 +46,7 @@ call source indent set width ending newline scratch output =
             strengths = builtIn;
           };
       output = output;
+      opened = 0;
       scratch = scratch;
     }
 
@@ -55,7 +56,8 @@ plainly indent = record { indent = indent; numbers = defaultNumbers; strengths =
 
 -- with the default options
 abbrev plain : List ℕ → ℕ → ℕ → Call
-plain source scratch output = record { source = source; choices = plainly (defaults .indent); output = output; scratch = scratch }
+plain source scratch output =
+    record { source = source; choices = plainly (defaults .indent); output = output; opened = 0; scratch = scratch }
 
 -- with a table of strengths
 abbrev loaded : List ℕ → List ℕ → ℕ → ℕ → Call
@@ -64,6 +66,7 @@ loaded table source scratch output =
       source = source;
       choices = record { indent = defaults .indent; numbers = defaultNumbers; strengths = table };
       output = output;
+      opened = 0;
       scratch = scratch;
     }
 
@@ -82,7 +85,7 @@ unfolding optionsOf printWidthNamed endOfLineNamed finalNewlineNamed
 wirescript-choices indent source = refl
 
 abbrev fine : ℕ → Outcome
-fine len = Outcome.Formatted len 0 0
+fine len = Outcome.Formatted len 0 0 0
 
 abbrev bad : Outcome
 bad = Outcome.Refused Refusal.BadOption
@@ -90,22 +93,22 @@ bad = Outcome.Refused Refusal.BadOption
 abbrev pub calls : List (Call × Outcome)
 calls =
     -- the output: the exact length fits, one less is refused with that length
-    (plain (codes "f(a ,b)") 312 8, fine 8)
-    ∷ (plain (codes "f(a ,b)") 312 7, Outcome.Refused (Refusal.OutputShort 8))
+    (plain (codes "f(a ,b)") 340 8, fine 8)
+    ∷ (plain (codes "f(a ,b)") 340 7, Outcome.Refused (Refusal.OutputShort 8))
     -- blanks that are dropped at the end don't count, nor what an `else` cuts off (reading 40)
     ∷ (plain (codes "a\n\n\n") 400 2, fine 2)
     ∷ (plain (codes "a\n\n\n") 400 1, Outcome.Refused (Refusal.OutputShort 2))
-    ∷ (plain (codes "// fmt-ignore\n}                          \nelse") 624 21, fine 21)
-    ∷ (plain (codes "// fmt-ignore\n}                          \nelse") 624 20, Outcome.Refused (Refusal.OutputShort 21))
+    ∷ (plain (codes "// fmt-ignore\n}                          \nelse") 808 21, fine 21)
+    ∷ (plain (codes "// fmt-ignore\n}                          \nelse") 808 20, Outcome.Refused (Refusal.OutputShort 21))
     -- lengths are in bytes, width in UTF-16 units
     ∷ (call (0x22 ∷ 0xF0 ∷ 0x9F ∷ 0x98 ∷ 0x80 ∷ codes "\" + b") (codes "  ") 1 7 0 1 400 13, fine 13)
     ∷ (call (0x22 ∷ 0xF0 ∷ 0x9F ∷ 0x98 ∷ 0x80 ∷ codes "\" + b") (codes "  ") 1 8 0 1 400 13, fine 11)
-    -- the scratch: 8 times 7 and 256
-    ∷ (plain (codes "f(a ,b)") 311 8, Outcome.Refused (Refusal.ScratchShort 312))
+    -- the scratch: 12 times 7 and 256
+    ∷ (plain (codes "f(a ,b)") 339 8, Outcome.Refused (Refusal.ScratchShort 340))
     -- not UTF-8
-    ∷ (plain (0xFF ∷ []) 264 8, Outcome.Refused (Refusal.NotUtf8 0))
-    ∷ (plain (0x61 ∷ 0xE2 ∷ 0x82 ∷ []) 280 8, Outcome.Refused (Refusal.NotUtf8 1))
-    ∷ (plain (0x61 ∷ 0xED ∷ 0xA0 ∷ 0x80 ∷ []) 288 8, Outcome.Refused (Refusal.NotUtf8 1))
+    ∷ (plain (0xFF ∷ []) 268 8, Outcome.Refused (Refusal.NotUtf8 0))
+    ∷ (plain (0x61 ∷ 0xE2 ∷ 0x82 ∷ []) 292 8, Outcome.Refused (Refusal.NotUtf8 1))
+    ∷ (plain (0x61 ∷ 0xED ∷ 0xA0 ∷ 0x80 ∷ []) 304 8, Outcome.Refused (Refusal.NotUtf8 1))
     -- options
     ∷ (call [] (codes "q") 1 100 0 1 256 1, bad)
     ∷ (call [] (spaces 65) 1 100 0 1 256 1, bad)
@@ -123,8 +126,8 @@ calls =
     ∷ (loaded (replicate 11 0xF0) [] 256 1, fine 1)
     -- the first that applies is given
     ∷ (call (0xFF ∷ []) (codes "q") 1 100 0 1 0 0, bad)
-    ∷ (plain (0xFF ∷ []) 263 0, Outcome.Refused (Refusal.ScratchShort 264))
-    ∷ (plain (0xFF ∷ []) 264 0, Outcome.Refused (Refusal.NotUtf8 0))
+    ∷ (plain (0xFF ∷ []) 267 0, Outcome.Refused (Refusal.ScratchShort 268))
+    ∷ (plain (0xFF ∷ []) 268 0, Outcome.Refused (Refusal.NotUtf8 0))
     ∷ []
 
 pub outcomes : map (λ (c : Call × Outcome). outcomeOf (c .0)) calls ≡ map (λ (c : Call × Outcome). c .1) calls
@@ -132,32 +135,69 @@ unfolding computing
 outcomes = refl
 
 -- the longest source passes refusal 1, and one byte more does not
-pub longest : (s : List ℕ) → length s ≡ 1048576 → outcomeOf (plain s 8388863 0) ≡ Outcome.Refused (Refusal.ScratchShort 8388864)
+pub longest : (s : List ℕ) → length s ≡ 1048576 → outcomeOf (plain s 12583167 0) ≡ Outcome.Refused (Refusal.ScratchShort 12583168)
 unfolding computing
 longest s e = rw e
 
-pub too-long : (s : List ℕ) → length s ≡ 1048577 → outcomeOf (plain s 8388872 0) ≡ Outcome.Refused Refusal.SourceTooLong
+pub too-long : (s : List ℕ) → length s ≡ 1048577 → outcomeOf (plain s 12583180 0) ≡ Outcome.Refused Refusal.SourceTooLong
 unfolding computing
 too-long s e = rw e
 
 abbrev answer : ℕ → ℕ → ℕ → ℕ → ℕ → Answer
 answer refusal place len imports blanks =
-    record { refusal = refusal; place = place; length = len; «imports_split» = imports; «blank_names» = blanks }
+    record { refusal = refusal; place = place; length = len; «imports_split» = imports; «blank_names» = blanks; «open_brackets» = 0 }
 
 abbrev left : Answer → List ℕ → ℕ → Result
-left a output scratch = record { answer = a; output = output; scratch = replicate scratch 0 }
+left a output scratch = record { answer = a; output = output; opened = []; scratch = replicate scratch 0 }
 
 -- the answer, the output and the scratch: the text, then zeros, or zeros alone
 pub results :
     map formatCall
-    (plain (codes "a ,b") 290 7 ∷ call (codes "import {a,,b} from \"l\"") (codes "  ") 1 10 0 1 432 30 ∷ plain (codes "a ,b") 287 7 ∷ plain (codes "a ,b") 288 4 ∷ [])
-    ≡ left (answer 0 0 5 0 0) (codes "a, b\n" ++ (0 ∷ 0 ∷ [])) 290
-    ∷ left (answer 0 0 28 1 1) (codes "import {\n  a, b,\n} from \"l\"\n" ++ (0 ∷ 0 ∷ [])) 432
-    ∷ left (answer 3 288 0 0 0) (0 ∷ 0 ∷ 0 ∷ 0 ∷ 0 ∷ 0 ∷ 0 ∷ []) 287
-    ∷ left (answer 5 5 0 0 0) (0 ∷ 0 ∷ 0 ∷ 0 ∷ []) 288
+    (plain (codes "a ,b") 306 7 ∷ call (codes "import {a,,b} from \"l\"") (codes "  ") 1 10 0 1 520 30 ∷ plain (codes "a ,b") 303 7 ∷ plain (codes "a ,b") 304 4 ∷ [])
+    ≡ left (answer 0 0 5 0 0) (codes "a, b\n" ++ (0 ∷ 0 ∷ [])) 306
+    ∷ left (answer 0 0 28 1 1) (codes "import {\n  a, b,\n} from \"l\"\n" ++ (0 ∷ 0 ∷ [])) 520
+    ∷ left (answer 3 304 0 0 0) (0 ∷ 0 ∷ 0 ∷ 0 ∷ 0 ∷ 0 ∷ 0 ∷ []) 303
+    ∷ left (answer 5 5 0 0 0) (0 ∷ 0 ∷ 0 ∷ 0 ∷ []) 304
     ∷ []
 unfolding computing
 results = refl
+
+-- ---- open brackets
+
+-- with the default options and a list of n lines, in buffers that suffice: the count of all, and the list
+abbrev brackets : String × ℕ → ℕ × List ℕ
+brackets s =
+    let r = formatCall (record { source = codes (s .0); choices = plainly (defaults .indent); output = 100; opened = s .1; scratch = 1000 }) in
+    (r .answer .«open_brackets», r .opened)
+
+pub open-brackets :
+    map brackets
+    -- brackets that add no level are listed too; the oldest that fit, then zeros
+    (("((\n[", 5) ∷ ("((\n[", 3) ∷ ("((\n[", 2) ∷ ("((\n[", 0)
+    -- a joined else keeps its own source line; lines are cut at LF alone; a closer pops whichever is on top
+    ∷ ("{\nif a {\n}\nelse {", 3)
+    ∷ ("\r(\r\n\n\n[", 2)
+    ∷ ("(\n{\n)\n[", 3)
+    -- in strings and comments there are none; a line that is split or protected has its own number
+    ∷ ("\"(\" // (\n/* (\n*/ (", 1)
+    ∷ ("// fmt-ignore\n(", 1)
+    ∷ [])
+    ≡ (3, 0 ∷ 0 ∷ 1 ∷ 0 ∷ 0 ∷ []) ∷ (3, 0 ∷ 0 ∷ 1 ∷ []) ∷ (3, 0 ∷ 0 ∷ []) ∷ (3, [])
+    ∷ (2, 0 ∷ 3 ∷ 0 ∷ [])
+    ∷ (2, 0 ∷ 3 ∷ [])
+    ∷ (2, 0 ∷ 3 ∷ 0 ∷ [])
+    ∷ (1, 2 ∷ [])
+    ∷ (1, 1 ∷ [])
+    ∷ []
+unfolding computing
+open-brackets = refl
+
+-- a refused call, for want of output too, has none
+pub open-refused :
+    formatCall (record { source = codes "(\n("; choices = plainly (defaults .indent); output = 3; opened = 2; scratch = 292 })
+    ≡ record { answer = answer 5 6 0 0 0; output = 0 ∷ 0 ∷ 0 ∷ []; opened = 0 ∷ 0 ∷ []; scratch = replicate 292 0 }
+unfolding computing
+open-refused = refl
 
 -- ---- text kinds, as numbers: 0 Code, 1 Str, 2 Comment
 

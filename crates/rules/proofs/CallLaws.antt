@@ -105,7 +105,7 @@ admitted source choices scratch e =
 pub record Accepted (c : Call) (r : Outcome) : Type 0 where
   pub admits : Admitted (c .source) (c .choices) (c .scratch)
   pub fits : length (textOf c) ≤ c .output
-  pub outcome : r ≡ Outcome.Formatted (length (textOf c)) (formatted c .importsSplit) (formatted c .blankNames)
+  pub outcome : r ≡ Outcome.Formatted (length (textOf c)) (formatted c .importsSplit) (formatted c .blankNames) (length (formatted c .openBrackets))
 
 pub accepted : (c : Call) → answerOf (outcomeOf c) .refusal ≡ 0 → Accepted c (outcomeOf c)
 unfolding outcomeOf verdictOf
@@ -118,7 +118,7 @@ accepted c = go (verdictOf c) refl
     last = shortOutput (length (textOf c)) (c .output) ∷ []
 
     given : Verdict → Outcome
-    given v = outcomeAfter v (length (textOf c)) (formatted c .importsSplit) (formatted c .blankNames)
+    given v = outcomeAfter v (length (textOf c)) (formatted c)
 
     go : (v : Verdict) → tested (tests ++ last) ≡ v → answerOf (given v) .refusal ≡ 0 → Accepted c (given v)
     go Verdict.Accepted e z =

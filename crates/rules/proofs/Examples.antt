@@ -5,7 +5,7 @@ use Prim.Native.String.{String}
 use mathlib.Core.List.{List, [], _∷_, map}
 use Rattle.rules.specs.Basics.{codes}
 use Rattle.rules.specs.Options.{Options, defaults}
-use Rattle.rules.specs.Assembly.{Formatted, formatWith}
+use Rattle.rules.specs.Assembly.{formatWith}
 use Rattle.rules.specs.declared.PrintWidth.{PrintWidth}
 use Rattle.rules.specs.declared.FinalNewline.{FinalNewline}
 use Rattle.rules.proofs.Computing.{computing}
@@ -34,11 +34,15 @@ noFinalNewline =
       strengths = defaults .strengths;
     }
 
-abbrev pub expected : Case → Formatted
-expected c = record { text = codes (c .2); importsSplit = c .3; blankNames = c .4 }
+-- text, imports split, blank names
+abbrev pub Shown : Type 0
+Shown = List ℕ × ℕ × ℕ
 
-abbrev pub given : Case → Formatted
-given c = formatWith (c .0) (codes (c .1))
+abbrev pub expected : Case → Shown
+expected c = (codes (c .2), c .3, c .4)
+
+abbrev pub given : Case → Shown
+given c = let r = formatWith (c .0) (codes (c .1)) in (r .text, r .importsSplit, r .blankNames)
 
 abbrev pub cases : List Case
 cases =

@@ -24,6 +24,8 @@ pub mod RefusalLaws
 pub mod CallLaws
 -- the respaced line
 pub mod SpacedLine
+-- the lines of the stack's entries change no text
+pub mod Unaffected
 -- the rounds of a break
 pub mod Rounds
 pub mod Prefix

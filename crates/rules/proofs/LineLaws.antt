@@ -15,7 +15,7 @@ use Rattle.rules.specs.Spacing.{normalizeSpacing}
 use Rattle.rules.specs.Words.{isMarker}
 use Rattle.rules.specs.Else.{joinElse}
 use Rattle.rules.specs.SplitImport.{Laid, splitImport}
-use Rattle.rules.specs.Line.{Formatter, asWritten, keptLine, insideLine, blankLine, protectedLine, elseLine, dropBlank, linesBefore, levelOf, oneLine, orOperation, broken, splitWide, laid, placedLine, spacedLine, codeLine, formatLine}
+use Rattle.rules.specs.Line.{Formatter, asWritten, keptLine, insideLine, blankLine, protectedLine, elseLine, dropBlank, linesBefore, levelOf, oneLine, orOperation, broken, splitWide, laid, placedLine, spacedLine, codeLine, anyLine, formatLine}
 use Rattle.rules.specs.Brackets.{leadingClosers}
 use Rattle.rules.specs.Strengths.{strengthsIn}
 use Rattle.rules.specs.declared.Carry.{Carry}
@@ -148,7 +148,7 @@ module _ (o : Options) (white : White (o .indent)) (src : List ℕ) (f : Formatt
       (λ t. holds-spaced (isMarker (classify Carry.Code (trim raw))) raw (normalizeSpacing (classify Carry.Code (trim raw))) (like-line raw))
 
   holds-line : (raw : List ℕ) → Holds o (src ++ raw) (formatLine o f raw)
-  unfolding formatLine
+  unfolding anyLine formatLine
   holds-line raw =
       choose-case (Holds o (src ++ raw))
       (λ t. choose-case (Holds o (src ++ raw)) (λ u. holds-blank raw (like-empty raw u)) (λ u. holds-code raw))

@@ -148,7 +148,7 @@ push-height o = omega arith
 pop-height : (stack : List Entry) (o : Open) → length (popFrom stack o .stack) ≤ length stack
 unfolding popFrom
 pop-height [] o = omega arith
-pop-height (adds ∷ stack) o = omega arith
+pop-height (e ∷ stack) o = omega arith
 
 step-height : (o : Open) (x : Cell) (n : ℕ) → (isOpener (x .ch) ≡ true → 1 ≤ n) → length (bracketStep o x .stack) ≤ length (o .stack) + n
 unfolding bracketStep
@@ -168,9 +168,9 @@ fold-height (x ∷ xs) o =
     let s = step-height o x (choose (isOpener (x .ch)) 1 0) one in
     omega (arith, s, fold-height xs (bracketStep o x))
 
-pub brackets-height : (cells : List Cell) (stack : List Entry) → length (scanBrackets cells stack) ≤ length stack + count isOpener (charsOf cells)
+pub brackets-height : (k : ℕ) (cells : List Cell) (stack : List Entry) → length (scanBrackets k cells stack) ≤ length stack + count isOpener (charsOf cells)
 unfolding scanBrackets
-brackets-height cells stack = fold-height cells (opened 0 0 false stack)
+brackets-height k cells stack = fold-height cells (opened k 0 0 false stack)
 
 -- white space is no opener
 white-no-opener : (c : ℕ) → not (isWhite c) ≡ false → isOpener c ≡ false
@@ -205,18 +205,19 @@ count-drop p zero cells = omega arith
 count-drop p (suc n) [] = omega arith
 count-drop p (suc n) (x ∷ xs) = omega (arith, count-drop p n xs)
 
-pub count-height : (n : ℕ) (cells : List Cell) (stack : List Entry) → length (countBrackets n cells stack) ≤ length stack + count isOpener (charsOf cells)
+pub count-height : (k n : ℕ) (cells : List Cell) (stack : List Entry) → length (countBrackets k n cells stack) ≤ length stack + count isOpener (charsOf cells)
 unfolding countBrackets
-count-height n cells stack =
-    omega (arith, brackets-height (drop n cells) (drop n stack), count-drop isOpener n cells, length-drop n stack)
+count-height k n cells stack =
+    omega (arith, brackets-height k (drop n cells) (drop n stack), count-drop isOpener n cells, length-drop n stack)
 
-pub height-spaced : (l : List ℕ) (n : ℕ) (stack : List Entry) → length (countBrackets n (classify Carry.Code (respaced l)) stack) ≤ length stack + length l
-height-spaced l n stack =
+pub height-spaced : (k : ℕ) (l : List ℕ) (n : ℕ) (stack : List Entry)
+    → length (countBrackets k n (classify Carry.Code (respaced l)) stack) ≤ length stack + length l
+height-spaced k l n stack =
     let e : count isOpener (charsOf (classify Carry.Code (respaced l))) ≡ count isOpener l =
     ap (count isOpener) (chars-classify Carry.Code (respaced l)) ∙ openers-spaced (classify Carry.Code l)
     ∙ ap (count isOpener) (chars-classify Carry.Code l)
     in
-    omega (arith, e, count-height n (classify Carry.Code (respaced l)) stack, count-length isOpener l)
+    omega (arith, e, count-height k n (classify Carry.Code (respaced l)) stack, count-length isOpener l)
 
 -- a character has one byte or more
 char-some : (c : ℕ) (bs : List ℕ) → Bytes c bs → 1 ≤ length bs

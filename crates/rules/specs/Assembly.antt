@@ -6,15 +6,18 @@ use Rattle.unicode.specs.Unicode.{encode, decode}
 use Rattle.rules.specs.Basics.{choose}
 use Rattle.rules.specs.Lines.{asStr, linesOf, dominantIn, endsInLf}
 use Rattle.rules.specs.Options.{Options, defaults, withIndent}
+use Rattle.rules.specs.Brackets.{openLines}
 use Rattle.rules.specs.Line.{Formatter, start, formatLine}
 use Rattle.rules.specs.declared.LineEnding.{LineEnding}
 use Rattle.rules.specs.declared.EndOfLine.{EndOfLine}
 use Rattle.rules.specs.declared.FinalNewline.{FinalNewline}
 
+-- the text, the counts, and the source lines of the brackets that are still open
 pub record Formatted : Type 0 where
   pub text : List ℕ
   pub importsSplit : ℕ
   pub blankNames : ℕ
+  pub openBrackets : List ℕ
 
 unfoldable pub endingOf : EndOfLine → List ℕ → LineEnding
 endingOf EndOfLine.Kept source = dominantIn source
@@ -43,12 +46,13 @@ finish o source eol f =
       text = joined eol (dropEmpty (f .lines)) ++ lastEnding (o .insertFinalNewline) source eol;
       importsSplit = f .importsSplit;
       blankNames = f .blankNames;
+      openBrackets = openLines (f .stack);
     }
 
 unfoldable pub formatLines : Options → List (List ℕ) → Formatter → Formatter
 formatLines o raws f = foldl (formatLine o) f raws
 
--- format_with, with both counts
+-- format_with, with both counts and the open brackets
 unfoldable pub formatWith : Options → List ℕ → Formatted
 formatWith o source = finish o source (asStr (endingOf (o .endOfLine) source)) (formatLines o (linesOf source) start)
 

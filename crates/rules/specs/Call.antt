@@ -1,8 +1,8 @@
--- A formatting call on bytes: what it gives back, and what the output and the scratch hold after it.
+-- A formatting call on bytes: what it gives back, and what the output, the list of open brackets and the scratch hold after it.
 use Prim.Native.Nat.{ℕ, _-_}
 use mathlib.Core.Bool.{Bool, not}
 use mathlib.Core.List.{List, [], _∷_, _++_}
-use lib.ListN.{length, replicate}
+use lib.ListN.{length, take, replicate}
 use Rattle.unicode.specs.Unicode.{decode, encode}
 use Rattle.rules.specs.Choices.{Choices, validOptions, optionsOf}
 use Rattle.rules.specs.Assembly.{Formatted, formatWith}
@@ -11,11 +11,12 @@ use Rattle.rules.specs.declared.Verdict.{Verdict}
 use Rattle.rules.specs.declared.Outcome.{Outcome}
 use Rattle.rules.specs.declared.Answer.{Answer}
 
--- What a call gets: bytes, the options, and how long the two lent buffers are.
+-- What a call gets: bytes, the options, and how long the lent buffers are.
 pub record Call : Type 0 where
   pub source : List ℕ
   pub choices : Choices
   pub output : ℕ
+  pub opened : ℕ
   pub scratch : ℕ
 
 -- ---- the finished text
@@ -28,9 +29,9 @@ textOf c = encode (formatted c .text)
 
 -- ---- the refusals: 12 and 13 first, the others in number order
 
--- 8 times the source's length, and 256
+-- 12 times the source's length, and 256
 abbrev pub formatScratch : ℕ
-formatScratch = 8
+formatScratch = 12
 
 -- 12, 13, then 1 to 4, of a table of strengths, a source, whether an option is bad, and the scratch's length
 abbrev pub formatTests : List ℕ → List ℕ → Bool → ℕ → List Verdict
@@ -49,19 +50,20 @@ verdictOf c =
     (formatTests (c .choices .strengths) (c .source) (not (validOptions (c .choices))) (c .scratch)
     ++ (shortOutput (length (textOf c)) (c .output) ∷ []))
 
-abbrev pub outcomeAfter : Verdict → ℕ → ℕ → ℕ → Outcome
-outcomeAfter Verdict.Accepted len imports blanks = Outcome.Formatted len imports blanks
-outcomeAfter (Verdict.Refused r) len imports blanks = Outcome.Refused r
+-- what a finished text of so many bytes comes to
+abbrev pub outcomeAfter : Verdict → ℕ → Formatted → Outcome
+outcomeAfter Verdict.Accepted len t = Outcome.Formatted len (t .importsSplit) (t .blankNames) (length (t .openBrackets))
+outcomeAfter (Verdict.Refused r) len t = Outcome.Refused r
 
 unfoldable pub outcomeOf : Call → Outcome
-outcomeOf c = outcomeAfter (verdictOf c) (length (textOf c)) (formatted c .importsSplit) (formatted c .blankNames)
+outcomeOf c = outcomeAfter (verdictOf c) (length (textOf c)) (formatted c)
 
 -- what the host reads: a refused call gives number and place, other fields 0
 abbrev pub answerOf : Outcome → Answer
-answerOf (Outcome.Formatted len imports blanks) =
-    record { refusal = 0; place = 0; length = len; «imports_split» = imports; «blank_names» = blanks }
+answerOf (Outcome.Formatted len imports blanks brackets) =
+    record { refusal = 0; place = 0; length = len; «imports_split» = imports; «blank_names» = blanks; «open_brackets» = brackets }
 answerOf (Outcome.Refused r) =
-    record { refusal = numberOf r; place = placeOf r; length = 0; «imports_split» = 0; «blank_names» = 0 }
+    record { refusal = numberOf r; place = placeOf r; length = 0; «imports_split» = 0; «blank_names» = 0; «open_brackets» = 0 }
 
 -- ---- the buffers: the output is the text, then zeros, or all zeros; the scratch is all zeros after every call
 
@@ -69,11 +71,22 @@ unfoldable pub filled : ℕ → List ℕ → List ℕ
 filled n text = text ++ replicate (n - length text) 0
 
 abbrev pub outputFor : Outcome → ℕ → List ℕ → List ℕ
-outputFor (Outcome.Formatted len imports blanks) n text = filled n text
+outputFor (Outcome.Formatted len imports blanks brackets) n text = filled n text
 outputFor (Outcome.Refused r) n text = replicate n 0
 
 unfoldable pub outputOf : Call → List ℕ
 outputOf c = outputFor (outcomeOf c) (c .output) (textOf c)
+
+-- the list of open brackets: as many lines as it has room for, the oldest first, then zeros, or all zeros
+unfoldable pub listed : ℕ → List ℕ → List ℕ
+listed n lines = filled n (take n lines)
+
+abbrev pub openedFor : Outcome → ℕ → List ℕ → List ℕ
+openedFor (Outcome.Formatted len imports blanks brackets) n lines = listed n lines
+openedFor (Outcome.Refused r) n lines = replicate n 0
+
+unfoldable pub openedOf : Call → List ℕ
+openedOf c = openedFor (outcomeOf c) (c .opened) (formatted c .openBrackets)
 
 abbrev pub scratchOf : Call → List ℕ
 scratchOf c = replicate (c .scratch) 0
@@ -82,7 +95,8 @@ scratchOf c = replicate (c .scratch) 0
 pub record Result : Type 0 where
   pub answer : Answer
   pub output : List ℕ
+  pub opened : List ℕ
   pub scratch : List ℕ
 
 abbrev pub formatCall : Call → Result
-formatCall c = record { answer = answerOf (outcomeOf c); output = outputOf c; scratch = scratchOf c }
+formatCall c = record { answer = answerOf (outcomeOf c); output = outputOf c; opened = openedOf c; scratch = scratchOf c }

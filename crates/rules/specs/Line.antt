@@ -20,8 +20,9 @@ use Rattle.rules.specs.declared.Carry.{Carry}
 use Rattle.rules.specs.declared.Ignore.{Ignore}
 use Rattle.rules.specs.declared.PrintWidth.{PrintWidth}
 
--- `lines` has the newest line first; `prev` is the previous line that is not blank
+-- `number` is of the source line that is read, from 0; `lines` has the newest line first; `prev` is the previous line that is not blank
 pub record Formatter : Type 0 where
+  pub number : ℕ
   pub lines : List (List ℕ)
   pub stack : List Entry
   pub prevBlank : Bool
@@ -34,6 +35,7 @@ pub record Formatter : Type 0 where
 abbrev pub start : Formatter
 start =
     record {
+      number = 0;
       lines = [];
       stack = [];
       prevBlank = false;
@@ -48,6 +50,7 @@ start =
 abbrev pub after : Formatter → List (List ℕ) → List Entry → List ℕ → Ignore → Carry → Formatter
 after f lines stack prev ignore carry =
     record {
+      number = f .number;
       lines = lines;
       stack = stack;
       prevBlank = false;
@@ -61,7 +64,7 @@ after f lines stack prev ignore carry =
 -- A line that is kept goes out as `shown`. Its brackets are counted, n leading closers popping first, and it becomes the previous line, trimmed.
 unfoldable pub keptLine : Formatter → List ℕ → ℕ → List ℕ → Ignore → Formatter
 keptLine f shown n line ignore =
-    after f (shown ∷ f .lines) (countBrackets n (classify (f .carry) line) (f .stack)) (trim line) ignore (carryAfter (f .carry) line)
+    after f (shown ∷ f .lines) (countBrackets (f .number) n (classify (f .carry) line) (f .stack)) (trim line) ignore (carryAfter (f .carry) line)
 
 -- A line starting inside a comment is trimmed at its end; one inside a prefab is kept whole. It has no leading closers.
 unfoldable pub asWritten : Carry → List ℕ → List ℕ
@@ -81,6 +84,7 @@ unfoldable pub blankLine : Formatter → Formatter
 blankLine f =
     choose (f .prevBlank || isEmpty (f .lines)) f
     (record {
+      number = f .number;
       lines = [] ∷ f .lines;
       stack = f .stack;
       prevBlank = true;
@@ -94,7 +98,7 @@ blankLine f =
 -- a plain `else` joined to the newest line: no indent, blank or split rule applies
 unfoldable pub elseLine : Formatter → List ℕ → Formatter
 elseLine f line =
-    after f (joinElse line (f .lines)) (scanBrackets (classify Carry.Code line) (f .stack)) line Ignore.Nothing (carryAfter Carry.Code line)
+    after f (joinElse line (f .lines)) (scanBrackets (f .number) (classify Carry.Code line) (f .stack)) line Ignore.Nothing (carryAfter Carry.Code line)
 
 -- Blank between declarations: the newest line goes if it is empty, no bracket is open and both lines declare the same.
 unfoldable pub dropBlank : List (List ℕ) → List (List ℕ)
@@ -148,6 +152,7 @@ laid o f marker line =
 abbrev pub counting : Laid → Formatter → Formatter
 counting l f =
     record {
+      number = f .number;
       lines = f .lines;
       stack = f .stack;
       prevBlank = f .prevBlank;
@@ -162,7 +167,7 @@ unfoldable pub placedLine : Options → Formatter → Bool → List ℕ → Form
 placedLine o f marker line =
     counting (laid o f marker line)
     (after f (reverseAux (laid o f marker line .lines) (linesBefore f line))
-    (countBrackets (leadingClosers line) (classify Carry.Code line) (f .stack))
+    (countBrackets (f .number) (leadingClosers line) (classify Carry.Code line) (f .stack))
     line
     (choose marker Ignore.NextLine Ignore.Nothing)
     (carryAfter Carry.Code line))
@@ -185,6 +190,24 @@ inCodeNow Carry.Code = true
 inCodeNow (Carry.Block d) = false
 inCodeNow Carry.Prefab = false
 
-unfoldable pub formatLine : Options → Formatter → List ℕ → Formatter
-formatLine o f raw =
+unfoldable pub anyLine : Options → Formatter → List ℕ → Formatter
+anyLine o f raw =
     choose (inCodeNow (f .carry)) (choose (isEmpty (trim raw)) (blankLine f) (codeLine o f raw)) (insideLine f raw)
+
+-- the next source line is read
+abbrev pub readOn : Formatter → Formatter
+readOn f =
+    record {
+      number = f .number + 1;
+      lines = f .lines;
+      stack = f .stack;
+      prevBlank = f .prevBlank;
+      prev = f .prev;
+      ignore = f .ignore;
+      carry = f .carry;
+      importsSplit = f .importsSplit;
+      blankNames = f .blankNames;
+    }
+
+unfoldable pub formatLine : Options → Formatter → List ℕ → Formatter
+formatLine o f raw = readOn (anyLine o f raw)

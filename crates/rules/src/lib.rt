@@ -146,9 +146,9 @@ pub enum Verdict {
     Refused(Refusal),
 }
 
-// What a formatting call comes to: the text's length, imports split and blank names; or a refusal.
+// What a formatting call comes to: the text's length, imports split, blank names and open brackets; or a refusal.
 pub enum Outcome {
-    Formatted(usize, usize, usize),
+    Formatted(usize, usize, usize, usize),
     Refused(Refusal),
 }
 
@@ -160,6 +160,7 @@ pub struct Answer {
     pub length: u64,
     pub imports_split: u64,
     pub blank_names: u64,
+    pub open_brackets: u64,
 }
 
 // What an editor is told of a place.

@@ -22,7 +22,7 @@ use Rattle.rules.specs.Spacing.{respaced}
 use Rattle.rules.specs.Brackets.{Entry, levels, leadingClosers, countBrackets}
 use Rattle.rules.specs.Else.{joinElse}
 use Rattle.rules.specs.Line.{Formatter, start, keptLine, asWritten, insideLine, blankLine, protectedLine, elseLine, dropBlank}
-use Rattle.rules.specs.Line.{linesBefore, continues, levelOf, oneLine, splitWide, laid, placedLine, spacedLine, codeLine}
+use Rattle.rules.specs.Line.{linesBefore, continues, levelOf, oneLine, splitWide, laid, placedLine, spacedLine, codeLine, anyLine}
 use Rattle.rules.specs.Line.{formatLine}
 use Rattle.rules.specs.Assembly.{endingOf, dropEmpty, joined, lastEnding, finish, formatLines, formatWith}
 use Rattle.rules.specs.declared.Carry.{Carry}
@@ -113,7 +113,7 @@ at-most-one b = choose-case (λ (n : ℕ). n ≤ 1) (λ h. omega arith) (λ h. o
 levels-within : (s : List Entry) → levels s ≤ length s
 unfolding levels
 levels-within [] = omega arith
-levels-within (adds ∷ s) = omega (arith, at-most-one adds, levels-within s)
+levels-within (e ∷ s) = omega (arith, at-most-one (e .adds), levels-within s)
 
 level-within : (f : Formatter) (line : List ℕ) → levelOf f line ≤ length (f .stack) + 1
 unfolding levelOf
@@ -158,7 +158,7 @@ module _ (f : Formatter) (height long : ℕ) (w : Within height long f) where
         high = omega (
           arith,
           w .high,
-          count-height n (classify (f .carry) line) (f .stack),
+          count-height (f .number) n (classify (f .carry) line) (f .stack),
           ap (count isOpener) (chars-classify (f .carry) line),
           count-length isOpener line,
         );
@@ -183,7 +183,7 @@ module _ (f : Formatter) (height long : ℕ) (w : Within height long f) where
     unfolding elseLine countBrackets
     else-line-within =
         record {
-          high = omega (arith, w .high, height-spaced l 0 (f .stack));
+          high = omega (arith, w .high, height-spaced (f .number) l 0 (f .stack));
           fits = omega (arith, w .fits, else-within (respaced l) (f .lines), respaced-within l);
         }
 
@@ -202,7 +202,7 @@ module _ (f : Formatter) (height long : ℕ) (w : Within height long f) where
         )
         in
         record {
-          high = omega (arith, w .high, height-spaced l (leadingClosers (respaced l)) (f .stack));
+          high = omega (arith, w .high, height-spaced (f .number) l (leadingClosers (respaced l)) (f .stack));
           fits = rw (whole (levelOf f (respaced l)) (respaced l) (omega arith))
               (omega (arith, w .fits, before-within f (respaced l)));
         }
@@ -215,7 +215,7 @@ module _ (f : Formatter) (height long : ℕ) (w : Within height long f) where
 
   line-within : (raw : List ℕ) → height + length raw ≤ 6
       → Grown (length raw) height long (formatLine defaults f raw)
-  unfolding formatLine codeLine
+  unfolding formatLine anyLine codeLine
   line-within raw few =
       let P : Formatter → Type 0 = Grown (length raw) height long in
       let more : (g : Formatter) → Grown (length (trim raw)) height long g → P g =

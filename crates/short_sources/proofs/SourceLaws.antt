@@ -53,7 +53,7 @@ short-ascii (c ∷ t) h =
 
 -- the call, with an output of n bytes
 abbrev shortCall : List ℕ → ℕ → Call
-shortCall source n = callOf source (codes "  ") defaultNumbers n 512
+shortCall source n = callOf source (codes "  ") defaultNumbers n 0 512
 
 module _ (source : List ℕ) (n : ℕ) where
   options-default : optionsOf (shortCall source n .choices) ≡ defaults
@@ -80,9 +80,9 @@ module _ (source : List ℕ) (n : ℕ) where
           le-ltb n (length (textOf (shortCall source n))) (omega (arith, text-short, ap length text-is)),
         )
 
-    pub called : 456 ≤ n → (a : Answer) (out work : List ℕ) → FormatAnswered (shortCall source n) a out work
+    pub called : 456 ≤ n → (a : Answer) (out list work : List ℕ) → FormatAnswered (shortCall source n) a out list work
         → TextIn source out (a .length)
-    called h a out work f =
+    called h a out list work f =
         let c : Call = shortCall source n in
         let d = delivered c (outcomeOf c) refl (accepted h) in
         let m : a .length ≡ answerOf (outcomeOf c) .length = ap (λ (b : Answer). b .length) (f .answer) in

@@ -53,7 +53,15 @@ fn format_short(source: &[u8], output: &mut [u8]) -> usize
     ensures { λ r. ⌜ TextIn (now (source .entry)) (now (output .exit)) r ⌝ }
 {
     let mut scratch = [0u8; 512];
-    let answer = call::format_call(source, b"  ", OptionNumbers::DEFAULTS, output, &mut scratch);
+    let mut opened = [0u64; 0];
+    let answer = call::format_call(
+        source,
+        b"  ",
+        OptionNumbers::DEFAULTS,
+        output,
+        &mut opened,
+        &mut scratch,
+    );
     answer.length as usize
 }
 

@@ -102,15 +102,15 @@ length-stacked buf base (suc n) = ap suc (length-stacked buf base n)
 -- the stack after a line whose leading closers popped before
 module _ {y after : Carry} {line scratch : List ℕ} {at : ℕ} (well : WellFormed line) (classes : Classes y line scratch at after) where
   stack-dropped : {scratch′ : List ℕ} {base n closers : ℕ} {left deep : Nesting} → Closers line closers
-      → BracketsDone scratch scratch′ base left n (scanBrackets (drop closers (cellsOf line (part scratch at (at + length line)))) (stacked scratch base (left .depth))) deep
-      → stacked scratch′ base (deep .depth) ≡ scanBrackets (drop (leadingClosers (decode line)) (classify y (decode line))) (stacked scratch base (left .depth))
+      → BracketsDone scratch scratch′ base left n (scanBrackets (left .line) (drop closers (cellsOf line (part scratch at (at + length line)))) (stacked scratch base (left .depth))) deep
+      → stacked scratch′ base (deep .depth) ≡ scanBrackets (left .line) (drop (leadingClosers (decode line)) (classify y (decode line))) (stacked scratch base (left .depth))
   stack-dropped {base = base} {left = left} k w =
       let n = k .is ∙ on-decode leadingClosers leadingClosers closers-encode line well in
       let low : allAscii (take (leadingClosers (decode line)) (charsOf (classify y (decode line)))) ≡ true =
       ap (λ (s : List ℕ). allAscii (take (leadingClosers (decode line)) s)) (chars-classify y (decode line)) ∙ closers-ascii (decode line) in
       w .is
       ∙ rw (cells-decoded well classes, n, drop-encode (leadingClosers (decode line)) (classify y (decode line)) low)
-      (brackets-encode (drop (leadingClosers (decode line)) (classify y (decode line))) (stacked scratch base (left .depth)))
+      (brackets-encode (left .line) (drop (leadingClosers (decode line)) (classify y (decode line))) (stacked scratch base (left .depth)))
 
 -- each bracket that is left open has an opener in the line
 count-drop : (p : ℕ → Bool) (n : ℕ) (cells : List Cell) → count p (charsOf (drop n cells)) ≤ count p (charsOf cells)
@@ -119,18 +119,18 @@ count-drop p zero cells = omega arith
 count-drop p (suc n) [] = omega arith
 count-drop p (suc n) (x ∷ xs) = omega (arith, count-drop p n xs)
 
-height-dropped : (l : List ℕ) (n : ℕ) (stack : List Entry) → length (scanBrackets (drop n (classify Carry.Code (respaced l))) stack) ≤ length stack + length l
-height-dropped l n stack =
+height-dropped : (k : ℕ) (l : List ℕ) (n : ℕ) (stack : List Entry) → length (scanBrackets k (drop n (classify Carry.Code (respaced l))) stack) ≤ length stack + length l
+height-dropped k l n stack =
     let e : count isOpener (charsOf (classify Carry.Code (respaced l))) ≡ count isOpener l =
     ap (count isOpener) (chars-classify Carry.Code (respaced l)) ∙ openers-spaced (classify Carry.Code l) ∙ ap (count isOpener) (chars-classify Carry.Code l) in
     let cells = classify Carry.Code (respaced l) in
-    omega (arith, e, brackets-height (drop n cells) stack, count-drop isOpener n cells, count-length isOpener l)
+    omega (arith, e, brackets-height k (drop n cells) stack, count-drop isOpener n cells, count-length isOpener l)
 
 module _ (line scratch scratch′ : List ℕ) (unit : ℕ) (g : Going) (closers : ℕ) (left deep : Nesting) (well : WellFormed line) (goes : Goes line scratch unit g)
     (k : Closers (encode (respaced (decode line))) closers) where
   counts : (L : List ℕ) → goingLine line scratch unit g ≡ L
       → BracketsDone scratch scratch′ (stackAt unit) left (length L)
-      (scanBrackets (drop closers (cellsOf L (part scratch (g .«class_at») (g .«class_at» + length L)))) (stacked scratch (stackAt unit) (left .depth))) deep
+      (scanBrackets (left .line) (drop closers (cellsOf L (part scratch (g .«class_at») (g .«class_at» + length L)))) (stacked scratch (stackAt unit) (left .depth))) deep
       → BracketsCounted (respaced (decode line)) scratch scratch′ (stackAt unit) left (length line) deep
   counts L e w =
       let n : g .len ≡ length L = sym (goes .long) ∙ ap length e in
@@ -144,7 +144,7 @@ module _ (line scratch scratch′ : List ℕ) (unit : ℕ) (g : Going) (closers 
       let well′ : WellFormed L = subst WellFormed e (goes .well) in
       let k′ : Closers L closers = subst (λ (s : List ℕ). Closers s closers) (sym (sym well′ ∙ ap encode t)) k in
       let s : stacked scratch′ (stackAt unit) (deep .depth)
-      ≡ scanBrackets (drop (leadingClosers (respaced (decode line))) (classify Carry.Code (respaced (decode line)))) (stacked scratch (stackAt unit) (left .depth)) =
+      ≡ scanBrackets (left .line) (drop (leadingClosers (respaced (decode line))) (classify Carry.Code (respaced (decode line)))) (stacked scratch (stackAt unit) (left .depth)) =
       rw t at (stack-dropped well′ classes k′ w) in
       record {
         stack = s;
@@ -155,22 +155,23 @@ module _ (line scratch scratch′ : List ℕ) (unit : ℕ) (g : Going) (closers 
               length-stacked scratch′ (stackAt unit) (deep .depth),
               ap length s,
               length-stacked scratch (stackAt unit) (left .depth),
-              height-dropped (decode line) (leadingClosers (respaced (decode line))) (stacked scratch (stackAt unit) (left .depth)),
+              height-dropped (left .line) (decode line) (leadingClosers (respaced (decode line))) (stacked scratch (stackAt unit) (left .depth)),
               length-size (decode line),
               ap length well,
             );
+        line = w .line;
         long = w .only .long;
       }
 
   pub counts-own : g .own ≡ true
       → BracketsDone scratch scratch′ (stackAt unit) left (length line)
-      (scanBrackets (drop closers (cellsOf line (part scratch (g .«class_at») (g .«class_at» + length line)))) (stacked scratch (stackAt unit) (left .depth))) deep
+      (scanBrackets (left .line) (drop closers (cellsOf line (part scratch (g .«class_at») (g .«class_at» + length line)))) (stacked scratch (stackAt unit) (left .depth))) deep
       → BracketsCounted (respaced (decode line)) scratch scratch′ (stackAt unit) left (length line) deep
   counts-own e w = counts line (choose-true (g .own) line _ e) w
 
   pub counts-spaced : g .own ≡ false
       → BracketsDone scratch scratch′ (stackAt unit) left (g .len)
-      (scanBrackets (drop closers (cellsOf (part scratch (respacedAt unit) (respacedAt unit + g .len)) (part scratch (g .«class_at») (g .«class_at» + g .len)))) (stacked scratch (stackAt unit) (left .depth)))
+      (scanBrackets (left .line) (drop closers (cellsOf (part scratch (respacedAt unit) (respacedAt unit + g .len)) (part scratch (g .«class_at») (g .«class_at» + g .len)))) (stacked scratch (stackAt unit) (left .depth)))
       deep
       → BracketsCounted (respaced (decode line)) scratch scratch′ (stackAt unit) left (length line) deep
   counts-spaced e w =
@@ -178,13 +179,13 @@ module _ (line scratch scratch′ : List ℕ) (unit : ℕ) (g : Going) (closers 
       let n : length (part scratch (respacedAt unit) (respacedAt unit + g .len)) ≡ g .len = ap length (sym p) ∙ goes .long in
       counts (part scratch (respacedAt unit) (respacedAt unit + g .len)) p
       (subst (λ (m : ℕ). BracketsDone scratch scratch′ (stackAt unit) left m
-      (scanBrackets (drop closers (cellsOf (part scratch (respacedAt unit) (respacedAt unit + g .len)) (part scratch (g .«class_at») (g .«class_at» + m)))) (stacked scratch (stackAt unit) (left .depth))) deep)
+      (scanBrackets (left .line) (drop closers (cellsOf (part scratch (respacedAt unit) (respacedAt unit + g .len)) (part scratch (g .«class_at») (g .«class_at» + m)))) (stacked scratch (stackAt unit) (left .depth))) deep)
       (sym n) w)
 
 -- there is room for the stack
 pub count-room : (line scratch : List ℕ) (unit : ℕ) (g : Going) (left : Nesting) (n : ℕ) → LineRoom scratch unit (length line) → Goes line scratch unit g
     → left .depth + length line ≤ unit → Nested scratch (stackAt unit) left → n ≡ g .len → StackFits scratch (g .«class_at») n (stackAt unit) left
-count-room line scratch unit g left n r w h k e = record { classes = omega (arith, w .fits); stack = omega (arith, w .most, r .room, r .short); runs = k .runs }
+count-room line scratch unit g left n r w h k e = record { classes = omega (arith, w .fits); stack = omega (arith, w .most, r .room, r .short); runs = k .runs; line = k .line }
 
 pub own-length : (line scratch : List ℕ) (unit : ℕ) (g : Going) → Goes line scratch unit g → g .own ≡ true → length line ≡ g .len
 own-length line scratch unit g w e = ap length (sym (choose-true (g .own) line (part scratch (respacedAt unit) (respacedAt unit + g .len)) e)) ∙ w .long

@@ -17,7 +17,7 @@ use Rattle.rules.specs.Brackets.{leadingClosers, countBrackets, levels}
 use Rattle.rules.specs.Words.{isMarker, hasCode}
 use Rattle.rules.specs.Else.{isPlainElse, canJoin}
 use Rattle.rules.specs.Options.{Options}
-use Rattle.rules.specs.Line.{Formatter, elseLine, placedLine, spacedLine, protects, protectedLine, codeLine, inCodeNow, blankLine, formatLine}
+use Rattle.rules.specs.Line.{Formatter, elseLine, placedLine, spacedLine, protects, protectedLine, codeLine, inCodeNow, blankLine, anyLine}
 use Rattle.rules.specs.Spacing.{respaced}
 use Rattle.rules.specs.declared.Carry.{Carry}
 use Rattle.rules.specs.declared.Ignore.{Ignore}
@@ -38,7 +38,7 @@ use Rattle.place.specs.Placing.{spacedBy}
 use Rattle.step.specs.declared.Going.{Going}
 use Rattle.step.specs.declared.Marker.{Marker}
 use Rattle.step.specs.declared.Put.{Put}
-use Rattle.step.specs.Going.{markerIn, isKept, isAlone, SolidLine, Marks, LineRoom, goingLine, Went, BracketsCounted, PutOn, afterLine, codeLineBy, formatLineBy, ignoreOf}
+use Rattle.step.specs.Going.{markerIn, isKept, isAlone, SolidLine, Marks, LineRoom, goingLine, Went, BracketsCounted, PutOn, afterLine, codeLineBy, anyLineBy, ignoreOf}
 use Rattle.step.proofs.MarkerLaws.{found, else-closers, alone-other}
 use Rattle.step.proofs.GoingLaws.{front-part}
 
@@ -54,6 +54,7 @@ ready-as scratch′ m e r o k h =
       small = r .small;
       depth = omega (arith, r .depth);
       runs = runs-past o k (r .runs);
+      line = r .line;
       carry = omega (arith, r .carry);
       imports = r .imports;
       blanks = omega (arith, r .blanks);
@@ -73,6 +74,7 @@ holds-past {unit = unit} {st = st} o k h =
       text = h .text;
       stack = stacked-past o (stackAt unit) (st .nesting .depth) k ∙ h .stack;
       running = h .running;
+      number = h .number;
       blank = h .blank;
       prev = h .prev;
       ignore = h .ignore;
@@ -91,6 +93,7 @@ stepped-as {g} {n} {unit} {eol} {st} {st′} {out} {s₁} {out′} {s₂} g′ n
       at = omega (arith, w .at);
       runs = λ x. w .runs (runs-past o k x);
       depth = omega (arith, w .depth);
+      line = w .line;
       carry = omega (arith, w .carry);
       imports = w .imports;
       blanks = omega (arith, w .blanks);
@@ -100,7 +103,8 @@ stepped-as {g} {n} {unit} {eol} {st} {st′} {out} {s₁} {out′} {s₂} g′ n
 
 -- what it leaves, joined or placed
 record Leaves (marker : Bool) (l : List ℕ) (f r : Formatter) : Type 0 where
-  stack : r .stack ≡ countBrackets (leadingClosers l) (classify Carry.Code l) (f .stack)
+  stack : r .stack ≡ countBrackets (f .number) (leadingClosers l) (classify Carry.Code l) (f .stack)
+  number : r .number ≡ f .number
   blank : r .prevBlank ≡ false
   prev : r .prev ≡ l
   ignore : r .ignore ≡ ignoreOf marker
@@ -108,13 +112,13 @@ record Leaves (marker : Bool) (l : List ℕ) (f r : Formatter) : Type 0 where
 
 leaves : (o : Options) (f : Formatter) (marker : Bool) (l : List ℕ) → (marker ≡ true → isPlainElse l ≡ false) → Leaves marker l f (spacedLine o f marker l)
 unfolding spacedLine elseLine placedLine countBrackets choose
-leaves o f marker l n = choose-case (Leaves marker l f) (λ h. joined marker n h) (λ h. record { stack = refl; blank = refl; prev = refl; ignore = refl; carry = refl })
+leaves o f marker l n = choose-case (Leaves marker l f) (λ h. joined marker n h) (λ h. record { stack = refl; number = refl; blank = refl; prev = refl; ignore = refl; carry = refl })
   where
     joined : (m : Bool) → (m ≡ true → isPlainElse l ≡ false) → isPlainElse l && canJoin (f .lines) ≡ true → Leaves m l f (elseLine f l)
     joined true n h =
         let z : _≡_ {A = Bool} true false = sym (and-left (isPlainElse l) (canJoin (f .lines)) h) ∙ n refl in
         let y : _≡_ {A = ℕ} 0 1 = cc in absurd (omega arith)
-    joined false n h = record { stack = rw (else-closers l (and-left (isPlainElse l) (canJoin (f .lines)) h)); blank = refl; prev = refl; ignore = refl; carry = refl }
+    joined false n h = record { stack = rw (else-closers l (and-left (isPlainElse l) (canJoin (f .lines)) h)); number = refl; blank = refl; prev = refl; ignore = refl; carry = refl }
 
 pub spaced-step : (line eol out out′ s₀ s₁ s₂ indent : List ℕ) (style : Style) (unit : ℕ) (marker : Bool) (st : Record) (g : Going) (p : Put) (deep : Nesting) (ignore : Ignore) (r : Record)
     → Marks marker line → Went line s₀ s₁ unit g
@@ -133,6 +137,7 @@ spaced-step line eol out out′ s₀ s₁ s₂ indent style unit marker st g p d
             text = q .text o f u h;
             stack = stack-after f h ∙ sym (k .stack);
             running = v .runs ∙ ap levels (stack-after f h ∙ sym (k .stack));
+            number = v .line ∙ q .left .line ∙ h .number ∙ sym (k .number);
             blank = sym (k .blank);
             prev = q .own ∙ ap prevOf (sym (k .prev));
             ignore = i ∙ sym (k .ignore);
@@ -144,6 +149,7 @@ spaced-step line eol out out′ s₀ s₁ s₂ indent style unit marker st g p d
       at = omega (arith, q .at);
       runs = λ x. record { is = v .runs };
       depth = omega (arith, v .most, q .left .depth);
+      line = omega (arith, v .line, q .left .line);
       carry = omega (arith, w .goes .depth, w .goes .most);
       imports = omega (arith, q .few);
       blanks = omega (arith, q .fewer);
@@ -151,12 +157,13 @@ spaced-step line eol out out′ s₀ s₁ s₂ indent style unit marker st g p d
   where
     stack-after : (f : Formatter) → Holds eol unit f st out s₁
         → stacked s₂ (stackAt unit) (deep .depth)
-        ≡ countBrackets (leadingClosers (respaced (decode line))) (classify Carry.Code (respaced (decode line))) (f .stack)
+        ≡ countBrackets (f .number) (leadingClosers (respaced (decode line))) (classify Carry.Code (respaced (decode line))) (f .stack)
     stack-after f h =
         let c : p .closers ≡ leadingClosers (respaced (decode line)) = q .closers .is ∙ closers-encode (respaced (decode line)) in
         let l : stacked s₁ (stackAt unit) (p .left .depth) ≡ drop (p .closers) (f .stack) =
         rw (q .left .depth) (sym (stacked-drop s₁ (stackAt unit) (st .nesting .depth) (p .closers)) ∙ ap (drop (p .closers)) (h .stack)) in
-        v .stack ∙ rw (l, c)
+        let k : p .left .line ≡ f .number = q .left .line ∙ h .number in
+        v .stack ∙ rw (l, c, k)
 
 -- ---- a line in code that is not blank
 
@@ -263,19 +270,19 @@ module _ {st : Record} {s₀ out eol : List ℕ} {unit : ℕ} (b : Bool) (e : b 
   in-now h = ap inCodeNow (sym (h .carry)) ∙ sym e
 
   module _ {r : Record} {out′ s₂ : List ℕ} (raw : List ℕ) (o : Options) where
-    pub format-inside : b ≡ false → Stepped (insideOf (decode raw)) (length raw) unit eol st out s₀ r out′ s₂ → Stepped (formatLineBy o (decode raw)) (length raw) unit eol st out s₀ r out′ s₂
-    unfolding formatLine
+    pub format-inside : b ≡ false → Stepped (insideOf (decode raw)) (length raw) unit eol st out s₀ r out′ s₂ → Stepped (anyLineBy o (decode raw)) (length raw) unit eol st out s₀ r out′ s₂
+    unfolding anyLine
     format-inside q v = stepped-as _ _ s₀ (only-same s₀ 0 0) (omega arith) (omega arith) (λ f h. sym (choose-false _ _ _ (in-now h ∙ q))) v
 
     pub format-code : b ≡ true → isEmpty (trim (decode raw)) ≡ false → Stepped (codeLineBy o (decode raw)) (length raw) unit eol st out s₀ r out′ s₂
-        → Stepped (formatLineBy o (decode raw)) (length raw) unit eol st out s₀ r out′ s₂
-    unfolding formatLine
+        → Stepped (anyLineBy o (decode raw)) (length raw) unit eol st out s₀ r out′ s₂
+    unfolding anyLine
     format-code q z v =
         stepped-as _ _ s₀ (only-same s₀ 0 0) (omega arith) (omega arith) (λ f h. sym (choose-true _ _ _ (in-now h ∙ q) ∙ choose-false _ _ _ z)) v
 
     pub format-blank : b ≡ true → isEmpty (trim (decode raw)) ≡ true → Stepped blankLine 0 unit eol st out s₀ r out′ s₂
-        → Stepped (formatLineBy o (decode raw)) (length raw) unit eol st out s₀ r out′ s₂
-    unfolding formatLine
+        → Stepped (anyLineBy o (decode raw)) (length raw) unit eol st out s₀ r out′ s₂
+    unfolding anyLine
     format-blank q z v =
         stepped-as _ _ s₀ (only-same s₀ 0 0) (omega arith) (omega arith) (λ f h. sym (choose-true _ _ _ (in-now h ∙ q) ∙ choose-true _ _ _ z)) v
 

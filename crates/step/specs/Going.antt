@@ -15,7 +15,7 @@ use Rattle.rules.specs.Words.{isMarker, hasCode}
 use Rattle.rules.specs.Else.{isPlainElse}
 use Rattle.rules.specs.Options.{Options}
 use Rattle.rules.specs.Refusals.{maxSource}
-use Rattle.rules.specs.Line.{Formatter, protects, codeLine, formatLine}
+use Rattle.rules.specs.Line.{Formatter, protects, codeLine, anyLine}
 use Rattle.rules.specs.declared.Carry.{Carry}
 use Rattle.rules.specs.declared.Ignore.{Ignore}
 use Rattle.basics.specs.Depth.{carryDepth}
@@ -91,17 +91,18 @@ pub record Went (line before after : List ℕ) (unit : ℕ) (g : Going) : Type 0
 
 -- the brackets of a line of n bytes, which goes on as the characters l, were counted after its leading closers popped
 pub record BracketsCounted (l before after : List ℕ) (base : ℕ) (left : Nesting) (n : ℕ) (r : Nesting) : Type 0 where
-  pub stack : stacked after base (r .depth) ≡ scanBrackets (drop (leadingClosers l) (classify Carry.Code l)) (stacked before base (left .depth))
+  pub stack : stacked after base (r .depth) ≡ scanBrackets (left .line) (drop (leadingClosers l) (classify Carry.Code l)) (stacked before base (left .depth))
   pub runs : r .levels ≡ levels (stacked after base (r .depth))
   pub most : r .depth ≤ left .depth + n
+  pub line : r .line ≡ left .line
   pub long : length after ≡ length before
 
 -- the step of a line
 abbrev pub codeLineBy : Options → List ℕ → Formatter → Formatter
 codeLineBy o raw f = codeLine o f raw
 
-abbrev pub formatLineBy : Options → List ℕ → Formatter → Formatter
-formatLineBy o raw f = formatLine o f raw
+abbrev pub anyLineBy : Options → List ℕ → Formatter → Formatter
+anyLineBy o raw f = anyLine o f raw
 
 -- what a marker protects
 abbrev pub ignoreOf : Bool → Ignore

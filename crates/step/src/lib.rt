@@ -17,7 +17,7 @@ ghost use Rattle.brackets.specs.Stack.{Nested};
 ghost use Rattle.line.specs.Scratch.{stackAt};
 ghost use Rattle.line.specs.Holds.{Classes, Ready, Stepped, TrimmedLine, Uses, ValidIndent};
 ghost use Rattle.place.specs.Placing.{spacedBy};
-ghost use Rattle.step.specs.Going.{markerIn, isKept, isAlone, SolidLine, Marks, LineRoom, Goes, Went, BracketsCounted, beforeOf, PutOn, afterLine, codeLineBy, formatLineBy, ignoreOf};
+ghost use Rattle.step.specs.Going.{markerIn, isKept, isAlone, SolidLine, Marks, LineRoom, Goes, Went, BracketsCounted, beforeOf, PutOn, afterLine, codeLineBy, anyLineBy, ignoreOf};
 use brackets::Nesting;
 use line::formatter::Formatter;
 use line::formatter::Prev;
@@ -331,7 +331,7 @@ pub fn line_step(
     requires { ⌜ Ready st (now scratch) unit (length (now raw)) ⌝ }
     requires { ⌜ WellFormed (now raw) ⌝ }
     requires { ⌜ ValidIndent (now indent) ⌝ }
-    ensures { λ r. ⌜ ((o : Options) → Uses o (now (indent .entry)) style → Stepped (formatLineBy o (decode (now (raw .entry)))) (length (now (raw .entry))) unit (asStr (style .ending)) st (now (out .entry)) (now (scratch .entry)) r (now (out .exit)) (now (scratch .exit))) ⌝ }
+    ensures { λ r. ⌜ ((o : Options) → Uses o (now (indent .entry)) style → Stepped (anyLineBy o (decode (now (raw .entry)))) (length (now (raw .entry))) unit (asStr (style .ending)) st (now (out .entry)) (now (scratch .entry)) r (now (out .exit)) (now (scratch .exit))) ⌝ }
 {
     let carry = st.carry;
     if in_code(carry) {

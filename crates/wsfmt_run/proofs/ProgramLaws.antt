@@ -90,7 +90,7 @@ too-long source h = rw (lt-ltb maxInput (length source) h)
 
 -- a call with the default options, whose scratch is enough
 module _
-    (c : Call) (a : Answer) (out work : List ℕ) (f : FormatAnswered c a out work) (o : optionsOf (c .choices) ≡ defaults)
+    (c : Call) (a : Answer) (out list work : List ℕ) (f : FormatAnswered c a out list work) (o : optionsOf (c .choices) ≡ defaults)
     (v : validOptions (c .choices) ≡ true) (short : length (c .source) ≤ maxInput)
     (room : scratchNeeded formatScratch (c .source) ≤ c .scratch) (size : c .output ≡ maxText)
   where
@@ -118,7 +118,7 @@ module _
     last-test t = tests-left ∙ pass _ _ (test-off _ _ (rw t)) ∙ one-test _ ∙ rw (text-is, size)
 
     outcome-is : (u : Verdict) → verdictOf c ≡ u
-        → outcomeOf c ≡ outcomeAfter u (length (defaultText source)) (formatted c .importsSplit) (formatted c .blankNames)
+        → outcomeOf c ≡ outcomeAfter u (length (defaultText source)) (formatted c)
     unfolding outcomeOf
     outcome-is u e = rw (e, text-is)
 
@@ -136,11 +136,11 @@ module _
           refused = λ z. record { told = w ∙ sym (rw i); room = size; zeros = f .output ∙ rw e };
         }
 
-    called-text : (imports blanks : ℕ) → outcomeOf c ≡ Outcome.Formatted (length (defaultText source)) imports blanks
+    called-text : (imports blanks brackets : ℕ) → outcomeOf c ≡ Outcome.Formatted (length (defaultText source)) imports blanks brackets
         → written source ≡ defaultText source → Called source out (c .output) a
     unfolding outputOf
-    called-text imports blanks e w =
-        let i : a ≡ answerOf (Outcome.Formatted (length (defaultText source)) imports blanks) = f .answer ∙ ap answerOf e in
+    called-text imports blanks brackets e w =
+        let i : a ≡ answerOf (Outcome.Formatted (length (defaultText source)) imports blanks brackets) = f .answer ∙ ap answerOf e in
         let l : a .length ≡ length (written source) = ap (λ (b : Answer). b .length) i ∙ sym (ap length w) in
         let g : out ≡ filled maxText (written source) = f .output ∙ rw (e, text-is, size, w) in
         record {
@@ -154,5 +154,5 @@ module _
         by-test (wellFormed source)
         (λ t. by-test (ltb maxText (length (defaultText source)))
         (λ u. called-refused (Refusal.OutputShort (length (defaultText source))) (outcome-is _ (last-test t ∙ test-on _ _ u)) (written-is ∙ rw (t, u)))
-        (λ u. called-text (formatted c .importsSplit) (formatted c .blankNames) (outcome-is _ (last-test t ∙ test-off _ _ u)) (written-is ∙ rw (t, u))))
+        (λ u. called-text (formatted c .importsSplit) (formatted c .blankNames) (length (formatted c .openBrackets)) (outcome-is _ (last-test t ∙ test-off _ _ u)) (written-is ∙ rw (t, u))))
         (λ t. called-refused (Refusal.NotUtf8 (prefixLen source)) (outcome-is _ (not-utf8 t)) (written-is ∙ rw t))

@@ -29,7 +29,15 @@ fn format_default(source: &[u8], output: &mut [u8; MAX_TEXT]) -> Answer
     ensures { λ r. ⌜ Called (now (source .entry)) (now (output .exit)) (length (now (output .entry))) r ⌝ }
 {
     let mut scratch = [0u8; call::FORMAT_SCRATCH * MAX_INPUT + 256];
-    call::format_call(source, b"  ", OptionNumbers::DEFAULTS, output, &mut scratch)
+    let mut opened = [0u64; 0];
+    call::format_call(
+        source,
+        b"  ",
+        OptionNumbers::DEFAULTS,
+        output,
+        &mut opened,
+        &mut scratch,
+    )
 }
 
 // Writes the text of the source, or its refusal, over the front of output and zeros after it, and gives its length.

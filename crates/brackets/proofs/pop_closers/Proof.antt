@@ -2,12 +2,16 @@ use borrow.Author.Needs.{needs}
 use Rattle.brackets.proofs.StackLaws.{Popping, popping-start, popping-less, popping-more, popping-end}
 use Rattle.brackets.proofs.pop_closers.Statement.{statement}
 use Rattle.brackets.proofs.pop_closers.Tie as tie
+use Rattle.brackets.proofs.pop_closers.Reads as reads
+use Rattle.brackets.proofs.pop_closers.Lts as lts
+use Rattle.brackets.proofs.depth_after.Reads as depth-after-reads
+use Rattle.brackets.proofs.level_of.Reads as level-of-reads
 
 abbrev Inv-loop : tie.InvT-loop
-Inv-loop scratch base n end depth₀ levels₀ depth levels = Popping scratch base end depth levels
+Inv-loop scratch base b n end depth₀ levels₀ depth levels = Popping scratch base end depth levels
 
 abbrev μ-loop : tie.MeasureT-loop
-μ-loop scratch base n end depth₀ levels₀ depth levels = depth
+μ-loop scratch base b n end depth₀ levels₀ depth levels = depth
 
 depth-after-requires : tie.Need-depth-after-requires Inv-loop μ-loop
 depth-after-requires c κs = search needs
@@ -17,6 +21,9 @@ loop-holds c = search (needs, popping-start)
 
 sub-depth : tie.Need-sub-depth Inv-loop μ-loop
 sub-depth c = search needs
+
+mul-level-of : tie.Need-mul-level-of Inv-loop μ-loop
+mul-level-of c = search needs
 
 add-level-of : tie.Need-add-level-of Inv-loop μ-loop
 add-level-of c = search needs
@@ -48,6 +55,7 @@ pop-closers-spec =
     depth-after-requires
     loop-holds
     sub-depth
+    mul-level-of
     add-level-of
     shared-slice-read-level-of
     level-of-requires

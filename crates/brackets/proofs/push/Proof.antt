@@ -1,17 +1,23 @@
+use Rattle.brackets.proofs.StackLaws.{levels-room, push-flat, push-level}
 use native.Mathlib.Omega.{arith}
-use Rattle.brackets.proofs.StackLaws.{levels-most, push-flat, push-level}
 use borrow.Author.Needs.{needs}
 use Rattle.brackets.proofs.push.Statement.{statement}
 use Rattle.brackets.proofs.push.Tie as tie
+use Rattle.brackets.proofs.push.Reads as reads
+use Rattle.brackets.proofs.push.Lts as lts
+use Rattle.brackets.proofs.put_entry.Reads as put-entry-reads
+
+mul-p : tie.Need-mul-p
+mul-p c = search needs
 
 add-p : tie.Need-add-p
 add-p c = search needs
 
-slice-write-scratch : tie.Need-slice-write-scratch
-slice-write-scratch c = search needs
+put-entry-requires : tie.Need-put-entry-requires
+put-entry-requires c κs = search needs
 
-add-t10 : tie.Need-add-t10
-add-t10 c = search needs
+add-t14 : tie.Need-add-t14
+add-t14 c = search needs
 
 same-length : tie.Need-same-length
 same-length c = search needs
@@ -19,14 +25,14 @@ same-length c = search needs
 returns : tie.Need-returns
 returns c = search (needs, push-flat)
 
-slice-write-scratch-2 : tie.Need-slice-write-scratch-2
-slice-write-scratch-2 c = search needs
+put-entry-requires-2 : tie.Need-put-entry-requires-2
+put-entry-requires-2 c κs = search needs
 
-add-t12 : tie.Need-add-t12
-add-t12 c = search needs
+add-t9 : tie.Need-add-t9
+add-t9 c = search needs
 
-add-t13 : tie.Need-add-t13
-add-t13 c = omega (arith, levels-most (c .before .args .scratch .now) (c .before .args .base) (c .before .args .t .depth), c .before .pre .runs, c .before .pre .place)
+add-t18 : tie.Need-add-t18
+add-t18 c = omega (arith, levels-room _ _ _ (c .before .before .before .before .before .before .pre))
 
 same-length-2 : tie.Need-same-length-2
 same-length-2 c = search needs
@@ -38,13 +44,14 @@ pub push-spec : {M : Type 1} → statement M
 push-spec =
     tie.close
     (tie.spec
+    mul-p
     add-p
-    slice-write-scratch
-    add-t10
+    put-entry-requires
+    add-t14
     same-length
     returns
-    slice-write-scratch-2
-    add-t12
-    add-t13
+    put-entry-requires-2
+    add-t9
+    add-t18
     same-length-2
     returns-2)

@@ -1,7 +1,7 @@
 use native.Mathlib.Omega.{arith}
 use Prim.Native.Nat.{_-_, _+_}
 use lib.ListN.{length}
-use Rattle.lines.proofs.LoopLaws.{Reached, reached-start, reached-ready, reached-well, reached-more, reached-end}
+use Rattle.lines.proofs.LoopLaws.{Reached, reached-start, reached-ready, reached-well, number-fits, reached-more, reached-end}
 use borrow.Author.Needs.{needs}
 use Rattle.lines.proofs.format_lines.Statement.{statement}
 use Rattle.lines.proofs.format_lines.Tie as tie
@@ -44,23 +44,35 @@ line-step-requires c κs =
     let i = d .loop .inv in
     (reached-ready i (s .pre) (omega arith) (b .line-end .ensures) (a .without-cr .ensures), (reached-well i (s .pre) (omega arith) (b .line-end .ensures) (a .without-cr .ensures), s .pre .indents))
 
-add-at : tie.Need-add-at Inv-loop μ-loop
-add-at c =
-    let a = c .before .before .before .before .before .before .before .before .before in
-    let s = a .before .before .before .before .before .before .before .before in
-    omega (arith, a .line-end .ensures .fits, s .pre .limit)
-
-loop-less : tie.Need-loop-less Inv-loop μ-loop
-loop-less c = search needs
-
-loop-again : tie.Need-loop-again Inv-loop μ-loop
-loop-again c =
+next-line-requires : tie.Need-next-line-requires Inv-loop μ-loop
+next-line-requires c κs =
     let a = c .before .before .before .before in
     let b = a .before .before .before in
     let d = b .before .before in
     let e = d .before .before in
     let s = e .before .before .before .before .before .before in
-    reached-more (e .loop .inv) (s .pre) (omega arith) (d .line-end .ensures) (b .without-cr .ensures) (a .line-step .ensures) (search needs) (search needs)
+    number-fits (e .loop .inv) (s .pre) (omega arith) (d .line-end .ensures) (b .without-cr .ensures) (a .line-step .ensures)
+
+add-at : tie.Need-add-at Inv-loop μ-loop
+add-at c =
+    let a = c .before .before .before .before .before .before .before .before .before .before in
+    let s = a .before .before .before .before .before .before .before .before in
+    omega (arith, a .line-end .ensures .fits, s .pre .limit)
+
+loop-less : tie.Need-loop-less Inv-loop μ-loop
+loop-less c =
+    let a = c .before .before .before .before .before .before .before .before .before .before in
+    omega (arith, a .line-end .ensures .from, a .before .loop-test .taken)
+
+loop-again : tie.Need-loop-again Inv-loop μ-loop
+loop-again c =
+    let a = c .before .before .before .before .before in
+    let b = a .before .before .before in
+    let d = b .before .before in
+    let e = d .before .before in
+    let s = e .before .before .before .before .before .before in
+    reached-more (e .loop .inv) (s .pre) (omega arith) (d .line-end .ensures) (b .without-cr .ensures) (a .line-step .ensures) _ (c .next-line .ensures)
+    (c .before .before .before .before .out .given) (c .before .before .scratch .given)
 
 same-length : tie.Need-same-length Inv-loop μ-loop
 same-length c = search needs
@@ -88,6 +100,7 @@ format-lines-spec =
     part-without-cr-end
     without-cr-requires
     line-step-requires
+    next-line-requires
     add-at
     loop-less
     loop-again

@@ -14,7 +14,7 @@ format-call-requires : tie.Need-format-call-requires
 format-call-requires c κs = search needs
 
 returns : tie.Need-returns
-returns c = called _ _ _ _ (c .before .format-call .ensures) defaults-named defaults-valid (search needs) (search needs) (search needs)
+returns c = called _ _ _ _ _ (c .before .format-call .ensures) defaults-named defaults-valid (search needs) (search needs) (search needs)
 
 pub format-default-spec : {M : Type 1} → statement M
 format-default-spec =

@@ -1,5 +1,5 @@
 use native.Mathlib.Omega.{arith}
-use mathlib.Core.Path.{sym, _∙_}
+use mathlib.Core.Path.{refl, sym, _∙_}
 use lib.Seq.{length-take-le}
 use Rattle.brackets.proofs.StackLaws.{nested-past}
 use Rattle.line.proofs.HoldsLaws.{front-size, front-only, line-room, classify-room, stack-room, stack-nested, push-room, start-within, line-told, indent-none}
@@ -88,7 +88,7 @@ scan-brackets-requires c κs =
     let a = c .before .before .before .before .before .before .before .before .before .before .before .before .before .before .before .before in
     let s = a .before .before .before .before .before .before .before in
     let o = front-only _ _ _ (line-room (s .pre .0) (s .args .raw .now) (omega arith)) (a .classify .ensures) in
-    stack-room (s .pre .0) _ 0 _ _ (o .long) (omega (arith, s .pre .0 .depth)) (omega arith) (omega arith)
+    stack-room (s .pre .0) _ 0 _ _ (o .long) (omega (arith, s .pre .0 .depth)) (omega arith) (omega arith) refl
     (nested-past o (omega (arith, s .pre .0 .depth)) (stack-nested (s .pre .0)) .runs)
 
 prev-of-requires : tie.Need-prev-of-requires

@@ -40,7 +40,7 @@ scan-brackets-requires c κs =
     let a = c .before in
     let s = a .before .before .before .before .before .before .before .before .before .before .before .before .before .before .before .before in
     let k = s .pre .1 .1 .1 .0 .short in
-    stack-room (s .pre .0) _ 0 _ _ refl (omega (arith, s .pre .0 .depth, k)) (omega (arith, k)) (omega (arith, a .pop-closers .ensures .depth))
+    stack-room (s .pre .0) _ 0 _ _ refl (omega (arith, s .pre .0 .depth, k)) (omega (arith, k)) (omega (arith, a .pop-closers .ensures .depth)) (a .pop-closers .ensures .line)
     (a .pop-closers .ensures .nested .runs)
 
 prev-of-requires : tie.Need-prev-of-requires

@@ -17,7 +17,7 @@ returns c =
     ap {B = Record}
     (λ (t : Written). record {
       text = t;
-      nesting = record { depth = 0; levels = 0 };
+      nesting = record { depth = 0; levels = 0; line = 0 };
       blank = false;
       prev = record { declares = Declaration.Nothing; brace = false };
       ignore = Ignore.Nothing;

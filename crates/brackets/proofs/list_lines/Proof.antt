@@ -1,0 +1,58 @@
+use borrow.Author.Needs.{needs}
+use Rattle.brackets.proofs.ListLaws.{Listing, listing-start, listing-more, listing-end}
+use Prim.Native.Nat.{_-_}
+use lib.ListN.{length}
+use Rattle.brackets.proofs.list_lines.Statement.{statement}
+use Rattle.brackets.proofs.list_lines.Tie as tie
+use Rattle.brackets.proofs.list_lines.Reads as reads
+use Rattle.brackets.proofs.list_lines.Lts as lts
+use Rattle.brackets.proofs.line_at.Reads as line-at-reads
+
+abbrev Inv-loop : tie.InvT-loop
+Inv-loop scratch base depth list₀ i₀ list i = Listing scratch base depth list₀ list i
+
+abbrev μ-loop : tie.MeasureT-loop
+μ-loop scratch base depth list₀ i₀ list i = length list₀ - i
+
+loop-holds : tie.Need-loop-holds Inv-loop μ-loop
+loop-holds c = search (needs, listing-start)
+
+line-at-requires : tie.Need-line-at-requires Inv-loop μ-loop
+line-at-requires c κs = search needs
+
+mul-list : tie.Need-mul-list Inv-loop μ-loop
+mul-list c = search needs
+
+slice-write-list : tie.Need-slice-write-list Inv-loop μ-loop
+slice-write-list c = search needs
+
+add-i : tie.Need-add-i Inv-loop μ-loop
+add-i c = search needs
+
+loop-less : tie.Need-loop-less Inv-loop μ-loop
+loop-less c = search needs
+
+loop-again : tie.Need-loop-again Inv-loop μ-loop
+loop-again c = search (needs, listing-more)
+
+same-length : tie.Need-same-length Inv-loop μ-loop
+same-length c = search needs
+
+returns : tie.Need-returns Inv-loop μ-loop
+returns c = search (needs, listing-end)
+
+pub list-lines-spec : {M : Type 1} → statement M
+list-lines-spec =
+    tie.close
+    (tie.spec
+    Inv-loop
+    μ-loop
+    loop-holds
+    line-at-requires
+    mul-list
+    slice-write-list
+    add-i
+    loop-less
+    loop-again
+    same-length
+    returns)

@@ -93,7 +93,7 @@ module _
     o = optionsWith indent chosen
 
     held-here : Holds (asStr ending) (length source) (formattedLines o source) st out₁ scratch₁
-    held-here = l .holds o (record { indents = refl; breaks = refl })
+    held-here = l .holds o (record { indents = refl; breaks = refl; strengths = refl })
 
     text-is : formatWith o (decode source) .text ≡ joined (asStr ending) (dropEmpty (formattedLines o source .lines)) ++ choose last (asStr ending) []
     unfolding formatWith finish

@@ -5,7 +5,7 @@ use mathlib.Core.Path.{_≡_, refl, sym, ap, _∙_}
 use native.Mathlib.Omega.{arith}
 use lib.ListN.{length, take, getD}
 use Rattle.rules.specs.Operators.{operators}
-use Rattle.rules.specs.Strengths.{fieldsOf, strengthsIn}
+use Rattle.rules.specs.Strengths.{fieldsOf, strengthsIn, lastBits}
 
 -- the fields of the byte j
 upper : (t : List ℕ) (j n : ℕ) → n ≡ j + j → getD (fieldsOf t) n 0 ≡ getD t j 0 / 16 % 16
@@ -42,3 +42,8 @@ module _ (table : List ℕ) (k r : ℕ) (h : k < 21) where
 
   pub lower-field : (k % 2 ≡ 0 → ⊥) → r ≡ getD table (k / 2) 0 % 16 → r ≡ getD (strengthsIn table) k 0
   lower-field e q = q ∙ sym (in-fields ∙ lower table (k / 2) k (omega arith))
+
+-- the bits after the strengths are the lower ones of the last byte
+pub last-field : (table : List ℕ) → lastBits table ≡ getD table 10 0 % 16
+unfolding lastBits
+last-field table = lower table 10 21 refl

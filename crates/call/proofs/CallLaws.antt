@@ -75,9 +75,13 @@ abbrev formattedLines : Options → List ℕ → Formatter
 formattedLines o source = formatLines o (linesOf (decode source)) start
 
 -- no bracket is open
-pub none-told : {scratch list work : List ℕ} {k m r : ℕ} → Told (openLines (stacked scratch 0 0)) k m r list work → list ≡ replicate k 0
+pub none-told : (scratch : List ℕ) {k m r : ℕ} {list work : List ℕ} → Told (openLines (stacked scratch 0 0)) k m r list work → list ≡ replicate k 0
 unfolding stacked openLines listed filled
-none-told {k = k} w = let e : k - 0 ≡ k = omega arith in w .listed .holds ∙ rw (take-nil k, e)
+none-told scratch {k = k} w = let e : k - 0 ≡ k = omega arith in w .listed .holds ∙ rw (take-nil k, e)
+
+pub refused-call : (why : Refusal) (scratch : List ℕ) (n k m : ℕ) {r : ℕ} {out list work : List ℕ} → out ≡ replicate n 0
+    → Told (openLines (stacked scratch 0 0)) k m r list work → RefusedCall why n k m (Outcome.Refused why) out list work
+refused-call why scratch n k m z w = record { outcome = refl; zeros = z; none = none-told scratch w; cleared = w .cleared }
 
 -- out₁ is what `format_lines` leaves of the output, out₂ what `finish_text` leaves of it; list₁ and scratch₂ are what `list_open` leaves
 module _
@@ -124,7 +128,7 @@ module _
         record {
           outcome = rw (long-is, lt-ltb (length out₀) n (omega arith));
           output = w .zeros (omega arith) ∙ rw eo;
-          opened = none-told z;
+          opened = none-told scratch₁ z;
           cleared = z .cleared ∙ rw es;
         }
 

@@ -1,6 +1,6 @@
--- `call::run_call` meets its contract. In each answer, s is the place after the tests, and a the arguments.
-use borrow.Author.Needs.{needs}
+-- `call::run_call` meets its contract. In each answer, a are the arguments.
 use Rattle.call.proofs.CallLaws.{ran-refused, passed, ran-formatted}
+use borrow.Author.Needs.{needs}
 use Rattle.call.proofs.run_call.Statement.{statement}
 use Rattle.call.proofs.run_call.Tie as tie
 
@@ -20,13 +20,12 @@ enum-told : tie.Need-enum-told
 enum-told c = search needs
 
 format-with-requires : tie.Need-format-with-requires
-format-with-requires c κs =
-    let s = c .before .before .before .before in
-    let a = s .before .before .before .before .before .before .before .args in
-    passed _ _ _ (a .output .now) (a .scratch .now) _ _
-    (s .before .before .from-numbers .ensures)
-    (s .test .ensures)
-    (c .before .before .enum-told .given .1)
+format-with-requires c κs = 
+    let a = c .before .before .before .before .before .before .before .before .before .before .before .before .before .args in
+    passed _ _ _ (a .output .now) (a .opened .now) (a .scratch .now) _ _
+    (c .before .before .before .before .before .before .before .from-numbers .ensures)
+    (c .before .before .before .before .before .test .ensures)
+    (c .before .before .before .enum-told .given .1)
 
 same-length : tie.Need-same-length
 same-length c = search needs
@@ -34,32 +33,36 @@ same-length c = search needs
 same-length-2 : tie.Need-same-length-2
 same-length-2 c = search needs
 
-returns : tie.Need-returns
-returns c =
-    let s = c .before .before .before .before .before .before .before .before .before .before in
-    let a = s .before .before .before .before .before .before .before .args in
-    ran-refused _ _ _ (a .output .now) (a .scratch .now) _ _
-    (s .before .before .from-numbers .ensures)
-    (s .test .ensures)
-    _ _ _ _
-    (c .before .before .before .before .before .before .before .before .why .given .1)
-    (c .before .before .before .before .refuse .ensures)
-
 same-length-3 : tie.Need-same-length-3
 same-length-3 c = search needs
+
+returns : tie.Need-returns
+returns c = 
+    let a = c .before .before .before .before .before .before .before .before .before .before .before .before .before .before .before .before .before .before .before .before .before .args in
+    ran-refused _ _ _ (a .output .now) (a .opened .now) (a .scratch .now) _ _
+    (c .before .before .before .before .before .before .before .before .before .before .before .before .before .before .before .from-numbers .ensures)
+    (c .before .before .before .before .before .before .before .before .before .before .before .before .before .test .ensures)
+    _ _ _ _ _
+    (c .before .before .before .before .before .before .before .before .before .before .before .why .given .1)
+    (c .before .before .before .before .before .before .refuse .ensures)
 
 same-length-4 : tie.Need-same-length-4
 same-length-4 c = search needs
 
+same-length-5 : tie.Need-same-length-5
+same-length-5 c = search needs
+
+same-length-6 : tie.Need-same-length-6
+same-length-6 c = search needs
+
 returns-2 : tie.Need-returns-2
-returns-2 c =
-    let s = c .before .before .before .before .before .before .before .before .before in
-    let a = s .before .before .before .before .before .before .before .args in
-    ran-formatted _ _ _ (a .output .now) (a .scratch .now) _ _
-    (s .before .before .from-numbers .ensures)
-    (s .test .ensures)
-    (c .before .before .before .before .before .before .before .enum-told .given .1) _ _ _
-    (c .before .before .before .before .format-with .ensures)
+returns-2 c = 
+    let a = c .before .before .before .before .before .before .before .before .before .before .before .before .before .before .before .before .before .before .before .before .args in
+    ran-formatted _ _ _ (a .output .now) (a .opened .now) (a .scratch .now) _ _
+    (c .before .before .before .before .before .before .before .before .before .before .before .before .before .before .from-numbers .ensures)
+    (c .before .before .before .before .before .before .before .before .before .before .before .before .test .ensures)
+    (c .before .before .before .before .before .before .before .before .before .before .enum-told .given .1) _ _ _ _
+    (c .before .before .before .before .before .before .format-with .ensures)
 
 pub run-call-spec : {M : Type 1} → statement M
 run-call-spec =
@@ -73,7 +76,9 @@ run-call-spec =
     format-with-requires
     same-length
     same-length-2
-    returns
     same-length-3
+    returns
     same-length-4
+    same-length-5
+    same-length-6
     returns-2)

@@ -1,6 +1,6 @@
-use borrow.Author.Needs.{needs}
 use native.Mathlib.Omega.{arith}
 use Rattle.call.proofs.CallLaws.{text-short, text-fits}
+use borrow.Author.Needs.{needs}
 use Rattle.call.proofs.assembly.format_with.Statement.{statement}
 use Rattle.call.proofs.assembly.format_with.Tie as tie
 
@@ -10,14 +10,14 @@ ending-of-requires c κs = search needs
 format-lines-requires : tie.Need-format-lines-requires
 format-lines-requires c κs = search needs
 
-zero-requires : tie.Need-zero-requires
-zero-requires c κs = search needs
-
 has-last-ending-requires : tie.Need-has-last-ending-requires
 has-last-ending-requires c κs = search needs
 
 finish-text-requires : tie.Need-finish-text-requires
 finish-text-requires c κs = search needs
+
+list-open-requires : tie.Need-list-open-requires
+list-open-requires c κs = search needs
 
 same-length : tie.Need-same-length
 same-length c = search needs
@@ -25,17 +25,45 @@ same-length c = search needs
 same-length-2 : tie.Need-same-length-2
 same-length-2 c = search needs
 
-returns : tie.Need-returns
-returns c = text-short _ _ (c .before .before .before .before .before .before .before .before .before .before .before .before .before .before .before .before .before .before .before .before .before .before .before .args .chosen) _ _ _ (c .before .before .before .before .before .before .before .before .before .before .before .before .before .before .before .before .before .before .before .before .before .before .before .args .output .now) (c .before .before .before .before .before .before .before .before .before .before .before .before .before .before .before .before .before .before .before .before .before .before .before .args .scratch .now) _ _ _ _ _ (c .before .before .before .before .before .before .before .before .before .before .before .before .before .before .before .before .before .before .ending-of .ensures) (c .before .before .before .before .before .before .before .before .before .before .before .before .before .before .before .format-lines .ensures) (c .before .before .before .before .before .before .before .before .before .zero .ensures) (c .before .before .before .before .before .has-last-ending .ensures) (c .before .before .before .finish-text .ensures) (search needs) (search needs) (search needs) (omega arith)
-
 same-length-3 : tie.Need-same-length-3
 same-length-3 c = search needs
+
+returns : tie.Need-returns
+returns c = 
+    let s = c .before .before .before .before .before .before .before .before .before .before .before .before .before .before .before .before .before .before .before .before .before .before .before .before .before .before .before in
+    text-short _ _ (s .args .chosen) _ _ _ (s .args .output .now) (s .args .opened .now) (s .args .scratch .now) _ _ _ _ _ _ _
+    (c .before .before .before .before .before .before .before .before .before .before .before .before .before .before .before .before .before .before .before .before .before .ending-of .ensures)
+    (c .before .before .before .before .before .before .before .before .before .before .before .before .before .before .before .before .before .before .format-lines .ensures)
+    (c .before .before .before .before .before .before .before .before .before .before .before .before .has-last-ending .ensures)
+    (c .before .before .before .before .before .before .before .before .before .before .finish-text .ensures)
+    (c .before .before .before .before .before .before .before .before .before .before .before .before .before .before .before .before .before .output .given) (c .before .before .before .before .before .before .before .before .before .before .before .before .before .before .before .scratch .given) (c .before .before .before .before .before .before .before .before .before .output2 .given)
+    (c .before .before .before .before .before .before .before .if1 .taken) (c .before .before .before .before .list-open .ensures)
+
+mul-base : tie.Need-mul-base
+mul-base c = record { fits = omega (arith, c .before .before .before .before .before .before .before .before .before .before .before .before .before .before .before .before .before .before .before .before .before .pre .limit) }
+
+list-open-requires-2 : tie.Need-list-open-requires-2
+list-open-requires-2 c κs = search needs
 
 same-length-4 : tie.Need-same-length-4
 same-length-4 c = search needs
 
+same-length-5 : tie.Need-same-length-5
+same-length-5 c = search needs
+
+same-length-6 : tie.Need-same-length-6
+same-length-6 c = search needs
+
 returns-2 : tie.Need-returns-2
-returns-2 c = text-fits _ _ (c .before .before .before .before .before .before .before .before .before .before .before .before .before .before .before .before .before .before .before .before .before .before .before .args .chosen) _ _ _ (c .before .before .before .before .before .before .before .before .before .before .before .before .before .before .before .before .before .before .before .before .before .before .before .args .output .now) (c .before .before .before .before .before .before .before .before .before .before .before .before .before .before .before .before .before .before .before .before .before .before .before .args .scratch .now) _ _ _ _ _ (c .before .before .before .before .before .before .before .before .before .before .before .before .before .before .before .before .before .before .ending-of .ensures) (c .before .before .before .before .before .before .before .before .before .before .before .before .before .before .before .format-lines .ensures) (c .before .before .before .before .before .before .before .before .before .zero .ensures) (c .before .before .before .before .before .has-last-ending .ensures) (c .before .before .before .finish-text .ensures) (search needs) (search needs) (search needs) (omega arith)
+returns-2 c = 
+    let s = c .before .before .before .before .before .before .before .before .before .before .before .before .before .before .before .before .before .before .before .before .before .before .before .before .before .before .before .before in
+    text-fits _ _ (s .args .chosen) _ _ _ (s .args .output .now) (s .args .opened .now) (s .args .scratch .now) _ _ _ _ _ _ _
+    (c .before .before .before .before .before .before .before .before .before .before .before .before .before .before .before .before .before .before .before .before .before .before .ending-of .ensures)
+    (c .before .before .before .before .before .before .before .before .before .before .before .before .before .before .before .before .before .before .before .format-lines .ensures)
+    (c .before .before .before .before .before .before .before .before .before .before .before .before .before .has-last-ending .ensures)
+    (c .before .before .before .before .before .before .before .before .before .before .before .finish-text .ensures)
+    (c .before .before .before .before .before .before .before .before .before .before .before .before .before .before .before .before .before .before .output .given) (c .before .before .before .before .before .before .before .before .before .before .before .before .before .before .before .before .scratch .given) (c .before .before .before .before .before .before .before .before .before .before .output2 .given)
+    (c .before .before .before .before .before .before .before .before .if1 .left) (c .before .before .before .before .list-open2 .ensures)
 
 pub format-with-spec : {M : Type 1} → statement M
 format-with-spec =
@@ -43,12 +71,16 @@ format-with-spec =
     (tie.spec
     ending-of-requires
     format-lines-requires
-    zero-requires
     has-last-ending-requires
     finish-text-requires
+    list-open-requires
     same-length
     same-length-2
-    returns
     same-length-3
+    returns
+    mul-base
+    list-open-requires-2
     same-length-4
+    same-length-5
+    same-length-6
     returns-2)

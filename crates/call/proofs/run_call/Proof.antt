@@ -20,7 +20,7 @@ enum-told : tie.Need-enum-told
 enum-told c = search needs
 
 format-with-requires : tie.Need-format-with-requires
-format-with-requires c κs = 
+format-with-requires c κs =
     let a = c .before .before .before .before .before .before .before .before .before .before .before .before .before .args in
     passed _ _ _ (a .output .now) (a .opened .now) (a .scratch .now) _ _
     (c .before .before .before .before .before .before .before .from-numbers .ensures)
@@ -37,7 +37,7 @@ same-length-3 : tie.Need-same-length-3
 same-length-3 c = search needs
 
 returns : tie.Need-returns
-returns c = 
+returns c =
     let a = c .before .before .before .before .before .before .before .before .before .before .before .before .before .before .before .before .before .before .before .before .before .args in
     ran-refused _ _ _ (a .output .now) (a .opened .now) (a .scratch .now) _ _
     (c .before .before .before .before .before .before .before .before .before .before .before .before .before .before .before .from-numbers .ensures)
@@ -56,7 +56,7 @@ same-length-6 : tie.Need-same-length-6
 same-length-6 c = search needs
 
 returns-2 : tie.Need-returns-2
-returns-2 c = 
+returns-2 c =
     let a = c .before .before .before .before .before .before .before .before .before .before .before .before .before .before .before .before .before .before .before .before .args in
     ran-formatted _ _ _ (a .output .now) (a .opened .now) (a .scratch .now) _ _
     (c .before .before .before .before .before .before .before .before .before .before .before .before .before .before .from-numbers .ensures)

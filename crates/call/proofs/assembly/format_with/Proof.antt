@@ -29,7 +29,7 @@ same-length-3 : tie.Need-same-length-3
 same-length-3 c = search needs
 
 returns : tie.Need-returns
-returns c = 
+returns c =
     let s = c .before .before .before .before .before .before .before .before .before .before .before .before .before .before .before .before .before .before .before .before .before .before .before .before .before .before .before in
     text-short _ _ (s .args .chosen) _ _ _ (s .args .output .now) (s .args .opened .now) (s .args .scratch .now) _ _ _ _ _ _ _
     (c .before .before .before .before .before .before .before .before .before .before .before .before .before .before .before .before .before .before .before .before .before .ending-of .ensures)
@@ -55,7 +55,7 @@ same-length-6 : tie.Need-same-length-6
 same-length-6 c = search needs
 
 returns-2 : tie.Need-returns-2
-returns-2 c = 
+returns-2 c =
     let s = c .before .before .before .before .before .before .before .before .before .before .before .before .before .before .before .before .before .before .before .before .before .before .before .before .before .before .before .before in
     text-fits _ _ (s .args .chosen) _ _ _ (s .args .output .now) (s .args .opened .now) (s .args .scratch .now) _ _ _ _ _ _ _
     (c .before .before .before .before .before .before .before .before .before .before .before .before .before .before .before .before .before .before .before .before .before .before .ending-of .ensures)

@@ -11,7 +11,7 @@ put-line-requires : tie.Need-put-line-requires
 put-line-requires c κs = search needs
 
 returns : tie.Need-returns
-returns c = c .before .put-line .ensures .is ∙ over-whole 11 _ (c .before .before .before .before .pre)
+returns c = λ h. c .before .put-line .ensures .is ∙ over-whole 11 _ h
 
 pub read-spec : {M : Type 1} → statement M
 read-spec = tie.close (tie.spec slice-aggregate-put-line put-line-requires returns)

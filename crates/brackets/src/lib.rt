@@ -293,15 +293,15 @@ fn line_at(scratch: &[u8], base: usize, depth: usize, i: usize) -> u64
     0
 }
 
-// The lines of the open brackets, as many as the list has room for. Gives how many are open.
-pub fn list_lines(scratch: &[u8], base: usize, depth: usize, list: &mut [u64]) -> usize
-    requires { ⌜ base + entrySize * depth ≤ length (now scratch) ⌝ }
-    ensures { λ r. ⌜ Listed (openLines (stacked (now (scratch .entry)) base depth)) (length (now (list .entry))) r (now (list .exit)) ⌝ }
+// The lines of the open brackets, of which the stack has `count`, as many as the list has room for. Gives how many are open.
+pub fn list_lines(scratch: &[u8], base: usize, count: usize, list: &mut [u64]) -> usize
+    requires { ⌜ base + entrySize * count ≤ length (now scratch) ⌝ }
+    ensures { λ r. ⌜ Listed (openLines (stacked (now (scratch .entry)) base count)) (length (now (list .entry))) r (now (list .exit)) ⌝ }
 {
     let mut i = 0;
     while i < list.len() {
-        list[i] = line_at(scratch, base, depth, i);
+        list[i] = line_at(scratch, base, count, i);
         i += 1;
     }
-    depth
+    count
 }

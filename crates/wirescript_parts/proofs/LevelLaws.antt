@@ -1,5 +1,5 @@
 -- The loop that counts the levels of a stack, from the oldest entry on.
-use Prim.Native.Nat.{ℕ, _+_, _≤_, _<_, zero-le}
+use Prim.Native.Nat.{ℕ, _+_, _*_, _%_, _≤_, _<_, zero-le}
 use mathlib.Core.List.{List}
 use mathlib.Core.Path.{_≡_, refl}
 use native.Mathlib.Numerals.{add-one}
@@ -8,10 +8,10 @@ use borrow.Author.Tests.{ne-eqb}
 use lib.ListN.{getD}
 use Rattle.rules.specs.Basics.{choose}
 use Rattle.rules.specs.Brackets.{levels}
-use Rattle.brackets.specs.Stack.{entryOf, stacked}
+use Rattle.brackets.specs.Stack.{entrySize, addsOf, entryAt, stacked}
 
-levels-next : (buf : List ℕ) (base i : ℕ) → levels (stacked buf base (i + 1)) ≡ choose (entryOf (getD buf (base + i) 0)) 1 0 + levels (stacked buf base i)
-unfolding stacked levels
+levels-next : (buf : List ℕ) (base i : ℕ) → levels (stacked buf base (i + 1)) ≡ choose (addsOf (getD buf (base + entrySize * i) 0)) 1 0 + levels (stacked buf base i)
+unfolding stacked levels entryAt
 levels-next buf base i = rw (add-one i)
 
 -- of the first i entries n added a level
@@ -25,14 +25,14 @@ unfolding stacked levels
 counting-start buf base depth = record { within = zero-le; is = refl; most = zero-le }
 
 module _ (buf : List ℕ) (base depth n i : ℕ) (w : Counting buf base depth n i) where
-  pub counting-flat : i < depth → getD buf (base + i) 0 ≡ 0 → Counting buf base depth n (i + 1)
+  pub counting-flat : i < depth → getD buf (base + entrySize * i) 0 % 2 ≡ 0 → Counting buf base depth n (i + 1)
   unfolding choose
   counting-flat h e = record { within = omega arith; is = omega (arith, w .is, rw e at (levels-next buf base i)); most = omega (arith, w .most) }
 
-  pub counting-level : i < depth → (getD buf (base + i) 0 ≡ 0 → ⊥) → Counting buf base depth (n + 1) (i + 1)
+  pub counting-level : i < depth → (getD buf (base + entrySize * i) 0 % 2 ≡ 0 → ⊥) → Counting buf base depth (n + 1) (i + 1)
   unfolding choose
   counting-level h e =
-      record { within = omega arith; is = omega (arith, w .is, rw (ne-eqb (getD buf (base + i) 0) 0 e) at (levels-next buf base i)); most = omega (arith, w .most) }
+      record { within = omega arith; is = omega (arith, w .is, rw (ne-eqb (getD buf (base + entrySize * i) 0 % 2) 0 e) at (levels-next buf base i)); most = omega (arith, w .most) }
 
   pub counting-end : depth ≤ i → n ≡ levels (stacked buf base depth)
   counting-end h = let e : i ≡ depth = omega (arith, w .within) in rw e at (w .is)

@@ -1,11 +1,12 @@
 // Inner functions for the runs beside the Rust's own: no part of what a host links. Each checks what the function asks, and answers zeros
 // where it does not hold.
 ghost use mathlib.Core.Path.{_≡_};
-ghost use Prim.Native.Nat.{_+_, _≤_};
+ghost use Prim.Native.Nat.{_+_, _*_, _≤_};
 ghost use lib.ListN.{length};
 ghost use Rattle.rules.specs.Brackets.{levels};
-ghost use Rattle.brackets.specs.Stack.{stacked};
+ghost use Rattle.brackets.specs.Stack.{entrySize, stacked};
 ghost use Rattle.basics.specs.Depth.{carryDepth};
+use brackets::ENTRY;
 use brackets::Nesting;
 use rules::Carry;
 
@@ -84,13 +85,13 @@ pub extern "C" fn wirescript_test_is_spaced(line: &[u8], classes: &[u8]) -> bool
 
 // How many of the stack's entries added a level: a call of the formatter has this as a running value.
 fn levels_in(scratch: &[u8], base: usize, depth: usize) -> usize
-    requires { ⌜ base + depth ≤ length (now scratch) ⌝ }
+    requires { ⌜ base + entrySize * depth ≤ length (now scratch) ⌝ }
     ensures { λ r. ⌜ r ≡ levels (stacked (now (scratch .entry)) base depth) ⌝ }
 {
     let mut levels = 0;
     let mut i = 0;
     while i < depth {
-        if scratch[base + i] == 0 {
+        if scratch[base + ENTRY * i] % 2 == 0 {
             i += 1;
             continue;
         }
@@ -100,7 +101,7 @@ fn levels_in(scratch: &[u8], base: usize, depth: usize) -> usize
     levels
 }
 
-// The brackets of the line: scratch holds its n class bytes, and after them the stack of `depth` entries; the new depth is given.
+// The brackets of the line, the source's first: scratch holds its n class bytes, and after them the stack of `depth` entries; the new depth is given.
 #[no_mangle]
 pub extern "C" fn wirescript_test_scan_brackets(
     line: &[u8],
@@ -115,11 +116,15 @@ pub extern "C" fn wirescript_test_scan_brackets(
     if 0x1000_0000 < d {
         return 0;
     }
-    if scratch.len() < 2 * n + d {
+    if scratch.len() < n + ENTRY * (d + n) {
         return 0;
     }
     let levels = levels_in(scratch, n, d);
-    let b = Nesting { depth: d, levels };
+    let b = Nesting {
+        depth: d,
+        levels,
+        line: 0,
+    };
     let r = brackets::scan_brackets(line, scratch, 0, n, b, 0);
     r.depth as u64
 }

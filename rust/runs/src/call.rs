@@ -32,8 +32,13 @@ pub struct Call {
     pub scratch: Size,
 }
 
-/// The scratch that a call needs.
+/// The scratch that formatting needs.
 pub fn scratch_needed(source: &[u8]) -> usize {
+    12 * source.len() + 256
+}
+
+/// The scratch that asking for text kinds needs.
+pub fn kind_scratch_needed(source: &[u8]) -> usize {
     8 * source.len() + 256
 }
 
@@ -106,11 +111,13 @@ impl Call {
     }
 }
 
-/// What a call leaves: the answer, and the text that starts the output.
+/// What a call leaves: the answer, the text that starts the output, and the lines of open brackets,
+/// of which the list gets as many as it has room for.
 #[derive(Clone, Debug, PartialEq, Eq)]
 pub struct Outcome {
     pub answer: Answer,
     pub text: Vec<u8>,
+    pub opened: Vec<u64>,
 }
 
 /// What a setting step leaves: the answer, and the indent that starts the output.

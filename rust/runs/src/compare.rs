@@ -1,6 +1,6 @@
 //! One comparison with the Rust: answers, every byte lent, and the bytes around them.
 
-use crate::call::{Call, Outcome, scratch_needed};
+use crate::call::{Call, Outcome, kind_scratch_needed};
 use crate::library::Library;
 use crate::model;
 use crate::safe::SafeCall;
@@ -52,6 +52,7 @@ pub struct Place {
 #[derive(Default)]
 pub struct Buffers {
     output: Vec<u8>,
+    opened: Vec<u64>,
     scratch: Vec<u8>,
     formatter: Formatter,
 }
@@ -68,6 +69,28 @@ fn lend(buffer: &mut Vec<u8>, length: usize) -> std::ops::Range<usize> {
     buffer.resize(start + length, OLD);
     buffer.resize(start + length + GUARD, GUARD_BYTE);
     start..start + length
+}
+
+/// The same of words: a list with room for `length` lines.
+fn lend_list(buffer: &mut Vec<u64>, length: usize) -> std::ops::Range<usize> {
+    buffer.clear();
+    buffer.resize(GUARD, u64::MAX);
+    buffer.resize(GUARD + length, u64::from(OLD));
+    buffer.resize(2 * GUARD + length, u64::MAX);
+    GUARD..GUARD + length
+}
+
+/// What is wrong with a list that was lent at `part`, if anything is: it has the first of the
+/// lines, as many as fit, then zeros, and the words beside it are as they were.
+fn list_fault(buffer: &[u64], part: &std::ops::Range<usize>, lines: &[u64]) -> Option<String> {
+    let mut must: Vec<u64> = lines.to_vec();
+    must.resize(part.len(), 0);
+    if buffer[part.clone()] != must {
+        return Some(differ("the open brackets", &buffer[part.clone()], &must));
+    }
+    let outside = |words: &[u64]| words.iter().all(|w| *w == u64::MAX);
+    let kept = outside(&buffer[..part.start]) && outside(&buffer[part.end..]);
+    (!kept).then(|| "words beside the list changed".into())
 }
 
 fn differ<T: Debug>(what: &str, ours: T, rust: T) -> String {
@@ -89,7 +112,8 @@ impl Buffers {
         match check {
             Check::Format(call) => self.format(library, call),
             Check::Kind(place) => {
-                let length = scratch_needed(&place.source).saturating_add_signed(place.scratch);
+                let length =
+                    kind_scratch_needed(&place.source).saturating_add_signed(place.scratch);
                 self.kind(library, &place.source, place.line, place.column, length)
             }
             Check::Kinds(source) => self.kinds(library, source),
@@ -159,10 +183,14 @@ impl Buffers {
     ) -> Option<String> {
         let output = lend(&mut self.output, room);
         let scratch = lend(&mut self.scratch, call.scratch_length());
+        // one more than there are, as many, or one less
+        let lines = (must.opened.len() + call.source.len() % 3).saturating_sub(1);
+        let opened = lend_list(&mut self.opened, lines);
         let answer = library.format(
             &call.source,
             call.choices(),
             &mut self.output[output.clone()],
+            &mut self.opened[opened.clone()],
             &mut self.scratch[scratch.clone()],
         );
         if answer != must.answer {
@@ -175,6 +203,9 @@ impl Buffers {
         }
         if !zeros(rest) {
             return Some("the output is not zero after the text".into());
+        }
+        if let Some(fault) = list_fault(&self.opened, &opened, &must.opened) {
+            return Some(fault);
         }
         if !zeros(&self.scratch[scratch.clone()]) {
             return Some("the scratch is not zero".into());
@@ -211,6 +242,7 @@ impl Buffers {
         let must = Outcome {
             answer,
             text: Vec::new(),
+            opened: Vec::new(),
         };
         self.outcome(library, &call, output, &must)
     }
@@ -238,7 +270,7 @@ impl Buffers {
     }
 
     fn kinds(&mut self, library: &dyn Library, source: &[u8]) -> Option<String> {
-        let length = scratch_needed(source);
+        let length = kind_scratch_needed(source);
         let lines: Vec<&[u8]> = source.split(|b| *b == b'\n').collect();
         for line in 0..=lines.len() {
             let columns = lines.get(line).map_or(0, |l| l.len() + 1);

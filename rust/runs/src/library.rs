@@ -1,6 +1,6 @@
 //! What is compared with the Rust.
 
-use crate::call::{Call, Size};
+use crate::call::{Call, Outcome, Size};
 use crate::model;
 use crate::safe::{self, SafeCall, Told};
 use upstream::FormatOptions;
@@ -9,7 +9,14 @@ use wirescript_format::raw::{self, Answer, Choices, Kind, Resolved, Settings};
 
 /// The functions that a host can reach.
 pub trait Library: Sync {
-    fn format(&self, source: &[u8], s: Choices, output: &mut [u8], scratch: &mut [u8]) -> Answer;
+    fn format(
+        &self,
+        source: &[u8],
+        s: Choices,
+        output: &mut [u8],
+        opened: &mut [u64],
+        scratch: &mut [u8],
+    ) -> Answer;
     fn text_kind_at(&self, source: &[u8], line: u64, column: u64, scratch: &mut [u8]) -> Kind;
     fn indent_with(&self, s: Choices, tabs: u64, size: u64, output: &mut [u8]) -> Settings;
     fn editorconfig(&self, s: Choices, values: Resolved, output: &mut [u8]) -> Settings;
@@ -25,8 +32,15 @@ pub trait Library: Sync {
 pub struct Linked;
 
 impl Library for Linked {
-    fn format(&self, source: &[u8], s: Choices, output: &mut [u8], scratch: &mut [u8]) -> Answer {
-        raw::format(source, s, output, scratch)
+    fn format(
+        &self,
+        source: &[u8],
+        s: Choices,
+        output: &mut [u8],
+        opened: &mut [u64],
+        scratch: &mut [u8],
+    ) -> Answer {
+        raw::format(source, s, output, opened, scratch)
     }
 
     fn text_kind_at(&self, source: &[u8], line: u64, column: u64, scratch: &mut [u8]) -> Kind {
@@ -71,6 +85,12 @@ pub enum Fault {
     Cr,
     /// The bytes after an indent left as they were.
     IndentRest,
+    /// The open brackets listed from the newest on.
+    NewestFirst,
+    /// The rest of the list of open brackets left as it was.
+    ListRest,
+    /// The count of open brackets cut at the list's length.
+    CountCut,
     /// The two counts taken for each other by the host crate.
     Swapped,
     /// A refusal's place not told by the host crate.
@@ -78,7 +98,7 @@ pub enum Fault {
 }
 
 impl Fault {
-    pub const ALL: [Self; 13] = [
+    pub const ALL: [Self; 16] = [
         Self::Text,
         Self::OutputRest,
         Self::OutputRefused,
@@ -90,6 +110,9 @@ impl Fault {
         Self::Size64,
         Self::Cr,
         Self::IndentRest,
+        Self::NewestFirst,
+        Self::ListRest,
+        Self::CountCut,
         Self::Swapped,
         Self::Place,
     ];
@@ -108,6 +131,20 @@ impl Standin {
         Call::of(source.into(), s, Size::Fixed(output), Size::Fixed(scratch))
     }
 
+    fn list(&self, outcome: &mut Outcome, opened: &mut [u64]) {
+        if self.has(Fault::NewestFirst) {
+            outcome.opened.reverse();
+        }
+        let listed = outcome.opened.len().min(opened.len());
+        opened[..listed].copy_from_slice(&outcome.opened[..listed]);
+        if !self.has(Fault::ListRest) {
+            opened[listed..].fill(0);
+        }
+        if self.has(Fault::CountCut) {
+            outcome.answer.open_brackets = listed as u64;
+        }
+    }
+
     fn settle(&self, options: Option<&FormatOptions>, output: &mut [u8]) -> Settings {
         let settled = model::settled(options, output.len());
         let (indent, rest) = output.split_at_mut(settled.indent.len());
@@ -120,7 +157,14 @@ impl Standin {
 }
 
 impl Library for Standin {
-    fn format(&self, source: &[u8], s: Choices, output: &mut [u8], scratch: &mut [u8]) -> Answer {
+    fn format(
+        &self,
+        source: &[u8],
+        s: Choices,
+        output: &mut [u8],
+        opened: &mut [u64],
+        scratch: &mut [u8],
+    ) -> Answer {
         let mut call = Self::call(source, s, output.len(), scratch.len());
         if self.has(Fault::ScratchSize) {
             call.scratch = Size::Fixed(scratch.len() + 1);
@@ -157,6 +201,7 @@ impl Library for Standin {
             .len()
             .saturating_sub(usize::from(self.has(Fault::Scratch)));
         scratch[..end].fill(0);
+        self.list(&mut outcome, opened);
         outcome.answer
     }
 

@@ -1,7 +1,7 @@
 //! What each call must come to: the Rust's answers, and the refusals that the Rust
 //! doesn't have.
 
-use crate::call::{Call, Outcome, Settled, choices_of, scratch_needed};
+use crate::call::{Call, Outcome, Settled, choices_of, kind_scratch_needed, scratch_needed};
 use ec4rs::Properties;
 use ec4rs::property::{EndOfLine, FinalNewline, IndentSize, IndentStyle, MaxLineLen, TabWidth};
 use upstream::{FormatOptions, TextKind};
@@ -37,6 +37,7 @@ fn refused((number, place): (u64, u64)) -> Outcome {
     Outcome {
         answer,
         text: Vec::new(),
+        opened: Vec::new(),
     }
 }
 
@@ -52,8 +53,10 @@ pub fn outcome(found: &Result<upstream::Counted, (u64, u64)>, room: usize) -> Ou
                 length: counted.text.len() as u64,
                 imports_split: counted.imports_split as u64,
                 blank_names: counted.blank_names as u64,
+                open_brackets: counted.open_lines.len() as u64,
             },
             text: counted.text.clone().into_bytes(),
+            opened: counted.open_lines.clone(),
         },
     }
 }
@@ -67,7 +70,7 @@ pub fn text_kind_at(source: &[u8], line: u64, column: u64, scratch: usize) -> Ki
     if source.len() > MAX_SOURCE {
         return refuse(1, MAX_SOURCE as u64);
     }
-    let needed = scratch_needed(source);
+    let needed = kind_scratch_needed(source);
     if scratch < needed {
         return refuse(3, needed as u64);
     }

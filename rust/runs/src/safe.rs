@@ -95,6 +95,7 @@ fn must_format(call: &Call, most: Option<Size>) -> Must {
             text: counted.text,
             imports_split: counted.imports_split as u64,
             blank_names: counted.blank_names as u64,
+            open_brackets: counted.open_lines,
         }),
     };
     Must { told, most }
@@ -171,6 +172,7 @@ pub fn told(call: &SafeCall, most: Option<usize>, formatter: &mut Formatter) -> 
                             text: formatted.text.into(),
                             imports_split: formatted.imports_split,
                             blank_names: formatted.blank_names,
+                            open_brackets: formatted.open_brackets.to_vec(),
                         })
                     })
                 }

@@ -50,7 +50,7 @@ pub fn is_spaced(line: &[u8], classes: &[u8]) -> bool {
     unsafe { wirescript_test_is_spaced(line.as_ptr(), line.len(), classes.as_ptr(), classes.len()) }
 }
 
-/// `scratch` holds the line's class bytes and then the stack. Gives its new depth.
+/// `scratch` holds the line's class bytes and then the stack, three bytes an entry. Gives its new depth.
 pub fn scan_brackets(line: &[u8], scratch: &mut [u8], depth: u64) -> u64 {
     let (to, room) = (scratch.as_mut_ptr(), scratch.len());
     // SAFETY: pointers and lengths of slices; only `scratch` is written.

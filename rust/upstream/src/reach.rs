@@ -123,12 +123,14 @@ pub fn with_resolved(options: FormatOptions, resolved: Properties) -> FormatOpti
     options.with_editorconfig(Path::new("/file"))
 }
 
-/// What `format_with` gives, with the two counts that it doesn't give.
+/// What `format_with` gives, with what it doesn't give: the two counts, and the source lines of the
+/// brackets that are open at the end.
 #[derive(Clone, Debug, PartialEq, Eq)]
 pub struct Counted {
     pub text: String,
     pub imports_split: usize,
     pub blank_names: usize,
+    pub open_lines: Vec<u64>,
 }
 
 /// The loop of `format_with` over the Rust's own `line`, counting the imports that
@@ -136,13 +138,8 @@ pub struct Counted {
 pub fn format_counted(source: &str, opts: &FormatOptions) -> Counted {
     let text = super::format_with(source, opts);
     let (mut imports_split, mut blank_names) = (0, 0);
-    if opts.print_width.is_none() || !source.contains("import") {
-        return Counted {
-            text,
-            imports_split,
-            blank_names,
-        };
-    }
+    let mut open_lines = Vec::new();
+    let imports = opts.print_width.is_some() && source.contains("import");
     let mut f = Formatter {
         opts,
         lines: Vec::new(),
@@ -152,11 +149,14 @@ pub fn format_counted(source: &str, opts: &FormatOptions) -> Counted {
         ignore_next: false,
         carry: RustCarry::Code,
     };
-    for raw in source.split('\n') {
+    for (number, raw) in source.split('\n').enumerate() {
         let raw = raw.strip_suffix('\r').unwrap_or(raw);
-        let split = import_of(&f, raw);
+        let split = imports.then(|| import_of(&f, raw)).flatten();
         let before = f.lines.len();
+        let carry = f.carry;
         f.line(raw);
+        note_brackets(&f, carry, raw, number as u64, &mut open_lines);
+        assert_eq!(open_lines.len(), f.stack.len(), "{source:?} {opts:?}");
         if let Some((lines, blanks)) = split {
             // an import starts with none of the declaration words, so no line went
             assert_eq!(f.lines[before..], lines[..], "{source:?} {opts:?}");
@@ -168,6 +168,7 @@ pub fn format_counted(source: &str, opts: &FormatOptions) -> Counted {
         text,
         imports_split,
         blank_names,
+        open_lines,
     };
     let commas = |text: &str| text.matches(',').count();
     assert_eq!(
@@ -176,6 +177,38 @@ pub fn format_counted(source: &str, opts: &FormatOptions) -> Counted {
         "{source:?} {opts:?}"
     );
     counted
+}
+
+/// The lines of the open brackets after the line with this number, which `f` has just read: each
+/// opener in code adds the number, each closer takes the newest line off.
+fn note_brackets(f: &Formatter, carry: RustCarry, raw: &str, number: u64, open: &mut Vec<u64>) {
+    let inside = carry != RustCarry::Code;
+    if !inside && raw.trim().is_empty() {
+        return;
+    }
+    // a line in code is scanned as it becomes the previous one, and its leading closers pop first
+    let line = if inside { raw } else { f.prev.as_str() };
+    let chars: Vec<char> = line.chars().collect();
+    let (class, _) = super::classify(&chars, carry);
+    let closers = if inside {
+        0
+    } else {
+        super::leading_closers(&chars)
+    };
+    open.truncate(open.len().saturating_sub(closers));
+    let mut escaped = false;
+    for (c, class) in chars.iter().zip(&class).skip(closers) {
+        if *class != RustClass::Code {
+            continue;
+        }
+        if escaped || *c == '\\' {
+            escaped = !escaped;
+        } else if "([{".contains(*c) {
+            open.push(number);
+        } else if ")]}".contains(*c) {
+            open.pop();
+        }
+    }
 }
 
 /// The lines of the import that `f.line(raw)` will break, and its blank names.

@@ -31,14 +31,16 @@ pub use options::{
 };
 pub use refusal::{MAX_INDENT, MAX_SOURCE, Refusal};
 
-/// A formatted text, and what splitting did.
+/// A formatted text, what splitting did, and the brackets that are never closed.
 #[derive(Clone, Copy, Debug, PartialEq, Eq)]
-pub struct Formatted<Text = String> {
+pub struct Formatted<Text = String, Lines = Vec<u64>> {
     pub text: Text,
     /// Imports whose names were spread over lines.
     pub imports_split: u64,
     /// Blank names dropped in them.
     pub blank_names: u64,
+    /// The source lines, from 0, of the brackets that are still open at the end, the oldest first.
+    pub open_brackets: Lines,
 }
 
 /// What an editor is told of a place.
@@ -62,6 +64,14 @@ impl TextKind {
 }
 
 /// Formats a source; see [`Formatter::format`].
+///
+/// ```
+/// use wirescript_format::{Options, format};
+///
+/// let formatted = format("f(a,\n  [b,\n", &Options::new())?;
+/// assert_eq!(formatted.open_brackets, [0, 1]);
+/// # Ok::<(), wirescript_format::Refusal>(())
+/// ```
 pub fn format(source: impl AsRef<[u8]>, options: &Options) -> Result<Formatted, Refusal> {
     let mut buffers = Formatter::new();
     let formatted = buffers.format(source, options)?;
@@ -69,6 +79,7 @@ pub fn format(source: impl AsRef<[u8]>, options: &Options) -> Result<Formatted, 
         text: formatted.text.to_owned(),
         imports_split: formatted.imports_split,
         blank_names: formatted.blank_names,
+        open_brackets: formatted.open_brackets.to_vec(),
     })
 }
 
@@ -84,6 +95,8 @@ pub struct Formatter {
     scratch: Vec<u8>,
     /// A list of places, as numbers.
     places: Vec<u64>,
+    /// The lines of the open brackets.
+    opened: Vec<u64>,
     most: usize,
     /// The length of the last text: the next may well be of the same file.
     last: usize,
@@ -95,6 +108,7 @@ impl Default for Formatter {
             output: Vec::new(),
             scratch: Vec::new(),
             places: Vec::new(),
+            opened: vec![0; 64],
             most: Self::MOST,
             last: 0,
         }
@@ -118,15 +132,15 @@ impl Formatter {
         self
     }
 
-    /// Formats a source. The text stays in the formatter's buffer.
+    /// Formats a source. The text and the lines of open brackets stay in the formatter's buffers.
     pub fn format(
         &mut self,
         source: impl AsRef<[u8]>,
         options: &Options,
-    ) -> Result<Formatted<&str>, Refusal> {
+    ) -> Result<Formatted<&str, &[u64]>, Refusal> {
         let source = source.as_ref();
         let room = source.len().max(self.last);
-        let answer = match self.call(source, options, room + room / 4 + 256) {
+        let mut answer = match self.call(source, options, room + room / 4 + 256) {
             // the place is the text's length, so the second call has room
             Err(Refusal::OutputShort { needed }) if needed <= self.most as u64 => {
                 self.call(source, options, needed as usize)
@@ -134,11 +148,17 @@ impl Formatter {
             other => other,
         }?;
         self.last = answer.length as usize;
+        let brackets = answer.open_brackets as usize;
+        if self.opened.len() < brackets {
+            self.opened.resize(brackets, 0);
+            answer = self.call(source, options, self.last)?;
+        }
         let text = &self.output[..self.last];
         Ok(Formatted {
             text: std::str::from_utf8(text).expect("the text is proved to be UTF-8"),
             imports_split: answer.imports_split,
             blank_names: answer.blank_names,
+            open_brackets: &self.opened[..brackets],
         })
     }
 
@@ -165,15 +185,23 @@ impl Formatter {
         room: usize,
     ) -> Result<raw::Answer, Refusal> {
         let output = part(&mut self.output, room.min(self.most));
-        let scratch = part(&mut self.scratch, scratch_for(source));
-        let answer = raw::format(source, options.choices(), output, scratch);
+        let scratch = part(&mut self.scratch, FORMAT_SCRATCH * short(source) + 256);
+        let answer = raw::format(source, options.choices(), output, &mut self.opened, scratch);
         Refusal::of(answer.refusal, answer.place).map_or(Ok(answer), Err)
     }
 }
 
-/// The scratch that a call needs; a source that is too long needs none.
+/// The bytes of scratch for each of the source's that formatting needs, beside 256.
+const FORMAT_SCRATCH: usize = 12;
+
+/// The source's length; one that is too long needs no more scratch.
+fn short(source: &[u8]) -> usize {
+    source.len().min(MAX_SOURCE)
+}
+
+/// The scratch that asking for text kinds needs.
 fn scratch_for(source: &[u8]) -> usize {
-    8 * source.len().min(MAX_SOURCE) + 256
+    8 * short(source) + 256
 }
 
 /// The first `length` bytes of a buffer, which grows where it is shorter.

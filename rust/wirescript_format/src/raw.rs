@@ -2,7 +2,7 @@
 //! None of them asks anything of its arguments.
 //!
 //! A slice passes as pointer and length. After a call the scratch is all zeros, and so
-//! is the output but for the text. The declarations fit an archive of one interface, the one
+//! are the output but for the text and a list but for what it was asked for. The declarations fit an archive of one interface, the one
 //! whose number [`interface`] gives; another one doesn't link.
 
 pub use crate::interface::interface;
@@ -16,6 +16,8 @@ pub struct Answer {
     pub length: u64,
     pub imports_split: u64,
     pub blank_names: u64,
+    /// How many brackets are open at the end.
+    pub open_brackets: u64,
 }
 
 /// What asking for a text kind comes to: 0 code, 1 string, 2 comment.
@@ -85,7 +87,8 @@ mod linked {
         pub fn wirescript_format(
             source: *const u8, source_length: usize, indent: *const u8, indent_length: usize,
             width_set: u64, width: u64, line_ending: u64, final_newline: u64,
-            output: *mut u8, output_length: usize, scratch: *mut u8, scratch_length: usize,
+            output: *mut u8, output_length: usize, opened: *mut u64, opened_length: usize,
+            scratch: *mut u8, scratch_length: usize,
         ) -> Answer;
         pub fn wirescript_text_kind_at(
             source: *const u8, source_length: usize, line: u64, column: u64,
@@ -126,19 +129,27 @@ macro_rules! with_choices {
     };
 }
 
-/// Formats `source` into `output`.
+/// Formats `source` into `output`. `opened` gets the source lines, from 0, of the brackets that are
+/// still open at the end, the oldest first, as many as it has room for, then zeros.
 #[must_use]
-pub fn format(source: &[u8], s: Choices, output: &mut [u8], scratch: &mut [u8]) -> Answer {
+pub fn format(
+    source: &[u8],
+    s: Choices,
+    output: &mut [u8],
+    opened: &mut [u64],
+    scratch: &mut [u8],
+) -> Answer {
     let (text, room) = (output.as_mut_ptr(), output.len());
+    let (list, lines) = (opened.as_mut_ptr(), opened.len());
     let (work, left) = (scratch.as_mut_ptr(), scratch.len());
-    // SAFETY: the pointers and lengths are those of slices; the two that are written are
+    // SAFETY: the pointers and lengths are those of slices; the three that are written are
     // lent alone, and the function is proved to stay inside them for any arguments.
     unsafe {
         with_choices!(
             wirescript_format,
             (source.as_ptr(), source.len()),
             s,
-            (text, room, work, left)
+            (text, room, list, lines, work, left)
         )
     }
 }

@@ -2,9 +2,13 @@ use Rattle.rules.proofs.Choose.{picks}
 use borrow.Author.Needs.{needs}
 use Rattle.brackets.proofs.line_at.Statement.{statement}
 use Rattle.brackets.proofs.line_at.Tie as tie
-use Rattle.brackets.proofs.line_at.Reads as reads
-use Rattle.brackets.proofs.line_at.Lts as lts
-use Rattle.brackets.proofs.read_line.Reads as read-line-reads
+
+-- first, so that a wrong place is refused for what stands there
+returns : tie.Need-returns
+returns c = search picks depth 20
+
+returns-2 : tie.Need-returns-2
+returns-2 c = search picks depth 20
 
 mul-p : tie.Need-mul-p
 mul-p c = search needs
@@ -14,12 +18,6 @@ add-p c = search needs
 
 read-line-requires : tie.Need-read-line-requires
 read-line-requires c κs = search needs
-
-returns : tie.Need-returns
-returns c = search picks depth 20
-
-returns-2 : tie.Need-returns-2
-returns-2 c = search picks depth 20
 
 pub line-at-spec : {M : Type 1} → statement M
 line-at-spec = tie.close (tie.spec mul-p add-p read-line-requires returns returns-2)

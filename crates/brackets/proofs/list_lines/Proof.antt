@@ -4,15 +4,16 @@ use Prim.Native.Nat.{_-_}
 use lib.ListN.{length}
 use Rattle.brackets.proofs.list_lines.Statement.{statement}
 use Rattle.brackets.proofs.list_lines.Tie as tie
-use Rattle.brackets.proofs.list_lines.Reads as reads
-use Rattle.brackets.proofs.list_lines.Lts as lts
-use Rattle.brackets.proofs.line_at.Reads as line-at-reads
 
 abbrev Inv-loop : tie.InvT-loop
-Inv-loop scratch base depth list₀ i₀ list i = Listing scratch base depth list₀ list i
+Inv-loop scratch base count list₀ i₀ list i = Listing scratch base count list₀ list i
 
 abbrev μ-loop : tie.MeasureT-loop
-μ-loop scratch base depth list₀ i₀ list i = length list₀ - i
+μ-loop scratch base count list₀ i₀ list i = length list₀ - i
+
+-- first, so that a list that is left is refused for what it holds
+returns : tie.Need-returns Inv-loop μ-loop
+returns c = search (needs, listing-end)
 
 loop-holds : tie.Need-loop-holds Inv-loop μ-loop
 loop-holds c = search (needs, listing-start)
@@ -37,9 +38,6 @@ loop-again c = search (needs, listing-more)
 
 same-length : tie.Need-same-length Inv-loop μ-loop
 same-length c = search needs
-
-returns : tie.Need-returns Inv-loop μ-loop
-returns c = search (needs, listing-end)
 
 pub list-lines-spec : {M : Type 1} → statement M
 list-lines-spec =

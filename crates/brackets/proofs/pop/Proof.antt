@@ -2,8 +2,6 @@ use Rattle.brackets.proofs.StackLaws.{pop-none, pop-flat, pop-less, pop
 use borrow.Author.Needs.{needs}
 use Rattle.brackets.proofs.pop.Statement.{statement}
 use Rattle.brackets.proofs.pop.Tie as tie
-use Rattle.brackets.proofs.pop.Reads as reads
-use Rattle.brackets.proofs.pop.Lts as lts
 
 returns : tie.Need-returns
 returns c = search (needs, pop-none)

@@ -2,10 +2,6 @@ use borrow.Author.Needs.{needs}
 use Rattle.brackets.proofs.StackLaws.{Popping, popping-start, popping-less, popping-more, popping-end}
 use Rattle.brackets.proofs.pop_closers.Statement.{statement}
 use Rattle.brackets.proofs.pop_closers.Tie as tie
-use Rattle.brackets.proofs.pop_closers.Reads as reads
-use Rattle.brackets.proofs.pop_closers.Lts as lts
-use Rattle.brackets.proofs.depth_after.Reads as depth-after-reads
-use Rattle.brackets.proofs.level_of.Reads as level-of-reads
 
 abbrev Inv-loop : tie.InvT-loop
 Inv-loop scratch base b n end depth₀ levels₀ depth levels = Popping scratch base end depth levels

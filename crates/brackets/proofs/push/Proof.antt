@@ -3,9 +3,6 @@ use native.Mathlib.Omega.{arith}
 use borrow.Author.Needs.{needs}
 use Rattle.brackets.proofs.push.Statement.{statement}
 use Rattle.brackets.proofs.push.Tie as tie
-use Rattle.brackets.proofs.push.Reads as reads
-use Rattle.brackets.proofs.push.Lts as lts
-use Rattle.brackets.proofs.put_entry.Reads as put-entry-reads
 
 mul-p : tie.Need-mul-p
 mul-p c = search needs

@@ -4,8 +4,6 @@ use lib.ListN.{length-set}
 use borrow.Author.Needs.{needs}
 use Rattle.brackets.proofs.put_entry.Statement.{statement}
 use Rattle.brackets.proofs.put_entry.Tie as tie
-use Rattle.brackets.proofs.put_entry.Reads as reads
-use Rattle.brackets.proofs.put_entry.Lts as lts
 
 mul-scratch : tie.Need-mul-scratch
 mul-scratch c = search needs

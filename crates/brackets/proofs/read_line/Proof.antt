@@ -2,9 +2,6 @@ use Rattle.brackets.proofs.StackLaws.{line-read}
 use borrow.Author.Needs.{needs}
 use Rattle.brackets.proofs.read_line.Statement.{statement}
 use Rattle.brackets.proofs.read_line.Tie as tie
-use Rattle.brackets.proofs.read_line.Reads as reads
-use Rattle.brackets.proofs.read_line.Lts as lts
-use Rattle.brackets.proofs.wide.Reads as wide-reads
 
 shared-slice-read-wide : tie.Need-shared-slice-read-wide
 shared-slice-read-wide c = search needs

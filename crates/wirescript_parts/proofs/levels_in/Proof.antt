@@ -13,6 +13,9 @@ abbrev μ-loop : tie.MeasureT-loop
 loop-holds : tie.Need-loop-holds Inv-loop μ-loop
 loop-holds c = counting-start _ _ _
 
+mul-if1 : tie.Need-mul-if1 Inv-loop μ-loop
+mul-if1 c = search needs
+
 add-if1 : tie.Need-add-if1 Inv-loop μ-loop
 add-if1 c = search needs
 
@@ -50,6 +53,7 @@ levels-in-spec =
     Inv-loop
     μ-loop
     loop-holds
+    mul-if1
     add-if1
     shared-slice-read-if1
     add-i

@@ -26,12 +26,12 @@ fn normalize_spacing(line: &str, classes: &[u8]) -> Vec<u8> {
 
 fn scan_brackets(line: &str, classes: &[u8], stack: &[bool]) -> Vec<bool> {
     let mut scratch = classes.to_vec();
-    scratch.extend(stack.iter().map(|adds| u8::from(*adds)));
-    scratch.resize(2 * line.len() + stack.len(), 0);
+    scratch.extend(stack.iter().flat_map(|adds| [u8::from(*adds), 0, 0]));
+    scratch.resize(line.len() + 3 * (line.len() + stack.len()), 0);
     let depth = wrappers::scan_brackets(line.as_bytes(), &mut scratch, stack.len() as u64);
-    scratch[line.len()..line.len() + depth as usize]
-        .iter()
-        .map(|adds| *adds != 0)
+    scratch[line.len()..line.len() + 3 * depth as usize]
+        .chunks_exact(3)
+        .map(|entry| entry[0] != 0)
         .collect()
 }
 

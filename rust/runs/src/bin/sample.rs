@@ -95,11 +95,14 @@ fn format_case(source: &str, o: &FormatOptions) -> String {
 const FORMAT: &str = "abbrev Case : Type 0
 Case = Options × String × String × ℕ × ℕ
 
-abbrev expected : Case → Formatted
-expected c = record { text = codes (c .2); importsSplit = c .3; blankNames = c .4 }
+abbrev Shown : Type 0
+Shown = List ℕ × ℕ × ℕ
 
-abbrev given : Case → Formatted
-given c = formatWith (c .0) (codes (c .1))
+abbrev expected : Case → Shown
+expected c = (codes (c .2), c .3, c .4)
+
+abbrev given : Case → Shown
+given c = let r = formatWith (c .0) (codes (c .1)) in (r .text, r .importsSplit, r .blankNames)
 ";
 
 const KINDS: &str = "abbrev Case : Type 0
@@ -140,10 +143,10 @@ Case = Call × Answer × List ℕ
 
 abbrev call : List ℕ → List ℕ → ℕ → ℕ → ℕ → ℕ → ℕ → ℕ → Call
 call s i ws w e n o c =
-    record { source = s; choices = record { indent = i; numbers = record { «width_set» = ws; width = w; «line_ending» = e; «final_newline» = n } }; output = o; scratch = c }
+    record { source = s; choices = record { indent = i; numbers = record { «width_set» = ws; width = w; «line_ending» = e; «final_newline» = n } }; output = o; opened = 0; scratch = c }
 
-abbrev ans : ℕ → ℕ → ℕ → ℕ → ℕ → Answer
-ans r p l i b = record { refusal = r; place = p; length = l; «imports_split» = i; «blank_names» = b }
+abbrev ans : ℕ → ℕ → ℕ → ℕ → ℕ → ℕ → Answer
+ans r p l i b k = record { refusal = r; place = p; length = l; «imports_split» = i; «blank_names» = b; «open_brackets» = k }
 
 abbrev expected : Case → Answer × List ℕ
 expected c = (c .1, c .2)
@@ -174,7 +177,7 @@ fn call_case(random: &mut Random) -> String {
     output.resize(room, 0);
     let a = outcome.answer;
     format!(
-        "(call {} {} {} {} {} {} {} {}, ans {} {} {} {} {}, {})",
+        "(call {} {} {} {} {} {} {} {}, ans {} {} {} {} {} {}, {})",
         list(&call.source),
         list(&call.indent),
         call.width_set,
@@ -188,6 +191,7 @@ fn call_case(random: &mut Random) -> String {
         a.length,
         a.imports_split,
         a.blank_names,
+        a.open_brackets,
         list(output)
     )
 }

@@ -1,16 +1,18 @@
 -- The tests of a call, a law for each way through them.
-use Prim.Native.Nat.{ℕ, _*_, _≤_, _<_}
+use Prim.Native.Nat.{ℕ, _*_, _%_, _≤_, _<_}
 use native.Mathlib.Nat.{mul-le-mul}
 use mathlib.Core.List.{List, [], _∷_}
 use mathlib.Core.Path.{_≡_, refl, sym, ap, _∙_}
-use borrow.Author.Tests.{lt-ltb, le-ltb}
-use lib.ListN.{length}
+use borrow.Author.Tests.{lt-ltb, le-ltb, eq-eqb, ne-eqb}
+use lib.ListN.{length, getD}
 use Rattle.unicode.specs.Unicode.{wellFormed, prefixLen}
 use Rattle.unicode.proofs.Decode.{test-whole, test-part}
 use Rattle.rules.specs.Basics.{choose}
-use Rattle.rules.specs.Refusals.{maxSource, scratchNeeded, refuseIf, tested, longSource, shortScratch, illFormed}
+use Rattle.rules.specs.Refusals.{maxSource, scratchNeeded, refuseIf, tested, longSource, shortScratch, illFormed, wrongLength, bitsSet}
+use Rattle.rules.specs.Strengths.{tableLength, lastBits}
 use Rattle.rules.specs.declared.Refusal.{Refusal}
 use Rattle.rules.specs.declared.Verdict.{Verdict}
+use Rattle.operators.proofs.StrengthLaws.{last-field}
 
 module _ (source : List ℕ) where
   pub too-long : maxSource < length source → Verdict.Refused Refusal.SourceTooLong ≡ longSource source
@@ -40,3 +42,22 @@ module _ (source : List ℕ) where
       pub bytes-pass : prefix ≡ length source → Verdict.Accepted ≡ tested (shortScratch (scratchNeeded each source) scratch ∷ illFormed source ∷ [])
       unfolding shortScratch illFormed refuseIf choose tested
       bytes-pass p = rw (le-ltb scratch (scratchNeeded each source) h, test-whole source (sym e ∙ p))
+
+-- ---- the table of strengths
+
+module _ (table : List ℕ) where
+  abbrev strengthTests : Verdict
+  strengthTests = tested (wrongLength table ∷ bitsSet table ∷ [])
+
+  pub wrong-length : (length table ≡ tableLength → ⊥) → Verdict.Refused Refusal.StrengthsLength ≡ strengthTests
+  unfolding wrongLength refuseIf choose tested
+  wrong-length h = rw (ne-eqb (length table) tableLength h)
+
+  module _ (h : length table ≡ tableLength) where
+    pub bits-set : (getD table 10 0 % 16 ≡ 0 → ⊥) → Verdict.Refused Refusal.StrengthsBits ≡ strengthTests
+    unfolding wrongLength bitsSet refuseIf choose tested
+    bits-set k = rw (eq-eqb (length table) tableLength h, ne-eqb (lastBits table) 0 (λ e. k (sym (last-field table) ∙ e)))
+
+    pub bits-clear : getD table 10 0 % 16 ≡ 0 → Verdict.Accepted ≡ strengthTests
+    unfolding wrongLength bitsSet refuseIf choose tested
+    bits-clear k = rw (eq-eqb (length table) tableLength h, eq-eqb (lastBits table) 0 (last-field table ∙ k))

@@ -3,15 +3,29 @@ ghost use mathlib.Core.Path.{_≡_};
 ghost use mathlib.Core.List.{[], _∷_};
 ghost use Prim.Native.Nat.{_≤_};
 ghost use lib.ListN.{length};
-ghost use Rattle.rules.specs.Refusals.{maxSource, scratchNeeded, numberOf, placeOf, tested, longSource, shortScratch, illFormed};
+ghost use Rattle.rules.specs.Refusals.{maxSource, scratchNeeded, numberOf, placeOf, tested, longSource, shortScratch, illFormed, wrongLength, bitsSet};
 ghost use Rattle.rules.specs.Call.{answerOf};
 use rules::Answer;
 use rules::Outcome;
 use rules::Refusal;
+use rules::Strengths;
 use rules::Verdict;
 
 // The bytes that a source may have.
 pub const MAX_SOURCE: usize = 1048576;
+
+// Refusals 12 and 13.
+pub fn test_strengths(table: &[u8]) -> Verdict
+    ensures { λ r. ⌜ r ≡ tested (wrongLength (now (table .entry)) ∷ bitsSet (now (table .entry)) ∷ []) ⌝ }
+{
+    if table.len() != Strengths::LENGTH {
+        return Verdict::Refused(Refusal::StrengthsLength);
+    }
+    if table[10] % 16 != 0 {
+        return Verdict::Refused(Refusal::StrengthsBits);
+    }
+    Verdict::Accepted
+}
 
 // Refusal 1.
 pub fn test_length(source: &[u8]) -> Verdict
@@ -53,6 +67,8 @@ pub fn number_of(r: Refusal) -> u64
         Refusal::NoPlace => 6,
         Refusal::PlacesUnordered => 9,
         Refusal::KindsShort => 10,
+        Refusal::StrengthsLength => 12,
+        Refusal::StrengthsBits => 13,
         Refusal::ListShort(_) => 16,
     }
 }
@@ -69,6 +85,8 @@ pub fn place_of(r: Refusal) -> u64
         Refusal::NoPlace => 0,
         Refusal::PlacesUnordered => 0,
         Refusal::KindsShort => 0,
+        Refusal::StrengthsLength => 0,
+        Refusal::StrengthsBits => 0,
         Refusal::ListShort(needed) => needed as u64,
     }
 }

@@ -1,15 +1,15 @@
 -- The finish, and what a call comes to, by its tests in their order.
 --     ending-kept, ending-set, last-always, last-source     the ending, and the last one
 --     text-short, text-fits                                 the text in the output
---     test-long, test-option, test-rest                     the tests
+--     test-table, test-long, test-option, test-rest         the tests
 --     ran-refused, ran-formatted                            the outcome of a call; answered the answer
 use Prim.Native.Nat.{ℕ, _-_, _≤_, _<_}
 use native.Mathlib.Omega.{arith}
 use mathlib.Core.Bool.{Bool, true, false, not, _&&_}
 use mathlib.Core.List.{List, [], _∷_, _++_}
 use mathlib.Core.Path.{_≡_, refl, sym, ap, _∙_}
-use borrow.Author.Tests.{lt-ltb, le-ltb, leb-true}
-use lib.Dec.{leb}
+use borrow.Author.Tests.{lt-ltb, le-ltb, leb-true, eqb-true}
+use lib.Dec.{leb, eqb}
 use lib.ListN.{length, replicate}
 use lib.Seq.{take-nil}
 use Rattle.unicode.specs.Unicode.{size, decode, WellFormed}
@@ -21,7 +21,8 @@ use Rattle.rules.specs.Options.{Options, allBlank, validIndent, maxIndent}
 use Rattle.rules.specs.Brackets.{openLines}
 use Rattle.rules.specs.Line.{Formatter, start}
 use Rattle.rules.specs.Assembly.{Formatted, endingOf, dropEmpty, joined, lastEnding, finish, formatLines, formatWith}
-use Rattle.rules.specs.Refusals.{maxSource, scratchNeeded, refuseIf, tested, longSource, badOption, shortScratch, illFormed, shortOutput}
+use Rattle.rules.specs.Refusals.{maxSource, scratchNeeded, refuseIf, tested, longSource, badOption, shortScratch, illFormed, shortOutput, wrongLength, bitsSet}
+use Rattle.rules.specs.Strengths.{tableLength}
 use Rattle.rules.specs.Choices.{validOptions, optionsOf}
 use Rattle.rules.specs.Call.{Call, formatted, textOf, formatScratch, formatTests, verdictOf, outcomeAfter, outcomeOf, answerOf, filled, listed, outputOf, openedOf}
 use Rattle.rules.specs.declared.LineEnding.{LineEnding}
@@ -31,10 +32,11 @@ use Rattle.rules.specs.declared.OptionNumbers.{OptionNumbers}
 use Rattle.rules.specs.declared.Refusal.{Refusal}
 use Rattle.rules.specs.declared.Verdict.{Verdict}
 use Rattle.rules.specs.declared.Outcome.{Outcome}
+use Rattle.rules.specs.declared.Strengths.{Strengths}
 use Rattle.rules.specs.declared.Answer.{Answer}
 use Rattle.rules.proofs.StartsBytes.{on-decode}
 use Rattle.rules.proofs.LinesBytes.{dominant-encode, ends-lf-encode}
-use Rattle.rules.proofs.RefusalLaws.{test-on, test-off, pass, stop, one-test, goes-on, ends, source-short}
+use Rattle.rules.proofs.RefusalLaws.{test-on, test-off, pass, stop, one-test, goes-on, ends, head-passed, source-short}
 use Rattle.rules.proofs.CallLaws.{Admitted, admitted, indent-valid, answer-well, answer-kept}
 use Rattle.quoted.proofs.C22.{c22-call}
 use Rattle.options.specs.Held.{heldNamed}
@@ -93,7 +95,7 @@ module _
     (source indent : List ℕ) (chosen : FormatOptions) (ending : LineEnding) (last : Bool) (st : Record)
     (out₀ list₀ scratch₀ out₁ scratch₁ out₂ list₁ scratch₂ : List ℕ) (n r : ℕ)
     (e : ending ≡ endingOf (chosen .«end_of_line») (decode source))
-    (l : LinesDone source indent (record { width = chosen .«print_width»; ending = ending }) st out₁ scratch₁)
+    (l : LinesDone source indent (record { width = chosen .«print_width»; ending = ending; strengths = chosen .strengths }) st out₁ scratch₁)
     (k : (eol : List ℕ) → choose last eol [] ≡ lastEnding (chosen .«insert_final_newline») (decode source) eol)
     (w : Finished (asStr ending) (choose last (asStr ending) []) out₁ (st .text) out₂ n)
     (eo : length out₁ ≡ length out₀) (es : length scratch₁ ≡ length scratch₀) (ef : length out₂ ≡ length out₁)
@@ -102,7 +104,7 @@ module _
     o = optionsWith indent chosen
 
     held-here : Holds (asStr ending) (length source) (formattedLines o source) st out₁ scratch₁
-    held-here = l .holds o (record { indents = refl; breaks = refl })
+    held-here = l .holds o (record { indents = refl; breaks = refl; strengths = refl })
 
     text-is : formatWith o (decode source) .text ≡ joined (asStr ending) (dropEmpty (formattedLines o source .lines)) ++ choose last (asStr ending) []
     unfolding formatWith finish
@@ -152,40 +154,68 @@ module _
 
 -- ---- the tests
 
-module _ (source : List ℕ) (bad : Bool) (scratch : ℕ) (v : Verdict) (e : v ≡ longSource source) where
-  pub test-long : (why : Refusal) → v ≡ Verdict.Refused why → Verdict.Refused why ≡ tested (formatTests source bad scratch)
-  test-long why p = sym (stop (longSource source) why _ (sym e ∙ p))
+pub length-passed : (source : List ℕ) (v : Verdict) → v ≡ longSource source → v ≡ Verdict.Accepted → length source ≤ maxSource
+length-passed source v e p = source-short source (sym e ∙ p)
 
-  module _ (p : v ≡ Verdict.Accepted) where
-    pub length-passed : length source ≤ maxSource
-    length-passed = source-short source (sym e ∙ p)
+module _
+    (table source : List ℕ) (bad : Bool) (scratch : ℕ) (u : Verdict) (eu : u ≡ tested (wrongLength table ∷ bitsSet table ∷ []))
+  where
+    pub test-table : (why : Refusal) → u ≡ Verdict.Refused why → Verdict.Refused why ≡ tested (formatTests table source bad scratch)
+    test-table why p = sym (ends (wrongLength table ∷ bitsSet table ∷ []) _ why (sym eu ∙ p))
 
-    pub test-option : bad ≡ true → Verdict.Refused Refusal.BadOption ≡ tested (formatTests source bad scratch)
-    unfolding badOption
-    test-option q = sym (pass (longSource source) _ (sym e ∙ p) ∙ stop (badOption bad) _ _ (test-on bad _ q))
+    module _ (pu : u ≡ Verdict.Accepted) (v : Verdict) (e : v ≡ longSource source) where
+      on : tested (formatTests table source bad scratch)
+          ≡ tested (longSource source ∷ badOption bad ∷ shortScratch (scratchNeeded formatScratch source) scratch ∷ illFormed source ∷ [])
+      on = goes-on (wrongLength table ∷ bitsSet table ∷ []) _ (sym eu ∙ pu)
 
-    pub test-rest : (r : Verdict) → bad ≡ false → r ≡ tested (shortScratch (scratchNeeded formatScratch source) scratch ∷ illFormed source ∷ [])
-        → r ≡ tested (formatTests source bad scratch)
-    unfolding badOption
-    test-rest r q t = t ∙ sym (pass (longSource source) _ (sym e ∙ p) ∙ pass (badOption bad) _ (test-off bad _ q))
+      pub test-long : (why : Refusal) → v ≡ Verdict.Refused why → Verdict.Refused why ≡ tested (formatTests table source bad scratch)
+      test-long why p = sym (on ∙ stop (longSource source) why _ (sym e ∙ p))
+
+      module _ (p : v ≡ Verdict.Accepted) where
+        pub test-option : bad ≡ true → Verdict.Refused Refusal.BadOption ≡ tested (formatTests table source bad scratch)
+        unfolding badOption
+        test-option q = sym (on ∙ pass (longSource source) _ (sym e ∙ p) ∙ stop (badOption bad) _ _ (test-on bad _ q))
+
+        pub test-rest : (r : Verdict) → bad ≡ false → r ≡ tested (shortScratch (scratchNeeded formatScratch source) scratch ∷ illFormed source ∷ [])
+            → r ≡ tested (formatTests table source bad scratch)
+        unfolding badOption
+        test-rest r q t = t ∙ sym (on ∙ pass (longSource source) _ (sym e ∙ p) ∙ pass (badOption bad) _ (test-off bad _ q))
+
+-- a table that passed has its length
+whole-table : (table : List ℕ) → wrongLength table ≡ Verdict.Accepted → length table ≡ tableLength
+whole-table table = go (eqb (length table) tableLength) refl
+  where
+    go : (b : Bool) → eqb (length table) tableLength ≡ b → wrongLength table ≡ Verdict.Accepted → length table ≡ tableLength
+    go true e h = eqb-true (length table) tableLength e
+    go false e h =
+        absurd (let z : _≡_ {A = ℕ} 0 1 = cc (h, sym (test-on (not (eqb (length table) tableLength)) Refusal.StrengthsLength (rw e)), wrong-is) in omega arith)
+      where
+        wrong-is : wrongLength table ≡ refuseIf (not (eqb (length table) tableLength)) Refusal.StrengthsLength
+        wrong-is = unfold wrongLength in refl
 
 -- ---- the outcome of a call
 
 -- t is what `from_numbers` gives, v what `test` gives
 module _
-    (source indent : List ℕ) (numbers : OptionNumbers) (output list scratch : List ℕ) (t : Changed) (v : Verdict)
-    (named : t ≡ heldNamed (record { indent = indent; numbers = numbers }))
-    (tests : v ≡ tested (formatTests source (t .refused) (length scratch)))
+    (source indent : List ℕ) (numbers : OptionNumbers) (table output list scratch : List ℕ) (s : Strengths) (t : Changed) (v : Verdict)
+    (reads : length table ≡ tableLength → s .table ≡ table)
+    (named : t ≡ heldNamed (record { indent = indent; numbers = numbers; strengths = s .table }))
+    (tests : v ≡ tested (formatTests table source (t .refused) (length scratch)))
   where
     abbrev c : Call
-    c = callOf source indent numbers (length output) (length list) (length scratch)
+    c = callOf source indent numbers table (length output) (length list) (length scratch)
 
-    first-tests : tested (formatTests source (not (validOptions (c .choices))) (length scratch)) ≡ v
-    first-tests = ap (λ (b : Bool). tested (formatTests source b (length scratch))) (sym (named-valid-is (c .choices) t named)) ∙ sym tests
+    -- which numbers are valid doesn't depend on the table
+    bad-is : t .refused ≡ not (validOptions (c .choices))
+    unfolding validOptions
+    bad-is = named-valid-is (record { indent = indent; numbers = numbers; strengths = s .table }) t named
+
+    first-tests : tested (formatTests table source (not (validOptions (c .choices))) (length scratch)) ≡ v
+    first-tests = ap (λ (b : Bool). tested (formatTests table source b (length scratch))) (sym bad-is) ∙ sym tests
 
     ran-short : (why : Refusal) → v ≡ Verdict.Refused why → outcomeOf c ≡ Outcome.Refused why
     unfolding outcomeOf verdictOf
-    ran-short why e = rw (ends (formatTests source (not (validOptions (c .choices))) (length scratch)) (shortOutput (length (textOf c)) (length output) ∷ []) why (first-tests ∙ e))
+    ran-short why e = rw (ends (formatTests table source (not (validOptions (c .choices))) (length scratch)) (shortOutput (length (textOf c)) (length output) ∷ []) why (first-tests ∙ e))
 
     pub ran-refused : (why : Refusal) (r : Outcome) (out list′ work : List ℕ) → v ≡ Verdict.Refused why
         → RefusedCall why (length output) (length list) (length scratch) r out list′ work → Ran c r out list′ work
@@ -199,6 +229,12 @@ module _
         }
 
     module _ (e : v ≡ Verdict.Accepted) where
+      named-here : t ≡ heldNamed (c .choices)
+      named-here =
+          named
+          ∙ ap (λ (x : List ℕ). heldNamed (record { indent = indent; numbers = numbers; strengths = x }))
+          (reads (whole-table table (head-passed _ _ (first-tests ∙ e))))
+
       admits : Admitted source (c .choices) (length scratch)
       admits = admitted source (c .choices) (length scratch) (first-tests ∙ e)
 
@@ -217,13 +253,13 @@ module _
 
       options-are : formatted c ≡ formatWith (optionsWith indent (t .options)) (decode source)
       unfolding formatted optionsOf
-      options-are = rw (named-options (c .choices) t named (named-valid-is (c .choices) t named ∙ rw (admits .valid)))
+      options-are = rw (named-options (c .choices) t named-here (bad-is ∙ rw (admits .valid)))
 
       outcome-is : outcomeOf c ≡ outcomeIn (length output) (formatted c)
       unfolding outcomeOf verdictOf textOf
       outcome-is =
           ap (λ (u : Verdict). outcomeAfter u (length (textOf c)) (formatted c))
-          (goes-on (formatTests source (not (validOptions (c .choices))) (length scratch)) (shortOutput (length (textOf c)) (length output) ∷ []) (first-tests ∙ e)
+          (goes-on (formatTests table source (not (validOptions (c .choices))) (length scratch)) (shortOutput (length (textOf c)) (length output) ∷ []) (first-tests ∙ e)
           ∙ one-test (shortOutput (length (textOf c)) (length output)))
 
       pub ran-formatted : (r : Outcome) (out list′ work : List ℕ)

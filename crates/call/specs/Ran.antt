@@ -7,9 +7,15 @@ use Rattle.rules.specs.declared.OptionNumbers.{OptionNumbers}
 use Rattle.rules.specs.declared.Outcome.{Outcome}
 
 -- the bytes lent, the numbers, and how long the output, the list of open brackets and the scratch are
-abbrev pub callOf : List ℕ → List ℕ → OptionNumbers → ℕ → ℕ → ℕ → Call
-callOf source indent numbers output opened scratch =
-    record { source = source; choices = record { indent = indent; numbers = numbers }; output = output; opened = opened; scratch = scratch }
+abbrev pub callOf : List ℕ → List ℕ → OptionNumbers → List ℕ → ℕ → ℕ → ℕ → Call
+callOf source indent numbers strengths output opened scratch =
+    record {
+      source = source;
+      choices = record { indent = indent; numbers = numbers; strengths = strengths };
+      output = output;
+      opened = opened;
+      scratch = scratch;
+    }
 
 -- the numbers of the options
 abbrev pub numbersOf : ℕ → ℕ → ℕ → ℕ → OptionNumbers

@@ -68,8 +68,13 @@ pub fn format_with(
     let width = chosen.print_width;
     let end_of_line = chosen.end_of_line;
     let newline = chosen.insert_final_newline;
+    let strengths = chosen.strengths;
     let ending = ending_of(end_of_line, source);
-    let style = Style { width, ending };
+    let style = Style {
+        width,
+        ending,
+        strengths,
+    };
     let st = lines::format_lines(source, indent, style, output, scratch);
     let t = st.text;
     let last = has_last_ending(newline, source);

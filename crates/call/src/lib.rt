@@ -18,18 +18,21 @@ pub mod assembly;
 // The bytes of scratch for each of the source's, beside 256.
 pub const FORMAT_SCRATCH: usize = 12;
 
-// Refusals 1 to 4 in number order.
-fn test(source: &[u8], bad_option: bool, scratch: usize) -> Verdict
-    ensures { λ r. ⌜ r ≡ tested (formatTests (now (source .entry)) «bad_option» scratch) ⌝ }
+// Refusals 12 and 13, then 1 to 4.
+fn test(strengths: &[u8], source: &[u8], bad_option: bool, scratch: usize) -> Verdict
+    ensures { λ r. ⌜ r ≡ tested (formatTests (now (strengths .entry)) (now (source .entry)) «bad_option» scratch) ⌝ }
 {
-    match answer::test_length(source) {
+    match answer::test_strengths(strengths) {
         Verdict::Refused(why) => Verdict::Refused(why),
-        Verdict::Accepted => {
-            if bad_option {
-                return Verdict::Refused(Refusal::BadOption);
+        Verdict::Accepted => match answer::test_length(source) {
+            Verdict::Refused(why) => Verdict::Refused(why),
+            Verdict::Accepted => {
+                if bad_option {
+                    return Verdict::Refused(Refusal::BadOption);
+                }
+                answer::test_bytes(source, FORMAT_SCRATCH, scratch)
             }
-            answer::test_bytes(source, FORMAT_SCRATCH, scratch)
-        }
+        },
     }
 }
 
@@ -47,15 +50,17 @@ fn run_call(
     source: &[u8],
     indent: &[u8],
     numbers: OptionNumbers,
+    strengths: &[u8],
     output: &mut [u8],
     opened: &mut [u64],
     scratch: &mut [u8],
 ) -> Outcome
-    ensures { λ r. ⌜ Ran (callOf (now (source .entry)) (now (indent .entry)) numbers (length (now (output .entry))) (length (now (opened .entry))) (length (now (scratch .entry)))) r (now (output .exit)) (now (opened .exit)) (now (scratch .exit)) ⌝ }
+    ensures { λ r. ⌜ Ran (callOf (now (source .entry)) (now (indent .entry)) numbers (now (strengths .entry)) (length (now (output .entry))) (length (now (opened .entry))) (length (now (scratch .entry)))) r (now (output .exit)) (now (opened .exit)) (now (scratch .exit)) ⌝ }
 {
-    let named = FormatOptions::from_numbers(indent, numbers);
+    let table = options::strengths::read(strengths);
+    let named = FormatOptions::from_numbers(indent, numbers, table);
     let chosen = named.options;
-    match test(source, named.refused, scratch.len()) {
+    match test(strengths, source, named.refused, scratch.len()) {
         Verdict::Refused(why) => refuse(output, opened, scratch, why),
         Verdict::Accepted => {
             assembly::format_with(source, indent, chosen, output, opened, scratch)
@@ -68,12 +73,13 @@ pub fn format_call(
     source: &[u8],
     indent: &[u8],
     numbers: OptionNumbers,
+    strengths: &[u8],
     output: &mut [u8],
     opened: &mut [u64],
     scratch: &mut [u8],
 ) -> Answer
-    ensures { λ r. ⌜ FormatAnswered (callOf (now (source .entry)) (now (indent .entry)) numbers (length (now (output .entry))) (length (now (opened .entry))) (length (now (scratch .entry)))) r (now (output .exit)) (now (opened .exit)) (now (scratch .exit)) ⌝ }
+    ensures { λ r. ⌜ FormatAnswered (callOf (now (source .entry)) (now (indent .entry)) numbers (now (strengths .entry)) (length (now (output .entry))) (length (now (opened .entry))) (length (now (scratch .entry)))) r (now (output .exit)) (now (opened .exit)) (now (scratch .exit)) ⌝ }
 {
-    let outcome = run_call(source, indent, numbers, output, opened, scratch);
+    let outcome = run_call(source, indent, numbers, strengths, output, opened, scratch);
     answer::answer_of(outcome)
 }

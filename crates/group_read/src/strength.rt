@@ -5,16 +5,18 @@ ghost use Prim.Native.Nat.{_<_};
 ghost use lib.ListN.{getD};
 ghost use Rattle.rules.specs.Operators.{strengths};
 ghost use Rattle.group_rules.specs.Grouping.{strengthOf};
-use operators::built_in;
 use operators::one_index;
+use operators::strength_at;
 use operators::two_index;
+use rules::Strengths;
 
 fn at_index(k: usize) -> u8
     ensures { λ r. ⌜ r ≡ getD strengths k 0 ⌝ }
 {
     if k < 21 {
-        let s = built_in();
-        return s.of[k];
+        let s = Strengths::BUILT_IN;
+        let table = s.table;
+        return strength_at(&table, k);
     }
     0
 }

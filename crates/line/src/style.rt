@@ -1,9 +1,11 @@
 // What formatting asks of the options beside the indent, by value.
 use rules::LineEnding;
 use rules::PrintWidth;
+use rules::Strengths;
 
-// The print width, and the ending that the text's lines get.
+// The print width, the ending that the text's lines get, and the strengths of the operators.
 pub struct Style {
     pub width: PrintWidth,
     pub ending: LineEnding,
+    pub strengths: Strengths,
 }

@@ -15,7 +15,6 @@ use Rattle.rules.specs.Line.{Formatter, start, anyLine, readOn, formatLine}
 use Rattle.rules.specs.Assembly.{formatLines}
 use Rattle.rules.specs.declared.EndOfLine.{EndOfLine}
 use Rattle.rules.specs.declared.FinalNewline.{FinalNewline}
-use Rattle.rules.specs.declared.PrintWidth.{PrintWidth}
 use Rattle.basics.specs.Depth.{carryDepth}
 use Rattle.split.specs.Text.{AllWell}
 use Rattle.text.specs.Text.{Ordered}
@@ -82,10 +81,16 @@ read-on h =
 
 -- ---- the invariant
 
--- options with this indent and this width
-abbrev someOptions : List ℕ → PrintWidth → Options
-someOptions indent width =
-    record { indent = indent; printWidth = width; endOfLine = EndOfLine.Kept; insertFinalNewline = FinalNewline.Always }
+-- options with this indent and this style
+abbrev someOptions : List ℕ → Style → Options
+someOptions indent style =
+    record {
+      indent = indent;
+      printWidth = style .width;
+      endOfLine = EndOfLine.Kept;
+      insertFinalNewline = FinalNewline.Always;
+      strengths = style .strengths;
+    }
 
 -- the lines `left` are still to come, after the definition's record f
 pub record Running (o : Options) (source eol : List ℕ) (left : List (List ℕ)) (st : Record) (out scratch : List ℕ) : Type 0 where
@@ -173,8 +178,8 @@ module _
         (w : (o : Options) → Uses o indent style → Stepped (λ f. anyLine o f (decode raw)) (length raw) (length source) (asStr (style .ending)) st out scratch st′ out′ scratch′)
       where
         -- what a step gives for some options
-        stepped : Stepped (λ f. anyLine (someOptions indent (style .width)) f (decode raw)) (length raw) (length source) (asStr (style .ending)) st out scratch st′ out′ scratch′
-        stepped = w (someOptions indent (style .width)) (record { indents = refl; breaks = refl })
+        stepped : Stepped (λ f. anyLine (someOptions indent style) f (decode raw)) (length raw) (length source) (asStr (style .ending)) st out scratch st′ out′ scratch′
+        stepped = w (someOptions indent style) (record { indents = refl; breaks = refl; strengths = refl })
 
         pub number-fits : st′ .nesting .line + 1 < 2 ^ 64
         number-fits = omega (arith, stepped .line, r .line, p .limit)

@@ -1,12 +1,16 @@
-// The operators: which they are, by their places in document 01's tightness list, and their strengths. The places stand here alone; the list of
-// the rules has the same order, and the contracts say so. They are found by comparing bytes: a table that is indexed would be slower.
+// The operators: which they are, by their places in document 01's tightness list, and their strengths in a table. The places stand here alone;
+// the list of the rules has the same order, and the contracts say so. They are found by comparing bytes: a table that is indexed would be slower.
 pub mod first;
 
 ghost use mathlib.Core.Path.{_≡_};
 ghost use mathlib.Core.List.{[], _∷_};
 ghost use Rattle.rules.specs.Basics.{oneOf};
-ghost use Rattle.rules.specs.Operators.{operators, strengths, indexIn};
+ghost use Prim.Native.Nat.{_<_};
+ghost use lib.ListN.{getD};
+ghost use Rattle.rules.specs.Operators.{operators, indexIn};
+ghost use Rattle.rules.specs.Strengths.{strengthsIn};
 ghost use Rattle.rules.specs.SplitOperation.{isSign};
+use rules::Strengths;
 
 // The places.
 pub const OR: usize = 0;
@@ -57,39 +61,16 @@ pub const COUNT: usize = 21;
 // A strength takes 4 bits.
 pub const MAX_STRENGTH: usize = 15;
 
-// Tightness: a strength for each, in their order.
-pub struct Strengths {
-    pub of: [u8; 21],
-}
-
-// Those of document 01.
-pub fn built_in() -> Strengths
-    ensures { λ r. ⌜ r .of ≡ strengths ⌝ }
+// The strength that a table has for the operator at a place: the upper or the lower four bits of a byte.
+pub fn strength_at(table: &[u8; Strengths::LENGTH], k: usize) -> u8
+    requires { ⌜ k < 21 ⌝ }
+    ensures { λ r. ⌜ r ≡ getD (strengthsIn (now (table .entry))) k 0 ⌝ }
 {
-    let of = [
-        1u8,
-        1,
-        2,
-        3,
-        4,
-        5,
-        6,
-        6,
-        7,
-        7,
-        7,
-        7,
-        8,
-        8,
-        9,
-        10,
-        10,
-        11,
-        11,
-        11,
-        12,
-    ];
-    Strengths { of }
+    let b = table[k / 2];
+    if k % 2 == 0 {
+        return b / 16 % 16;
+    }
+    b % 16
 }
 
 // The place of the operator that is the byte a twice, or COUNT.

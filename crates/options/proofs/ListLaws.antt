@@ -4,6 +4,7 @@ use mathlib.Core.Path.{_≡_, refl, ap, _∙_}
 use mathlib.Core.List.{List, [], _∷_, append-nil}
 use native.Mathlib.Nat.{sub-zero, suc-sub-suc, not-suc-le-zero, le-of-suc-le-suc, mul-one}
 use native.Mathlib.Numerals.{add-one}
+use native.Mathlib.Omega.{arith}
 use lib.ListN.{length, getD, take, drop, replicate}
 use lib.Seq.{drop-cons, take-at}
 use Rattle.buffer.specs.Buffer.{over}
@@ -22,6 +23,14 @@ unfolding over filled
 over-zeros n [] h = over-nil (replicate n 0) ∙ rw sub-zero
 over-zeros zero (a ∷ t) h = absurd (not-suc-le-zero h)
 over-zeros (suc n) (a ∷ t) h = rw suc-sub-suc (ap (λ (l : List ℕ). a ∷ l) (over-zeros n t (le-of-suc-le-suc h)))
+
+-- one that fills them
+pub over-whole : (n : ℕ) (t : List ℕ) → length t ≡ n → over (replicate n 0) t ≡ t
+unfolding over
+over-whole zero [] h = refl
+over-whole zero (a ∷ t) h = absurd (omega arith)
+over-whole (suc n) [] h = absurd (omega arith)
+over-whole (suc n) (a ∷ t) h = ap (λ (l : List ℕ). a ∷ l) (over-whole n t (omega arith))
 
 pub times-one : (w : List ℕ) → times 1 w ≡ w
 unfolding times

@@ -17,11 +17,13 @@ use rules::IndentStyle;
 use rules::OptionNumbers;
 use rules::PrintWidth;
 use rules::Resolved;
+use rules::Strengths;
 use rules::TabWidth;
 
 pub mod editorconfig;
 pub mod ending;
 pub mod numbers;
+pub mod strengths;
 
 // The options of a call. One level of indentation is the first `used` bytes of `indent`; the rest are zeros.
 pub struct FormatOptions {
@@ -30,6 +32,7 @@ pub struct FormatOptions {
     pub print_width: PrintWidth,
     pub end_of_line: EndOfLine,
     pub insert_final_newline: FinalNewline,
+    pub strengths: Strengths,
 }
 
 // What a setting step hands back: the changed options, or, refused, the options as they were.
@@ -53,6 +56,7 @@ impl FormatOptions {
             print_width: PrintWidth::Columns(Self::DEFAULT_PRINT_WIDTH),
             end_of_line: EndOfLine::Kept,
             insert_final_newline: FinalNewline::Always,
+            strengths: Strengths::BUILT_IN,
         }
     }
 
@@ -67,9 +71,9 @@ impl FormatOptions {
         }
     }
 
-    // The options that an indent and numbers name; refused, with the defaults, where they name none.
-    pub fn from_numbers(indent: &[u8], numbers: OptionNumbers) -> Changed
-        ensures { λ r. ⌜ r ≡ heldNamed (record { indent = now (indent .entry); numbers = numbers }) ⌝ }
+    // The options that an indent, numbers and strengths name; refused, with the defaults, where they name none.
+    pub fn from_numbers(indent: &[u8], numbers: OptionNumbers, strengths: Strengths) -> Changed
+        ensures { λ r. ⌜ r ≡ heldNamed (record { indent = now (indent .entry); numbers = numbers; strengths = strengths .table }) ⌝ }
     {
         let width = numbers::print_width_named(numbers.width_set, numbers.width);
         let WidthNamed::Choice(print_width) = width else {
@@ -91,6 +95,7 @@ impl FormatOptions {
                 print_width,
                 end_of_line,
                 insert_final_newline,
+                strengths,
             };
             return Changed {
                 refused: false,
@@ -227,6 +232,7 @@ impl FormatOptions {
         let old_width = self.print_width;
         let old_ending = self.end_of_line;
         let old_newline = self.insert_final_newline;
+        let strengths = self.strengths;
         let max = r.max;
         let config_ending = r.ending;
         let config_newline = r.newline;
@@ -239,6 +245,7 @@ impl FormatOptions {
             print_width,
             end_of_line,
             insert_final_newline,
+            strengths,
         }
     }
 }

@@ -13,21 +13,23 @@ use Rattle.rules.specs.Lines.{asStr}
 use Rattle.rules.specs.Scan.{classify, allCodeOrStr}
 use Rattle.rules.specs.Options.{Options, allBlank}
 use Rattle.rules.specs.SplitImport.{Laid, splitImport}
-use Rattle.rules.specs.Operators.{strengths, maxStrength, AtMost}
+use Rattle.rules.specs.Strengths.{strengthsIn}
 use Rattle.rules.specs.SplitOperation.{splitOperation}
 use Rattle.rules.specs.Assembly.{joined}
 use Rattle.rules.specs.Else.{joinable}
 use Rattle.rules.specs.Line.{dropBlank, orOperation, broken}
 use Rattle.rules.specs.declared.Carry.{Carry}
+use Rattle.rules.specs.declared.EndOfLine.{EndOfLine}
+use Rattle.rules.specs.declared.FinalNewline.{FinalNewline}
 use Rattle.rules.specs.declared.LineEnding.{LineEnding}
+use Rattle.rules.specs.declared.PrintWidth.{PrintWidth}
+use Rattle.rules.specs.declared.Strengths.{Strengths}
 use Rattle.rules.proofs.SplitLines.{Newest, newest, newest-one, alone-line, import-lines, operation-lines, operation-several, operation-alone}
-use Rattle.rules.proofs.StrengthRounds.{strengths-known}
 use Rattle.rules.proofs.SplitSizes.{Fit, import-fits, operation-fits}
-use Rattle.split.specs.Text.{indented, Fits}
+use Rattle.split.specs.Text.{Fits}
 use Rattle.split_import.specs.Import.{Given, ImportFits}
 use Rattle.split_import.specs.declared.ImportLines.{ImportLines}
 use Rattle.split_import.specs.declared.ImportSplit.{ImportSplit}
-use Rattle.operators.specs.declared.Strengths.{Strengths}
 use Rattle.split.specs.declared.NewLine.{NewLine}
 use Rattle.split_operation.specs.Operation.{lineOf, isBroken, Broken, OperationFits}
 use Rattle.split_operation.specs.declared.OperationSplit.{OperationSplit}
@@ -39,7 +41,18 @@ use Rattle.text.proofs.StepLaws.{ending, grown-ordered, lines-done, lines-grown
 use Rattle.place.specs.declared.Placed.{Placed}
 use Rattle.line.specs.Holds.{ValidIndent}
 use Rattle.line.proofs.HoldsLaws.{brace-bytes}
-use Rattle.place.specs.Placing.{GoesOn, Breaks, aloneIn}
+use Rattle.place.specs.Placing.{GoesOn, LaidBy, Breaks, aloneIn}
+
+-- some options in use
+abbrev some-options : List ℕ → Strengths → Options
+some-options indent st =
+    record {
+      indent = indent;
+      printWidth = PrintWidth.Off;
+      endOfLine = EndOfLine.Kept;
+      insertFinalNewline = FinalNewline.Always;
+      strengths = st;
+    }
 
 size-line : (m : List ℕ) → isEmpty m ≡ false → 1 ≤ size m
 size-line [] h = absurd (true≢false h)
@@ -67,10 +80,8 @@ module _
     pub import-asks : t .at .0 ≤ farPlace → ImportFits line class indent level eol start
     import-asks h = record { fits = break-fits h; classes = g .classes }
 
-    pub operation-asks : t .at .0 ≤ farPlace → allCodeOrStr (classify Carry.Code line) ≡ true → (st : Strengths) → st .of ≡ strengths
-        → OperationFits line class indent level eol start × AtMost maxStrength (st .of)
-    operation-asks h p st known =
-        (record { fits = break-fits h; classed = record { classes = g .classes; plain = p } }, rw known strengths-known)
+    pub operation-asks : t .at .0 ≤ farPlace → allCodeOrStr (classify Carry.Code line) ≡ true → OperationFits line class indent level eol start
+    operation-asks h p = record { fits = break-fits h; classed = record { classes = g .classes; plain = p } }
 
     -- ---- lines that were written
 
@@ -90,8 +101,9 @@ module _
       few : p .imports ≤ 1
       fewer : p .blanks ≤ size (decode line)
 
-    module _ (max : ℕ) (b : Bool) (o2 : List ℕ) (next : ℕ) (p : Placed) (is : p .text ≡ afterLines next b) (came : (o : Options) → o .indent ≡ indent → Came (broken o max level (decode line)) b o2 next p) where
-      came-text : (o : Options) (ls : List (List ℕ)) → o .indent ≡ indent → Text (asStr e) ls t out
+    module _ (st : Strengths) (max : ℕ) (b : Bool) (o2 : List ℕ) (next : ℕ) (p : Placed) (is : p .text ≡ afterLines next b)
+        (came : (o : Options) → LaidBy o indent st → Came (broken o max level (decode line)) b o2 next p) where
+      came-text : (o : Options) (ls : List (List ℕ)) → LaidBy o indent st → Text (asStr e) ls t out
           → Text (asStr e) (reverseAux (broken o max level (decode line) .lines) (choose drops (dropBlank ls) ls)) (p .text) o2
       came-text o ls i x =
           let r = came o i in
@@ -99,9 +111,9 @@ module _
           rw (is, n .onto (choose drops (dropBlank ls) ls))
           (lines-done (n .last) (n .before) go-on (rw (n .reversed) at (r .written)) (size-line (n .last) (n .line .some)) (n .line .trimmed) (n .line .joins) ls x)
 
-      came-breaks : Breaks max indent (decode line) level (asStr e) drops (length line) out t p o2
+      came-breaks : Breaks max indent st (decode line) level (asStr e) drops (length line) out t p o2
       came-breaks =
-          let r = came (indented indent) refl in
+          let r = came (some-options indent st) (record { indents = refl; strengths = refl }) in
           let n = r .newest in
           let w = lines-grown (n .last) (n .before) go-on (rw (n .reversed) at (r .written)) b in
           record {
@@ -122,21 +134,21 @@ module _
 
     -- ---- an import
 
-    module _ (max : ℕ) (brace : Bool) (ends : brace ≡ lastIs (is "}") line) (o2 : List ℕ) (i : ImportSplit)
+    module _ (st : Strengths) (max : ℕ) (brace : Bool) (ends : brace ≡ lastIs (is "}") line) (o2 : List ℕ) (i : ImportSplit)
         (given : (o : Options) → o .indent ≡ indent → Given (splitImport o max level (classify Carry.Code (decode line))) eol o1 o2 start i) where
       module _ (m : ImportLines) (yes : i ≡ ImportSplit.Split m) (u : Written) (reached : u ≡ afterLines (m .next) brace) where
         abbrev placed : Placed
         placed = record { text = u; imports = 1; blanks = m .blanks }
 
-        import-came : (o : Options) → o .indent ≡ indent → Came (broken o max level (decode line)) brace o2 (m .next) placed
-        import-came o k = go (splitImport o max level (classify Carry.Code (decode line))) refl (given o k)
+        import-came : (o : Options) → LaidBy o indent st → Came (broken o max level (decode line)) brace o2 (m .next) placed
+        import-came o k = go (splitImport o max level (classify Carry.Code (decode line))) refl (given o (k .indents))
           where
             go : (s : Option Laid) → splitImport o max level (classify Carry.Code (decode line)) ≡ s → Given s eol o1 o2 start i → Came (broken o max level (decode line)) brace o2 (m .next) placed
             go none q w = absurd (let y : _≡_ {A = ℕ} 0 1 = cc (yes, w .is) in omega arith)
             go (some laid) q w =
                 let same-made : w .made ≡ m = cc (yes, w .is) in
-                let r = import-lines o (blank-of o k) max level (decode line) (g .trimmed) laid q in
-                let f = import-fits o (blank-of o k) (short-of o k) level flat (asStr e) eol-small max (decode line) laid q in
+                let r = import-lines o (blank-of o (k .indents)) max level (decode line) (g .trimmed) laid q in
+                let f = import-fits o (blank-of o (k .indents)) (short-of o (k .indents)) level flat (asStr e) eol-small max (decode line) laid q in
                 let same : broken o max level (decode line) ≡ laid = unfold broken orOperation in (rw q refl) in
                 subst (λ (x : Laid). Came x brace o2 (m .next) placed) (sym same)
                 (record {
@@ -149,61 +161,61 @@ module _
                   fewer = omega (arith, rw same-made at (w .blanks), f .blanks);
                 })
 
-        pub import-breaks : Breaks max indent (decode line) level (asStr e) drops (length line) out t placed o2
-        import-breaks = came-breaks max brace o2 (m .next) placed reached import-came
+        pub import-breaks : Breaks max indent st (decode line) level (asStr e) drops (length line) out t placed o2
+        import-breaks = came-breaks st max brace o2 (m .next) placed reached import-came
 
       -- ---- an expression
 
-      module _ (other : i ≡ ImportSplit.Whole) (st : Strengths) (known : st .of ≡ strengths) (o3 : List ℕ) (r : OperationSplit)
-          (said : (o : Options) → o .indent ≡ indent → Broken eol (splitOperation (st .of) o max level (decode line)) o2 o3 start r) where
-        made : (o : Options) → o .indent ≡ indent → Broken eol (splitOperation strengths o max level (decode line)) o2 o3 start r
-        made o k = subst (λ (table : List ℕ). Broken eol (splitOperation table o max level (decode line)) o2 o3 start r) known (said o k)
+      module _ (other : i ≡ ImportSplit.Whole) (o3 : List ℕ) (r : OperationSplit)
+          (made : (o : Options) → o .indent ≡ indent → Broken eol (splitOperation (strengthsIn (st .table)) o max level (decode line)) o2 o3 start r) where
+        abbrev table : List ℕ
+        table = strengthsIn (st .table)
 
         abbrev operationLaid : Options → Laid
-        operationLaid o = record { lines = splitOperation strengths o max level (decode line); importsSplit = 0; blankNames = 0 }
+        operationLaid o = record { lines = splitOperation table o max level (decode line); importsSplit = 0; blankNames = 0 }
 
         -- it is no import that is split, and nothing was written for it
-        other-same : (o : Options) → o .indent ≡ indent → (broken o max level (decode line) ≡ operationLaid o) × (o2 ≡ o1)
-        other-same o k = go (splitImport o max level (classify Carry.Code (decode line))) refl (given o k)
+        other-same : (o : Options) → LaidBy o indent st → (broken o max level (decode line) ≡ operationLaid o) × (o2 ≡ o1)
+        other-same o k = go (splitImport o max level (classify Carry.Code (decode line))) refl (given o (k .indents))
           where
             go : (s : Option Laid) → splitImport o max level (classify Carry.Code (decode line)) ≡ s → Given s eol o1 o2 start i
                 → (broken o max level (decode line) ≡ operationLaid o) × (o2 ≡ o1)
-            go none q w = (unfold broken orOperation in (rw q refl), w .same)
+            go none q w = (unfold broken orOperation in (rw (q, k .strengths) refl), w .same)
             go (some laid) q w = absurd (let y : _≡_ {A = ℕ} 0 1 = cc (other, w .is) in omega arith)
 
-        operation-came : (b : Bool) (u : Written) (o : Options) → o .indent ≡ indent → Newest b (splitOperation strengths o max level (decode line)) → Came (broken o max level (decode line)) b o3 (lineOf r .next) (aloneIn u)
+        operation-came : (b : Bool) (u : Written) (o : Options) → LaidBy o indent st → Newest b (splitOperation table o max level (decode line)) → Came (broken o max level (decode line)) b o3 (lineOf r .next) (aloneIn u)
         operation-came b u o k n =
             let s = other-same o k in
             subst (λ (x : Laid). Came x b o3 (lineOf r .next) (aloneIn u)) (sym (s .0))
             (record {
               newest = n;
-              written = rw (eq, s .1) at (made o k .written .text);
-              fit = operation-fits o (blank-of o k) (short-of o k) level flat (asStr e) eol-small strengths max (decode line);
+              written = rw (eq, s .1) at (made o (k .indents) .written .text);
+              fit = operation-fits o (blank-of o (k .indents)) (short-of o (k .indents)) level flat (asStr e) eol-small table max (decode line);
               imports = refl;
               blanks = refl;
               few = omega arith;
               fewer = omega arith;
             })
 
-        operation-breaks : (b : Bool) (u : Written) (p : Placed) → ((o : Options) → o .indent ≡ indent → Newest b (splitOperation strengths o max level (decode line)))
-            → u ≡ afterLines (lineOf r .next) b → p ≡ aloneIn u → Breaks max indent (decode line) level (asStr e) drops (length line) out t p o3
+        operation-breaks : (b : Bool) (u : Written) (p : Placed) → ((o : Options) → LaidBy o indent st → Newest b (splitOperation table o max level (decode line)))
+            → u ≡ afterLines (lineOf r .next) b → p ≡ aloneIn u → Breaks max indent st (decode line) level (asStr e) drops (length line) out t p o3
         operation-breaks b u p n reached is =
-            subst (λ (x : Placed). Breaks max indent (decode line) level (asStr e) drops (length line) out t x o3) (sym is)
-            (came-breaks max b o3 (lineOf r .next) (aloneIn u) reached (λ o k. operation-came b u o k (n o k)))
+            subst (λ (x : Placed). Breaks max indent st (decode line) level (asStr e) drops (length line) out t x o3) (sym is)
+            (came-breaks st max b o3 (lineOf r .next) (aloneIn u) reached (λ o k. operation-came b u o k (n o k)))
 
         pub several-breaks : (w : NewLine) (u : Written) (p : Placed) → r ≡ OperationSplit.Broken w → u ≡ afterLines (w .next) brace → p ≡ aloneIn u
-            → Breaks max indent (decode line) level (asStr e) drops (length line) out t p o3
+            → Breaks max indent st (decode line) level (asStr e) drops (length line) out t p o3
         several-breaks w u p more reached is =
             operation-breaks brace u p
-            (λ o k. rw (ends, brace-bytes line (g .well)) (newest (operation-several (operation-lines strengths o (blank-of o k) max level (decode line) (g .trimmed)) (sym (made o k .more) ∙ ap isBroken more))))
+            (λ o k. rw (ends, brace-bytes line (g .well)) (newest (operation-several (operation-lines table o (blank-of o (k .indents)) max level (decode line) (g .trimmed)) (sym (made o (k .indents) .more) ∙ ap isBroken more))))
             (reached ∙ ap (λ (x : OperationSplit). afterLines (lineOf x .next) brace) (sym more)) is
 
         pub alone-breaks : (w : NewLine) (j : Bool) (u : Written) (p : Placed) → j ≡ joinable (decode line)
-            → r ≡ OperationSplit.Whole w → u ≡ afterLines (w .next) j → p ≡ aloneIn u → Breaks max indent (decode line) level (asStr e) drops (length line) out t p o3
+            → r ≡ OperationSplit.Whole w → u ≡ afterLines (w .next) j → p ≡ aloneIn u → Breaks max indent st (decode line) level (asStr e) drops (length line) out t p o3
         alone-breaks w j u p q more reached is =
             operation-breaks j u p
-            (λ o k. rw (operation-alone (operation-lines strengths o (blank-of o k) max level (decode line) (g .trimmed)) (sym (made o k .more) ∙ ap isBroken more), q)
-            (newest-one (alone-line o (blank-of o k) level (decode line) (some-of (decode line) (omega (arith, long, g .some))) (g .trimmed))))
+            (λ o k. rw (operation-alone (operation-lines table o (blank-of o (k .indents)) max level (decode line) (g .trimmed)) (sym (made o (k .indents) .more) ∙ ap isBroken more), q)
+            (newest-one (alone-line o (blank-of o (k .indents)) level (decode line) (some-of (decode line) (omega (arith, long, g .some))) (g .trimmed))))
             (reached ∙ ap (λ (x : OperationSplit). afterLines (lineOf x .next) j) (sym more)) is
           where
             some-of : (l : List ℕ) → 1 ≤ size l → isEmpty l ≡ false

@@ -16,6 +16,7 @@ use Rattle.rules.specs.SplitImport.{Laid}
 use Rattle.rules.specs.Line.{dropBlank, orOperation, broken, oneLine, splitWide}
 use Rattle.rules.specs.declared.Carry.{Carry}
 use Rattle.rules.specs.declared.PrintWidth.{PrintWidth}
+use Rattle.rules.specs.declared.Strengths.{Strengths}
 use Rattle.rules.proofs.CellsLaws.{cells-classify, length-classBytes, length-classify}
 use Rattle.rules.proofs.ScanBytes.{classify-encode, all-encode}
 use Rattle.scan.specs.CodeEnd.{onlyCodeOrStr}
@@ -27,7 +28,7 @@ use Rattle.text.proofs.PadLaws.{indent-blanks, blanks-size}
 use Rattle.place.specs.declared.Placed.{Placed}
 use Rattle.line.specs.Holds.{ValidIndent}
 use Rattle.split.specs.Measure.{Wide}
-use Rattle.place.specs.Placing.{GoesOn, Lays, Breaks, aloneIn}
+use Rattle.place.specs.Placing.{GoesOn, LaidBy, Lays, Breaks, aloneIn}
 use Rattle.place.proofs.PlaceLaws.{indent-small}
 
 -- the test of the class bytes is the test of the classes, of the bytes and of the characters
@@ -48,22 +49,22 @@ code-test line class r g e =
 module _
     (w : PrintWidth) (indent line class : List ℕ) (level : ℕ) (eol : List ℕ) (drops : Bool) (out out′ : List ℕ) (t u : Written)
     (v : ValidIndent indent) (flat : level ≤ maxSource) (g : GoesOn line class) (a : Adds eol drops (times level indent ++ decode line) out t out′ u)
-    (p : Placed) (is : p ≡ aloneIn u) (same : (o : Options) → o .indent ≡ indent → splitWide w o level (decode line) ≡ oneLine (times level indent ++ decode line))
+    (p : Placed) (is : p ≡ aloneIn u) (st : Strengths) (same : (o : Options) → o .indent ≡ indent → splitWide w o level (decode line) ≡ oneLine (times level indent ++ decode line))
   where
-    lays-alone : Lays w indent (decode line) level eol drops (length line) out t (aloneIn u) out′
+    lays-alone : Lays w indent st (decode line) level eol drops (length line) out t (aloneIn u) out′
     lays-alone =
         record {
-          text = λ o ls e h. subst (λ (x : Laid). Text eol (reverseAux (x .lines) (choose drops (dropBlank ls) ls)) u out′) (sym (same o e)) (a .text ls h);
-          imports = λ o e. sym (ap (λ (x : Laid). x .importsSplit) (same o e));
-          blanks = λ o e. sym (ap (λ (x : Laid). x .blankNames) (same o e));
+          text = λ o ls e h. subst (λ (x : Laid). Text eol (reverseAux (x .lines) (choose drops (dropBlank ls) ls)) u out′) (sym (same o (e .indents))) (a .text ls h);
+          imports = λ o e. sym (ap (λ (x : Laid). x .importsSplit) (same o (e .indents)));
+          blanks = λ o e. sym (ap (λ (x : Laid). x .blankNames) (same o (e .indents)));
           ordered = grown-ordered (a .grown);
           at = omega (arith, a .grown .at, blanks-size (times level indent) (decode line) (indent-blanks level indent (v .blank)), ap length (g .well), indent-small indent level v flat);
           few = omega arith;
           fewer = omega arith;
         }
 
-    lays-one : Lays w indent (decode line) level eol drops (length line) out t p out′
-    lays-one = subst (λ (x : Placed). Lays w indent (decode line) level eol drops (length line) out t x out′) (sym is) lays-alone
+    lays-one : Lays w indent st (decode line) level eol drops (length line) out t p out′
+    lays-one = subst (λ (x : Placed). Lays w indent st (decode line) level eol drops (length line) out t x out′) (sym is) lays-alone
 
 abbrev fits : Bool → PrintWidth → PrintWidth
 fits b width = choose b width PrintWidth.Off
@@ -81,27 +82,27 @@ narrow-same false max level indent l o e h = rw e
 
 module _
     (indent line class : List ℕ) (level : ℕ) (eol : List ℕ) (drops : Bool) (out out′ : List ℕ) (t u : Written) (v : ValidIndent indent)
-    (flat : level ≤ maxSource) (g : GoesOn line class) (a : Adds eol drops (times level indent ++ decode line) out t out′ u) (p : Placed) (is : p ≡ aloneIn u)
+    (flat : level ≤ maxSource) (g : GoesOn line class) (a : Adds eol drops (times level indent ++ decode line) out t out′ u) (p : Placed) (is : p ≡ aloneIn u) (st : Strengths)
   where
     abbrev here : Bool
     here = allCodeOrStr (classify Carry.Code (decode line))
 
-    pub fit-off : (width : PrintWidth) → width ≡ PrintWidth.Off → Lays (choose here width PrintWidth.Off) indent (decode line) level eol drops (length line) out t p out′
+    pub fit-off : (width : PrintWidth) → width ≡ PrintWidth.Off → Lays (choose here width PrintWidth.Off) indent st (decode line) level eol drops (length line) out t p out′
     fit-off width e =
-        lays-one (choose here width PrintWidth.Off) indent line class level eol drops out out′ t u v flat g a p is
+        lays-one (choose here width PrintWidth.Off) indent line class level eol drops out out′ t u v flat g a p is st
         (λ o k. ap (λ (x : PrintWidth). splitWide (fits here x) o level (decode line)) e ∙ off-same here level indent (decode line) o k)
 
     pub fit-narrow : (width : PrintWidth) (max : ℕ) (r : Bool) → width ≡ PrintWidth.Columns max → Wide indent level line max r → r ≡ false
-        → Lays (choose here width PrintWidth.Off) indent (decode line) level eol drops (length line) out t p out′
+        → Lays (choose here width PrintWidth.Off) indent st (decode line) level eol drops (length line) out t p out′
     fit-narrow width max r e wide q =
-        lays-one (choose here width PrintWidth.Off) indent line class level eol drops out out′ t u v flat g a p is
+        lays-one (choose here width PrintWidth.Off) indent line class level eol drops out out′ t u v flat g a p is st
         (λ o k. ap (λ (x : PrintWidth). splitWide (fits here x) o level (decode line)) e ∙ narrow-same here max level indent (decode line) o k (sym (wide .is o k) ∙ q))
 
     pub fit-mixed : (width : PrintWidth) (c : Bool) → c ≡ onlyCodeOrStr class → c ≡ false
-        → Lays (choose here width PrintWidth.Off) indent (decode line) level eol drops (length line) out t p out′
+        → Lays (choose here width PrintWidth.Off) indent st (decode line) level eol drops (length line) out t p out′
     fit-mixed width c e q =
         let k : here ≡ false = sym (code-test line class c g e) ∙ q in
-        lays-one (choose here width PrintWidth.Off) indent line class level eol drops out out′ t u v flat g a p is
+        lays-one (choose here width PrintWidth.Off) indent line class level eol drops out out′ t u v flat g a p is st
         (λ o i. ap (λ (b : Bool). splitWide (choose b width PrintWidth.Off) o level (decode line)) k ∙ off-is o i)
       where
         off-is : (o : Options) → o .indent ≡ indent → splitWide (choose false width PrintWidth.Off) o level (decode line) ≡ oneLine (times level indent ++ decode line)
@@ -113,11 +114,11 @@ wide-same : (max level : ℕ) (indent l : List ℕ) (o : Options) → o .indent 
 unfolding choose splitWide
 wide-same max level indent l o e h = rw h
 
-pub fit-broken : (indent line class : List ℕ) (level : ℕ) (eol : List ℕ) (drops : Bool) (out out′ : List ℕ) (t : Written) (p : Placed) (width : PrintWidth) (max : ℕ) (r c : Bool)
+pub fit-broken : (indent line class : List ℕ) (st : Strengths) (level : ℕ) (eol : List ℕ) (drops : Bool) (out out′ : List ℕ) (t : Written) (p : Placed) (width : PrintWidth) (max : ℕ) (r c : Bool)
     → GoesOn line class → width ≡ PrintWidth.Columns max → Wide indent level line max r → r ≡ true → c ≡ onlyCodeOrStr class → c ≡ true
-    → Breaks max indent (decode line) level eol drops (length line) out t p out′
-    → Lays (choose (allCodeOrStr (classify Carry.Code (decode line))) width PrintWidth.Off) indent (decode line) level eol drops (length line) out t p out′
-fit-broken indent line class level eol drops out out′ t p width max r c g e wide q ec tc b =
+    → Breaks max indent st (decode line) level eol drops (length line) out t p out′
+    → Lays (choose (allCodeOrStr (classify Carry.Code (decode line))) width PrintWidth.Off) indent st (decode line) level eol drops (length line) out t p out′
+fit-broken indent line class st level eol drops out out′ t p width max r c g e wide q ec tc b =
     let here : allCodeOrStr (classify Carry.Code (decode line)) ≡ true = sym (code-test line class c g ec) ∙ tc in
     record {
       text = λ o ls i h. subst (λ (x : Laid). Text eol (reverseAux (x .lines) (choose drops (dropBlank ls) ls)) (p .text) out′) (sym (is here o i)) (b .text o ls i h);
@@ -129,9 +130,9 @@ fit-broken indent line class level eol drops out out′ t p width max r c g e wi
       fewer = b .fewer;
     }
   where
-    is : allCodeOrStr (classify Carry.Code (decode line)) ≡ true → (o : Options) → o .indent ≡ indent
+    is : allCodeOrStr (classify Carry.Code (decode line)) ≡ true → (o : Options) → LaidBy o indent st
         → splitWide (choose (allCodeOrStr (classify Carry.Code (decode line))) width PrintWidth.Off) o level (decode line) ≡ broken o max level (decode line)
     is here o i =
         ap (λ (x : Bool). splitWide (choose x width PrintWidth.Off) o level (decode line)) here
         ∙ ap (λ (x : PrintWidth). splitWide (choose true x PrintWidth.Off) o level (decode line)) e
-        ∙ (unfold choose in (wide-same max level indent (decode line) o i (sym (wide .is o i) ∙ q)))
+        ∙ (unfold choose in (wide-same max level indent (decode line) o (i .indents) (sym (wide .is o (i .indents)) ∙ q)))

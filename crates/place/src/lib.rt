@@ -157,10 +157,11 @@ fn fit_line(
     requires { ⌜ slot .level ≤ maxSource ⌝ }
     requires { ⌜ GoesOn (now line) (now class) ⌝ }
     requires { ⌜ Ordered t × (t .at .0 ≤ farPlace) ⌝ }
-    ensures { λ r. ⌜ Lays (choose (allCodeOrStr (classify Carry.Code (decode (now (line .entry))))) (style .width) PrintWidth.Off) (now (indent .entry)) (decode (now (line .entry))) (slot .level) (asStr (style .ending)) (slot .drops) (length (now (line .entry))) (now (out .entry)) t r (now (out .exit)) ⌝ }
+    ensures { λ r. ⌜ Lays (choose (allCodeOrStr (classify Carry.Code (decode (now (line .entry))))) (style .width) PrintWidth.Off) (now (indent .entry)) (style .strengths) (decode (now (line .entry))) (slot .level) (asStr (style .ending)) (slot .drops) (length (now (line .entry))) (now (out .entry)) t r (now (out .exit)) ⌝ }
 {
     let width = style.width;
     let ending = style.ending;
+    let strengths = style.strengths;
     match width {
         PrintWidth::Off => alone(push_one(line, indent, ending, slot, out, t)),
         PrintWidth::Columns(max) => {
@@ -168,6 +169,7 @@ fn fit_line(
                 level: slot.level,
                 max: Utf16Column(max),
                 ending,
+                strengths,
             };
             if over_wide(s, indent, line) {
                 if scan::all_code_or_str(class) {
@@ -208,8 +210,13 @@ fn lay_line(
     let drops = drops_blank(depth, d, before);
     let width = style.width;
     let ending = style.ending;
+    let strengths = style.strengths;
     let max = break_width(width, marker, continued, closers);
-    let used = Style { width: max, ending };
+    let used = Style {
+        width: max,
+        ending,
+        strengths,
+    };
     let slot = Slot { level, drops };
     fit_line(line, class, indent, used, slot, out, t)
 }
@@ -256,7 +263,7 @@ fn break_line(
     requires { ⌜ GoesOn (now line) (now class) ⌝ }
     requires { ⌜ Ordered t × (t .at .0 ≤ farPlace) ⌝ }
     requires { ⌜ allCodeOrStr (classify Carry.Code (now line)) ≡ true ⌝ }
-    ensures { λ r. ⌜ Breaks (s .max .0) (now (indent .entry)) (decode (now (line .entry))) (s .level) (asStr (s .ending)) drops (length (now (line .entry)))
+    ensures { λ r. ⌜ Breaks (s .max .0) (now (indent .entry)) (s .strengths) (decode (now (line .entry))) (s .level) (asStr (s .ending)) drops (length (now (line .entry)))
         (now (out .entry)) t r (now (out .exit)) ⌝ }
 {
     let ending = s.ending;
@@ -270,8 +277,7 @@ fn break_line(
             blanks: m.blanks,
         },
         ImportSplit::Whole => {
-            let strengths = operators::built_in();
-            let o = split_operation(line, class, s, strengths, indent, out, start);
+            let o = split_operation(line, class, s, indent, out, start);
             match o {
                 OperationSplit::Broken(w) => alone(text::after_lines(w.next, brace)),
                 OperationSplit::Whole(w) => {

@@ -4,8 +4,9 @@ use Prim.Native.String.{String}
 use mathlib.Core.Bool.{true, false}
 use mathlib.Core.List.{List, [], _∷_, _++_, map}
 use mathlib.Core.Path.{_≡_, refl}
-use lib.ListN.{length, replicate}
+use lib.ListN.{length, take, replicate}
 use Rattle.rules.specs.Basics.{choose, codes}
+use Rattle.rules.specs.Strengths.{builtIn}
 use Rattle.rules.specs.Options.{Options, SettingStep, defaults, withIndent, indentWith, spaces, tab}
 use Rattle.rules.specs.Assembly.{formatWith, formatWirescript}
 use Rattle.rules.specs.Choices.{Choices, defaultNumbers, printWidthNamed, endOfLineNamed, finalNewlineNamed, validOptions, optionsOf}
@@ -38,28 +39,48 @@ abbrev call : List ℕ → List ℕ → ℕ → ℕ → ℕ → ℕ → ℕ → 
 call source indent set width ending newline scratch output =
     record {
       source = source;
-      choices = record { indent = indent; numbers = record { «width_set» = set; width = width; «line_ending» = ending; «final_newline» = newline } };
+      choices =
+          record {
+            indent = indent;
+            numbers = record { «width_set» = set; width = width; «line_ending» = ending; «final_newline» = newline };
+            strengths = builtIn;
+          };
       output = output;
       opened = 0;
       scratch = scratch;
     }
 
+-- the default numbers and table
+abbrev plainly : List ℕ → Choices
+plainly indent = record { indent = indent; numbers = defaultNumbers; strengths = builtIn }
+
 -- with the default options
 abbrev plain : List ℕ → ℕ → ℕ → Call
 plain source scratch output =
-    record { source = source; choices = record { indent = defaults .indent; numbers = defaultNumbers }; output = output; opened = 0; scratch = scratch }
+    record { source = source; choices = plainly (defaults .indent); output = output; opened = 0; scratch = scratch }
 
--- the default numbers and two spaces name the defaults
-pub defaults-named : optionsOf (record { indent = defaults .indent; numbers = defaultNumbers }) ≡ defaults
+-- with a table of strengths
+abbrev loaded : List ℕ → List ℕ → ℕ → ℕ → Call
+loaded table source scratch output =
+    record {
+      source = source;
+      choices = record { indent = defaults .indent; numbers = defaultNumbers; strengths = table };
+      output = output;
+      opened = 0;
+      scratch = scratch;
+    }
+
+-- the default numbers, two spaces and the built-in table name the defaults
+pub defaults-named : optionsOf (plainly (defaults .indent)) ≡ defaults
 unfolding computing
 defaults-named = refl
 
-pub defaults-valid : validOptions (record { indent = defaults .indent; numbers = defaultNumbers }) ≡ true
+pub defaults-valid : validOptions (plainly (defaults .indent)) ≡ true
 unfolding computing
 defaults-valid = refl
 
 -- format_wirescript is what the default numbers and an indent give
-pub wirescript-choices : (indent source : List ℕ) → formatWith (optionsOf (record { indent = indent; numbers = defaultNumbers })) source ≡ formatWirescript indent source
+pub wirescript-choices : (indent source : List ℕ) → formatWith (optionsOf (plainly indent)) source ≡ formatWirescript indent source
 unfolding optionsOf printWidthNamed endOfLineNamed finalNewlineNamed
 wirescript-choices indent source = refl
 
@@ -98,6 +119,12 @@ calls =
     ∷ (call [] [] 1 100 3 1 256 1, bad)
     ∷ (call [] [] 1 100 0 2 256 1, fine 0)
     ∷ (call [] [] 1 100 0 3 256 1, bad)
+    -- a table of strengths: its length, then its last four bits, before everything else
+    ∷ (loaded (take 10 builtIn) [] 256 1, Outcome.Refused Refusal.StrengthsLength)
+    ∷ (loaded (builtIn ++ (0 ∷ [])) [] 256 1, Outcome.Refused Refusal.StrengthsLength)
+    ∷ (loaded [] (0xFF ∷ []) 0 0, Outcome.Refused Refusal.StrengthsLength)
+    ∷ (loaded (take 10 builtIn ++ (0xC1 ∷ [])) (0xFF ∷ []) 0 0, Outcome.Refused Refusal.StrengthsBits)
+    ∷ (loaded (replicate 11 0xF0) [] 256 1, fine 1)
     -- the first that applies is given
     ∷ (call (0xFF ∷ []) (codes "q") 1 100 0 1 0 0, bad)
     ∷ (plain (0xFF ∷ []) 267 0, Outcome.Refused (Refusal.ScratchShort 268))
@@ -141,7 +168,7 @@ results = refl
 -- with the default options and a list of n lines, in buffers that suffice: the count of all, and the list
 abbrev brackets : String × ℕ → ℕ × List ℕ
 brackets s =
-    let r = formatCall (record { source = codes (s .0); choices = record { indent = defaults .indent; numbers = defaultNumbers }; output = 100; opened = s .1; scratch = 1000 }) in
+    let r = formatCall (record { source = codes (s .0); choices = plainly (defaults .indent); output = 100; opened = s .1; scratch = 1000 }) in
     (r .answer .«open_brackets», r .opened)
 
 pub open-brackets :
@@ -168,7 +195,7 @@ open-brackets = refl
 
 -- a refused call, for want of output too, has none
 pub open-refused :
-    formatCall (record { source = codes "(\n("; choices = record { indent = defaults .indent; numbers = defaultNumbers }; output = 3; opened = 2; scratch = 292 })
+    formatCall (record { source = codes "(\n("; choices = plainly (defaults .indent); output = 3; opened = 2; scratch = 292 })
     ≡ record { answer = answer 5 6 0 0 0; output = 0 ∷ 0 ∷ 0 ∷ []; opened = 0 ∷ 0 ∷ []; scratch = replicate 292 0 }
 unfolding computing
 open-refused = refl
@@ -278,6 +305,7 @@ steps =
         printWidth = PrintWidth.Off;
         endOfLine = EndOfLine.Set LineEnding.Crlf;
         insertFinalNewline = FinalNewline.Never;
+        strengths = defaults .strengths;
       }),
     )
     ∷ []

@@ -86,18 +86,19 @@ strike-scalars s t e h = scalars-keep isKept struck-scalar t (subst Scalars (sym
 
 -- ---- an accepted call
 
--- what the tests 1 to 4 let pass
+-- what the tests before the text's let pass
 pub record Admitted (source : List ℕ) (choices : Choices) (scratch : ℕ) : Type 0 where
   pub valid : validOptions choices ≡ true
   pub reads : Readable formatScratch source scratch
 
 pub admitted : (source : List ℕ) (choices : Choices) (scratch : ℕ)
-    → tested (formatTests source (not (validOptions choices)) scratch) ≡ Verdict.Accepted → Admitted source choices scratch
+    → tested (formatTests (choices .strengths) source (not (validOptions choices)) scratch) ≡ Verdict.Accepted → Admitted source choices scratch
 admitted source choices scratch e =
-    let r = tail-passed _ _ e in
+    let s = tail-passed _ _ (tail-passed _ _ e) in
+    let r = tail-passed _ _ s in
     record {
       valid = not-false (validOptions choices) (option-good _ (head-passed _ _ r));
-      reads = readable formatScratch source scratch (head-passed _ _ e) (tail-passed _ _ r);
+      reads = readable formatScratch source scratch (head-passed _ _ s) (tail-passed _ _ r);
     }
 
 -- r is the outcome of c, and no refusal
@@ -111,7 +112,7 @@ unfolding outcomeOf verdictOf
 accepted c = go (verdictOf c) refl
   where
     tests : List Verdict
-    tests = formatTests (c .source) (not (validOptions (c .choices))) (c .scratch)
+    tests = formatTests (c .choices .strengths) (c .source) (not (validOptions (c .choices))) (c .scratch)
 
     last : List Verdict
     last = shortOutput (length (textOf c)) (c .output) ∷ []

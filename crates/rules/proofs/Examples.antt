@@ -21,6 +21,7 @@ withWidth w =
       printWidth = w;
       endOfLine = defaults .endOfLine;
       insertFinalNewline = defaults .insertFinalNewline;
+      strengths = defaults .strengths;
     }
 
 abbrev pub atWidth : ℕ → Options
@@ -33,6 +34,7 @@ ending n =
       printWidth = defaults .printWidth;
       endOfLine = defaults .endOfLine;
       insertFinalNewline = n;
+      strengths = defaults .strengths;
     }
 
 abbrev noFinalNewline : Options

@@ -17,7 +17,7 @@ use Rattle.rules.specs.Else.{joinElse}
 use Rattle.rules.specs.SplitImport.{Laid, splitImport}
 use Rattle.rules.specs.Line.{Formatter, asWritten, keptLine, insideLine, blankLine, protectedLine, elseLine, dropBlank, linesBefore, levelOf, oneLine, orOperation, broken, splitWide, laid, placedLine, spacedLine, codeLine, anyLine, formatLine}
 use Rattle.rules.specs.Brackets.{leadingClosers}
-use Rattle.rules.specs.Operators.{strengths}
+use Rattle.rules.specs.Strengths.{strengthsIn}
 use Rattle.rules.specs.declared.Carry.{Carry}
 use Rattle.rules.specs.declared.Ignore.{Ignore}
 use Rattle.rules.specs.declared.PrintWidth.{PrintWidth}
@@ -37,7 +37,7 @@ module _ (o : Options) (white : White (o .indent)) where
 
   kept-or : (r : Option Laid) (max level : ℕ) (line : List ℕ) → Split max line r → LaidKept (PrintWidth.Columns max) line (orOperation r o max level line)
   unfolding orOperation
-  kept-or none max level line h = kept-like (like-operation strengths o max level white line)
+  kept-or none max level line h = kept-like (like-operation (strengthsIn (o .strengths .table)) o max level white line)
   kept-or (some l) max level line h = h
 
   kept-broken : (max level : ℕ) (line : List ℕ) → LaidKept (PrintWidth.Columns max) line (broken o max level line)

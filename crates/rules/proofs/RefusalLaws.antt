@@ -30,6 +30,8 @@ numbered (Refusal.OutputShort n) e = omega arith
 numbered Refusal.NoPlace e = omega arith
 numbered Refusal.PlacesUnordered e = omega arith
 numbered Refusal.KindsShort e = omega arith
+numbered Refusal.StrengthsLength e = omega arith
+numbered Refusal.StrengthsBits e = omega arith
 numbered (Refusal.ListShort n) e = omega arith
 
 -- ---- one test

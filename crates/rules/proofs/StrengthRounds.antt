@@ -3,9 +3,11 @@
 --     Plain                  a line of code and strings whose operators bind tighter than p
 --     plain-first            so is the first piece of a break, for the strength of the break
 --     rounds-known           k rounds are enough where no strength of the table is over k
---     known-lines            so are maxStrength rounds for every table; strengths-known, of which 01's is one
-use Prim.Native.Nat.{ℕ, zero, suc, _+_, _-_, _≤_, _<_}
+--     known-lines            so are maxStrength rounds for every table of such strengths; strengths-known, of which every table of a host is one
+--     fifteen-rounds         both together
+use Prim.Native.Nat.{ℕ, zero, suc, _+_, _-_, _/_, _%_, _≤_, _<_}
 use native.Mathlib.Omega.{arith}
+use native.Mathlib.Nat.{mod-lt}
 use mathlib.Core.Bool.{true, not, true≢false}
 use mathlib.Core.List.{List, [], _∷_, _++_, nil≢cons, append-assoc, append-cancel-left}
 use mathlib.Core.Logic.{_⊎_, inl, inr}
@@ -21,7 +23,8 @@ use Rattle.rules.specs.declared.Carry.{Carry}
 use Rattle.rules.specs.Basics.{Pieces}
 use Rattle.rules.specs.Options.{Options}
 use Rattle.rules.specs.Scan.{Cell, charsOf, begin, classify, isCodeOrStr, allCodeOrStr}
-use Rattle.rules.specs.Operators.{strengths, maxStrength, AtMost}
+use Rattle.rules.specs.Operators.{operators, maxStrength, AtMost}
+use Rattle.rules.specs.Strengths.{fieldsOf, strengthsIn}
 use Rattle.rules.specs.SplitOperation.{Ops, token, opStepAt, opStep, OpMark, opMark, marksFrom, noOps, topLevelOps, looser, loosest, cutBefore, trimmed, breakAt, splitOnce, nextBreak, breakOn, breakFirst, layPieces, splitOperation}
 use Rattle.rules.proofs.Choose.{choose-case}
 use Rattle.rules.proofs.ScanBytes.{label, chars-append, chars-classify}
@@ -298,5 +301,26 @@ unfolding splitOperation
 known-lines table a o max level l h =
     ap (layPieces o level) (rounds-known table o max level maxStrength a l [] h (length l) (omega arith))
 
-pub strengths-known : AtMost maxStrength strengths
-strengths-known = omega arith
+fields-small : (table : List ℕ) → AtMost maxStrength (fieldsOf table)
+unfolding fieldsOf
+fields-small [] = tt
+fields-small (b ∷ bs) =
+    let high : b / 16 % 16 < 16 = mod-lt (b / 16) (omega arith) in
+    let low : b % 16 < 16 = mod-lt b (omega arith) in
+    (omega arith, (omega arith, fields-small bs))
+
+take-most : (k n : ℕ) (ns : List ℕ) → AtMost k ns → AtMost k (take n ns)
+take-most k zero ns h = tt
+take-most k (suc n) [] h = tt
+take-most k (suc n) (m ∷ ns) h = (h .0, take-most k n ns (h .1))
+
+-- every table that a host gives is one
+pub strengths-known : (table : List ℕ) → AtMost maxStrength (strengthsIn table)
+unfolding strengthsIn
+strengths-known table = take-most maxStrength (length operators) (fieldsOf table) (fields-small table)
+
+-- so that fifteen rounds are enough, whatever the table
+pub fifteen-rounds : (table : List ℕ) (o : Options) (max level : ℕ) (l : List ℕ) → allCodeOrStr (classify Carry.Code l) ≡ true
+    → splitOperation (strengthsIn table) o max level l
+    ≡ layPieces o level (breakFirst (strengthsIn table) o max level 15 (record { first = l; rest = [] }))
+fifteen-rounds table = known-lines (strengthsIn table) (strengths-known table)

@@ -1,4 +1,4 @@
--- Options as a host gives them: the bytes of an indent, and numbers. A number names a choice, or none.
+-- Options as a host gives them: the bytes of an indent and of a table of strengths, and numbers. A number names a choice, or none.
 use Prim.Native.Nat.{ℕ, zero, suc}
 use mathlib.Core.Bool.{Bool, true, false, _&&_}
 use mathlib.Core.List.{List}
@@ -13,8 +13,9 @@ use Rattle.rules.specs.declared.OptionNumbers.{OptionNumbers}
 pub record Choices : Type 0 where
   pub indent : List ℕ
   pub numbers : OptionNumbers
+  pub strengths : List ℕ
 
--- the numbers of the defaults, whose indent is two spaces
+-- the numbers of the defaults, whose indent is two spaces, and whose table is the built-in one
 abbrev pub defaultNumbers : OptionNumbers
 defaultNumbers = record { «width_set» = 1; width = 100; «line_ending» = 0; «final_newline» = 1 }
 
@@ -58,4 +59,5 @@ optionsOf c =
       printWidth = Option·getD (printWidthNamed (c .numbers .«width_set») (c .numbers .width)) (defaults .printWidth);
       endOfLine = Option·getD (endOfLineNamed (c .numbers .«line_ending»)) (defaults .endOfLine);
       insertFinalNewline = Option·getD (finalNewlineNamed (c .numbers .«final_newline»)) (defaults .insertFinalNewline);
+      strengths = record { table = c .strengths };
     }

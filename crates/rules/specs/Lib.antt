@@ -6,6 +6,7 @@ pub mod Scan
 pub mod ClassBytes
 pub mod Line
 pub mod Operators
+pub mod Strengths
 pub mod Words
 pub mod Spacing
 pub mod Else

@@ -14,7 +14,7 @@ use Rattle.rules.specs.Brackets.{Entry, leadingClosers, scanBrackets, co
 use Rattle.rules.specs.Words.{startsWithWord, startsWithBinaryOp, sameDeclaration, isMarker, hasCode}
 use Rattle.rules.specs.Else.{isPlainElse, canJoin, joinElse}
 use Rattle.rules.specs.SplitImport.{Laid, splitImport}
-use Rattle.rules.specs.Operators.{strengths}
+use Rattle.rules.specs.Strengths.{strengthsIn}
 use Rattle.rules.specs.SplitOperation.{splitOperation}
 use Rattle.rules.specs.declared.Carry.{Carry}
 use Rattle.rules.specs.declared.Ignore.{Ignore}
@@ -154,7 +154,8 @@ oneLine l = record { lines = l ∷ []; importsSplit = 0; blankNames = 0 }
 -- import first, otherwise operators
 unfoldable pub orOperation : Option Laid → Options → ℕ → ℕ → List ℕ → Laid
 orOperation (some laid) o max level line = laid
-orOperation none o max level line = record { lines = splitOperation strengths o max level line; importsSplit = 0; blankNames = 0 }
+orOperation none o max level line =
+    record { lines = splitOperation (strengthsIn (o .strengths .table)) o max level line; importsSplit = 0; blankNames = 0 }
 
 unfoldable pub broken : Options → ℕ → ℕ → List ℕ → Laid
 broken o max level line = orOperation (splitImport o max level (classify Carry.Code line)) o max level line

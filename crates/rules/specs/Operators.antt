@@ -20,7 +20,7 @@ tightness =
     ∷ op "<" 7 ∷ op ">" 7 ∷ op "<=" 7 ∷ op ">=" 7 ∷ op "<<" 8 ∷ op ">>" 8 ∷ op ".." 9
     ∷ op "+" 10 ∷ op "-" 10 ∷ op "*" 11 ∷ op "/" 11 ∷ op "%" 11 ∷ op "**" 12 ∷ []
 
--- which they are, and a strength for each, in their order; 0 would mean never break there
+-- which they are, and a strength for each, in their order
 abbrev pub operators : List (List ℕ)
 operators = map (λ o. o .text) tightness
 

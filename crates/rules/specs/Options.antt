@@ -7,17 +7,20 @@ use lib.ListN.{length}
 use Rattle.buffer.specs.Repeat.{times}
 use Rattle.unicode.specs.Unicode.{width}
 use Rattle.rules.specs.Basics.{choose, codes, isBlank}
+use Rattle.rules.specs.Strengths.{builtIn}
 use Rattle.rules.specs.declared.EndOfLine.{EndOfLine}
 use Rattle.rules.specs.declared.PrintWidth.{PrintWidth}
 use Rattle.rules.specs.declared.FinalNewline.{FinalNewline}
+use Rattle.rules.specs.declared.Strengths.{Strengths}
 
 pub record Options : Type 0 where
   pub indent : List ℕ
   pub printWidth : PrintWidth
   pub endOfLine : EndOfLine
   pub insertFinalNewline : FinalNewline
+  pub strengths : Strengths
 
--- indent two spaces, width 100, ending kept, final newline true
+-- indent two spaces, width 100, ending kept, final newline true, the built-in strengths
 abbrev pub defaults : Options
 defaults =
     record {
@@ -25,6 +28,7 @@ defaults =
       printWidth = PrintWidth.Columns 100;
       endOfLine = EndOfLine.Kept;
       insertFinalNewline = FinalNewline.Always;
+      strengths = record { table = builtIn };
     }
 
 -- an indent of at most 64 bytes, spaces and tabs only; an empty one is fine
@@ -45,6 +49,7 @@ withIndent o indent =
       printWidth = o .printWidth;
       endOfLine = o .endOfLine;
       insertFinalNewline = o .insertFinalNewline;
+      strengths = o .strengths;
     }
 
 -- What a setting step gives: the changed options, or with refusal 2 the options unchanged.

@@ -2,10 +2,11 @@
 use Prim.Native.Nat.{ℕ, _+_, _*_}
 use mathlib.Core.Bool.{Bool, not}
 use mathlib.Core.List.{List, [], _∷_}
-use lib.Dec.{ltb}
+use lib.Dec.{ltb, eqb}
 use lib.ListN.{length}
 use Rattle.unicode.specs.Unicode.{wellFormed, prefixLen}
 use Rattle.rules.specs.Basics.{choose}
+use Rattle.rules.specs.Strengths.{tableLength, lastBits}
 use Rattle.rules.specs.declared.Refusal.{Refusal}
 use Rattle.rules.specs.declared.Verdict.{Verdict}
 
@@ -27,6 +28,8 @@ numberOf (Refusal.OutputShort needed) = 5
 numberOf Refusal.NoPlace = 6
 numberOf Refusal.PlacesUnordered = 9
 numberOf Refusal.KindsShort = 10
+numberOf Refusal.StrengthsLength = 12
+numberOf Refusal.StrengthsBits = 13
 numberOf (Refusal.ListShort needed) = 16
 
 abbrev pub placeOf : Refusal → ℕ
@@ -38,6 +41,8 @@ placeOf (Refusal.OutputShort needed) = needed
 placeOf Refusal.NoPlace = 0
 placeOf Refusal.PlacesUnordered = 0
 placeOf Refusal.KindsShort = 0
+placeOf Refusal.StrengthsLength = 0
+placeOf Refusal.StrengthsBits = 0
 placeOf (Refusal.ListShort needed) = needed
 
 -- a test refuses if it applies
@@ -83,6 +88,14 @@ unordered inOrder = refuseIf (not inOrder) Refusal.PlacesUnordered
 -- 10
 unfoldable pub shortKinds : ℕ → ℕ → Verdict
 shortKinds needed kinds = refuseIf (ltb kinds needed) Refusal.KindsShort
+
+-- 12
+unfoldable pub wrongLength : List ℕ → Verdict
+wrongLength table = refuseIf (not (eqb (length table) tableLength)) Refusal.StrengthsLength
+
+-- 13
+unfoldable pub bitsSet : List ℕ → Verdict
+bitsSet table = refuseIf (not (eqb (lastBits table) 0)) Refusal.StrengthsBits
 
 -- 16, of a list with room for so many changes
 unfoldable pub shortList : ℕ → ℕ → Verdict

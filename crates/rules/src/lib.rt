@@ -85,6 +85,33 @@ pub enum FinalNewline {
     Never,
 }
 
+// The strengths of the operators, 4 bits for each, the most significant of a byte first, in the order of document 01's tightness list; then four
+// zero bits. 0 means never break there.
+pub struct Strengths {
+    pub table: [u8; Strengths::LENGTH],
+}
+
+impl Strengths {
+    pub const LENGTH: usize = 11;
+
+    // Document 01's own.
+    pub const BUILT_IN: Strengths = Strengths {
+        table: [
+            0x11,
+            0x23,
+            0x45,
+            0x66,
+            0x77,
+            0x77,
+            0x88,
+            0x9A,
+            0xAB,
+            0xBB,
+            0xC0,
+        ],
+    };
+}
+
 // Options as a host gives them in numbers, beside the bytes of its indent. width_set: 0 no print width, 1 the width given.
 // line_ending: 0 kept, 1 LF, 2 CRLF. final_newline: 0 as the source, 1 always, 2 never.
 pub struct OptionNumbers {
@@ -113,6 +140,8 @@ pub enum Refusal {
     NoPlace,
     PlacesUnordered,
     KindsShort,
+    StrengthsLength,
+    StrengthsBits,
     ListShort(usize),
 }
 

@@ -7,13 +7,15 @@ ghost use Rattle.rules.specs.Lines.{asStr};
 ghost use Rattle.split.specs.Measure.{Measurable, Measured, Indent, IndentMeasured, Wide, Within, Trimmed};
 ghost use Rattle.split.specs.Text.{lay, LineRoom, LineWritten};
 use rules::LineEnding;
+use rules::Strengths;
 use unicode::Utf16Column;
 
-// How a line is laid out: at which level, in which width, and the line ending where it is broken.
+// How a line is laid out: at which level, in which width, and where it is broken the line ending and the strengths of the operators.
 pub struct Layout {
     pub level: usize,
     pub max: Utf16Column,
     pub ending: LineEnding,
+    pub strengths: Strengths,
 }
 
 // The column that a part reaches which starts at column from. Whatever measures a line uses this.

@@ -246,10 +246,12 @@ fn write_import(
     }
     let n = write_head(out, at, indent, s.level, &line[..start]);
     let ending = s.ending;
+    let strengths = s.strengths;
     let under = Layout {
         level: s.level + 1,
         max: Utf16Column(s.max.0),
         ending,
+        strengths,
     };
     let m = write_names(names, under, indent, out, n);
     let w = write_line(out, m, s, indent, &line[end..]);

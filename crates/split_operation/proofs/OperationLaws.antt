@@ -22,12 +22,13 @@ use Rattle.rules.specs.Basics.{choose, isEmpty, Pieces}
 use Rattle.rules.specs.Scan.{Cell, charsOf, classify, allCodeOrStr}
 use Rattle.rules.specs.ClassBytes.{cellsOf}
 use Rattle.rules.specs.Options.{Options, indentOf, measure, overWide}
-use Rattle.rules.specs.Operators.{maxStrength, AtMost}
+use Rattle.rules.specs.Operators.{maxStrength}
+use Rattle.rules.specs.Strengths.{strengthsIn}
 use Rattle.rules.specs.SplitOperation.{Ops, OpMark, opStep, noOps, marksFrom, topLevelOps, hasWord, isBalanced, keywords, looser, loosest, atMark, cutBefore, trimmed, breakAt, splitOnce, nextBreak, breakOn, breakFirst, layPieces, splitOperation}
 use Rattle.rules.proofs.Choose.{choose-true, choose-false, choose-case}
 use Rattle.rules.proofs.ScanBytes.{encodeCells, classify-encode, chars-classify, all-encode}
 use Rattle.rules.proofs.CellsLaws.{cells-bytes, chars-cells}
-use Rattle.rules.proofs.StrengthRounds.{known-lines}
+use Rattle.rules.proofs.StrengthRounds.{fifteen-rounds}
 use Rattle.rules.proofs.WordsBytes.{encodePieces, balanced-encode, keywords-encode}
 use Rattle.rules.proofs.Prefix.{markedChars, marks-chars}
 use Rattle.rules.specs.OperatorBytes.{byteMarks}
@@ -558,16 +559,17 @@ several : (f : List ℕ → List ℕ) (l : List ℕ) (ls : List (List ℕ)) → 
 several f l [] = refl
 several f l (m ∷ ms) = sym (lt-ltb 1 (length (l ∷ f m ∷ map f ms)) (omega arith))
 
-pub all-broken : {table line class indent : List ℕ} {level : ℕ} {eol : List ℕ} {max at : ℕ} {out out′ : List ℕ} {r : OperationSplit} → OperationFits line class indent level eol at × AtMost maxStrength table
-    → FirstBroken table line indent level eol max maxStrength out out′ at r → (o : Options) → o .indent ≡ indent → Broken eol (splitOperation table o max level (decode line)) out out′ at r
+pub all-broken : (table : List ℕ) {line class indent : List ℕ} {level : ℕ} {eol : List ℕ} {max at : ℕ} {out out′ : List ℕ} {r : OperationSplit}
+    → OperationFits line class indent level eol at
+    → FirstBroken (strengthsIn table) line indent level eol max maxStrength out out′ at r → (o : Options) → o .indent ≡ indent → Broken eol (splitOperation (strengthsIn table) o max level (decode line)) out out′ at r
 unfolding layPieces
-all-broken {table} {line} {class} {indent} {level} {eol} {max} {at} {out} {out′} {r} ask f o e =
-    let pre : Fits line indent level eol at = ask .0 .fits in
-    let p : Pieces = brokenIn table indent level max maxStrength line in
-    let k : allCodeOrStr (classify Carry.Code (decode line)) ≡ true = sym (all-encode (classify Carry.Code (decode line))) ∙ ap allCodeOrStr (sym (classify-encode Carry.Code (decode line)) ∙ ap (classify Carry.Code) (pre .well)) ∙ ask .0 .classed .plain in
-    let b : breakFirst table o max level maxStrength (record { first = decode line; rest = [] }) ≡ p = same-break table o indent e max level maxStrength (record { first = decode line; rest = [] }) in
+all-broken table {line} {class} {indent} {level} {eol} {max} {at} {out} {out′} {r} ask f o e =
+    let pre : Fits line indent level eol at = ask .fits in
+    let p : Pieces = brokenIn (strengthsIn table) indent level max maxStrength line in
+    let k : allCodeOrStr (classify Carry.Code (decode line)) ≡ true = sym (all-encode (classify Carry.Code (decode line))) ∙ ap allCodeOrStr (sym (classify-encode Carry.Code (decode line)) ∙ ap (classify Carry.Code) (pre .well)) ∙ ask .classed .plain in
+    let b : breakFirst (strengthsIn table) o max level maxStrength (record { first = decode line; rest = [] }) ≡ p = same-break (strengthsIn table) o indent e max level maxStrength (record { first = decode line; rest = [] }) in
     let d : Indent indent (suc level) = rw add-one at (deeper-fits pre) in
-    subst (λ (ls : List (List ℕ)). Broken eol ls out out′ at r) (sym (known-lines table (ask .1) o max level (decode line) k ∙ ap (layPieces o level) b))
+    subst (λ (ls : List (List ℕ)). Broken eol ls out out′ at r) (sym (fifteen-rounds table o max level (decode line) k ∙ ap (layPieces o level) b))
     (record {
       written = written-lines eol (indentOf o level ++ p .first) (map (λ (l : List ℕ). indentOf o (suc level) ++ l) (p .rest)) (firstLine indent level p) (otherLines indent level p)
           (pre .ascii) (lay-encode o indent level (p .first) e (level-fits pre)) (lay-all o indent (suc level) e d (p .rest)) (f .pieces .text) (f .pieces .last);

@@ -6,17 +6,17 @@ ghost use Prim.Native.Nat.{_+_};
 ghost use Rattle.unicode.specs.Unicode.{decode};
 ghost use Rattle.rules.specs.Lines.{asStr};
 ghost use Rattle.rules.specs.Options.{Options};
-ghost use Rattle.rules.specs.Operators.{maxStrength, AtMost};
+ghost use Rattle.rules.specs.Strengths.{strengthsIn};
 ghost use Rattle.rules.specs.SplitOperation.{splitOperation};
 ghost use Rattle.split_operation.specs.Operation.{LineFits, Broken, lineOf, RestFits, RestWritten, RoundBreak, FirstBroken, OperationFits};
 use operators::MAX_STRENGTH;
-use operators::Strengths;
 use operators::first::has_operator;
 use pass::Break;
 use pass::find_break;
 use pass::next_op;
 use pass::unbroken;
 use rules::LineEnding;
+use rules::Strengths;
 use split::Layout;
 use split::NewLine;
 use split::over_wide;
@@ -30,12 +30,12 @@ pub enum OperationSplit {
     Broken(NewLine),
 }
 
-// How a line is broken: its layout, the strengths of the operators, and how many rounds are left.
+// How a line is broken: its layout, the table of its strengths as an array, and how many rounds are left.
 pub struct Breaking {
     pub level: usize,
     pub max: Utf16Column,
     pub ending: LineEnding,
-    pub strengths: [u8; 21],
+    pub table: [u8; Strengths::LENGTH],
     pub rounds: usize,
 }
 
@@ -58,15 +58,17 @@ fn write_rest(
     out: &mut [u8],
     first: NewLine,
 ) -> NewLine
-    requires { ⌜ RestFits (s .strengths) (b .strength) (now line) (now class) (b .cut) (now indent) (s .level + 1) (asStr (s .ending)) first ⌝ }
-    ensures { λ r. ⌜ RestWritten (s .strengths) (b .strength) (now (line .entry)) (now (class .entry)) (b .cut) (now (indent .entry)) (s .level + 1) (asStr (s .ending))
+    requires { ⌜ RestFits (strengthsIn (s .table)) (b .strength) (now line) (now class) (b .cut) (now indent) (s .level + 1) (asStr (s .ending)) first ⌝ }
+    ensures { λ r. ⌜ RestWritten (strengthsIn (s .table)) (b .strength) (now (line .entry)) (now (class .entry)) (b .cut) (now (indent .entry)) (s .level + 1) (asStr (s .ending))
         (now (out .entry)) (now (out .exit)) first r ⌝ }
 {
     let ending = s.ending;
+    let table = s.table;
     let under = Layout {
         level: s.level + 1,
         max: Utf16Column(s.max.0),
         ending,
+        strengths: Strengths { table },
     };
     let strength = b.strength;
     let mut c = b.cut;
@@ -74,7 +76,7 @@ fn write_rest(
     while c.place < line.len() {
         let from = c.place;
         let q = c.after;
-        c = next_op(&s.strengths, line, class, strength, from + 1, q);
+        c = next_op(&s.table, line, class, strength, from + 1, q);
         let p = trim_part(line, from, c.place);
         let a = p.start;
         let e = p.end;
@@ -86,20 +88,22 @@ fn write_rest(
 // Where a first line is broken: nowhere if it fits, if no rounds are left, or if none of its bytes starts an operator, which is told at once.
 fn round_break(line: &[u8], class: &[u8], s: Breaking, indent: &[u8]) -> Break
     requires { ⌜ LineFits (now line) (now class) (now indent) (s .level) ⌝ }
-    ensures { λ r. ⌜ RoundBreak (s .strengths) (now (indent .entry)) (s .level) (s .max .0) (s .rounds) (now (line .entry)) (now (class .entry)) r ⌝ }
+    ensures { λ r. ⌜ RoundBreak (strengthsIn (s .table)) (now (indent .entry)) (s .level) (s .max .0) (s .rounds) (now (line .entry)) (now (class .entry)) r ⌝ }
 {
     if s.rounds == 0 {
         return unbroken();
     }
     let ending = s.ending;
+    let table = s.table;
     let own = Layout {
         level: s.level,
         max: Utf16Column(s.max.0),
         ending,
+        strengths: Strengths { table },
     };
     if over_wide(own, indent, line) {
         if has_operator(line) {
-            return find_break(&s.strengths, line, class);
+            return find_break(&s.table, line, class);
         }
         return unbroken();
     }
@@ -116,7 +120,7 @@ fn break_first(
     at: usize,
 ) -> OperationSplit
     requires { ⌜ OperationFits (now line) (now class) (now indent) (s .level) (asStr (s .ending)) at ⌝ }
-    ensures { λ r. ⌜ FirstBroken (s .strengths) (now (line .entry)) (now (indent .entry)) (s .level) (asStr (s .ending)) (s .max .0) (s .rounds)
+    ensures { λ r. ⌜ FirstBroken (strengthsIn (s .table)) (now (line .entry)) (now (indent .entry)) (s .level) (asStr (s .ending)) (s .max .0) (s .rounds)
         (now (out .entry)) (now (out .exit)) at r ⌝ }
 {
     let b = round_break(line, class, s, indent);
@@ -142,22 +146,22 @@ pub fn split_operation(
     line: &[u8],
     class: &[u8],
     s: Layout,
-    strengths: Strengths,
     indent: &[u8],
     out: &mut [u8],
     at: usize,
 ) -> OperationSplit
-    requires { ⌜ OperationFits (now line) (now class) (now indent) (s .level) (asStr (s .ending)) at × AtMost maxStrength (strengths .of) ⌝ }
+    requires { ⌜ OperationFits (now line) (now class) (now indent) (s .level) (asStr (s .ending)) at ⌝ }
     ensures { λ r. ⌜ ((o : Options) → o .indent ≡ now (indent .entry)
-        → Broken (asStr (s .ending)) (splitOperation (strengths .of) o (s .max .0) (s .level) (decode (now (line .entry)))) (now (out .entry)) (now (out .exit)) at r) ⌝ }
+        → Broken (asStr (s .ending)) (splitOperation (strengthsIn (s .strengths .table)) o (s .max .0) (s .level) (decode (now (line .entry)))) (now (out .entry)) (now (out .exit)) at r) ⌝ }
 {
     let ending = s.ending;
-    let table = strengths.of;
+    let strengths = s.strengths;
+    let table = strengths.table;
     let b = Breaking {
         level: s.level,
         max: Utf16Column(s.max.0),
         ending,
-        strengths: table,
+        table,
         rounds: MAX_STRENGTH,
     };
     break_first(line, class, b, indent, out, at)

@@ -5,12 +5,14 @@ ghost use lib.ListN.{length, getD};
 ghost use Rattle.rules.specs.Basics.{same, oneOf};
 ghost use Rattle.rules.specs.Scan.{cell, isCode};
 ghost use Rattle.rules.specs.ClassBytes.{classOf};
+ghost use Rattle.rules.specs.Strengths.{strengthsIn};
 ghost use Rattle.rules.specs.SplitOperation.{inWord, keywords};
 ghost use Rattle.split_operation.specs.Pass.{lineStart, PlainTest, IdentRun, PlainRun, pastIdent, Balances, WordStep, IsLooser, SpanStep, brokenAt, Breakable, Unbroken, PassEnd, BreakFound, Cutting, NextOp};
 use basics::is_closer;
 use basics::is_ident;
 use basics::is_opener;
 use basics::starts_with;
+use rules::Strengths;
 use top_level_ops::OpFound;
 use top_level_ops::OpState;
 use top_level_ops::found;
@@ -259,9 +261,9 @@ fn end_pass(line: &[u8], start: usize, depth: usize, b: Break) -> Break
 }
 
 // One pass for the line's words, its brackets and its operators.
-pub fn find_break(table: &[u8; 21], line: &[u8], class: &[u8]) -> Break
+pub fn find_break(table: &[u8; Strengths::LENGTH], line: &[u8], class: &[u8]) -> Break
     requires { ⌜ Breakable (now line) (now class) ⌝ }
-    ensures { λ r. ⌜ BreakFound (now (table .entry)) (now (line .entry)) (now (class .entry)) r ⌝ }
+    ensures { λ r. ⌜ BreakFound (strengthsIn (now (table .entry))) (now (line .entry)) (now (class .entry)) r ⌝ }
 {
     let mut b = unbroken();
     let mut s = begin();
@@ -301,7 +303,7 @@ pub fn find_break(table: &[u8; 21], line: &[u8], class: &[u8]) -> Break
 
 // The next operator of a strength, from a place on.
 pub fn next_op(
-    table: &[u8; 21],
+    table: &[u8; Strengths::LENGTH],
     line: &[u8],
     class: &[u8],
     strength: u8,
@@ -309,7 +311,7 @@ pub fn next_op(
     start: OpState,
 ) -> Cut
     requires { ⌜ Cutting strength (now line) (now class) from start ⌝ }
-    ensures { λ c. ⌜ NextOp (now (table .entry)) strength (now (line .entry)) (now (class .entry)) from start c ⌝ }
+    ensures { λ c. ⌜ NextOp (strengthsIn (now (table .entry))) strength (now (line .entry)) (now (class .entry)) from start c ⌝ }
 {
     let mut s = start;
     let mut i = from;

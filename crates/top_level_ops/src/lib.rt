@@ -9,6 +9,7 @@ ghost use Rattle.rules.specs.Basics.{choose, is, at, firstIs, isBlank, isOpener
 ghost use Rattle.rules.specs.Scan.{cell};
 ghost use Rattle.rules.specs.ClassBytes.{classOf};
 ghost use Rattle.rules.specs.Operators.{operators, indexIn};
+ghost use Rattle.rules.specs.Strengths.{strengthsIn};
 ghost use Rattle.rules.specs.SplitOperation.{Ops, OpStep, endsOperand, atomChar, token, isSign, oneCharStep};
 ghost use Rattle.top_level_ops.specs.Steps.{opsOf, stepOf, AtomLen, AtomAt, signStep, tokenStep, stepWith, stepOr, codeOr, freshOr, byteOr, passedIn, bracketIn, FewBrackets};
 use basics::is_blank;
@@ -19,7 +20,9 @@ use basics::starts_with;
 use operators::COUNT;
 use operators::is_sign;
 use operators::one_index;
+use operators::strength_at;
 use operators::two_index;
+use rules::Strengths;
 
 // Before a byte: the brackets opened and closed so far, whether an operand ends here, an escape, and how many more bytes belong to the token before.
 pub struct OpState {
@@ -112,14 +115,6 @@ fn two_at(s: &[u8]) -> usize
     two_index(s[0], s[1])
 }
 
-// The strength of an operator: the table has one for each, in their order.
-fn strength_of(table: &[u8; 21], k: usize) -> u8
-    requires { ⌜ k < 21 ⌝ }
-    ensures { λ r. ⌜ r ≡ getD (now (table .entry)) k 0 ⌝ }
-{
-    table[k]
-}
-
 // The length of the atom's name after a `:` where no operand ends, or 0.
 fn atom_at(operand: bool, l: &[u8]) -> usize
     requires { ⌜ 0 < length (now l) ⌝ }
@@ -172,9 +167,9 @@ fn is_unary(operand: bool, c: u8) -> bool
     is_sign(c)
 }
 
-fn one_char_step(table: &[u8; 21], operand: bool, l: &[u8]) -> Token
+fn one_char_step(table: &[u8; Strengths::LENGTH], operand: bool, l: &[u8]) -> Token
     requires { ⌜ 0 < length (now l) ⌝ }
-    ensures { λ r. ⌜ ((s : Ops) → s .operand ≡ operand → stepWith s r ≡ oneCharStep (now (table .entry)) s (getD (now (l .entry)) 0 0) (drop 1 (now (l .entry)))) ⌝ }
+    ensures { λ r. ⌜ ((s : Ops) → s .operand ≡ operand → stepWith s r ≡ oneCharStep (strengthsIn (now (table .entry))) s (getD (now (l .entry)) 0 0) (drop 1 (now (l .entry)))) ⌝ }
 {
     let c = l[0];
     let k = one_index(c);
@@ -188,15 +183,15 @@ fn one_char_step(table: &[u8; 21], operand: bool, l: &[u8]) -> Token
         return plain_token(false, 0);
     }
     Token {
-        strength: strength_of(table, k),
+        strength: strength_at(table, k),
         operand: false,
         skip: 0,
     }
 }
 
-fn sign_step(table: &[u8; 21], operand: bool, l: &[u8]) -> Token
+fn sign_step(table: &[u8; Strengths::LENGTH], operand: bool, l: &[u8]) -> Token
     requires { ⌜ 0 < length (now l) ⌝ }
-    ensures { λ r. ⌜ ((s : Ops) → s .operand ≡ operand → stepWith s r ≡ signStep (now (table .entry)) s (now (l .entry))) ⌝ }
+    ensures { λ r. ⌜ ((s : Ops) → s .operand ≡ operand → stepWith s r ≡ signStep (strengthsIn (now (table .entry))) s (now (l .entry))) ⌝ }
 {
     if starts_with(l, b"...") {
         return plain_token(false, 2);
@@ -212,16 +207,16 @@ fn sign_step(table: &[u8; 21], operand: bool, l: &[u8]) -> Token
         return plain_token(false, 2);
     }
     Token {
-        strength: strength_of(table, k),
+        strength: strength_at(table, k),
         operand: false,
         skip: 1,
     }
 }
 
 // The token at the head of l, which is code and neither blank nor a bracket.
-pub fn token_at(table: &[u8; 21], operand: bool, l: &[u8]) -> Token
+pub fn token_at(table: &[u8; Strengths::LENGTH], operand: bool, l: &[u8]) -> Token
     requires { ⌜ 0 < length (now l) ⌝ }
-    ensures { λ r. ⌜ ((s : Ops) → s .operand ≡ operand → stepWith s r ≡ tokenStep (now (table .entry)) s (now (l .entry))) ⌝ }
+    ensures { λ r. ⌜ ((s : Ops) → s .operand ≡ operand → stepWith s r ≡ tokenStep (strengthsIn (now (table .entry))) s (now (l .entry))) ⌝ }
 {
     let n = atom_at(operand, l);
     if 0 < n {

@@ -19,7 +19,7 @@ enum-known-width c = search needs
 
 over-wide-requires : tie.Need-over-wide-requires
 over-wide-requires c κs =
-    let s = c .before .before .before .before .before .before .before in (
+    let s = c .before .before .before .before .before .before .before .before in (
       record { blank = s .pre .0 .blank; short = s .pre .0 .short; flat = omega (arith, s .pre .1 .0) },
       (s .pre .1 .1 .0 .well, omega (arith, s .pre .1 .1 .0 .short)),
     )
@@ -31,7 +31,7 @@ break-line-requires : tie.Need-break-line-requires
 break-line-requires c κs =
     let a = c .before in
     let b = a .before in
-    let s = b .before .before .before .before .before .before .before .before .before .before in
+    let s = b .before .before .before .before .before .before .before .before .before .before .before in
     let g = s .pre .1 .1 .0 in
     (s .pre .0, (s .pre .1 .0, (g, (s .pre .1 .1 .1, sym (code-bytes _ _ _ g (b .all-code-or-str .ensures)) ∙ a .if2 .taken))))
 
@@ -46,8 +46,8 @@ returns c =
     let e = d .before in
     let g = e .before in
     let h = g .before .before in
-    let s = h .before .before .before .before .before .before in
-    fit-broken _ _ _ _ _ _ _ _ _ _ _ _ _ _ (s .pre .1 .1 .0) (h .width .given .1) (g .over-wide .ensures) (e .if1 .taken)
+    let s = h .before .before .before .before .before .before .before in
+    fit-broken _ _ _ _ _ _ _ _ _ _ _ _ _ _ _ (s .pre .1 .1 .0) (h .width .given .1) (g .over-wide .ensures) (e .if1 .taken)
     (d .all-code-or-str .ensures) (b .if2 .taken) (a .break-line .ensures)
 
 push-one-requires-2 : tie.Need-push-one-requires-2
@@ -64,9 +64,9 @@ returns-2 c =
     let a = c .before .before .before in
     let b = a .before .before in
     let d = b .before in
-    let s = d .before .before .before .before .before .before .before .before .before .before in
+    let s = d .before .before .before .before .before .before .before .before .before .before .before in
     fit-mixed _ _ _ _ _ _ _ _ _ _ (s .pre .0) (s .pre .1 .0) (s .pre .1 .1 .0) (a .push-one2 .ensures) _ (c .alone2 .ensures)
-    _ _ (d .all-code-or-str .ensures) (b .if2 .left)
+    _ _ _ (d .all-code-or-str .ensures) (b .if2 .left)
 
 push-one-requires-3 : tie.Need-push-one-requires-3
 push-one-requires-3 c κs = (search needs, (search needs, ((search needs, search needs), (search needs, search needs))))
@@ -81,8 +81,8 @@ returns-3 : tie.Need-returns-3
 returns-3 c =
     let a = c .before .before .before in
     let b = a .before .before in
-    let s = b .before .before .before .before .before .before in
-    fit-off _ _ _ _ _ _ _ _ _ _ (s .pre .0) (s .pre .1 .0) (s .pre .1 .1 .0) (a .push-one .ensures) _ (c .alone .ensures) _ (b .enum-told .given .1)
+    let s = b .before .before .before .before .before .before .before in
+    fit-off _ _ _ _ _ _ _ _ _ _ (s .pre .0) (s .pre .1 .0) (s .pre .1 .1 .0) (a .push-one .ensures) _ (c .alone .ensures) _ _ (b .enum-told .given .1)
 
 same-length-4 : tie.Need-same-length-4
 same-length-4 c = search needs
@@ -93,9 +93,9 @@ returns-4 c =
     let b = a .before .before in
     let d = b .before in
     let e = d .before .before in
-    let s = e .before .before .before .before .before .before in
+    let s = e .before .before .before .before .before .before .before in
     fit-narrow _ _ _ _ _ _ _ _ _ _ (s .pre .0) (s .pre .1 .0) (s .pre .1 .1 .0) (a .push-one3 .ensures) _ (c .alone3 .ensures)
-    _ _ _ (e .width .given .1) (d .over-wide .ensures) (b .if1 .left)
+    _ _ _ _ (e .width .given .1) (d .over-wide .ensures) (b .if1 .left)
 
 pub fit-line-spec : {M : Type 1} → statement M
 fit-line-spec =

@@ -35,7 +35,7 @@ add-write-line c = search needs
 
 write-names-requires : tie.Need-write-names-requires
 write-names-requires c κs =
-    let h = c .before .before .before .before in
+    let h = c .before .before .before .before .before in
     names-fit (h .before .before .before .before .before .before .before .before .before .before .pre) (h .write-head .ensures)
 
 sub-write-line : tie.Need-sub-write-line
@@ -50,7 +50,7 @@ part-write-line-end c = search needs
 write-line-requires : tie.Need-write-line-requires
 write-line-requires c κs =
     let n = c .before .before .before .before in
-    let h = n .before .before .before .before .before in
+    let h = n .before .before .before .before .before .before in
     tail-room (h .before .before .before .before .before .before .before .before .before .before .pre) (h .write-head .ensures) _ (n .write-names .ensures)
 
 same-length : tie.Need-same-length

@@ -2,19 +2,20 @@ use borrow.Author.Needs.{needs}
 use Prim.Native.Nat.{_-_}
 use lib.ListN.{length}
 use Rattle.rules.specs.Lines.{asStr}
+use Rattle.rules.specs.Strengths.{strengthsIn}
 use Rattle.split_operation.proofs.OperationLaws.{Writing, writing-start, writing-cut, writing-within, writing-room, writing-more, writing-end}
 use Rattle.split_operation.proofs.write_rest.Statement.{statement}
 use Rattle.split_operation.proofs.write_rest.Tie as tie
 
 abbrev Inv-loop : tie.InvT-loop
 Inv-loop line class indent out₀ s under strength c₀ r₀ out c r =
-    Writing (s .strengths) strength line class c₀ indent (under .level) (asStr (under .ending)) out₀ r₀ out c r
+    Writing (strengthsIn (s .table)) strength line class c₀ indent (under .level) (asStr (under .ending)) out₀ r₀ out c r
 
 abbrev μ-loop : tie.MeasureT-loop
 μ-loop line class indent out₀ s under strength c₀ r₀ out c r = length line - c .place
 
-add-t20 : tie.Need-add-t20 Inv-loop μ-loop
-add-t20 c = search needs
+add-t21 : tie.Need-add-t21 Inv-loop μ-loop
+add-t21 c = search needs
 
 loop-holds : tie.Need-loop-holds Inv-loop μ-loop
 loop-holds c = search (needs, writing-start)
@@ -61,7 +62,7 @@ write-rest-spec =
     (tie.spec
     Inv-loop
     μ-loop
-    add-t20
+    add-t21
     loop-holds
     add-next-op
     next-op-requires

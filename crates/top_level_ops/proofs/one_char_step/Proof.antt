@@ -37,8 +37,8 @@ plain-token-requires-3 c κs = search needs
 returns-3 : tie.Need-returns-3
 returns-3 c = λ s e. let h = c .plain-token3 .ensures s in search (picks, one-operator, unary-at) depth 20
 
-strength-of-requires : tie.Need-strength-of-requires
-strength-of-requires c κs = search needs
+strength-at-requires : tie.Need-strength-at-requires
+strength-at-requires c κs = search needs
 
 returns-4 : tie.Need-returns-4
 returns-4 c = λ s e. search (picks, one-operator, operator-strength, token-operator, unary-at) depth 20
@@ -58,5 +58,5 @@ one-char-step-spec =
     is-unary-requires
     plain-token-requires-3
     returns-3
-    strength-of-requires
+    strength-at-requires
     returns-4)

@@ -48,8 +48,8 @@ returns-4 : tie.Need-returns-4
 unfolding signStep
 returns-4 c = λ s e. let h = c .plain-token3 .ensures s in search (picks, pick-two, two-token) depth 20
 
-strength-of-requires : tie.Need-strength-of-requires
-strength-of-requires c κs = search needs
+strength-at-requires : tie.Need-strength-at-requires
+strength-at-requires c κs = search needs
 
 returns-5 : tie.Need-returns-5
 unfolding signStep
@@ -72,5 +72,5 @@ sign-step-spec =
     is-shift-assign-requires
     plain-token-requires-3
     returns-4
-    strength-of-requires
+    strength-at-requires
     returns-5)

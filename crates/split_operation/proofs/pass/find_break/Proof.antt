@@ -4,13 +4,14 @@ use mathlib.Core.Path.{refl}
 use Prim.Native.Nat.{_-_}
 use lib.ListN.{length}
 use Rattle.split_operation.specs.Pass.{passAt, Passing}
+use Rattle.rules.specs.Strengths.{strengthsIn}
 use Rattle.split_operation.proofs.PassLaws.{countable, passing-start, pass-deep, pass-over, pass-plain, pass-taken, pass-left, pass-end}
 use Rattle.split_operation.proofs.IdentLaws.{passing-past}
 use Rattle.split_operation.proofs.pass.find_break.Statement.{statement}
 use Rattle.split_operation.proofs.pass.find_break.Tie as tie
 
 abbrev Inv-loop : tie.InvT-loop
-Inv-loop table line class b₀ s₀ start₀ depth₀ i₀ b s start depth i = Passing table line class (passAt s start depth b) i
+Inv-loop table line class b₀ s₀ start₀ depth₀ i₀ b s start depth i = Passing (strengthsIn table) line class (passAt s start depth b) i
 
 abbrev μ-loop : tie.MeasureT-loop
 μ-loop table line class b₀ s₀ start₀ depth₀ i₀ b s start depth i = length line - i

@@ -2,13 +2,14 @@ use borrow.Author.Needs.{needs}
 use Prim.Native.Nat.{_-_}
 use lib.ListN.{length}
 use Rattle.split_operation.specs.Pass.{Seeking}
+use Rattle.rules.specs.Strengths.{strengthsIn}
 use Rattle.split_operation.proofs.PassLaws.{countable, seek-start, read-token, seek-read, seek-found, seek-plain, seek-end}
 use Rattle.split_operation.proofs.IdentLaws.{seek-past}
 use Rattle.split_operation.proofs.pass.next_op.Statement.{statement}
 use Rattle.split_operation.proofs.pass.next_op.Tie as tie
 
 abbrev Inv-loop : tie.InvT-loop
-Inv-loop table line class strength from s₀ i₀ s i = Seeking table strength line class from s₀ s i
+Inv-loop table line class strength from s₀ i₀ s i = Seeking (strengthsIn table) strength line class from s₀ s i
 
 abbrev μ-loop : tie.MeasureT-loop
 μ-loop table line class strength from s₀ i₀ s i = length line - i

@@ -1,0 +1,4 @@
+-- Laws of the calls.
+pub mod TextLaws
+pub mod CaretCalls
+pub mod ChangesCalls

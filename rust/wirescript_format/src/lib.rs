@@ -17,6 +17,8 @@
 //! fails where it is missing. An archive with other signatures than this crate declares doesn't
 //! link: the error names the symbol `wirescript_interface_N`, with this crate's number for N.
 
+mod caret;
+mod changes;
 pub mod group;
 mod interface;
 mod kinds;
@@ -24,6 +26,8 @@ mod options;
 pub mod raw;
 mod refusal;
 
+pub use caret::{WithCaret, format_with_caret};
+pub use changes::{Change, Changes, apply, format_changes};
 pub use group::group;
 pub use kinds::text_kinds;
 pub use options::{
@@ -84,6 +88,8 @@ pub struct Formatter {
     scratch: Vec<u8>,
     /// A list of places, as numbers.
     places: Vec<u64>,
+    /// A list of changes, as numbers.
+    changes: Vec<u64>,
     most: usize,
     /// The length of the last text: the next may well be of the same file.
     last: usize,
@@ -95,6 +101,7 @@ impl Default for Formatter {
             output: Vec::new(),
             scratch: Vec::new(),
             places: Vec::new(),
+            changes: Vec::new(),
             most: Self::MOST,
             last: 0,
         }
@@ -125,18 +132,14 @@ impl Formatter {
         options: &Options,
     ) -> Result<Formatted<&str>, Refusal> {
         let source = source.as_ref();
-        let room = source.len().max(self.last);
-        let answer = match self.call(source, options, room + room / 4 + 256) {
-            // the place is the text's length, so the second call has room
-            Err(Refusal::OutputShort { needed }) if needed <= self.most as u64 => {
-                self.call(source, options, needed as usize)
-            }
-            other => other,
-        }?;
+        let answer = self.with_room(source, |buffers, room| {
+            let (output, scratch) = buffers.lend(source, room);
+            let answer = raw::format(source, options.choices(), output, scratch);
+            Refusal::of(answer.refusal, answer.place).map_or(Ok(answer), Err)
+        })?;
         self.last = answer.length as usize;
-        let text = &self.output[..self.last];
         Ok(Formatted {
-            text: std::str::from_utf8(text).expect("the text is proved to be UTF-8"),
+            text: utf8(&self.output[..self.last]),
             imports_split: answer.imports_split,
             blank_names: answer.blank_names,
         })
@@ -158,17 +161,33 @@ impl Formatter {
         }
     }
 
-    fn call(
+    /// A call with room for a text like the last one, and if that is too short, with what is needed.
+    fn with_room<Answer>(
         &mut self,
         source: &[u8],
-        options: &Options,
-        room: usize,
-    ) -> Result<raw::Answer, Refusal> {
-        let output = part(&mut self.output, room.min(self.most));
-        let scratch = part(&mut self.scratch, scratch_for(source));
-        let answer = raw::format(source, options.choices(), output, scratch);
-        Refusal::of(answer.refusal, answer.place).map_or(Ok(answer), Err)
+        mut call: impl FnMut(&mut Self, usize) -> Result<Answer, Refusal>,
+    ) -> Result<Answer, Refusal> {
+        let room = source.len().max(self.last);
+        match call(self, room + room / 4 + 256) {
+            // the place is the text's length, so the second call has room
+            Err(Refusal::OutputShort { needed }) if needed <= self.most as u64 => {
+                self.last = needed as usize;
+                call(self, self.last)
+            }
+            other => other,
+        }
     }
+
+    /// The output and the scratch of a formatting call.
+    fn lend(&mut self, source: &[u8], room: usize) -> (&mut [u8], &mut [u8]) {
+        let output = part(&mut self.output, room.min(self.most));
+        (output, part(&mut self.scratch, scratch_for(source)))
+    }
+}
+
+/// The characters of a text.
+fn utf8(text: &[u8]) -> &str {
+    std::str::from_utf8(text).expect("the text is proved to be UTF-8")
 }
 
 /// The scratch that a call needs; a source that is too long needs none.

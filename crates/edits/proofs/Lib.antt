@@ -2,3 +2,4 @@
 pub mod TextLaws
 pub mod CaretCalls
 pub mod ChangesCalls
+pub mod Examples

@@ -83,8 +83,8 @@ impl Formatter {
     /// let mut formatter = Formatter::new();
     /// let found = formatter.format_changes(" a  b ", &Options::new())?;
     /// let ranges: Vec<_> = found.changes.iter().map(|c| (c.range.clone(), c.text)).collect();
-    /// assert_eq!(ranges, [(0..1, ""), (5..6, "\n")]);
-    /// assert!(formatter.format_changes("a  b\n", &Options::new())?.changes.is_empty());
+    /// assert_eq!(ranges, [(0..1, ""), (2..4, " "), (5..6, "\n")]);
+    /// assert!(formatter.format_changes("a b\n", &Options::new())?.changes.is_empty());
     /// # Ok::<(), wirescript_format::Refusal>(())
     /// ```
     pub fn format_changes(

@@ -161,8 +161,9 @@ fn moves_the_caret() {
     for (line, column, to) in [
         (0, 0, (0, 0)),
         (0, 2, (0, 1)),
-        (1, 1, (0, 1)),
-        (1, 2, (1, 2)),
+        (1, 0, (0, 1)),
+        (1, 1, (1, 2)),
+        (1, 2, (1, 3)),
     ] {
         let moved = formatter.format_with_caret("{ ,\n\t\u{1f600}", &options, line, column);
         let moved = moved.map(|m| (m.formatted.text, (m.line, m.column)));

@@ -124,7 +124,7 @@ fn check(call: &Call, places: &[(u64, u64)]) -> u64 {
 fn all_places(text: &str) -> Vec<(u64, u64)> {
     let mut places = Vec::new();
     let lines: Vec<&str> = text.split('\n').collect();
-    for line in 0..lines.len() + 1 {
+    for line in 0..=lines.len() {
         let columns = lines.get(line).map_or(0, |l| l.chars().count());
         places.extend((0..columns + 2).map(|column| (line as u64, column as u64)));
         places.push((line as u64, u64::MAX));

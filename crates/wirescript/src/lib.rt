@@ -1,4 +1,6 @@
 // What a host links.
+pub mod caret;
+pub mod changes;
 mod config;
 pub mod grouping;
 pub mod interface;

@@ -4,6 +4,7 @@
 pub mod call;
 pub mod compare;
 pub mod grammar;
+pub mod lent;
 pub mod library;
 pub mod model;
 pub mod random;
@@ -12,3 +13,9 @@ pub mod shrink;
 pub mod sources;
 pub mod stages;
 pub mod texts;
+
+/// A number that a program is given, or the default.
+pub fn argument(place: usize, default: u64) -> u64 {
+    let given = std::env::args().nth(place);
+    given.map_or(default, |n| n.parse().expect("a number"))
+}

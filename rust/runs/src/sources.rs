@@ -1,6 +1,7 @@
 //! Sources: every short one over an alphabet, and random ones.
 
 use crate::call::{Call, Size};
+use crate::grammar;
 use crate::random::Random;
 use ec4rs::Properties;
 use ec4rs::property::{EndOfLine, FinalNewline, IndentSize, IndentStyle, MaxLineLen, TabWidth};
@@ -342,6 +343,39 @@ pub fn call(random: &mut Random) -> Call {
         _ => {}
     }
     call
+}
+
+/// Options that move characters, in turn: narrow, CRLF and LF, and as the source.
+pub fn moving(number: u64) -> FormatOptions {
+    let mut options = FormatOptions::default();
+    match number % 4 {
+        0 => {}
+        1 => {
+            options.print_width = Some(6);
+            options.end_of_line = Some(LineEnding::Crlf);
+        }
+        2 => {
+            options.indent = "\t".into();
+            options.insert_final_newline = false;
+        }
+        _ => {
+            options.print_width = Some(10);
+            options.end_of_line = Some(LineEnding::Lf);
+        }
+    }
+    options
+}
+
+/// A call of each of four kinds in turn: imports, tokens, lines as they are written, and one that may
+/// be refused.
+pub fn longer(random: &mut Random, number: u64) -> Call {
+    let source = match number % 4 {
+        0 => imports(random),
+        1 => tokens(random, 60),
+        2 => grammar::source(random, 400, 8),
+        _ => return call(random),
+    };
+    Call::new(source, &options(random))
 }
 
 /// A length for the output, near the text's.

@@ -17,6 +17,8 @@
 //! fails where it is missing. An archive with other signatures than this crate declares doesn't
 //! link: the error names the symbol `wirescript_interface_N`, with this crate's number for N.
 
+mod caret;
+mod changes;
 pub mod group;
 mod interface;
 mod kinds;
@@ -24,6 +26,8 @@ mod options;
 pub mod raw;
 mod refusal;
 
+pub use caret::{WithCaret, format_with_caret};
+pub use changes::{Change, Changes, apply, format_changes};
 pub use group::group;
 pub use kinds::text_kinds;
 pub use options::{
@@ -98,6 +102,8 @@ pub struct Formatter {
     places: Vec<u64>,
     /// The lines of the open brackets.
     opened: Vec<u64>,
+    /// A list of changes, as numbers.
+    changes: Vec<u64>,
     most: usize,
     /// The length of the last text: the next may well be of the same file.
     last: usize,
@@ -110,6 +116,7 @@ impl Default for Formatter {
             scratch: Vec::new(),
             places: Vec::new(),
             opened: vec![0; 64],
+            changes: Vec::new(),
             most: Self::MOST,
             last: 0,
         }
@@ -140,23 +147,16 @@ impl Formatter {
         options: &Options,
     ) -> Result<Formatted<&str, &[u64]>, Refusal> {
         let source = source.as_ref();
-        let room = source.len().max(self.last);
-        let mut answer = match self.call(source, options, room + room / 4 + 256) {
-            // the place is the text's length, so the second call has room
-            Err(Refusal::OutputShort { needed }) if needed <= self.most as u64 => {
-                self.call(source, options, needed as usize)
-            }
-            other => other,
-        }?;
+        let mut answer =
+            self.with_room(source, |buffers, room| buffers.call(source, options, room))?;
         self.last = answer.length as usize;
         let brackets = answer.open_brackets as usize;
         if self.opened.len() < brackets {
             self.opened.resize(brackets, 0);
             answer = self.call(source, options, self.last)?;
         }
-        let text = &self.output[..self.last];
         Ok(Formatted {
-            text: std::str::from_utf8(text).expect("the text is proved to be UTF-8"),
+            text: utf8(&self.output[..self.last]),
             imports_split: answer.imports_split,
             blank_names: answer.blank_names,
             open_brackets: &self.opened[..brackets],
@@ -179,6 +179,23 @@ impl Formatter {
         }
     }
 
+    /// A call with room for a text like the last one, and if that is too short, with what is needed.
+    fn with_room<Answer>(
+        &mut self,
+        source: &[u8],
+        mut call: impl FnMut(&mut Self, usize) -> Result<Answer, Refusal>,
+    ) -> Result<Answer, Refusal> {
+        let room = source.len().max(self.last);
+        match call(self, room + room / 4 + 256) {
+            // the place is the text's length, so the second call has room
+            Err(Refusal::OutputShort { needed }) if needed <= self.most as u64 => {
+                self.last = needed as usize;
+                call(self, self.last)
+            }
+            other => other,
+        }
+    }
+
     fn call(
         &mut self,
         source: &[u8],
@@ -186,18 +203,31 @@ impl Formatter {
         room: usize,
     ) -> Result<raw::Answer, Refusal> {
         let output = part(&mut self.output, room.min(self.most));
-        let scratch = part(&mut self.scratch, FORMAT_SCRATCH * short(source) + 256);
+        let scratch = part(&mut self.scratch, format_scratch(source));
         let answer = raw::format(source, options.choices(), output, &mut self.opened, scratch);
         Refusal::of(answer.refusal, answer.place).map_or(Ok(answer), Err)
     }
+
+    /// The output and the scratch of a formatting call.
+    fn lend(&mut self, source: &[u8], room: usize) -> (&mut [u8], &mut [u8]) {
+        let output = part(&mut self.output, room.min(self.most));
+        (output, part(&mut self.scratch, format_scratch(source)))
+    }
 }
 
-/// The bytes of scratch for each of the source's that formatting needs, beside 256.
-const FORMAT_SCRATCH: usize = 12;
+/// The characters of a text.
+fn utf8(text: &[u8]) -> &str {
+    std::str::from_utf8(text).expect("the text is proved to be UTF-8")
+}
 
 /// The source's length; one that is too long needs no more scratch.
 fn short(source: &[u8]) -> usize {
     source.len().min(MAX_SOURCE)
+}
+
+/// The scratch that formatting needs.
+fn format_scratch(source: &[u8]) -> usize {
+    12 * short(source) + 256
 }
 
 /// The scratch that asking for text kinds needs.

@@ -20,6 +20,31 @@ pub struct Answer {
     pub open_brackets: u64,
 }
 
+/// What a formatting call with a caret comes to: with the caret's line and column in the text.
+#[repr(C)]
+#[derive(Clone, Copy, Debug, Default, PartialEq, Eq)]
+pub struct CaretAnswer {
+    pub refusal: u64,
+    pub place: u64,
+    pub length: u64,
+    pub imports_split: u64,
+    pub blank_names: u64,
+    pub line: u64,
+    pub column: u64,
+}
+
+/// What a formatting call with a list of changes comes to: with their number.
+#[repr(C)]
+#[derive(Clone, Copy, Debug, Default, PartialEq, Eq)]
+pub struct ChangesAnswer {
+    pub refusal: u64,
+    pub place: u64,
+    pub length: u64,
+    pub imports_split: u64,
+    pub blank_names: u64,
+    pub changes: u64,
+}
+
 /// What asking for a text kind comes to: 0 code, 1 string, 2 comment.
 #[repr(C)]
 #[derive(Clone, Copy, Debug, Default, PartialEq, Eq)]
@@ -80,7 +105,7 @@ pub struct Resolved {
 }
 
 mod linked {
-    use super::{Answer, Kind, Kinds, Settings};
+    use super::{Answer, CaretAnswer, ChangesAnswer, Kind, Kinds, Settings};
 
     #[rustfmt::skip]
     unsafe extern "C" {
@@ -90,6 +115,18 @@ mod linked {
             output: *mut u8, output_length: usize, opened: *mut u64, opened_length: usize,
             scratch: *mut u8, scratch_length: usize,
         ) -> Answer;
+        pub fn wirescript_format_caret(
+            source: *const u8, source_length: usize, indent: *const u8, indent_length: usize,
+            width_set: u64, width: u64, line_ending: u64, final_newline: u64,
+            line: u64, column: u64,
+            output: *mut u8, output_length: usize, scratch: *mut u8, scratch_length: usize,
+        ) -> CaretAnswer;
+        pub fn wirescript_format_changes(
+            source: *const u8, source_length: usize, indent: *const u8, indent_length: usize,
+            width_set: u64, width: u64, line_ending: u64, final_newline: u64,
+            output: *mut u8, output_length: usize, changes: *mut u64, changes_length: usize,
+            scratch: *mut u8, scratch_length: usize,
+        ) -> ChangesAnswer;
         pub fn wirescript_text_kind_at(
             source: *const u8, source_length: usize, line: u64, column: u64,
             scratch: *mut u8, scratch_length: usize,
@@ -150,6 +187,54 @@ pub fn format(
             (source.as_ptr(), source.len()),
             s,
             (text, room, list, lines, work, left)
+        )
+    }
+}
+
+/// Formats `source` into `output`, and moves the caret from a line and a character column of the
+/// source, both from 0, to one of the text.
+#[must_use]
+pub fn format_caret(
+    source: &[u8],
+    s: Choices,
+    line: u64,
+    column: u64,
+    output: &mut [u8],
+    scratch: &mut [u8],
+) -> CaretAnswer {
+    let (text, room) = (output.as_mut_ptr(), output.len());
+    let (work, left) = (scratch.as_mut_ptr(), scratch.len());
+    // SAFETY: as for `format`.
+    unsafe {
+        with_choices!(
+            wirescript_format_caret,
+            (source.as_ptr(), source.len()),
+            s,
+            (line, column, text, room, work, left)
+        )
+    }
+}
+
+/// Formats `source` into `output`, and lists the changes from it to the text, four numbers to each:
+/// byte offset in the source, bytes removed, byte offset in the text, bytes put in; then zeros.
+#[must_use]
+pub fn format_changes(
+    source: &[u8],
+    s: Choices,
+    output: &mut [u8],
+    changes: &mut [u64],
+    scratch: &mut [u8],
+) -> ChangesAnswer {
+    let (text, room) = (output.as_mut_ptr(), output.len());
+    let (list, numbers) = (changes.as_mut_ptr(), changes.len());
+    let (work, left) = (scratch.as_mut_ptr(), scratch.len());
+    // SAFETY: as for `format`.
+    unsafe {
+        with_choices!(
+            wirescript_format_changes,
+            (source.as_ptr(), source.len()),
+            s,
+            (text, room, list, numbers, work, left)
         )
     }
 }

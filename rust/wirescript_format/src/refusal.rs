@@ -25,6 +25,8 @@ pub enum Refusal {
     NotUtf8 { prefix: u64 },
     /// The text takes this many bytes, more than the output has.
     OutputShort { needed: u64 },
+    /// The source has no such line, or the line is shorter than the column.
+    NoPlace,
     /// The places are not in ascending order of line, then column.
     PlacesUnordered,
     /// There are fewer answer bytes than places.
@@ -33,6 +35,8 @@ pub enum Refusal {
     NotExpression { place: u64 },
     /// The bracket at this byte of the source stands deeper than 64.
     TooDeep { place: u64 },
+    /// There are this many changes, more than the list has room for.
+    ListShort { needed: u64 },
     /// A refusal that this crate has no name for, as the library tells it.
     Other { number: u64, place: u64 },
 }
@@ -56,10 +60,12 @@ impl Refusal {
             (3, needed) => Self::ScratchShort { needed },
             (4, prefix) => Self::NotUtf8 { prefix },
             (5, needed) => Self::OutputShort { needed },
+            (6, 0) => Self::NoPlace,
             (9, 0) => Self::PlacesUnordered,
             (10, 0) => Self::KindsShort,
             (14, place) => Self::NotExpression { place },
             (15, place) => Self::TooDeep { place },
+            (16, needed) => Self::ListShort { needed },
             (number, place) => Self::Other { number, place },
         })
     }
@@ -73,10 +79,12 @@ impl Refusal {
             Self::ScratchShort { .. } => 3,
             Self::NotUtf8 { .. } => 4,
             Self::OutputShort { .. } => 5,
+            Self::NoPlace => 6,
             Self::PlacesUnordered => 9,
             Self::KindsShort => 10,
             Self::NotExpression { .. } => 14,
             Self::TooDeep { .. } => 15,
+            Self::ListShort { .. } => 16,
             Self::Other { number, .. } => number,
         }
     }
@@ -86,8 +94,10 @@ impl Refusal {
     pub fn place(self) -> u64 {
         match self {
             Self::SourceTooLong => SOURCE_END,
-            Self::BadOption | Self::PlacesUnordered | Self::KindsShort => 0,
-            Self::ScratchShort { needed } | Self::OutputShort { needed } => needed,
+            Self::BadOption | Self::NoPlace | Self::PlacesUnordered | Self::KindsShort => 0,
+            Self::ScratchShort { needed }
+            | Self::OutputShort { needed }
+            | Self::ListShort { needed } => needed,
             Self::NotUtf8 { prefix } => prefix,
             Self::NotExpression { place } | Self::TooDeep { place } | Self::Other { place, .. } => {
                 place
@@ -114,10 +124,14 @@ impl fmt::Display for Refusal {
                     "the text takes {needed} bytes, more than there is room for"
                 )
             }
+            Self::NoPlace => write!(f, "the source has no such line or column"),
             Self::PlacesUnordered => write!(f, "the places are not in ascending order"),
             Self::KindsShort => write!(f, "there are fewer answer bytes than places"),
             Self::NotExpression { place } => write!(f, "not an expression at byte {place}"),
             Self::TooDeep { place } => write!(f, "brackets deeper than 64 at byte {place}"),
+            Self::ListShort { needed } => {
+                write!(f, "there are {needed} changes, more than there is room for")
+            }
             Self::Other { number, place } => write!(f, "refusal {number} at {place}"),
         }
     }
@@ -149,10 +163,12 @@ mod tests {
             (3, 7, Refusal::ScratchShort { needed: 7 }),
             (4, 7, Refusal::NotUtf8 { prefix: 7 }),
             (5, 7, Refusal::OutputShort { needed: 7 }),
+            (6, 0, Refusal::NoPlace),
             (9, 0, Refusal::PlacesUnordered),
             (10, 0, Refusal::KindsShort),
             (14, 7, Refusal::NotExpression { place: 7 }),
             (15, 7, Refusal::TooDeep { place: 7 }),
+            (16, 7, Refusal::ListShort { needed: 7 }),
         ];
         for (number, place, refusal) in named {
             assert_eq!(Refusal::of(number, place), Some(refusal));

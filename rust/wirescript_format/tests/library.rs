@@ -2,7 +2,7 @@
 
 use wirescript_format::{
     EditorConfig, EndOfLine, FinalNewline, Formatter, IndentSize, IndentStyle, LineEnding,
-    MAX_SOURCE, MaxLineLength, Options, Refusal, TextKind, format, text_kind_at,
+    MAX_SOURCE, MaxLineLength, Options, Refusal, TextKind, apply, format, text_kind_at,
 };
 
 fn text(source: &str, options: &Options) -> String {
@@ -151,4 +151,62 @@ fn a_refused_step_changes_nothing() {
     let bad = Options::new().indent("q");
     assert_eq!(bad.indent_with(false, 2), Err(Refusal::BadOption));
     assert_eq!(bad, Options::new().indent("q"));
+}
+
+/// Before a letter, in the white space behind one, and where a text grows beyond the first guess.
+#[test]
+fn moves_the_caret() {
+    let mut formatter = Formatter::new();
+    let options = Options::new();
+    let deep = "(\n".repeat(300) + "a";
+    let moved = formatter.format_with_caret(&deep, &options, 300, 0);
+    let place = moved.map(|m| (m.line, m.column));
+    assert_eq!(place, Ok((300, 600)));
+    for (line, column, to) in [
+        (0, 0, (0, 0)),
+        (0, 2, (0, 1)),
+        (1, 0, (0, 1)),
+        (1, 1, (1, 2)),
+        (1, 2, (1, 3)),
+    ] {
+        let moved = formatter.format_with_caret("{ ,\n\t\u{1f600}", &options, line, column);
+        let moved = moved.map(|m| (m.text, (m.line, m.column)));
+        assert_eq!(moved, Ok(("{,\n  \u{1f600}\n", to)), "{line} {column}");
+    }
+    for (line, column) in [(0, 4), (2, 0), (u64::MAX, u64::MAX)] {
+        let none = formatter.format_with_caret("{ ,\na", &options, line, column);
+        assert_eq!(none, Err(Refusal::NoPlace));
+    }
+}
+
+/// Changes carried out give the text; more of them than the first list holds, too.
+#[test]
+fn lists_changes() {
+    let mut formatter = Formatter::new();
+    let sources = [
+        String::new(),
+        " ,\u{3000}".into(),
+        "a ,b\r\n\r\n\r\n c".into(),
+        format!("import {{{}}}", "name , ,".repeat(40)),
+        "(,".repeat(600),
+        "(\n".repeat(300),
+    ];
+    for ending in [LineEnding::Lf, LineEnding::Crlf] {
+        let options = Options::new().line_ending(ending);
+        for source in &sources {
+            let formatted = format(source, &options).expect("a text");
+            let found = formatter.format_changes(source, &options).expect("changes");
+            assert_eq!(apply(source, &found.changes), formatted.text);
+            assert_eq!(found.imports_split, formatted.imports_split);
+            assert_eq!(found.blank_names, formatted.blank_names);
+            for change in &found.changes {
+                let unkept = |text: &str| text.chars().all(|c| c.is_whitespace() || c == ',');
+                assert!(unkept(&source[change.range.clone()]) && unkept(change.text));
+            }
+            let again = formatter.format_changes(&formatted.text, &options);
+            assert_eq!(again.map(|found| found.changes.len()), Ok(0));
+        }
+    }
+    let text = formatter.format_changes(b"a\xff", &Options::new());
+    assert_eq!(text, Err(Refusal::NotUtf8 { prefix: 1 }));
 }

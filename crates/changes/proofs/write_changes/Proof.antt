@@ -6,11 +6,6 @@ use Prim.Native.Nat.{_-_}
 use lib.ListN.{length}
 use Rattle.changes.proofs.write_changes.Statement.{statement}
 use Rattle.changes.proofs.write_changes.Tie as tie
-use Rattle.changes.proofs.write_changes.Reads as reads
-use Rattle.changes.proofs.write_changes.Lts as lts
-use Rattle.changes.proofs.note_gap.Reads as note-gap-reads
-use Rattle.gaps.proofs.gap_end.Reads as gap-end-reads
-use Rattle.unicode.proofs.size_at.Reads as size-at-reads
 
 abbrev Inv-loop : tie.InvT-loop
 Inv-loop source text list₀ n₀ i₀ j₀ a₀ b₀ list n i j a b = Walk source text list₀ list n i j a b
@@ -18,75 +13,57 @@ Inv-loop source text list₀ n₀ i₀ j₀ a₀ b₀ list n i j a b = Walk sour
 abbrev μ-loop : tie.MeasureT-loop
 μ-loop source text list₀ n₀ i₀ j₀ a₀ b₀ list n i j a b = length source - a
 
--- src/lib.rt:55:9
 gap-end-requires : tie.Need-gap-end-requires Inv-loop μ-loop
 gap-end-requires c κs = search (needs, walk-source)
 
--- src/lib.rt:56:9
 gap-end-requires-2 : tie.Need-gap-end-requires-2 Inv-loop μ-loop
 gap-end-requires-2 c κs = search (needs, walk-text)
 
--- src/lib.rt:57:5
 loop-holds : tie.Need-loop-holds Inv-loop μ-loop
 loop-holds c = search (needs, walk-begin)
 
--- src/lib.rt:65:26
 sub-t10 : tie.Need-sub-t10 Inv-loop μ-loop
 sub-t10 c = search needs
 
--- src/lib.rt:67:22
 sub-t14 : tie.Need-sub-t14 Inv-loop μ-loop
 sub-t14 c = search needs
 
--- src/lib.rt:58:9
 note-gap-requires : tie.Need-note-gap-requires Inv-loop μ-loop
 note-gap-requires c κs = search (needs, walk-pair)
 
--- src/lib.rt:70:13
 size-at-requires : tie.Need-size-at-requires Inv-loop μ-loop
 size-at-requires c κs = search needs
 
--- src/lib.rt:71:13
 add-i : tie.Need-add-i Inv-loop μ-loop
 add-i c = search needs
 
--- src/lib.rt:72:13
 add-j : tie.Need-add-j Inv-loop μ-loop
 add-j c = search needs
 
--- src/lib.rt:73:9
 gap-end-requires-3 : tie.Need-gap-end-requires-3 Inv-loop μ-loop
 gap-end-requires-3 c κs = search (needs, walk-source-on)
 
--- src/lib.rt:74:9
 gap-end-requires-4 : tie.Need-gap-end-requires-4 Inv-loop μ-loop
 gap-end-requires-4 c κs = search (needs, walk-text-on)
 
--- src/lib.rt:57:5
 loop-less : tie.Need-loop-less Inv-loop μ-loop
 loop-less c = search needs
 
--- src/lib.rt:57:5
 loop-again : tie.Need-loop-again Inv-loop μ-loop
 loop-again c = search (needs, walk-turn)
 
--- src/lib.rt:83:22
 sub-t18 : tie.Need-sub-t18 Inv-loop μ-loop
 sub-t18 c = search needs
 
--- src/lib.rt:85:18
 sub-t19 : tie.Need-sub-t19 Inv-loop μ-loop
 sub-t19 c = search needs
 
--- src/lib.rt:76:5
 note-gap-requires-2 : tie.Need-note-gap-requires-2 Inv-loop μ-loop
 note-gap-requires-2 c κs = search (needs, walk-pair)
 
--- src/lib.rt:48:1
 same-length : tie.Need-same-length Inv-loop μ-loop
 same-length c = search needs
 
--- src/lib.rt:48:1
 returns : tie.Need-returns Inv-loop μ-loop
 returns c = search (needs, walk-end)
 

@@ -380,6 +380,30 @@ fn list_rows(formatter: &mut Formatter) {
     row("5,000 places, one list", source.len(), 0, Some(rust), list);
 }
 
+/// What an editor asks beside the text: the caret at the source's end, and the changes.
+fn edit_rows(sizes: &[usize], formatter: &mut Formatter) {
+    let options = Options::new();
+    for &size in sizes {
+        let source = written(size, 8);
+        let line = source.split('\n').count() as u64 - 1;
+        let caret = best(|| {
+            let moved = formatter.format_with_caret(black_box(&source), &options, line, 0);
+            black_box(moved).expect("accepted");
+        });
+        let changes = best(|| {
+            let found = formatter.format_changes(black_box(&source), &options);
+            black_box(found).expect("accepted");
+        });
+        let text = formatter
+            .format(&source, &options)
+            .expect("accepted")
+            .text
+            .len();
+        row("with a caret, hostile", source.len(), text, None, caret);
+        row("as changes, hostile", source.len(), text, None, changes);
+    }
+}
+
 /// The library alone, once.
 fn once(name: &str) {
     let input = INPUTS.iter().find(|input| input.name == name);
@@ -420,6 +444,9 @@ fn main() {
         if only.is_none_or(|name| input.name.contains(name.as_str())) {
             format_rows(input, sizes, &mut formatter);
         }
+    }
+    if only.is_none_or(|name| name == "edits") {
+        edit_rows(sizes, &mut formatter);
     }
     if only.is_none() {
         kind_rows(sizes, &mut formatter);

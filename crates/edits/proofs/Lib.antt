@@ -1,0 +1,5 @@
+-- Laws of the calls.
+pub mod TextLaws
+pub mod CaretCalls
+pub mod ChangesCalls
+pub mod Examples

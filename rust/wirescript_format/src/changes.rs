@@ -1,0 +1,131 @@
+//! What formatting changes, in place of a whole text.
+
+use crate::{Formatter, MAX_SOURCE, Options, Refusal, part, raw, scratch_for, utf8};
+use std::ops::Range;
+
+/// The bytes of the source in `range` give way to `text`. Only white space and commas do, and only
+/// they are put in.
+#[derive(Clone, Debug, PartialEq, Eq)]
+pub struct Change<Text = String> {
+    pub range: Range<usize>,
+    pub text: Text,
+}
+
+/// The changes that turn a source into its text, in ascending order, and what splitting did.
+#[derive(Clone, Debug, PartialEq, Eq)]
+pub struct Changes<Text = String> {
+    pub changes: Vec<Change<Text>>,
+    /// Imports whose names were spread over lines.
+    pub imports_split: u64,
+    /// Blank names dropped in them.
+    pub blank_names: u64,
+}
+
+/// The changes that formatting makes; see [`Formatter::format_changes`].
+///
+/// # Errors
+/// As [`Formatter::format_changes`].
+///
+/// ```
+/// use wirescript_format::{Change, Options, format_changes};
+///
+/// let found = format_changes("f(a ,b)\n", &Options::new())?;
+/// let change = Change { range: 3..5, text: ", ".to_owned() };
+/// assert_eq!(found.changes, [change]);
+/// # Ok::<(), wirescript_format::Refusal>(())
+/// ```
+pub fn format_changes(source: impl AsRef<[u8]>, options: &Options) -> Result<Changes, Refusal> {
+    let mut buffers = Formatter::new();
+    let found = buffers.format_changes(source, options)?;
+    let owned = |change: &Change<&str>| Change {
+        range: change.range.clone(),
+        text: change.text.to_owned(),
+    };
+    Ok(Changes {
+        changes: found.changes.iter().map(owned).collect(),
+        imports_split: found.imports_split,
+        blank_names: found.blank_names,
+    })
+}
+
+/// Carries out changes, which ascend without overlap, on the source that they are of.
+///
+/// ```
+/// use wirescript_format::{Options, apply, format, format_changes};
+///
+/// let source = "import {a,b}\n  x=1 ,\r\n";
+/// let found = format_changes(source, &Options::new())?;
+/// assert_eq!(apply(source, &found.changes), format(source, &Options::new())?.text);
+/// # Ok::<(), wirescript_format::Refusal>(())
+/// ```
+pub fn apply<Text: AsRef<str>>(source: &str, changes: &[Change<Text>]) -> String {
+    let mut text = String::with_capacity(source.len());
+    let mut at = 0;
+    for change in changes {
+        text.push_str(&source[at..change.range.start]);
+        text.push_str(change.text.as_ref());
+        at = change.range.end;
+    }
+    text + &source[at..]
+}
+
+impl Formatter {
+    /// The changes that turn a source into its text: one for each gap between neighbouring letters,
+    /// which are the characters other than white space and commas, that formatting changes. A source
+    /// that is formatted has none. The texts stay in the formatter's buffer.
+    ///
+    /// # Errors
+    /// As [`Formatter::format`].
+    ///
+    /// ```
+    /// use wirescript_format::{Formatter, Options};
+    ///
+    /// let mut formatter = Formatter::new();
+    /// let found = formatter.format_changes(" a  b ", &Options::new())?;
+    /// let ranges: Vec<_> = found.changes.iter().map(|c| (c.range.clone(), c.text)).collect();
+    /// assert_eq!(ranges, [(0..1, ""), (2..4, " "), (5..6, "\n")]);
+    /// assert!(formatter.format_changes("a b\n", &Options::new())?.changes.is_empty());
+    /// # Ok::<(), wirescript_format::Refusal>(())
+    /// ```
+    pub fn format_changes(
+        &mut self,
+        source: impl AsRef<[u8]>,
+        options: &Options,
+    ) -> Result<Changes<&str>, Refusal> {
+        let source = source.as_ref();
+        // a change for every eight bytes; the place of a refusal is how many there are
+        let guess = 4 * (source.len().min(MAX_SOURCE) / 8 + 16);
+        if self.changes.len() < guess {
+            self.changes.resize(guess, 0);
+        }
+        let mut call = |buffers: &mut Self, room: usize| {
+            let output = part(&mut buffers.output, room.min(buffers.most));
+            let scratch = part(&mut buffers.scratch, scratch_for(source));
+            let list = &mut buffers.changes;
+            let answer = raw::format_changes(source, options.choices(), output, list, scratch);
+            Refusal::of(answer.refusal, answer.place).map_or(Ok(answer), Err)
+        };
+        let answer = match self.with_room(source, &mut call) {
+            Err(Refusal::ListShort { needed }) => {
+                self.changes.resize(4 * needed as usize, 0);
+                self.with_room(source, &mut call)
+            }
+            other => other,
+        }?;
+        self.last = answer.length as usize;
+        let text = utf8(&self.output[..self.last]);
+        let change = |entry: &[u64]| {
+            let [at, removed, from, put] = [0, 1, 2, 3].map(|field| entry[field] as usize);
+            Change {
+                range: at..at + removed,
+                text: &text[from..from + put],
+            }
+        };
+        let entries = self.changes.chunks_exact(4);
+        Ok(Changes {
+            changes: entries.take(answer.changes as usize).map(change).collect(),
+            imports_split: answer.imports_split,
+            blank_names: answer.blank_names,
+        })
+    }
+}

@@ -181,7 +181,7 @@ module _
       code-protected m b d e q v o =
           stepped-as _ _ s₀ only within (omega arith)
           (λ f h. ap (λ (x : List ℕ). keptBy (decode x) (decode raw) f) (take-length raw)
-              ∙ code-kept o f (decode raw) (decode line) (t .text) (rw (h .ignore) at (keeps (decode line) (st .ignore) m d (sym e ∙ q))))
+          ∙ code-kept o f (decode raw) (decode line) (t .text) (rw (h .ignore) at (keeps (decode line) (st .ignore) m d (sym e ∙ q))))
           v
 
       -- spaced, with or without a marker that stands alone
@@ -218,36 +218,37 @@ module _ {st : Record} {s₀ out eol : List ℕ} {unit : ℕ} (p : Bool) (ep : p
   in-block : {f : Formatter} → Holds eol unit f st out s₀ → inBlock (f .ignore) ≡ p
   in-block h = ap inBlock (sym (h .ignore)) ∙ sym ep
 
-  module _ {r : Record} {out′ s₂ : List ℕ} (raw : List ℕ) (o : Options) where
-    abbrev Any : Type 0
-    Any = Stepped (anyLineBy o (decode raw)) (length raw) unit eol st out s₀ r out′ s₂
+  in-now : (b : Bool) → b ≡ inCodeNow (st .carry) → {f : Formatter} → Holds eol unit f st out s₀ → inCodeNow (f .carry) ≡ b
+  in-now b e h = ap inCodeNow (sym (h .carry)) ∙ sym e
 
+  module _ {r : Record} {out′ s₂ : List ℕ} (raw : List ℕ) (o : Options) where
     -- a line of a protected block
-    pub format-block : p ≡ true → Stepped (rawBy true (decode raw)) (length raw) unit eol st out s₀ r out′ s₂ → Any
+    pub format-block : p ≡ true → Stepped (rawBy true (decode raw)) (length raw) unit eol st out s₀ r out′ s₂
+        → Stepped (anyLineBy o (decode raw)) (length raw) unit eol st out s₀ r out′ s₂
     unfolding anyLine choose
     format-block q v = stepped-as _ _ s₀ (only-same s₀ 0 0) (omega arith) (omega arith) (λ f h. sym (choose-true _ _ _ (in-block h ∙ q))) v
 
     module _ (free : p ≡ false) (b : Bool) (e : b ≡ inCodeNow (st .carry)) where
-      in-now : {f : Formatter} → Holds eol unit f st out s₀ → inCodeNow (f .carry) ≡ b
-      in-now h = ap inCodeNow (sym (h .carry)) ∙ sym e
-
-      pub format-inside : b ≡ false → Stepped (rawBy false (decode raw)) (length raw) unit eol st out s₀ r out′ s₂ → Any
+      pub format-inside : b ≡ false → Stepped (rawBy false (decode raw)) (length raw) unit eol st out s₀ r out′ s₂
+          → Stepped (anyLineBy o (decode raw)) (length raw) unit eol st out s₀ r out′ s₂
       unfolding anyLine choose
       format-inside q v =
           stepped-as _ _ s₀ (only-same s₀ 0 0) (omega arith) (omega arith)
-          (λ f h. sym (choose-false _ _ _ (in-block h ∙ free) ∙ choose-false _ _ _ (in-now h ∙ q))) v
+          (λ f h. sym (choose-false _ _ _ (in-block h ∙ free) ∙ choose-false _ _ _ (in-now b e h ∙ q))) v
 
-      pub format-code : b ≡ true → isEmpty (trim (decode raw)) ≡ false → Stepped (codeLineBy o (decode raw)) (length raw) unit eol st out s₀ r out′ s₂ → Any
+      pub format-code : b ≡ true → isEmpty (trim (decode raw)) ≡ false → Stepped (codeLineBy o (decode raw)) (length raw) unit eol st out s₀ r out′ s₂
+          → Stepped (anyLineBy o (decode raw)) (length raw) unit eol st out s₀ r out′ s₂
       unfolding anyLine
       format-code q z v =
           stepped-as _ _ s₀ (only-same s₀ 0 0) (omega arith) (omega arith)
-          (λ f h. sym (choose-false _ _ _ (in-block h ∙ free) ∙ choose-true _ _ _ (in-now h ∙ q) ∙ choose-false _ _ _ z)) v
+          (λ f h. sym (choose-false _ _ _ (in-block h ∙ free) ∙ choose-true _ _ _ (in-now b e h ∙ q) ∙ choose-false _ _ _ z)) v
 
-      pub format-blank : b ≡ true → isEmpty (trim (decode raw)) ≡ true → Stepped blankLine 0 unit eol st out s₀ r out′ s₂ → Any
+      pub format-blank : b ≡ true → isEmpty (trim (decode raw)) ≡ true → Stepped blankLine 0 unit eol st out s₀ r out′ s₂
+          → Stepped (anyLineBy o (decode raw)) (length raw) unit eol st out s₀ r out′ s₂
       unfolding anyLine
       format-blank q z v =
           stepped-as _ _ s₀ (only-same s₀ 0 0) (omega arith) (omega arith)
-          (λ f h. sym (choose-false _ _ _ (in-block h ∙ free) ∙ choose-true _ _ _ (in-now h ∙ q) ∙ choose-true _ _ _ z)) v
+          (λ f h. sym (choose-false _ _ _ (in-block h ∙ free) ∙ choose-true _ _ _ (in-now b e h ∙ q) ∙ choose-true _ _ _ z)) v
 
 -- a trimmed line, blank or not
 module _ (raw : List ℕ) (tail start : ℕ) (e : TrimmedEnd raw tail) (s : TrimmedStart (take tail raw) start) where

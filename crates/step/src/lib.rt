@@ -279,9 +279,9 @@ fn is_alone(marker: Marker) -> bool
 }
 
 // A line that starts in code and is not blank. line is raw trimmed.
-fn code_line(
-    raw: &[u8],
-    line: &[u8],
+fn code_line<'a>(
+    raw: &'a [u8],
+    line: &'a [u8],
     scratch: &mut [u8],
     unit: usize,
     indent: &[u8],
@@ -302,10 +302,11 @@ fn code_line(
     let pending = st.ignore;
     let marker = marker_in(line, &scratch[..n]);
     if is_kept(pending, marker) {
+        let ending = style.ending;
         let k = Kept {
             shown: raw.len(),
             after,
-            ending: style.ending,
+            ending,
         };
         return line::kept::kept_line(raw, line, k, out, scratch, unit, st);
     }

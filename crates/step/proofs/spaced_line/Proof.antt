@@ -1,7 +1,8 @@
 use mathlib.Core.Path.{refl, _∙_}
 use native.Mathlib.Nat.{le-refl}
 use native.Mathlib.Omega.{arith}
-use Rattle.step.proofs.StepLaws.{ready-as, ready-room, spaced-step}
+use Rattle.line.proofs.HoldsLaws.{ready-as}
+use Rattle.step.proofs.StepLaws.{ready-room, spaced-step}
 use borrow.Author.Needs.{needs}
 use Rattle.step.proofs.spaced_line.Statement.{statement}
 use Rattle.step.proofs.spaced_line.Tie as tie

@@ -11,7 +11,7 @@ trim-end-requires : tie.Need-trim-end-requires
 trim-end-requires c κs = search needs
 
 slice-aggregate-trim-start : tie.Need-slice-aggregate-trim-start
-slice-aggregate-trim-start c = 
+slice-aggregate-trim-start c =
     let a = c .before in
     sym (length-take-le _ _ (a .trim-end .ensures .fits))
 
@@ -19,12 +19,12 @@ trim-start-requires : tie.Need-trim-start-requires
 trim-start-requires c κs = search needs
 
 sub-line : tie.Need-sub-line
-sub-line c = 
+sub-line c =
     let a = c .before .before in
     start-within _ _ _ (a .trim-end .ensures) (c .trim-start .ensures)
 
 part-line-start : tie.Need-part-line-start
-part-line-start c = 
+part-line-start c =
     let a = c .before .before in
     omega (arith, start-within _ _ _ (a .trim-end .ensures) (c .trim-start .ensures), a .trim-end .ensures .fits)
 
@@ -35,7 +35,7 @@ scanned-part-requires : tie.Need-scanned-part-requires
 scanned-part-requires c κs = search needs
 
 slice-relend-prefix-classify : tie.Need-slice-relend-prefix-classify
-slice-relend-prefix-classify c = 
+slice-relend-prefix-classify c =
     let b = c in
     let d = b .before .before in
     let e = d .before .before in
@@ -44,7 +44,7 @@ slice-relend-prefix-classify c =
     line-room (s .pre .0) (b .scanned-part .result .now) (part-fits (s .args .st .carry) _ _ _ t (b .scanned-part .ensures))
 
 slice-aggregate-classify : tie.Need-slice-aggregate-classify
-slice-aggregate-classify c = 
+slice-aggregate-classify c =
     let b = c .before in
     let d = b .before .before in
     let e = d .before .before in
@@ -53,7 +53,7 @@ slice-aggregate-classify c =
     front-size (s .pre .0) (b .scanned-part .result .now) (part-fits (s .args .st .carry) _ _ _ t (b .scanned-part .ensures))
 
 classify-requires : tie.Need-classify-requires
-classify-requires c κs = 
+classify-requires c κs =
     let b = c .before in
     let d = b .before .before in
     let e = d .before .before in
@@ -65,7 +65,7 @@ shown-len-requires : tie.Need-shown-len-requires
 shown-len-requires c κs = search needs
 
 kept-line-requires : tie.Need-kept-line-requires
-kept-line-requires c κs = 
+kept-line-requires c κs =
     let b = c .before .before .before .before .before .before .before in
     let d = b .before .before in
     let e = d .before .before in
@@ -82,7 +82,7 @@ same-length-2 : tie.Need-same-length-2
 same-length-2 c = search needs
 
 returns : tie.Need-returns
-returns c = 
+returns c =
     let b = c .before .before .before .before .before .before .before .before .before .before .before .before in
     let d = b .before .before in
     let e = d .before .before in

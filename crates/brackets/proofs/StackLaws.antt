@@ -165,7 +165,7 @@ module _ (buf : List ℕ) (base end depth levels₁ : ℕ) (w : Popping buf base
 -- ---- an entry
 
 pub line-read : (buf : List ℕ) (p a b c : ℕ) → a ≡ getD buf p 0 / 2 → b ≡ getD buf (p + 1) 0 → c ≡ getD buf (p + 2) 0
-    → a * 65536 + b * 256 + c ≡ entryAt buf p .line
+    → a * 65536 + b + c * 256 ≡ entryAt buf p .line
 unfolding entryAt
 line-read buf p a b c e f g = rw (e, f, g)
 
@@ -174,43 +174,43 @@ abbrev firstByte : ℕ → ℕ → ℕ
 firstByte level line = level + 2 * (line / 256 / 256)
 
 abbrev withEntry : List ℕ → ℕ → ℕ → ℕ → List ℕ
-withEntry buf p level line = set (set (set buf p (firstByte level line)) (p + 1) (line / 256 % 256)) (p + 2) (line % 256)
+withEntry buf p level line = set (set (set buf p (firstByte level line)) (p + 1) (line % 256)) (p + 2) (line / 256 % 256)
 
 module _ (buf : List ℕ) (p level line : ℕ) (w : EntryRoom buf p level line) where
   abbrev one : List ℕ
   one = set buf p (firstByte level line)
 
   abbrev two : List ℕ
-  two = set one (p + 1) (line / 256 % 256)
+  two = set one (p + 1) (line % 256)
 
   two-long : length two ≡ length buf
-  two-long = length-set one (p + 1) (line / 256 % 256) ∙ length-set buf p (firstByte level line)
+  two-long = length-set one (p + 1) (line % 256) ∙ length-set buf p (firstByte level line)
 
   first-put : getD (withEntry buf p level line) p 0 ≡ firstByte level line
   first-put =
-      getD-set-other two (p + 2) p (line % 256) 0 (λ e. absurd (omega arith))
-      ∙ getD-set-other one (p + 1) p (line / 256 % 256) 0 (λ e. absurd (omega arith))
+      getD-set-other two (p + 2) p (line / 256 % 256) 0 (λ e. absurd (omega arith))
+      ∙ getD-set-other one (p + 1) p (line % 256) 0 (λ e. absurd (omega arith))
       ∙ getD-set-same buf p (firstByte level line) 0 (omega (arith, w .place))
 
-  second-put : getD (withEntry buf p level line) (p + 1) 0 ≡ line / 256 % 256
+  second-put : getD (withEntry buf p level line) (p + 1) 0 ≡ line % 256
   second-put =
-      getD-set-other two (p + 2) (p + 1) (line % 256) 0 (λ e. absurd (omega arith))
-      ∙ getD-set-same one (p + 1) (line / 256 % 256) 0 (omega (arith, w .place, length-set buf p (firstByte level line)))
+      getD-set-other two (p + 2) (p + 1) (line / 256 % 256) 0 (λ e. absurd (omega arith))
+      ∙ getD-set-same one (p + 1) (line % 256) 0 (omega (arith, w .place, length-set buf p (firstByte level line)))
 
-  third-put : getD (withEntry buf p level line) (p + 2) 0 ≡ line % 256
-  third-put = getD-set-same two (p + 2) (line % 256) 0 (omega (arith, w .place, two-long))
+  third-put : getD (withEntry buf p level line) (p + 2) 0 ≡ line / 256 % 256
+  third-put = getD-set-same two (p + 2) (line / 256 % 256) 0 (omega (arith, w .place, two-long))
 
   pub entry-put : EntryPut buf p level line (withEntry buf p level line)
   unfolding entryAt
   entry-put =
       let a : firstByte level line % 2 ≡ level = omega (arith, w .bit) in
-      let l : firstByte level line / 2 * 65536 + line / 256 % 256 * 256 + line % 256 ≡ line = omega (arith, w .bit) in
+      let l : firstByte level line / 2 * 65536 + line % 256 + line / 256 % 256 * 256 ≡ line = omega (arith, w .bit) in
       record {
         is = rw (first-put, second-put, third-put, a, l);
         only =
             only-then (only-set buf p (firstByte level line) p (p + entrySize) (omega arith) (omega arith))
-            (only-then (only-set one (p + 1) (line / 256 % 256) p (p + entrySize) (omega arith) (omega arith))
-            (only-set two (p + 2) (line % 256) p (p + entrySize) (omega arith) (omega arith)));
+            (only-then (only-set one (p + 1) (line % 256) p (p + entrySize) (omega arith) (omega arith))
+            (only-set two (p + 2) (line / 256 % 256) p (p + entrySize) (omega arith) (omega arith)));
       }
 
 -- ---- one bracket

@@ -23,7 +23,7 @@ addsOf b = not (eqb (b % 2) 0)
 
 -- the line that an entry's three bytes hold
 abbrev pub lineOf : ℕ → ℕ → ℕ → ℕ
-lineOf a b c = a / 2 * 65536 + b * 256 + c
+lineOf a b c = a / 2 * 65536 + b + c * 256
 
 -- the entry that stands at p
 unfoldable pub entryAt : List ℕ → ℕ → Entry

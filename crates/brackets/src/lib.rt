@@ -74,7 +74,7 @@ fn read_line(scratch: &[u8], p: usize) -> usize
     requires { ⌜ p + entrySize ≤ length (now scratch) ⌝ }
     ensures { λ r. ⌜ r ≡ entryAt (now (scratch .entry)) p .line ⌝ }
 {
-    wide(scratch[p] / 2) * 65536 + wide(scratch[p + 1]) * 256 + wide(scratch[p + 2])
+    wide(scratch[p] / 2) * 65536 + wide(scratch[p + 1]) + wide(scratch[p + 2]) * 256
 }
 
 // Writes an entry at p: level is 1 if it added one, else 0.
@@ -84,8 +84,8 @@ fn put_entry(scratch: &mut [u8], p: usize, level: usize, line: usize)
 {
     let q = line / 256;
     scratch[p] = (level + 2 * (q / 256)) as u8;
-    scratch[p + 1] = (q % 256) as u8;
-    scratch[p + 2] = (line % 256) as u8;
+    scratch[p + 1] = (line % 256) as u8;
+    scratch[p + 2] = (q % 256) as u8;
 }
 
 // The n leading closers of a line: each pops any opener, with the level that it added, and on an empty stack does nothing.

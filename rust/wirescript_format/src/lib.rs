@@ -44,8 +44,10 @@ pub struct Formatted<Text = String, Lines = Vec<u64>> {
     pub imports_split: u64,
     /// Blank names dropped in them.
     pub blank_names: u64,
-    /// The source lines, from 0, of the brackets that are still open at the end, the oldest first.
-    pub open_brackets: Lines,
+    /// Brackets that are still open at the end.
+    pub open_brackets: u64,
+    /// Their source lines, from 0, the oldest first: all, or as many as [`Formatter::listed`] says.
+    pub opened: Lines,
 }
 
 /// What an editor is told of a place.
@@ -74,7 +76,7 @@ impl TextKind {
 /// use wirescript_format::{Options, format};
 ///
 /// let formatted = format("f(a,\n  [b,\n", &Options::new())?;
-/// assert_eq!(formatted.open_brackets, [0, 1]);
+/// assert_eq!(formatted.opened, [0, 1]);
 /// # Ok::<(), wirescript_format::Refusal>(())
 /// ```
 pub fn format(source: impl AsRef<[u8]>, options: &Options) -> Result<Formatted, Refusal> {
@@ -84,7 +86,8 @@ pub fn format(source: impl AsRef<[u8]>, options: &Options) -> Result<Formatted, 
         text: formatted.text.to_owned(),
         imports_split: formatted.imports_split,
         blank_names: formatted.blank_names,
-        open_brackets: formatted.open_brackets.to_vec(),
+        open_brackets: formatted.open_brackets,
+        opened: formatted.opened.to_vec(),
     })
 }
 
@@ -100,7 +103,7 @@ pub struct Formatter {
     scratch: Vec<u8>,
     /// A list of places, as numbers.
     places: Vec<u64>,
-    /// The lines of the open brackets.
+    /// The lines of the open brackets; its length is how many are listed.
     opened: Vec<u64>,
     /// A list of changes, as numbers.
     changes: Vec<u64>,
@@ -115,7 +118,7 @@ impl Default for Formatter {
             output: Vec::new(),
             scratch: Vec::new(),
             places: Vec::new(),
-            opened: vec![0; 64],
+            opened: vec![0; Self::LISTED],
             changes: Vec::new(),
             most: Self::MOST,
             last: 0,
@@ -127,6 +130,9 @@ impl Formatter {
     /// The longest text by default. Deep nesting makes a text grow with the square of its
     /// source, so there must be an end.
     pub const MOST: usize = 64 << 20;
+
+    /// How many open brackets are listed by default.
+    pub const LISTED: usize = 1000;
 
     #[must_use]
     pub fn new() -> Self {
@@ -140,6 +146,13 @@ impl Formatter {
         self
     }
 
+    /// List the lines of this many open brackets, the oldest; all are counted whatever it is.
+    #[must_use]
+    pub fn listed(mut self, brackets: usize) -> Self {
+        self.opened = vec![0; brackets];
+        self
+    }
+
     /// Formats a source. The text and the lines of open brackets stay in the formatter's buffers.
     pub fn format(
         &mut self,
@@ -147,19 +160,16 @@ impl Formatter {
         options: &Options,
     ) -> Result<Formatted<&str, &[u64]>, Refusal> {
         let source = source.as_ref();
-        let mut answer =
+        let answer =
             self.with_room(source, |buffers, room| buffers.call(source, options, room))?;
         self.last = answer.length as usize;
-        let brackets = answer.open_brackets as usize;
-        if self.opened.len() < brackets {
-            self.opened.resize(brackets, 0);
-            answer = self.call(source, options, self.last)?;
-        }
+        let listed = self.opened.len().min(answer.open_brackets as usize);
         Ok(Formatted {
             text: utf8(&self.output[..self.last]),
             imports_split: answer.imports_split,
             blank_names: answer.blank_names,
-            open_brackets: &self.opened[..brackets],
+            open_brackets: answer.open_brackets,
+            opened: &self.opened[..listed],
         })
     }
 
@@ -204,7 +214,8 @@ impl Formatter {
     ) -> Result<raw::Answer, Refusal> {
         let output = part(&mut self.output, room.min(self.most));
         let scratch = part(&mut self.scratch, format_scratch(source));
-        let answer = raw::format(source, options.choices(), output, &mut self.opened, scratch);
+        let opened = &mut self.opened;
+        let answer = raw::format(source, options.choices(), output, opened, scratch);
         Refusal::of(answer.refusal, answer.place).map_or(Ok(answer), Err)
     }
 

@@ -52,10 +52,10 @@ read-line-spec =
     add-wide
     shared-slice-read-wide-2
     wide-requires-2
-    mul-result-2
     add-result
     add-wide-2
     shared-slice-read-wide-3
     wide-requires-3
+    mul-result-2
     add-result-2
     returns)

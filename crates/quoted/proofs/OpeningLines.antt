@@ -55,7 +55,7 @@ ends-after b m l q p =
 ends-indent : (b w l : List ℕ) (q : Prefab) → White w → Ends b l q → Ends b (w ++ l) q
 ends-indent b w l q h p = ends-after b w l q (ends-from (b ++ w) b l q (like-after w b h) p)
 
-cut-chars : (y : Carry) (b raw : List ℕ) (q : Prefab) (c : OpenCut b (begin y) raw q) → raw ≡ charsOf (c .front) ++ q .line
+pub cut-chars : (y : Carry) (b raw : List ℕ) (q : Prefab) (c : OpenCut b (begin y) raw q) → raw ≡ charsOf (c .front) ++ q .line
 unfolding classify
 cut-chars y b raw q c =
     sym (chars-classify y raw) ∙ ap charsOf (c .whole) ∙ chars-append (c .front) (label Class.Prefab (q .line))

@@ -94,15 +94,20 @@ none-placed b x p = go (p .front) (p .whole ∙ ap {B = List ℕ} (λ l. p .fron
 
 -- ---- the strings of a line
 
-pub placed-cut : (k : Class) (y : Carry) (b raw : List ℕ) (x : Quoted) → Cut k b (begin y) raw x → Placed b raw x
+pub cut-line : (k : Class) (y : Carry) (b raw : List ℕ) (x : Quoted) (c : Cut k b (begin y) raw x)
+    → raw ≡ charsOf (c .front) ++ (x .string ++ charsOf (c .back))
 unfolding classify
+cut-line k y b raw x c =
+    sym (chars-classify y raw) ∙ ap charsOf (c .whole) ∙ chars-append (c .front) (label k (x .string) ++ c .back)
+    ∙ ap {B = List ℕ} (λ r. charsOf (c .front) ++ r)
+    (chars-append (label k (x .string)) (c .back) ∙ ap {B = List ℕ} (λ r. r ++ charsOf (c .back)) (chars-label k (x .string)))
+
+placed-cut : (k : Class) (y : Carry) (b raw : List ℕ) (x : Quoted) → Cut k b (begin y) raw x → Placed b raw x
 placed-cut k y b raw x c =
     record {
       front = charsOf (c .front);
       back = charsOf (c .back);
-      whole =
-          sym (chars-classify y raw) ∙ ap charsOf (c .whole) ∙ chars-append (c .front) (label k (x .string) ++ c .back)
-          ∙ ap {B = List ℕ} (λ r. charsOf (c .front) ++ r) (chars-append (label k (x .string)) (c .back) ∙ ap {B = List ℕ} (λ r. r ++ charsOf (c .back)) (chars-label k (x .string)));
+      whole = cut-line k y b raw x c;
       behind = like-eq (sym (c .before));
       isSealed = c .isSealed;
     }

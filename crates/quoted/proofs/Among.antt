@@ -2,7 +2,6 @@
 use Prim.Native.Nat.{ℕ}
 use mathlib.Core.Logic.{_⊎_, inl, inr}
 use mathlib.Core.List.{List, [], _∷_, _++_}
-use mathlib.Core.Path.{_≡_}
 use Rattle.unicode.specs.Unicode.{trimEnd}
 use Rattle.rules.specs.Basics.{codes}
 use Rattle.rules.specs.Else.{joinElse}

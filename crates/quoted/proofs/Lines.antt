@@ -1,8 +1,8 @@
 -- How a line of the source is written where no print width is set: as it stands, as a blank line or not at all, behind an indent, or joined.
 use Prim.Native.Nat.{ℕ}
-use mathlib.Core.Bool.{Bool, true, false}
+use mathlib.Core.Bool.{Bool, true}
 use mathlib.Core.List.{List, [], _∷_, _++_, reverseAux}
-use mathlib.Core.Path.{_≡_, refl, sym, ap, _∙_, subst}
+use mathlib.Core.Path.{_≡_, refl, sym, ap, _∙_}
 use Rattle.unicode.specs.Unicode.{trim}
 use Rattle.unicode.proofs.Trim.{White}
 use Rattle.rules.specs.Basics.{choose, isEmpty}

@@ -3,7 +3,7 @@ use Prim.Native.Nat.{ℕ}
 use lib.Dec.{eqb}
 use borrow.Author.Tests.{eqb-true}
 use mathlib.Core.Bool.{Bool, true, false, _&&_, true≢false}
-use mathlib.Core.List.{List, _∷_}
+use mathlib.Core.List.{List}
 use mathlib.Core.Path.{_≡_, refl, sym, ap, _∙_}
 use Rattle.unicode.proofs.Tests.{by-test, and-left, and-right}
 use Rattle.rules.specs.Scan.{inCode, inQuoted, inInterp, inInner, inBlock, inPrefab, markAt, ordinary, next, isCode}

@@ -3,16 +3,15 @@
 --     Later, strings-in-order     in the text
 use Prim.Native.Nat.{ℕ, _+_, _≤_}
 use native.Mathlib.Omega.{arith}
-use mathlib.Core.Bool.{Bool, true, false, not, _&&_, and-false}
+use mathlib.Core.Bool.{Bool, false, _&&_, and-false}
 use mathlib.Core.Logic.{_⊎_, inl, inr}
-use mathlib.Core.List.{List, [], _∷_, _++_, append-assoc, append-nil, nil≢cons, tail-eq-of-cons-eq, head-eq-of-cons-eq}
+use mathlib.Core.List.{List, [], _∷_, _++_, append-assoc, nil≢cons, tail-eq-of-cons-eq, head-eq-of-cons-eq}
 use mathlib.Core.Option.{Option, none, some, Option·map}
 use mathlib.Core.Path.{_≡_, refl, sym, ap, _∙_, subst}
 use lib.Dec.{eqb}
 use lib.ListN.{length, length-append}
 use Rattle.unicode.specs.Unicode.{isWhite}
-use Rattle.unicode.proofs.Tests.{by-test}
-use Rattle.rules.specs.Basics.{choose, codes, consIf, keep, pieces, splitOn}
+use Rattle.rules.specs.Basics.{choose, codes, keep, pieces, splitOn}
 use Rattle.rules.specs.Lines.{dropCr}
 use Rattle.rules.specs.Scan.{next, charsOf, begin, carryAfter, isStr}
 use Rattle.rules.specs.Demand3.{strikeWhite}

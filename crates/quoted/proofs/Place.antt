@@ -3,14 +3,14 @@
 --     placed-raw, placed-spaced     the strings of a line, in the line as written and in the respaced one
 --     In                    a string on one of the lines, the newest first
 use Prim.Native.Nat.{ℕ}
-use mathlib.Core.Bool.{Bool, true, false}
-use mathlib.Core.Logic.{_⊎_, inl, inr}
+use mathlib.Core.Bool.{false}
+use mathlib.Core.Logic.{inl, inr}
 use mathlib.Core.List.{List, [], _∷_, _++_, append-assoc, append-nil, nil≢cons}
 use mathlib.Core.Path.{_≡_, refl, sym, ap, _∙_, subst}
 use Rattle.unicode.specs.Unicode.{isWhite, trim, trimEnd}
 use Rattle.unicode.proofs.Trim.{White, end-append, end-first}
 use Rattle.rules.specs.Basics.{codes}
-use Rattle.rules.specs.Scan.{isCode, Cell, charsOf, scan, begin, classify}
+use Rattle.rules.specs.Scan.{isCode, charsOf, begin, classify}
 use Rattle.rules.specs.Spacing.{normalizeSpacing, respaced}
 use Rattle.rules.specs.Else.{joinElse}
 use Rattle.rules.specs.Assembly.{dropEmpty, joined}
@@ -18,11 +18,11 @@ use Rattle.rules.specs.declared.Class.{Class}
 use Rattle.rules.specs.declared.Carry.{Carry}
 use Rattle.rules.proofs.ScanBytes.{label, chars-append, chars-label, chars-classify}
 use Rattle.rules.proofs.Demand3.{like-joined}
-use Rattle.rules.proofs.Struck.{Like, like-eq, like-refl, like-sym, _then_, like-append, like-before, like-after, like-trimEnd, flattenBack}
+use Rattle.rules.proofs.Struck.{Like, like-eq, like-refl, like-sym, _then_, like-append, like-after, like-trimEnd, flattenBack}
 use Rattle.rules.specs.Quoted.{Quoted, quotedIn, Stands, All}
 use Rattle.quoted.proofs.Strings.{Sealed, Cut, all-cut, all-map}
-use Rattle.quoted.proofs.SpacedStrings.{SpacedString, spaced-string}
-use Rattle.quoted.proofs.White.{Trimmed, quoted-trim}
+use Rattle.quoted.proofs.SpacedStrings.{spaced-string}
+use Rattle.quoted.proofs.White.{quoted-trim}
 use Rattle.quoted.proofs.Among.{Among, Lasts, among-empty}
 
 -- the string stands on the line l, before which stands b

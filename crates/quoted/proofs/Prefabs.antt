@@ -2,7 +2,7 @@
 --     Opened            the newest lines are those within a prefab, behind the one that it opens on
 --     Closed            a line that is not empty stands behind such lines
 use Prim.Native.Nat.{ℕ}
-use mathlib.Core.Bool.{Bool, true, false, _&&_}
+use mathlib.Core.Bool.{true, false, _&&_}
 use mathlib.Core.Logic.{inl, inr}
 use mathlib.Core.List.{List, [], _∷_, _++_, map, foldl, reverseAux, append-assoc, append-nil}
 use mathlib.Core.Option.{Option, none, some}

@@ -1,8 +1,8 @@
 -- Each line has its own strings among the lines that are written.
 use Prim.Native.Nat.{ℕ}
-use mathlib.Core.Logic.{inl, inr}
+use mathlib.Core.Logic.{inl}
 use mathlib.Core.List.{List, [], _∷_, _++_}
-use mathlib.Core.Path.{_≡_, refl, sym, ap, _∙_, subst}
+use mathlib.Core.Path.{_≡_, refl, _∙_}
 use Rattle.unicode.specs.Unicode.{trim}
 use Rattle.unicode.proofs.Trim.{White}
 use Rattle.rules.specs.Scan.{begin}
@@ -11,7 +11,6 @@ use Rattle.rules.specs.Else.{joinElse}
 use Rattle.rules.specs.Line.{Formatter, asWritten, linesBefore}
 use Rattle.rules.specs.Quoted.{Quoted, quotedIn, All}
 use Rattle.rules.specs.declared.Carry.{Carry}
-use Rattle.rules.proofs.Choose.{choose-case}
 use Rattle.rules.proofs.Struck.{Like, like-eq, _then_, flattenBack}
 use Rattle.rules.proofs.LineLaws.{flattenBack-before}
 use Rattle.quoted.proofs.Strings.{all-map}

@@ -5,18 +5,18 @@
 use Prim.Native.Nat.{ℕ}
 use lib.Dec.{eqb}
 use borrow.Author.Tests.{eqb-true}
-use mathlib.Core.Bool.{Bool, true, false, _&&_, true≢false}
+use mathlib.Core.Bool.{Bool, true, false}
 use mathlib.Core.List.{List, [], _∷_, _++_, append-assoc, append-nil}
 use mathlib.Core.Option.{Option, none, some, Option·map}
 use mathlib.Core.Path.{_≡_, refl, sym, ap, _∙_}
 use Rattle.unicode.specs.Unicode.{isWhite}
-use Rattle.unicode.proofs.Tests.{and-left, and-right}
+use Rattle.unicode.proofs.Tests.{and-left}
 use Rattle.rules.specs.Basics.{choose, is, isBlank, isCloser, startsWith}
-use Rattle.rules.specs.Scan.{quote, one, long, inCode, inQuoted, inInterp, inInner, markAt, nextOf, next, Cell, cell, charsOf, scan, isStr}
+use Rattle.rules.specs.Scan.{quote, long, inCode, inQuoted, inInterp, inInner, markAt, nextOf, next, Cell, cell, charsOf, scan, isStr}
 use Rattle.rules.specs.declared.Class.{Class}
 use Rattle.rules.specs.declared.Mode.{Mode}
 use Rattle.rules.specs.declared.Mark.{Mark}
-use Rattle.rules.proofs.Choose.{choose-case, choose-true}
+use Rattle.rules.proofs.Choose.{choose-case}
 use Rattle.rules.proofs.ScanBytes.{label}
 use Rattle.rules.specs.Prefabs.{inCodeMode, opens}
 use Rattle.rules.specs.Quoted.{Quoted, closing, found, quotedAt, quotedIn, All}

@@ -2,7 +2,7 @@
 use Prim.Native.Nat.{ℕ}
 use mathlib.Core.Bool.{true}
 use mathlib.Core.List.{List, [], _∷_, _++_, map, foldl, flatten, append-assoc, append-nil}
-use mathlib.Core.Path.{_≡_, refl, sym, ap, _∙_, subst}
+use mathlib.Core.Path.{_≡_, refl, ap, _∙_, subst}
 use Rattle.unicode.specs.Unicode.{isWhite}
 use Rattle.unicode.proofs.Trim.{White}
 use Rattle.rules.specs.Basics.{codes, pieces, splitOn}
@@ -15,7 +15,7 @@ use Rattle.rules.specs.Quoted.{Quoted, quotedIn, quotedFrom, quotedOf, Stands, 
 use Rattle.rules.specs.declared.Carry.{Carry}
 use Rattle.rules.specs.declared.LineEnding.{LineEnding}
 use Rattle.rules.specs.declared.PrintWidth.{PrintWidth}
-use Rattle.rules.proofs.Struck.{Like, like-eq, like-refl, like-sym, _then_, like-append, like-after, flattenBack, kept-like, kept-from}
+use Rattle.rules.proofs.Struck.{like-eq, like-refl, like-sym, _then_, like-append, like-after, flattenBack, kept-like, kept-from}
 use Rattle.rules.proofs.SpacingLaws.{all-white}
 use Rattle.rules.proofs.LineLaws.{Holds, holds-lines}
 use Rattle.rules.proofs.Demand3.{like-dropCr, white-ending}

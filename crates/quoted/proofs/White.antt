@@ -1,26 +1,20 @@
 -- White space at a line's ends holds no string and changes none.
 --     quoted-before, quoted-behind     the strings of a line, without the white space before and behind
-use Prim.Native.Nat.{ℕ, zero, suc, _≤_}
+use Prim.Native.Nat.{ℕ}
 use native.Mathlib.Omega.{arith}
-use lib.Dec.{eqb, leb}
-use borrow.Author.Tests.{eqb-true, ne-eqb, leb-true}
-use mathlib.Core.Bool.{Bool, true, false, _&&_, true≢false, and-false}
+use mathlib.Core.Bool.{true}
 use mathlib.Core.List.{List, [], _∷_, _++_, append-assoc, append-nil}
-use mathlib.Core.Option.{Option, none, some, Option·map}
+use mathlib.Core.Option.{none, some, Option·map}
 use mathlib.Core.Path.{_≡_, refl, sym, ap, _∙_}
 use Rattle.unicode.specs.Unicode.{isWhite, trim}
-use Rattle.unicode.proofs.Tests.{by-test, and-left, and-right}
+use Rattle.unicode.proofs.Tests.{by-test}
 use Rattle.unicode.proofs.Trim.{White, trim-split}
-use Rattle.rules.specs.Basics.{choose, startsWith}
-use Rattle.rules.specs.Scan.{one, long, quote, inCode, inQuoted, inInterp, inInner, inBlock, inPrefab, markAt, nextOf, next, begin, isStr, final, openAfter, carryAfter}
-use Rattle.rules.specs.declared.Class.{Class}
+use Rattle.rules.specs.Basics.{choose}
+use Rattle.rules.specs.Scan.{next, begin, isStr, final, openAfter, carryAfter}
 use Rattle.rules.specs.declared.Carry.{Carry}
-use Rattle.rules.specs.declared.Mode.{Mode}
 use Rattle.rules.specs.declared.Mark.{Mark}
-use Rattle.rules.proofs.Choose.{choose-true, choose-false}
-use Rattle.rules.proofs.Prefix.{visible}
 use Rattle.rules.specs.Prefabs.{inCodeMode, opens}
-use Rattle.rules.specs.Quoted.{Quoted, closing, found, quotedAt, quotedIn}
+use Rattle.rules.specs.Quoted.{closing, quotedAt, quotedIn}
 use Rattle.quoted.proofs.Marks.{never}
 use Rattle.quoted.proofs.Separators.{sep-white, sep-mode, next-code, not-open, next-ahead}
 use Rattle.quoted.proofs.Strings.{Within, Reads, goes, ends, reads, not-code, open-mark, quote-solid}

@@ -6,6 +6,7 @@ pub mod compare;
 pub mod grammar;
 pub mod library;
 pub mod model;
+pub mod quoted;
 pub mod random;
 pub mod safe;
 pub mod shrink;

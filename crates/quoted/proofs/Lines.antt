@@ -1,4 +1,5 @@
--- How a line of the source is written where no print width is set: as it stands, as a blank line or not at all, behind an indent, or joined.
+-- How a line of the source is written where no print width is set: as it stands, as a blank line or not at all, behind
+-- an indent, or joined.
 use Prim.Native.Nat.{ℕ}
 use mathlib.Core.Bool.{Bool, true}
 use mathlib.Core.List.{List, [], _∷_, _++_, reverseAux}
@@ -45,7 +46,8 @@ empty-nil : (l : List ℕ) → isEmpty l ≡ true → l ≡ []
 empty-nil [] h = refl
 empty-nil (c ∷ l) h = never h refl
 
-module _ (o : Options) (off : o .printWidth ≡ PrintWidth.Off) (white : White (o .indent)) (f : Formatter) (raw : List ℕ) where
+module _ (o : Options) (off : o .printWidth ≡ PrintWidth.Off) (white : White (o .indent)) (f : Formatter)
+    (raw : List ℕ) where
   goes-inside : Goes f raw (insideLine f raw)
   unfolding keptLine
   goes-inside = record { lines = kept (f .carry) refl; carry = refl }
@@ -61,7 +63,8 @@ module _ (o : Options) (off : o .printWidth ≡ PrintWidth.Off) (white : White (
     goes-blank : trim raw ≡ [] → Goes f raw (blankLine f)
     unfolding blankLine
     goes-blank z =
-        let still : f .carry ≡ carryAfter (f .carry) raw = e ∙ sym (sym trimmed-carry ∙ rw (e, z) (unfold carryAfter final in refl)) in
+        let still : f .carry ≡ carryAfter (f .carry) raw =
+        e ∙ sym (sym trimmed-carry ∙ rw (e, z) (unfold carryAfter final in refl)) in
         choose-case (Goes f raw)
         (λ t. record { lines = passed e z refl; carry = still })
         (λ t. record { lines = blank e z refl; carry = still })
@@ -74,7 +77,8 @@ module _ (o : Options) (off : o .printWidth ≡ PrintWidth.Off) (white : White (
     unfolding elseLine
     goes-else = record { lines = joins e refl; carry = respaced-carry }
 
-    laid-off : (marker : Bool) (line : List ℕ) → laid o f marker line .lines ≡ (indentOf o (levelOf f line) ++ line) ∷ []
+    laid-off : (marker : Bool) (line : List ℕ)
+        → laid o f marker line .lines ≡ (indentOf o (levelOf f line) ++ line) ∷ []
     unfolding laid splitWide
     laid-off marker line =
         let l : Laid = oneLine (indentOf o (levelOf f line) ++ line) in
@@ -88,7 +92,9 @@ module _ (o : Options) (off : o .printWidth ≡ PrintWidth.Off) (white : White (
         let level : ℕ = levelOf f line in
         let i : List ℕ = indentOf o level in
         record {
-          lines = placed e i (white-indent o white level) (ap {B = List (List ℕ)} (λ m. reverseAux m (linesBefore f line)) (laid-off marker line));
+          lines =
+              placed e i (white-indent o white level)
+              (ap {B = List (List ℕ)} (λ m. reverseAux m (linesBefore f line)) (laid-off marker line));
           carry = respaced-carry;
         }
 

@@ -42,7 +42,8 @@ abbrev pub Ascending : List Quoted → Type 0
 Ascending [] = Unit
 Ascending (x ∷ xs) = All (Behind x) xs × Ascending xs
 
-ascending-append : (xs ys : List Quoted) → Ascending xs → Ascending ys → All (λ (x : Quoted). All (Behind x) ys) xs → Ascending (xs ++ ys)
+ascending-append : (xs ys : List Quoted) → Ascending xs → Ascending ys → All (λ (x : Quoted). All (Behind x) ys) xs
+    → Ascending (xs ++ ys)
 ascending-append [] ys a b h = b
 ascending-append (x ∷ xs) ys a b h = (all-append (Behind x) xs ys (a .0) (h .0), ascending-append xs ys (a .1) b (h .1))
 
@@ -50,17 +51,21 @@ ascending-append (x ∷ xs) ys a b h = (all-append (Behind x) xs ys (a .0) (h .0
 
 from-line : (b : List ℕ) (t : Mark) (s : List ℕ) → All (λ (y : Quoted). From b (y .before)) (quotedIn b t s)
 from-line b t s =
-    all-map (Cut Class.Str b t s) (λ (y : Quoted). From b (y .before)) (λ y c. record { gap = charsOf (c .front); is = c .before })
+    all-map (Cut Class.Str b t s) (λ (y : Quoted). From b (y .before))
+    (λ y c. record { gap = charsOf (c .front); is = c .before })
     (quotedIn b t s) (all-cut b t s)
 
-from-lines : (b : List ℕ) (y : Carry) (ls : List (List ℕ)) → All (λ (x : Quoted). From b (x .before)) (quotedFrom b y ls)
+from-lines : (b : List ℕ) (y : Carry) (ls : List (List ℕ))
+    → All (λ (x : Quoted). From b (x .before)) (quotedFrom b y ls)
 unfolding quotedFrom
 from-lines b y [] = tt
 from-lines b y (l ∷ ls) =
     let c : List ℕ = b ++ (l ++ codes "\n") in
-    all-append (λ (x : Quoted). From b (x .before)) (quotedIn b (begin y) (dropCr l)) (quotedFrom c (carryAfter y (dropCr l)) ls)
+    all-append (λ (x : Quoted). From b (x .before)) (quotedIn b (begin y) (dropCr l))
+    (quotedFrom c (carryAfter y (dropCr l)) ls)
     (from-line b (begin y) (dropCr l))
-    (all-map (λ (x : Quoted). From c (x .before)) (λ (x : Quoted). From b (x .before)) (λ x f. from-more (l ++ codes "\n") f)
+    (all-map (λ (x : Quoted). From c (x .before)) (λ (x : Quoted). From b (x .before))
+    (λ x f. from-more (l ++ codes "\n") f)
     (quotedFrom c (carryAfter y (dropCr l)) ls) (from-lines c (carryAfter y (dropCr l)) ls))
 
 -- ---- none opens inside a string
@@ -87,7 +92,8 @@ behind-cons b c ys (some l) h = rw append-assoc at h
 behind-string : (b : List ℕ) (t : Mark) (s : List ℕ) → Within t → BehindAll b (quotedIn b t s) (closing t s)
 unfolding closing quotedIn BehindAll
 behind-string b t [] w = tt
-behind-string b t (c ∷ s) w = rw (none-at b t c s w) (go (reads t c s w) (behind-string (b ++ (c ∷ [])) (next t (c ∷ s)) s))
+behind-string b t (c ∷ s) w =
+    rw (none-at b t c s w) (go (reads t c s w) (behind-string (b ++ (c ∷ [])) (next t (c ∷ s)) s))
   where
     u : Mark
     u = next t (c ∷ s)
@@ -96,13 +102,15 @@ behind-string b t (c ∷ s) w = rw (none-at b t c s w) (go (reads t c s w) (behi
     ys = quotedIn (b ++ (c ∷ [])) u s
 
     go : Reads c u → (Within u → BehindAll (b ++ (c ∷ [])) ys (closing u s))
-        → BehindAll b ys (choose (inCodeMode (u .mode)) (some (c ∷ [])) (Option·map (λ (l : List ℕ). c ∷ l) (closing u s)))
+        → BehindAll b ys (choose (inCodeMode (u .mode)) (some (c ∷ []))
+        (Option·map (λ (l : List ℕ). c ∷ l) (closing u s)))
     go (goes v) i = unfold choose in rw (not-code (u .mode) (v .mode)) (behind-cons b c ys (closing u s) (i v))
     go (ends q e k m) i = unfold choose BehindAll in rw m (from-line (b ++ (c ∷ [])) u s)
 
 -- ---- in the source
 
-ascending-found : (b : List ℕ) (c : ℕ) (r : Option (List ℕ)) (ys : List Quoted) → BehindAll (b ++ (c ∷ [])) ys r → Ascending ys
+ascending-found : (b : List ℕ) (c : ℕ) (r : Option (List ℕ)) (ys : List Quoted) → BehindAll (b ++ (c ∷ [])) ys r
+    → Ascending ys
     → Ascending (found b c r ++ ys)
 unfolding BehindAll
 ascending-found b c none ys h a = a
@@ -120,7 +128,8 @@ ascending-in b t (c ∷ s) =
     (λ h. a)
 
 -- a string of a line, and those of the lines behind
-behind-line : (y : Carry) (b l : List ℕ) (ys : List Quoted) → All (λ (z : Quoted). From (b ++ (l ++ codes "\n")) (z .before)) ys
+behind-line : (y : Carry) (b l : List ℕ) (ys : List Quoted)
+    → All (λ (z : Quoted). From (b ++ (l ++ codes "\n")) (z .before)) ys
     → (x : Quoted) → Cut Class.Str b (begin y) (dropCr l) x → All (Behind x) ys
 behind-line y b l ys h x c =
     let w = with-cr l in
@@ -203,7 +212,8 @@ in-order text x y w b s t =
     go (compare (s .before ++ x .string) (t .before) (s .after) (y .string ++ t .after)
     (append-assoc (s .before) (x .string) (s .after) ∙ sym (s .whole) ∙ t .whole))
   where
-    go : From (s .before ++ x .string) (t .before) ⊎ Over (s .before ++ x .string) (t .before) → From (s .before ++ x .string) (t .before)
+    go : From (s .before ++ x .string) (t .before) ⊎ Over (s .before ++ x .string) (t .before)
+        → From (s .before ++ x .string) (t .before)
     go (inl f) = f
     go (inr o) =
         let k : List ℕ = s .before ++ w .most in
@@ -245,8 +255,11 @@ InOrder text (x ∷ xs) = All (Later text x) xs × InOrder text xs
 
 in-order-of : (text : List ℕ) (xs : List Quoted) → All IsSealed xs → Ascending xs → InOrder text xs
 in-order-of text [] w a = tt
-in-order-of text (x ∷ xs) w a =
-    (all-map (Behind x) (Later text x) (λ y b. record { behind = in-order text x y (w .0) b }) xs (a .0), in-order-of text xs (w .1) (a .1))
+in-order-of text (x ∷ xs) w a = (
+  all-map (Behind x) (Later text x) (λ y b. record { behind = in-order text x y (w .0) b }) xs
+      (a .0),
+  in-order-of text xs (w .1) (a .1),
+)
 
 pub strings-in-order : (text source : List ℕ) → InOrder text (quotedOf source)
 unfolding quotedOf

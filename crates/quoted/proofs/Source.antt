@@ -27,7 +27,8 @@ behind : List (List ℕ) → List ℕ
 behind [] = []
 behind (m ∷ ls) = codes "\n" ++ (m ++ behind ls)
 
-lines-sep : (b : Bool) (c : ℕ) (p : Pieces) → is "\n" c ≡ b → atSep b c p .first ++ behind (atSep b c p .rest) ≡ c ∷ (p .first ++ behind (p .rest))
+lines-sep : (b : Bool) (c : ℕ) (p : Pieces) → is "\n" c ≡ b
+    → atSep b c p .first ++ behind (atSep b c p .rest) ≡ c ∷ (p .first ++ behind (p .rest))
 unfolding behind atSep
 lines-sep true c p e = ap {B = List ℕ} (λ d. d ∷ (p .first ++ behind (p .rest))) (sym (eqb-true c 10 e))
 lines-sep false c p e = refl
@@ -38,7 +39,8 @@ lines-split [] = refl
 lines-split (c ∷ s) = lines-sep (is "\n" c) c (splitOn "\n" s) refl ∙ ap {B = List ℕ} (λ l. c ∷ l) (lines-split s)
 
 -- one line on
-next-line : (b l m : List ℕ) (ls : List (List ℕ)) → (b ++ (l ++ codes "\n")) ++ (m ++ behind ls) ≡ b ++ (l ++ behind (m ∷ ls))
+next-line : (b l m : List ℕ) (ls : List (List ℕ))
+    → (b ++ (l ++ codes "\n")) ++ (m ++ behind ls) ≡ b ++ (l ++ behind (m ∷ ls))
 unfolding behind
 next-line b l m ls = simp append-assoc
 
@@ -64,7 +66,8 @@ pub record InSource (source : List ℕ) (x : Quoted) : Type 0 where
   pub after : List ℕ
   pub whole : source ≡ x .before ++ (x .string ++ after)
 
-string-in : (y : Carry) (b l z : List ℕ) (x : Quoted) → Cut Class.Str b (begin y) (dropCr l) x → InSource (b ++ (l ++ z)) x
+string-in : (y : Carry) (b l z : List ℕ) (x : Quoted) → Cut Class.Str b (begin y) (dropCr l) x
+    → InSource (b ++ (l ++ z)) x
 string-in y b l z x c =
     let w = with-cr l in
     let f : List ℕ = charsOf (c .front) in
@@ -82,9 +85,11 @@ line-in y b l z =
     all-map (Cut Class.Str b (begin y) (dropCr l)) (InSource (b ++ (l ++ z))) (string-in y b l z)
     (quotedIn b (begin y) (dropCr l)) (all-cut b (begin y) (dropCr l))
 
-lines-in : (ls : List (List ℕ)) (l b : List ℕ) (y : Carry) → All (InSource (b ++ (l ++ behind ls))) (quotedFrom b y (l ∷ ls))
+lines-in : (ls : List (List ℕ)) (l b : List ℕ) (y : Carry)
+    → All (InSource (b ++ (l ++ behind ls))) (quotedFrom b y (l ∷ ls))
 unfolding quotedFrom
-lines-in [] l b y = all-append (InSource (b ++ (l ++ behind []))) (quotedIn b (begin y) (dropCr l)) [] (line-in y b l (behind [])) tt
+lines-in [] l b y =
+    all-append (InSource (b ++ (l ++ behind []))) (quotedIn b (begin y) (dropCr l)) [] (line-in y b l (behind [])) tt
 lines-in (m ∷ ls) l b y =
     let c : List ℕ = b ++ (l ++ codes "\n") in
     let y′ : Carry = carryAfter y (dropCr l) in
@@ -96,7 +101,8 @@ pub strings-in : (source : List ℕ) → All (InSource source) (quotedOf source)
 unfolding quotedOf
 strings-in source =
     let p : Pieces = splitOn "\n" source in
-    subst (λ (t : List ℕ). All (InSource t) (quotedOf source)) (lines-split source) (lines-in (p .rest) (p .first) [] Carry.Code)
+    subst (λ (t : List ℕ). All (InSource t) (quotedOf source)) (lines-split source)
+    (lines-in (p .rest) (p .first) [] Carry.Code)
 
 -- ---- prefabs
 
@@ -137,7 +143,8 @@ drop-behind [] c m = refl
 drop-behind (x ∷ []) c m = refl
 drop-behind (x ∷ y ∷ a) c m = ap {B = List ℕ} (λ k. x ∷ k) (drop-behind (y ∷ a) c m)
 
-begun-cut : (y : Carry) (b l : List ℕ) (q : Prefab) → OpenCut b (begin y) (dropCr l) q → Begun (b ++ (l ++ codes "\n")) q
+begun-cut : (y : Carry) (b l : List ℕ) (q : Prefab) → OpenCut b (begin y) (dropCr l) q
+    → Begun (b ++ (l ++ codes "\n")) q
 unfolding ended
 begun-cut y b l q c =
     let w = with-cr l in
@@ -168,7 +175,8 @@ begun-opens y b l = go (leftOpen b (begin y) (dropCr l)) (open-cut b (begin y) (
     go none c = unfold BegunOf in tt
     go (some q) c = unfold BegunOf Maybe in begun-cut y b l q c
 
-ended-snoc : (eol : List ℕ) (rows : List (List ℕ)) (l : List ℕ) → ended eol (rows ++ (l ∷ [])) ≡ ended eol rows ++ (l ++ eol)
+ended-snoc : (eol : List ℕ) (rows : List (List ℕ)) (l : List ℕ)
+    → ended eol (rows ++ (l ∷ [])) ≡ ended eol rows ++ (l ++ eol)
 unfolding ended
 ended-snoc eol [] l = rw append-nil
 ended-snoc eol (r ∷ rows) l = ap {B = List ℕ} (λ k. r ++ (eol ++ k)) (ended-snoc eol rows l) ∙ simp append-assoc
@@ -184,7 +192,8 @@ begun-longer b l p n =
       rows = n .rows ++ (l ∷ []);
       whole =
           ap {B = List ℕ} (λ k. k ++ (l ++ codes "\n")) (n .whole) ∙ simp append-assoc
-          (ap {B = List ℕ} (λ k. p .before ++ (n .last ++ (codes "\n" ++ k))) (sym (ended-snoc (codes "\n") (n .rows) l)));
+          (ap {B = List ℕ} (λ k. p .before ++ (n .last ++ (codes "\n" ++ k)))
+          (sym (ended-snoc (codes "\n") (n .rows) l)));
       opens = n .opens;
       same = map-snoc (n .rows) l ∙ ap {B = List (List ℕ)} (λ k. k ++ (dropCr l ∷ [])) (n .same);
     }
@@ -193,7 +202,8 @@ module _ (l b : List ℕ) (y : Carry) (ls : List (List ℕ)) where
   abbrev rest : Option Prefab → List Prefab
   rest q = prefabsFrom (b ++ (l ++ codes "\n")) (carryAfter y (dropCr l)) q ls
 
-  one-line : ((q : Option Prefab) → BegunOf (b ++ (l ++ codes "\n")) q → All (PrefabIn (b ++ (l ++ behind ls))) (rest q))
+  one-line : ((q : Option Prefab) → BegunOf (b ++ (l ++ codes "\n")) q
+      → All (PrefabIn (b ++ (l ++ behind ls))) (rest q))
       → (p : Option Prefab) → BegunOf b p → All (PrefabIn (b ++ (l ++ behind ls))) (prefabsFrom b y p (l ∷ ls))
   unfolding prefabsFrom BegunOf
   one-line again none n = again (leftOpen b (begin y) (dropCr l)) (begun-opens y b l)
@@ -210,7 +220,8 @@ all-in (m ∷ ls) l b y p n =
     let c : List ℕ = b ++ (l ++ codes "\n") in
     let y′ : Carry = carryAfter y (dropCr l) in
     one-line l b y (m ∷ ls)
-    (λ q k. subst (λ (t : List ℕ). All (PrefabIn t) (prefabsFrom c y′ q (m ∷ ls))) (next-line b l m ls) (all-in ls m c y′ q k)) p n
+    (λ q k. subst (λ (t : List ℕ). All (PrefabIn t) (prefabsFrom c y′ q (m ∷ ls))) (next-line b l m ls)
+    (all-in ls m c y′ q k)) p n
 
 pub prefabs-in : (source : List ℕ) → All (PrefabIn source) (prefabsOf source)
 unfolding prefabsOf BegunOf

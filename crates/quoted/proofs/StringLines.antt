@@ -38,7 +38,8 @@ module _ (f : Formatter) (b raw : List ℕ) (like : Like (flattenBack (f .lines)
       (λ x p. inl (placed-written z (flattenBack (f .lines)) raw x (placed-from p (flattenBack (f .lines)) like)))
       (quotedIn b (begin (f .carry)) raw) (placed-raw (f .carry) b raw)
 
-  new-placed : (indent : List ℕ) → White indent → New Carry.Code b raw ((indent ++ respaced (trim raw)) ∷ linesBefore f (respaced (trim raw)))
+  new-placed : (indent : List ℕ) → White indent
+      → New Carry.Code b raw ((indent ++ respaced (trim raw)) ∷ linesBefore f (respaced (trim raw)))
   new-placed indent white =
       let line : List ℕ = respaced (trim raw) in
       let ls : List (List ℕ) = linesBefore f line in
@@ -51,7 +52,8 @@ module _ (f : Formatter) (b raw : List ℕ) (like : Like (flattenBack (f .lines)
   new-joins =
       let line : List ℕ = respaced (trim raw) in
       all-map (Placed b line) (In (joinElse line (f .lines)))
-      (λ x p. joined-in line (f .lines) x (placed-from p (flattenBack (f .lines)) like)) (quotedIn b (begin Carry.Code) raw)
+      (λ x p. joined-in line (f .lines) x (placed-from p (flattenBack (f .lines)) like))
+      (quotedIn b (begin Carry.Code) raw)
       (placed-spaced b raw)
 
   pub new-line : (ms : List (List ℕ)) → Written f raw ms → New (f .carry) b raw ms

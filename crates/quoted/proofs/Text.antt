@@ -31,11 +31,13 @@ pub holds-next : (o : Options) → White (o .indent) → (l b : List ℕ) (f : F
 unfolding flatten isWhite
 holds-next o white l b f h =
     kept-from
-    (like-append (like-refl b) (like-eq (append-nil (dropCr l)) then like-dropCr l then like-sym (like-after (codes "\n") l (refl, tt))))
+    (like-append (like-refl b)
+    (like-eq (append-nil (dropCr l)) then like-dropCr l then like-sym (like-after (codes "\n") l (refl, tt))))
     (holds-lines o white (dropCr l ∷ []) b f h)
 
 module _ (o : Options) (off : o .printWidth ≡ PrintWidth.Off) (white : White (o .indent)) where
-  all-lines : (ls : List (List ℕ)) (b : List ℕ) (f : Formatter) → Holds o b f → (xs : List Quoted) → All (In (f .lines)) xs
+  all-lines : (ls : List (List ℕ)) (b : List ℕ) (f : Formatter) → Holds o b f → (xs : List Quoted)
+      → All (In (f .lines)) xs
       → All (In (foldl (formatLine o) f (map dropCr ls) .lines)) (xs ++ quotedFrom b (f .carry) ls)
   unfolding quotedFrom
   all-lines [] b f h xs a = rw (append-nil xs) a
@@ -47,7 +49,8 @@ module _ (o : Options) (off : o .printWidth ≡ PrintWidth.Off) (white : White (
       let here : List Quoted = quotedIn b (begin (f .carry)) raw in
       let r = all-lines ls c g (holds-next o white l b f h) (xs ++ here)
       (all-append (In (g .lines)) xs here
-      (all-map (In (f .lines)) (In (g .lines)) (λ x i. among-line (Has x) (has-lasts x) f raw (g .lines) (k .lines) i) xs a)
+      (all-map (In (f .lines)) (In (g .lines))
+      (λ x i. among-line (Has x) (has-lasts x) f raw (g .lines) (k .lines) i) xs a)
       (new-line f b raw (record { same = h .unbroken off }) (g .lines) (k .lines)))
       in
       subst (All (In (foldl (formatLine o) g (map dropCr ls) .lines)))
@@ -62,5 +65,6 @@ strings-stand o h off source =
     let e : LineEnding = endingOf (o .endOfLine) source in
     let f : Formatter = foldl (formatLine o) start (linesOf source) in
     all-map (In (f .lines)) (Stands (formatWith o source .text))
-    (stands-text (asStr e) (white-ending e) (f .lines) (lastEnding (o .insertFinalNewline) source (asStr e))) (quotedOf source)
+    (stands-text (asStr e) (white-ending e) (f .lines) (lastEnding (o .insertFinalNewline) source (asStr e)))
+    (quotedOf source)
     (all-lines o off (all-white (o .indent) h) (pieces (splitOn "\n" source)) [] start (kept-like (like-refl [])) [] tt)

@@ -5,10 +5,10 @@
 --     carry-respaced    the law
 use Prim.Native.Nat.{ℕ, zero, suc}
 use native.Mathlib.Omega.{arith}
-use borrow.Author.Tests.{eqb-true}
 use mathlib.Core.Bool.{Bool, true, false, _||_}
 use mathlib.Core.List.{List, [], _∷_, _++_, foldl}
 use mathlib.Core.Path.{_≡_, refl, sym, ap, _∙_, subst}
+use borrow.Author.Tests.{eqb-true}
 use Rattle.unicode.proofs.Tests.{by-test, and-right}
 use Rattle.rules.specs.Basics.{choose, is, codes, isBlank}
 use Rattle.rules.specs.Scan.{one, long, inCode, markAt, ordinary, nextOf, next, cell, scan, final, begin, openAfter, classify, carryAfter, isCode}

@@ -1,11 +1,11 @@
 -- What is left of a mark: a mark of class code is one character or an escaped pair; the rest of a comment's or a
 -- prefab's end is not blank.
 use Prim.Native.Nat.{ℕ, zero, suc}
-use lib.Dec.{eqb}
-use borrow.Author.Tests.{eqb-true}
 use mathlib.Core.Bool.{Bool, true, false, _&&_}
 use mathlib.Core.List.{List, [], _∷_}
 use mathlib.Core.Path.{_≡_, refl, ap}
+use lib.Dec.{eqb}
+use borrow.Author.Tests.{eqb-true}
 use Rattle.unicode.proofs.Tests.{and-left, and-right}
 use Rattle.rules.specs.Basics.{is, codes, isBlank, startsWith}
 use Rattle.rules.specs.Scan.{one, long, inCode, inQuoted, inInterp, inInner, inBlock, inPrefab, markAt, nextOf, next, begin, isCode}

@@ -1,11 +1,11 @@
 -- Where a prefab opens that its line leaves open: its place among the cells, and in the trimmed line.
 use Prim.Native.Nat.{ℕ, zero, suc}
-use lib.Dec.{eqb}
-use borrow.Author.Tests.{eqb-true}
 use mathlib.Core.Bool.{Bool, true, false, _&&_}
 use mathlib.Core.List.{List, [], _∷_, _++_, append-assoc, append-nil}
 use mathlib.Core.Option.{Option, none, some}
 use mathlib.Core.Path.{_≡_, refl, sym, ap, _∙_}
+use lib.Dec.{eqb}
+use borrow.Author.Tests.{eqb-true}
 use Rattle.unicode.proofs.Tests.{by-test, and-left, and-right}
 use Rattle.unicode.proofs.Trim.{White}
 use Rattle.rules.specs.Basics.{choose, startsWith, codes}

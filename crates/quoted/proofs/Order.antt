@@ -18,7 +18,6 @@ use Rattle.rules.specs.Demand3.{strikeWhite}
 use Rattle.rules.specs.Prefabs.{inCodeMode, opens}
 use Rattle.rules.specs.Quoted.{Quoted, closing, found, quotedAt, quotedIn, quotedFrom, quotedOf, Stands, All}
 use Rattle.rules.specs.declared.Carry.{Carry}
-use Rattle.rules.specs.declared.Class.{Class}
 use Rattle.rules.specs.declared.Mark.{Mark}
 use Rattle.rules.proofs.Choose.{choose-case}
 use Rattle.rules.proofs.Struck.{strikeWhite-append}
@@ -51,7 +50,7 @@ ascending-append (x ∷ xs) ys a b h = (all-append (Behind x) xs ys (a .0) (h .0
 
 from-line : (b : List ℕ) (t : Mark) (s : List ℕ) → All (λ (y : Quoted). From b (y .before)) (quotedIn b t s)
 from-line b t s =
-    all-map (Cut Class.Str b t s) (λ (y : Quoted). From b (y .before))
+    all-map (Cut b t s) (λ (y : Quoted). From b (y .before))
     (λ y c. record { gap = charsOf (c .front); is = c .before })
     (quotedIn b t s) (all-cut b t s)
 
@@ -130,12 +129,12 @@ ascending-in b t (c ∷ s) =
 -- a string of a line, and those of the lines behind
 behind-line : (y : Carry) (b l : List ℕ) (ys : List Quoted)
     → All (λ (z : Quoted). From (b ++ (l ++ codes "\n")) (z .before)) ys
-    → (x : Quoted) → Cut Class.Str b (begin y) (dropCr l) x → All (Behind x) ys
+    → (x : Quoted) → Cut b (begin y) (dropCr l) x → All (Behind x) ys
 behind-line y b l ys h x c =
     let w = with-cr l in
     let f : List ℕ = charsOf (c .front) in
     let k : List ℕ = charsOf (c .back) ++ (w .end ++ codes "\n") in
-    let e : dropCr l ≡ f ++ (x .string ++ charsOf (c .back)) = cut-line Class.Str y b (dropCr l) x c in
+    let e : dropCr l ≡ f ++ (x .string ++ charsOf (c .back)) = cut-line y b (dropCr l) x c in
     let i : b ++ (l ++ codes "\n") ≡ (x .before ++ x .string) ++ k =
     ap {B = List ℕ} (λ m. b ++ (m ++ codes "\n")) (w .whole ∙ ap {B = List ℕ} (λ m. m ++ w .end) e)
     ∙ rw (c .before) (simp append-assoc)
@@ -152,7 +151,7 @@ ascending-from b y (l ∷ ls) =
     let xs : List Quoted = quotedIn b (begin y) (dropCr l) in
     let ys : List Quoted = quotedFrom c y′ ls in
     ascending-append xs ys (ascending-in b (begin y) (dropCr l)) (ascending-from c y′ ls)
-    (all-map (Cut Class.Str b (begin y) (dropCr l)) (λ (x : Quoted). All (Behind x) ys)
+    (all-map (Cut b (begin y) (dropCr l)) (λ (x : Quoted). All (Behind x) ys)
     (behind-line y b l ys (from-lines c y′ ls)) xs (all-cut b (begin y) (dropCr l)))
 
 pub ascending : (source : List ℕ) → Ascending (quotedOf source)
@@ -242,7 +241,7 @@ sealed-from b y (l ∷ ls) =
     let c : List ℕ = b ++ (l ++ codes "\n") in
     let y′ : Carry = carryAfter y (dropCr l) in
     all-append IsSealed xs (quotedFrom c y′ ls)
-    (all-map (Cut Class.Str b (begin y) (dropCr l)) IsSealed (λ x k. k .isSealed) xs (all-cut b (begin y) (dropCr l)))
+    (all-map (Cut b (begin y) (dropCr l)) IsSealed (λ x k. k .isSealed) xs (all-cut b (begin y) (dropCr l)))
     (sealed-from c y′ ls)
 
 pub record Later (text : List ℕ) (x y : Quoted) : Type 0 where

@@ -3,23 +3,22 @@
 --     placed-raw, placed-spaced     the strings of a line, in the line as written and in the respaced one
 --     In                    a string on one of the lines, the newest first
 use Prim.Native.Nat.{ℕ}
-use mathlib.Core.Bool.{false}
 use mathlib.Core.Logic.{inl, inr}
 use mathlib.Core.List.{List, [], _∷_, _++_, append-assoc, append-nil, nil≢cons}
 use mathlib.Core.Path.{_≡_, refl, sym, ap, _∙_, subst}
 use Rattle.unicode.specs.Unicode.{isWhite, trim, trimEnd}
 use Rattle.unicode.proofs.Trim.{White, end-append, end-first}
 use Rattle.rules.specs.Basics.{codes}
-use Rattle.rules.specs.Scan.{isCode, charsOf, begin, classify}
+use Rattle.rules.specs.Scan.{charsOf, begin, classify}
 use Rattle.rules.specs.Spacing.{normalizeSpacing, respaced}
 use Rattle.rules.specs.Else.{joinElse}
 use Rattle.rules.specs.Assembly.{dropEmpty, joined}
+use Rattle.rules.specs.Quoted.{Quoted, quotedIn, Stands, All}
 use Rattle.rules.specs.declared.Class.{Class}
 use Rattle.rules.specs.declared.Carry.{Carry}
 use Rattle.rules.proofs.ScanBytes.{label, chars-append, chars-label, chars-classify}
 use Rattle.rules.proofs.Demand3.{like-joined}
 use Rattle.rules.proofs.Struck.{Like, like-eq, like-refl, like-sym, _then_, like-append, like-after, like-trimEnd, flattenBack}
-use Rattle.rules.specs.Quoted.{Quoted, quotedIn, Stands, All}
 use Rattle.quoted.proofs.Strings.{Sealed, Cut, all-cut, all-map}
 use Rattle.quoted.proofs.SpacedStrings.{spaced-string}
 use Rattle.quoted.proofs.White.{quoted-trim}
@@ -41,8 +40,7 @@ module _ {b l : List ℕ} {x : Quoted} (p : Placed b l x) where
         front = p .front;
         back = p .back;
         whole = p .whole;
-        behind = like-append e
-            (like-refl (p .front)) then p .behind;
+        behind = like-append e (like-refl (p .front)) then p .behind;
         isSealed = p .isSealed;
       }
 
@@ -103,35 +101,35 @@ none-placed b x p = go (p .front) (p .whole ∙ ap {B = List ℕ} (λ l. p .fron
 
 -- ---- the strings of a line
 
-pub cut-line : (k : Class) (y : Carry) (b raw : List ℕ) (x : Quoted) (c : Cut k b (begin y) raw x)
+pub cut-line : (y : Carry) (b raw : List ℕ) (x : Quoted) (c : Cut b (begin y) raw x)
     → raw ≡ charsOf (c .front) ++ (x .string ++ charsOf (c .back))
 unfolding classify
-cut-line k y b raw x c =
-    sym (chars-classify y raw) ∙ ap charsOf (c .whole) ∙ chars-append (c .front) (label k (x .string) ++ c .back)
+cut-line y b raw x c =
+    sym (chars-classify y raw) ∙ ap charsOf (c .whole) ∙ chars-append (c .front) (label Class.Str (x .string) ++ c .back)
     ∙ ap {B = List ℕ} (λ r. charsOf (c .front) ++ r)
-    (chars-append (label k (x .string)) (c .back)
-    ∙ ap {B = List ℕ} (λ r. r ++ charsOf (c .back)) (chars-label k (x .string)))
+    (chars-append (label Class.Str (x .string)) (c .back)
+    ∙ ap {B = List ℕ} (λ r. r ++ charsOf (c .back)) (chars-label Class.Str (x .string)))
 
-placed-cut : (k : Class) (y : Carry) (b raw : List ℕ) (x : Quoted) → Cut k b (begin y) raw x → Placed b raw x
-placed-cut k y b raw x c =
+placed-cut : (y : Carry) (b raw : List ℕ) (x : Quoted) → Cut b (begin y) raw x → Placed b raw x
+placed-cut y b raw x c =
     record {
       front = charsOf (c .front);
       back = charsOf (c .back);
-      whole = cut-line k y b raw x c;
+      whole = cut-line y b raw x c;
       behind = like-eq (sym (c .before));
       isSealed = c .isSealed;
     }
 
 pub placed-raw : (y : Carry) (b raw : List ℕ) → All (Placed b raw) (quotedIn b (begin y) raw)
 placed-raw y b raw =
-    all-map (Cut Class.Str b (begin y) raw) (Placed b raw) (placed-cut Class.Str y b raw) (quotedIn b (begin y) raw)
+    all-map (Cut b (begin y) raw) (Placed b raw) (placed-cut y b raw) (quotedIn b (begin y) raw)
     (all-cut b (begin y) raw)
 
-pub spaced-cut : (k : Class) → isCode k ≡ false → (b w l : List ℕ) (x : Quoted) → White w
-    → Cut k (b ++ w) (begin Carry.Code) l x → Placed b (respaced l) x
+spaced-cut : (b w l : List ℕ) (x : Quoted) → White w
+    → Cut (b ++ w) (begin Carry.Code) l x → Placed b (respaced l) x
 unfolding classify
-spaced-cut k other b w l x h c =
-    let s = spaced-string k other (c .front) (c .back) (x .string) (c .isSealed) in
+spaced-cut b w l x h c =
+    let s = spaced-string (c .front) (c .back) (x .string) (c .isSealed) in
     record {
       front = s .before;
       back = s .after;
@@ -144,8 +142,8 @@ pub placed-spaced : (b raw : List ℕ) → All (Placed b (respaced (trim raw))) 
 placed-spaced b raw =
     let r = quoted-trim b raw in
     rw (r .same)
-    (all-map (Cut Class.Str (b ++ r .left) (begin Carry.Code) (trim raw)) (Placed b (respaced (trim raw)))
-    (λ x. spaced-cut Class.Str refl b (r .left) (trim raw) x (r .isWhite))
+    (all-map (Cut (b ++ r .left) (begin Carry.Code) (trim raw)) (Placed b (respaced (trim raw)))
+    (λ x. spaced-cut b (r .left) (trim raw) x (r .isWhite))
     (quotedIn (b ++ r .left) (begin Carry.Code) (trim raw))
     (all-cut (b ++ r .left) (begin Carry.Code) (trim raw)))
 

@@ -13,7 +13,6 @@ use Rattle.rules.specs.Scan.{charsOf, begin, carryAfter}
 use Rattle.rules.specs.Prefabs.{Prefab, leftOpen, longer, prefabsFrom, prefabsOf, ended}
 use Rattle.rules.specs.Quoted.{Quoted, quotedIn, quotedFrom, quotedOf, All}
 use Rattle.rules.specs.declared.Carry.{Carry}
-use Rattle.rules.specs.declared.Class.{Class}
 use Rattle.rules.proofs.Choose.{choose-case}
 use Rattle.quoted.proofs.Strings.{Cut, all-cut, all-append, all-map}
 use Rattle.quoted.proofs.Place.{cut-line}
@@ -66,13 +65,13 @@ pub record InSource (source : List ℕ) (x : Quoted) : Type 0 where
   pub after : List ℕ
   pub whole : source ≡ x .before ++ (x .string ++ after)
 
-string-in : (y : Carry) (b l z : List ℕ) (x : Quoted) → Cut Class.Str b (begin y) (dropCr l) x
+string-in : (y : Carry) (b l z : List ℕ) (x : Quoted) → Cut b (begin y) (dropCr l) x
     → InSource (b ++ (l ++ z)) x
 string-in y b l z x c =
     let w = with-cr l in
     let f : List ℕ = charsOf (c .front) in
     let r : List ℕ = charsOf (c .back) ++ (w .end ++ z) in
-    let e : dropCr l ≡ f ++ (x .string ++ charsOf (c .back)) = cut-line Class.Str y b (dropCr l) x c in
+    let e : dropCr l ≡ f ++ (x .string ++ charsOf (c .back)) = cut-line y b (dropCr l) x c in
     record {
       after = r;
       whole =
@@ -82,7 +81,7 @@ string-in y b l z x c =
 
 line-in : (y : Carry) (b l z : List ℕ) → All (InSource (b ++ (l ++ z))) (quotedIn b (begin y) (dropCr l))
 line-in y b l z =
-    all-map (Cut Class.Str b (begin y) (dropCr l)) (InSource (b ++ (l ++ z))) (string-in y b l z)
+    all-map (Cut b (begin y) (dropCr l)) (InSource (b ++ (l ++ z))) (string-in y b l z)
     (quotedIn b (begin y) (dropCr l)) (all-cut b (begin y) (dropCr l))
 
 lines-in : (ls : List (List ℕ)) (l b : List ℕ) (y : Carry)

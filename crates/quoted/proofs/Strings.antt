@@ -3,23 +3,23 @@
 --     reads             one character of a string: it goes on, or this is the quote that ends it
 --     Cut, all-cut      each string of a line is a row of cells of class Str, from quote to quote
 use Prim.Native.Nat.{ℕ}
-use lib.Dec.{eqb}
-use borrow.Author.Tests.{eqb-true}
 use mathlib.Core.Bool.{Bool, true, false}
 use mathlib.Core.List.{List, [], _∷_, _++_, append-assoc, append-nil}
 use mathlib.Core.Option.{Option, none, some, Option·map}
 use mathlib.Core.Path.{_≡_, refl, sym, ap, _∙_}
+use lib.Dec.{eqb}
+use borrow.Author.Tests.{eqb-true}
 use Rattle.unicode.specs.Unicode.{isWhite}
 use Rattle.unicode.proofs.Tests.{and-left}
 use Rattle.rules.specs.Basics.{choose, is, isBlank, isCloser, startsWith}
 use Rattle.rules.specs.Scan.{quote, long, inCode, inQuoted, inInterp, inInner, markAt, nextOf, next, Cell, cell, charsOf, scan, isStr}
+use Rattle.rules.specs.Prefabs.{inCodeMode, opens}
+use Rattle.rules.specs.Quoted.{Quoted, closing, found, quotedAt, quotedIn, All}
 use Rattle.rules.specs.declared.Class.{Class}
 use Rattle.rules.specs.declared.Mode.{Mode}
 use Rattle.rules.specs.declared.Mark.{Mark}
 use Rattle.rules.proofs.Choose.{choose-case}
 use Rattle.rules.proofs.ScanBytes.{label}
-use Rattle.rules.specs.Prefabs.{inCodeMode, opens}
-use Rattle.rules.specs.Quoted.{Quoted, closing, found, quotedAt, quotedIn, All}
 use Rattle.quoted.proofs.Marks.{never, opens-code}
 
 -- ---- of all members
@@ -34,7 +34,7 @@ all-map P Q f (x ∷ xs) h = (f x (h .0), all-map P Q f xs (h .1))
 
 -- ---- from quote to quote
 
--- a character that spacing neither removes nor asks no space before
+-- a character that spacing keeps, and before which it keeps the space behind a comma
 pub record Edge (c : ℕ) : Type 0 where
   pub solid : isWhite c ≡ false
   pub full : isBlank c ≡ false
@@ -213,15 +213,15 @@ rest-of t (c ∷ s) w = go (reads t c s w) (rest-of (next t (c ∷ s)) s)
         })
 
 -- a string of a line that goes on with s behind the mark t, and before which b stands
-pub record Cut (k : Class) (b : List ℕ) (t : Mark) (s : List ℕ) (x : Quoted) : Type 0 where
+pub record Cut (b : List ℕ) (t : Mark) (s : List ℕ) (x : Quoted) : Type 0 where
   pub front : List Cell
   pub back : List Cell
-  pub whole : scan t s ≡ front ++ (label k (x .string) ++ back)
+  pub whole : scan t s ≡ front ++ (label Class.Str (x .string) ++ back)
   pub before : x .before ≡ b ++ charsOf front
   pub isSealed : Sealed (x .string)
 
 cut-found : (b : List ℕ) (t : Mark) (c : ℕ) (s : List ℕ) → Opened c (next t (c ∷ s)) → (r : Option (List ℕ))
-    → RestOf (next t (c ∷ s)) s r → All (Cut Class.Str b t (c ∷ s)) (found b c r)
+    → RestOf (next t (c ∷ s)) s r → All (Cut b t (c ∷ s)) (found b c r)
 unfolding RestOf scan label charsOf
 cut-found b t c s o none h = tt
 cut-found b t c s o (some l) h = (
@@ -248,18 +248,18 @@ cut-found b t c s o (some l) h = (
 )
 
 cut-at : (b : List ℕ) (t : Mark) (c : ℕ) (s : List ℕ)
-    → All (Cut Class.Str b t (c ∷ s)) (quotedAt b t (next t (c ∷ s)) c s)
+    → All (Cut b t (c ∷ s)) (quotedAt b t (next t (c ∷ s)) c s)
 unfolding quotedAt
 cut-at b t c s =
-    choose-case (All (Cut Class.Str b t (c ∷ s)))
+    choose-case (All (Cut b t (c ∷ s)))
     (λ h. let o = open-mark t c s h in cut-found b t c s o (closing (next t (c ∷ s)) s)
     (rest-of (next t (c ∷ s)) s (o .within)))
     (λ h. tt)
 
-pub cut-later : (k : Class) (b : List ℕ) (t : Mark) (c : ℕ) (s : List ℕ) (x : Quoted)
-    → Cut k (b ++ (c ∷ [])) (next t (c ∷ s)) s x → Cut k b t (c ∷ s) x
+cut-later : (b : List ℕ) (t : Mark) (c : ℕ) (s : List ℕ) (x : Quoted)
+    → Cut (b ++ (c ∷ [])) (next t (c ∷ s)) s x → Cut b t (c ∷ s) x
 unfolding scan charsOf
-cut-later k b t c s x h =
+cut-later b t c s x h =
     record {
       front = cell c (next t (c ∷ s) .class) ∷ h .front;
       back = h .back;
@@ -268,12 +268,12 @@ cut-later k b t c s x h =
       isSealed = h .isSealed;
     }
 
-pub all-cut : (b : List ℕ) (t : Mark) (s : List ℕ) → All (Cut Class.Str b t s) (quotedIn b t s)
+pub all-cut : (b : List ℕ) (t : Mark) (s : List ℕ) → All (Cut b t s) (quotedIn b t s)
 unfolding quotedIn
 all-cut b t [] = tt
 all-cut b t (c ∷ s) =
-    all-append (Cut Class.Str b t (c ∷ s)) (quotedAt b t (next t (c ∷ s)) c s)
+    all-append (Cut b t (c ∷ s)) (quotedAt b t (next t (c ∷ s)) c s)
     (quotedIn (b ++ (c ∷ [])) (next t (c ∷ s)) s) (cut-at b t c s)
-    (all-map (Cut Class.Str (b ++ (c ∷ [])) (next t (c ∷ s)) s) (Cut Class.Str b t (c ∷ s))
-    (cut-later Class.Str b t c s) (quotedIn (b ++ (c ∷ [])) (next t (c ∷ s)) s)
+    (all-map (Cut (b ++ (c ∷ [])) (next t (c ∷ s)) s) (Cut b t (c ∷ s))
+    (cut-later b t c s) (quotedIn (b ++ (c ∷ [])) (next t (c ∷ s)) s)
     (all-cut (b ++ (c ∷ [])) (next t (c ∷ s)) s))

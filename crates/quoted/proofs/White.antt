@@ -1,7 +1,6 @@
 -- White space at a line's ends holds no string and changes none.
 --     quoted-before, quoted-behind     the strings of a line, without the white space before and behind
 use Prim.Native.Nat.{ℕ}
-use native.Mathlib.Omega.{arith}
 use mathlib.Core.Bool.{true}
 use mathlib.Core.List.{List, [], _∷_, _++_, append-assoc, append-nil}
 use mathlib.Core.Option.{none, some, Option·map}
@@ -11,10 +10,10 @@ use Rattle.unicode.proofs.Tests.{by-test}
 use Rattle.unicode.proofs.Trim.{White, trim-split}
 use Rattle.rules.specs.Basics.{choose}
 use Rattle.rules.specs.Scan.{next, begin, isStr, final, openAfter, carryAfter}
-use Rattle.rules.specs.declared.Carry.{Carry}
-use Rattle.rules.specs.declared.Mark.{Mark}
 use Rattle.rules.specs.Prefabs.{inCodeMode, opens}
 use Rattle.rules.specs.Quoted.{closing, quotedAt, quotedIn}
+use Rattle.rules.specs.declared.Carry.{Carry}
+use Rattle.rules.specs.declared.Mark.{Mark}
 use Rattle.quoted.proofs.Marks.{never}
 use Rattle.quoted.proofs.Separators.{sep-white, sep-mode, next-code, not-open, next-ahead}
 use Rattle.quoted.proofs.Strings.{Within, Reads, goes, ends, reads, not-code, open-mark, quote-solid}

@@ -1,6 +1,6 @@
-//! C-22, written from document 02: with no print width every string that is closed on its line stands in the text, and so
-//! do the lines strictly between a prefab's opening and closing lines. What is a string or a prefab is told by the Rust's
-//! own classes.
+//! C-22, written from document 02: with no print width every string that is closed on its line
+//! stands in the text, and so do the lines strictly between a prefab's opening and closing lines.
+//! What is a string or a prefab is told by the Rust's own classes.
 
 use std::sync::atomic::{AtomicU64, Ordering};
 use upstream::{Carry, classify};
@@ -26,7 +26,7 @@ struct At<T> {
     part: T,
 }
 
-/// A prefab's line from its `` $``` `` on, and the lines between that one and the one that closes it.
+/// A prefab's line from its opening on, and the lines between that one and the one that closes it.
 #[derive(Debug, PartialEq, Eq)]
 struct Prefab<'a> {
     line: &'a str,
@@ -37,8 +37,8 @@ fn solid(text: &str) -> usize {
     text.chars().filter(|c| !c.is_whitespace()).count()
 }
 
-/// How many bytes of `part`, which starts with a quote, are a string: what follows the shortest beginning that is closed
-/// is code again.
+/// How many bytes of `part`, which starts with a quote, are a string: the shortest beginning behind
+/// which a letter is code again.
 fn closed(part: &str) -> Option<usize> {
     let quote = part.chars().next()?;
     part.match_indices(quote).skip(1).find_map(|(at, quote)| {
@@ -48,8 +48,8 @@ fn closed(part: &str) -> Option<usize> {
     })
 }
 
-/// The line from a prefab's opening on, if the line leaves one open that it opens: nothing is open before it, and all
-/// behind it is part of it.
+/// Where the prefab opens that the line opens and leaves open: nothing is open before it, and it isn't
+/// closed behind it.
 fn opening(line: &str, carry: Carry, class: &[upstream::Class]) -> Option<usize> {
     line.char_indices().enumerate().find_map(|(n, (at, _))| {
         let rest = &line[at..];
@@ -67,8 +67,8 @@ fn lines(source: &str) -> impl Iterator<Item = &str> {
         .map(|line| line.strip_suffix('\r').unwrap_or(line))
 }
 
-/// The strings of a line that are closed on it, in order; so many characters that are no white space stand before the
-/// line.
+/// The strings of a line that are closed on it, in order; so many characters that are no white space
+/// stand before the line.
 fn strings<'a>(
     line: &'a str,
     class: &[upstream::Class],
@@ -125,7 +125,8 @@ fn found(source: &str) -> (Vec<At<&str>>, Vec<At<Prefab<'_>>>) {
     (all, prefabs)
 }
 
-/// The ending of the text's lines, for an option's number: 0 the one that most of the source's lines have, 1 LF, 2 CRLF.
+/// The ending of the text's lines, for an option's number: 0 the one that most of the source's lines
+/// have, 1 LF, 2 CRLF.
 pub fn ending(source: &str, number: u64) -> &'static str {
     let crlf = source.matches("\r\n").count();
     match number {

@@ -104,10 +104,16 @@ module _ (o : Options) (off : o .printWidth ≡ PrintWidth.Off) (white : White (
         choose-case (Goes f raw) (λ t. goes-protected)
         (λ t. choose-case (Goes f raw) (λ u. goes-else) (λ u. goes-placed (isMarker (classify Carry.Code (trim raw)))))
 
-  pub goes-line : Goes f raw (formatLine o f raw)
-  unfolding formatLine
-  goes-line =
+  goes-any :
+      Goes f raw
+      (choose (inCodeNow (f .carry)) (choose (isEmpty (trim raw)) (blankLine f) (codeLine o f raw)) (insideLine f raw))
+  goes-any =
       choose-case (Goes f raw)
       (λ t. let e = in-code (f .carry) t in
       choose-case (Goes f raw) (λ u. goes-blank e (empty-nil (trim raw) u)) (λ u. goes-code e))
       (λ t. goes-inside)
+
+  -- only the lines and what is open count
+  pub goes-line : Goes f raw (formatLine o f raw)
+  unfolding formatLine
+  goes-line = record { lines = goes-any .lines; carry = goes-any .carry }

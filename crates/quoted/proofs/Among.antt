@@ -2,7 +2,6 @@
 use Prim.Native.Nat.{ℕ}
 use mathlib.Core.Logic.{_⊎_, inl, inr}
 use mathlib.Core.List.{List, [], _∷_, _++_}
-use mathlib.Core.Path.{_≡_}
 use Rattle.unicode.specs.Unicode.{trimEnd}
 use Rattle.rules.specs.Basics.{codes}
 use Rattle.rules.specs.Else.{joinElse}
@@ -46,7 +45,8 @@ module _ (P : List (List ℕ) → List ℕ → Type 0) (lasts : Lasts P) where
   unfolding linesBefore
   among-before f line h = choose-case (Among P) (λ t. among-blank (f .lines) h) (λ t. h)
 
-  pub among-line : (f : Formatter) (raw : List ℕ) (ms : List (List ℕ)) → Written f raw ms → Among P (f .lines) → Among P ms
+  pub among-line : (f : Formatter) (raw : List ℕ) (ms : List (List ℕ)) → Written f raw ms → Among P (f .lines)
+      → Among P ms
   among-line f raw ms (kept y e) h = rw e (inr h)
   among-line f raw ms (passed c z e) h = rw e h
   among-line f raw ms (blank c z e) h = rw e (inr h)

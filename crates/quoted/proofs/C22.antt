@@ -28,7 +28,8 @@ pub c22-call : (c : Call) (a : Answer) (out : List ℕ) → a ≡ answerOf (outc
 unfolding optionsOf printWidthNamed formatted
 c22-call c a out e f z w =
     let y : answerOf (outcomeOf c) .refusal ≡ 0 = sym (ap (λ (b : Answer). b .refusal) e) ∙ z in
-    let chars : decode (take (a .length) out) ≡ formatted c .text = rw (f, e) (delivered c (outcomeOf c) refl y .chars) in
+    let chars : decode (take (a .length) out) ≡ formatted c .text =
+    rw (f, e) (delivered c (outcomeOf c) refl y .chars) in
     let off : optionsOf (c .choices) .printWidth ≡ PrintWidth.Off =
     ap (λ (n : ℕ). Option·getD (printWidthNamed n (c .choices .numbers .width)) (defaults .printWidth)) w in
     subst (QuotedKept (optionsOf (c .choices) .endOfLine) (decode (c .source))) (sym chars)

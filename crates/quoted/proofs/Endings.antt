@@ -1,10 +1,11 @@
--- What is left of a mark: a mark of class code is one character or an escaped pair; the rest of a comment's or a prefab's end is not blank.
+-- What is left of a mark: a mark of class code is one character or an escaped pair; the rest of a comment's or a
+-- prefab's end is not blank.
 use Prim.Native.Nat.{ℕ, zero, suc}
-use lib.Dec.{eqb}
-use borrow.Author.Tests.{eqb-true}
 use mathlib.Core.Bool.{Bool, true, false, _&&_}
 use mathlib.Core.List.{List, [], _∷_}
 use mathlib.Core.Path.{_≡_, refl, ap}
+use lib.Dec.{eqb}
+use borrow.Author.Tests.{eqb-true}
 use Rattle.unicode.proofs.Tests.{and-left, and-right}
 use Rattle.rules.specs.Basics.{is, codes, isBlank, startsWith}
 use Rattle.rules.specs.Scan.{one, long, inCode, inQuoted, inInterp, inInner, inBlock, inPrefab, markAt, nextOf, next, begin, isCode}
@@ -74,7 +75,10 @@ ticks-left : (s : List ℕ) → startsWith s (codes "``") ≡ true → NotBlank 
 unfolding NotBlank startsWith
 ticks-left [] h = tt
 ticks-left (c ∷ []) h = (is-tick c (and-left (eqb c 96) false h), tt)
-ticks-left (c ∷ d ∷ s) h = (is-tick c (and-left (eqb c 96) (eqb d 96 && true) h), (is-tick d (and-left (eqb d 96) true (and-right (eqb c 96) (eqb d 96 && true) h)), tt))
+ticks-left (c ∷ d ∷ s) h = (
+  is-tick c (and-left (eqb c 96) (eqb d 96 && true) h),
+  (is-tick d (and-left (eqb d 96) true (and-right (eqb c 96) (eqb d 96 && true) h)), tt),
+)
 
 ending-mark : (m : Mode) (c : ℕ) (s : List ℕ) → Ending s (markAt m (c ∷ s))
 unfolding inCode inQuoted inInterp inInner inBlock inPrefab startsWith
@@ -95,19 +99,26 @@ ending-mark (Mode.Interp q d) c s =
     (λ i. choose-case (Ending s) (λ j. ending-one s _ _)
     (λ j. choose-case (Ending s) (λ k. ending-one s _ _)
     (λ k. choose-case (Ending s) (λ l. ending-one s _ _)
-    (λ l. choose-case (Ending s) (λ m. choose-case (Ending s) (λ n. ending-one s _ _) (λ n. ending-one s _ _)) (λ m. ending-one s _ _)))))
+    (λ l. choose-case (Ending s) (λ m. choose-case (Ending s) (λ n. ending-one s _ _) (λ n. ending-one s _ _))
+    (λ m. ending-one s _ _)))))
 ending-mark (Mode.Inner q d k) c s =
-    choose-case (Ending s) (λ i. ending-other s 1 _ _ refl) (λ i. choose-case (Ending s) (λ j. ending-one s _ _) (λ j. ending-one s _ _))
+    choose-case (Ending s) (λ i. ending-other s 1 _ _ refl)
+    (λ i. choose-case (Ending s) (λ j. ending-one s _ _) (λ j. ending-one s _ _))
 ending-mark Mode.Line c s = ending-one s Class.LineComment Mode.Line
 ending-mark (Mode.Block d) c s =
     choose-case (Ending s) (λ i. ending-other s 1 _ _ refl)
     (λ i. choose-case (Ending s)
-    (λ j. choose-case (Ending s) (λ k. record { notBlank = λ h l. slash-left s (and-right (eqb c 42) (startsWith s (codes "/")) j) }) (λ k. ending-other s 1 _ _ refl))
+    (λ j. choose-case (Ending s)
+    (λ k. record { notBlank = λ h l. slash-left s (and-right (eqb c 42) (startsWith s (codes "/")) j) })
+    (λ k. ending-other s 1 _ _ refl))
     (λ j. ending-one s _ _))
 ending-mark Mode.Prefab c s =
-    choose-case (Ending s) (λ i. record { notBlank = λ h l. ticks-left s (and-right (eqb c 96) (startsWith s (codes "``")) i) }) (λ i. ending-one s _ _)
+    choose-case (Ending s)
+    (λ i. record { notBlank = λ h l. ticks-left s (and-right (eqb c 96) (startsWith s (codes "``")) i) })
+    (λ i. ending-one s _ _)
 
-ending-of : (n : ℕ) (k : Class) (m : Mode) (c : ℕ) (s : List ℕ) → Ending (c ∷ s) (long n k m) → Ending s (nextOf n k m (c ∷ s))
+ending-of : (n : ℕ) (k : Class) (m : Mode) (c : ℕ) (s : List ℕ) → Ending (c ∷ s) (long n k m)
+    → Ending s (nextOf n k m (c ∷ s))
 unfolding NotBlank
 ending-of zero k m c s e = ending-mark m c s
 ending-of (suc n) k m c s e = record { notBlank = λ h i. e .notBlank h i .1 }

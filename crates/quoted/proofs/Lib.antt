@@ -15,4 +15,6 @@ pub mod Text
 pub mod Openings
 pub mod OpeningLines
 pub mod Prefabs
+pub mod Source
+pub mod Order
 pub mod C22

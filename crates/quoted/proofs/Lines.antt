@@ -1,8 +1,9 @@
--- How a line of the source is written where no print width is set: as it stands, as a blank line or not at all, behind an indent, or joined.
+-- How a line of the source is written where no print width is set: as it stands, as a blank line or not at all, behind
+-- an indent, or joined.
 use Prim.Native.Nat.{ℕ}
-use mathlib.Core.Bool.{Bool, true, false}
+use mathlib.Core.Bool.{Bool, true}
 use mathlib.Core.List.{List, [], _∷_, _++_, reverseAux}
-use mathlib.Core.Path.{_≡_, refl, sym, ap, _∙_, subst}
+use mathlib.Core.Path.{_≡_, refl, sym, ap, _∙_}
 use Rattle.unicode.specs.Unicode.{trim}
 use Rattle.unicode.proofs.Trim.{White}
 use Rattle.rules.specs.Basics.{choose, isEmpty}
@@ -72,7 +73,8 @@ module _ (o : Options) (off : o .printWidth ≡ PrintWidth.Off) (white : White (
     goes-blank : trim raw ≡ [] → Goes f raw (blankLine f)
     unfolding blankLine
     goes-blank z =
-        let still : f .carry ≡ carryAfter (f .carry) raw = e ∙ sym (sym trimmed-carry ∙ rw (e, z) (unfold carryAfter final in refl)) in
+        let still : f .carry ≡ carryAfter (f .carry) raw =
+        e ∙ sym (sym trimmed-carry ∙ rw (e, z) (unfold carryAfter final in refl)) in
         choose-case (Goes f raw)
         (λ t. record { lines = passed e z refl; carry = still })
         (λ t. record { lines = blank e z refl; carry = still })
@@ -81,7 +83,8 @@ module _ (o : Options) (off : o .printWidth ≡ PrintWidth.Off) (white : White (
     unfolding elseLine
     goes-else = record { lines = joins e refl; carry = respaced-carry }
 
-    laid-off : (marker : Bool) (line : List ℕ) → laid o f marker line .lines ≡ (indentOf o (levelOf f line) ++ line) ∷ []
+    laid-off : (marker : Bool) (line : List ℕ)
+        → laid o f marker line .lines ≡ (indentOf o (levelOf f line) ++ line) ∷ []
     unfolding laid splitWide
     laid-off marker line =
         let l : Laid = oneLine (indentOf o (levelOf f line) ++ line) in
@@ -95,7 +98,9 @@ module _ (o : Options) (off : o .printWidth ≡ PrintWidth.Off) (white : White (
         let level : ℕ = levelOf f line in
         let i : List ℕ = indentOf o level in
         record {
-          lines = placed e i (white-indent o white level) (ap {B = List (List ℕ)} (λ m. reverseAux m (linesBefore f line)) (laid-off marker line));
+          lines =
+              placed e i (white-indent o white level)
+              (ap {B = List (List ℕ)} (λ m. reverseAux m (linesBefore f line)) (laid-off marker line));
           carry = respaced-carry;
         }
 
@@ -114,6 +119,7 @@ module _ (o : Options) (off : o .printWidth ≡ PrintWidth.Off) (white : White (
       choose-case (Goes f raw) (λ u. goes-blank e (empty-nil (trim raw) u)) (λ u. goes-code e))
       (λ t. goes-inside))
 
+  -- only the lines and what is open count
   pub goes-line : Goes f raw (formatLine o f raw)
   unfolding formatLine
   goes-line = record { lines = goes-any .lines; carry = goes-any .carry }

@@ -1,10 +1,10 @@
 -- Modes and marks: what opens at a mark in code; the class of a mark in other modes.
 use Prim.Native.Nat.{ℕ}
+use mathlib.Core.Bool.{Bool, true, false, _&&_, true≢false}
+use mathlib.Core.List.{List}
+use mathlib.Core.Path.{_≡_, refl, sym, ap, _∙_}
 use lib.Dec.{eqb}
 use borrow.Author.Tests.{eqb-true}
-use mathlib.Core.Bool.{Bool, true, false, _&&_, true≢false}
-use mathlib.Core.List.{List, _∷_}
-use mathlib.Core.Path.{_≡_, refl, sym, ap, _∙_}
 use Rattle.unicode.proofs.Tests.{by-test, and-left, and-right}
 use Rattle.rules.specs.Scan.{inCode, inQuoted, inInterp, inInner, inBlock, inPrefab, markAt, ordinary, next, isCode}
 use Rattle.rules.specs.Prefabs.{inCodeMode, inPrefabMode, opens}

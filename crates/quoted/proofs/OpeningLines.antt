@@ -40,7 +40,15 @@ pub record Ends (b l : List ℕ) (q : Prefab) : Type 0 where
   pub opening : (line ≡ q .line) ⊎ (line ≡ trimEnd (q .line))
 
 ends-from : (a b l : List ℕ) (q : Prefab) → Like a b → Ends b l q → Ends a l q
-ends-from a b l q e p = record { front = p .front; line = p .line; whole = p .whole; behind = like-append e (like-refl (p .front)) then p .behind; opening = p .opening }
+ends-from a b l q e p =
+    record {
+      front = p .front;
+      line = p .line;
+      whole = p .whole;
+      behind = like-append e
+          (like-refl (p .front)) then p .behind;
+      opening = p .opening;
+    }
 
 ends-after : (b m l : List ℕ) (q : Prefab) → Ends (b ++ m) l q → Ends b (m ++ l) q
 ends-after b m l q p =
@@ -55,34 +63,56 @@ ends-after b m l q p =
 ends-indent : (b w l : List ℕ) (q : Prefab) → White w → Ends b l q → Ends b (w ++ l) q
 ends-indent b w l q h p = ends-after b w l q (ends-from (b ++ w) b l q (like-after w b h) p)
 
-cut-chars : (y : Carry) (b raw : List ℕ) (q : Prefab) (c : OpenCut b (begin y) raw q) → raw ≡ charsOf (c .front) ++ q .line
+pub cut-chars : (y : Carry) (b raw : List ℕ) (q : Prefab) (c : OpenCut b (begin y) raw q)
+    → raw ≡ charsOf (c .front) ++ q .line
 unfolding classify
 cut-chars y b raw q c =
     sym (chars-classify y raw) ∙ ap charsOf (c .whole) ∙ chars-append (c .front) (label Class.Prefab (q .line))
     ∙ ap {B = List ℕ} (λ r. charsOf (c .front) ++ r) (chars-label Class.Prefab (q .line))
 
-trim-line : (y : Carry) (b raw : List ℕ) (q : Prefab) (c : OpenCut b (begin y) raw q) → trimEnd raw ≡ charsOf (c .front) ++ trimEnd (q .line)
+trim-line : (y : Carry) (b raw : List ℕ) (q : Prefab) (c : OpenCut b (begin y) raw q)
+    → trimEnd raw ≡ charsOf (c .front) ++ trimEnd (q .line)
 trim-line y b raw q c =
-    let e : trimEnd (q .line) ≡ 36 ∷ trimEnd (c .rest) = ap trimEnd (c .starts) ∙ end-first 36 (c .rest) (edge-dollar .solid) in
-    ap trimEnd (cut-chars y b raw q c) ∙ end-append (charsOf (c .front)) (q .line) 36 (trimEnd (c .rest)) e ∙ ap {B = List ℕ} (λ r. charsOf (c .front) ++ r) (sym e)
+    let e : trimEnd (q .line) ≡ 36 ∷ trimEnd (c .rest) =
+    ap trimEnd (c .starts) ∙ end-first 36 (c .rest) (edge-dollar .solid) in
+    ap trimEnd (cut-chars y b raw q c) ∙ end-append (charsOf (c .front)) (q .line) 36 (trimEnd (c .rest)) e
+    ∙ ap {B = List ℕ} (λ r. charsOf (c .front) ++ r) (sym e)
 
 ends-raw : (y : Carry) (b raw : List ℕ) (q : Prefab) → OpenCut b (begin y) raw q → Ends b raw q
-ends-raw y b raw q c = record { front = charsOf (c .front); line = q .line; whole = cut-chars y b raw q c; behind = like-eq (sym (c .before)); opening = inl refl }
+ends-raw y b raw q c =
+    record {
+      front = charsOf (c .front);
+      line = q .line;
+      whole = cut-chars y b raw q c;
+      behind = like-eq
+          (sym (c .before));
+      opening = inl refl;
+    }
 
 ends-written : (y z : Carry) (b raw : List ℕ) (q : Prefab) → OpenCut b (begin y) raw q → Ends b (asWritten z raw) q
 unfolding asWritten
 ends-written y Carry.Code b raw q c = ends-raw y b raw q c
 ends-written y (Carry.Block d) b raw q c =
-    record { front = charsOf (c .front); line = trimEnd (q .line); whole = trim-line y b raw q c; behind = like-eq (sym (c .before)); opening = inr refl }
+    record {
+      front = charsOf (c .front);
+      line = trimEnd (q .line);
+      whole = trim-line y b raw q c;
+      behind = like-eq
+          (sym (c .before));
+      opening = inr refl;
+    }
 ends-written y Carry.Prefab b raw q c = ends-raw y b raw q c
 
-spaced-line : (b l : List ℕ) (q : Prefab) (c : OpenCut b (begin Carry.Code) l q) → (a : List ℕ) × Like a (charsOf (c .front)) × (respaced l ≡ a ++ q .line)
+spaced-line : (b l : List ℕ) (q : Prefab) (c : OpenCut b (begin Carry.Code) l q)
+    → (a : List ℕ) × Like a (charsOf (c .front)) × (respaced l ≡ a ++ q .line)
 unfolding normalizeSpacing classify
 spaced-line b l q c =
     let t : Spaced = foldl spaceStep (spaced [] Gap.Nothing) (c .front) in (
       lead (t .gap) (t .out),
       like-lead (t .gap) (t .out) then like-spacing (c .front),
-      ap normalizeSpacing (c .whole) ∙ ap (λ (u : Spaced). u .out) (foldl-append spaceStep (spaced [] Gap.Nothing) (c .front) (label Class.Prefab (q .line)))
+      ap normalizeSpacing (c .whole)
+          ∙ ap (λ (u : Spaced). u .out)
+          (foldl-append spaceStep (spaced [] Gap.Nothing) (c .front) (label Class.Prefab (q .line)))
           ∙ rw (c .starts) (ap (λ (u : Spaced). u .out) (whole-row Class.Prefab refl t 36 (c .rest) edge-dollar)),
     )
 
@@ -92,7 +122,9 @@ unfolding trim
 ends-spaced b v w raw q hv hw c =
     let r = spaced-line (b ++ v) (trim raw) q c in
     let e : trimEnd (q .line) ≡ q .line =
-    append-cancel-left (charsOf (c .front)) (trimEnd (q .line)) (q .line) (sym (trim-line Carry.Code (b ++ v) (trim raw) q c) ∙ end-twice (trimStart raw) ∙ cut-chars Carry.Code (b ++ v) (trim raw) q c)
+    append-cancel-left (charsOf (c .front)) (trimEnd (q .line)) (q .line)
+    (sym (trim-line Carry.Code (b ++ v) (trim raw) q c) ∙ end-twice (trimStart raw)
+    ∙ cut-chars Carry.Code (b ++ v) (trim raw) q c)
     in
     record {
       front = r .0;
@@ -106,17 +138,21 @@ spaced-open : (b raw : List ℕ) → Maybe (Ends b (respaced (trim raw))) (leftO
 spaced-open b raw =
     let r = trim-split raw in
     let e : leftOpen b (begin Carry.Code) raw ≡ more (r .1) (leftOpen (b ++ r .0) (begin Carry.Code) (trim raw)) =
-    ap (leftOpen b (begin Carry.Code)) (r .4) ∙ open-before b (r .0) (trim raw ++ r .1) (r .2) ∙ open-behind (b ++ r .0) (begin Carry.Code) (trim raw) (r .1) (r .3)
+    ap (leftOpen b (begin Carry.Code)) (r .4) ∙ open-before b (r .0) (trim raw ++ r .1) (r .2)
+    ∙ open-behind (b ++ r .0) (begin Carry.Code) (trim raw) (r .1) (r .3)
     in
-    rw e (go (r .0) (r .1) (r .2) (r .3) (leftOpen (b ++ r .0) (begin Carry.Code) (trim raw)) (open-cut (b ++ r .0) (begin Carry.Code) (trim raw)))
+    rw e (go (r .0) (r .1) (r .2) (r .3) (leftOpen (b ++ r .0) (begin Carry.Code) (trim raw))
+    (open-cut (b ++ r .0) (begin Carry.Code) (trim raw)))
   where
-    go : (v w : List ℕ) → White v → White w → (m : Option Prefab) → Maybe (OpenCut (b ++ v) (begin Carry.Code) (trim raw)) m → Maybe (Ends b (respaced (trim raw))) (more w m)
+    go : (v w : List ℕ) → White v → White w → (m : Option Prefab)
+        → Maybe (OpenCut (b ++ v) (begin Carry.Code) (trim raw)) m → Maybe (Ends b (respaced (trim raw))) (more w m)
     go v w hv hw none c = unfold Maybe more in tt
     go v w hv hw (some q) c = unfold Maybe more in ends-spaced b v w raw q hv hw c
 
 raw-open : (y z : Carry) (b raw : List ℕ) → Maybe (Ends b (asWritten z raw)) (leftOpen b (begin y) raw)
 raw-open y z b raw =
-    maybe-map (OpenCut b (begin y) raw) (Ends b (asWritten z raw)) (ends-written y z b raw) (leftOpen b (begin y) raw) (open-cut b (begin y) raw)
+    maybe-map (OpenCut b (begin y) raw) (Ends b (asWritten z raw)) (ends-written y z b raw) (leftOpen b (begin y) raw)
+    (open-cut b (begin y) raw)
 
 -- ---- among lines, the newest first
 
@@ -130,7 +166,8 @@ on-join line [] q p = p
 on-join line (last ∷ ls) q p =
     ends-after (flattenBack ls) (trimEnd last) (codes " " ++ line) q
     (ends-indent (flattenBack ls ++ trimEnd last) (codes " ") line q (refl, tt)
-    (ends-from (flattenBack ls ++ trimEnd last) (flattenBack ls ++ last) line q (like-append (like-refl (flattenBack ls)) (like-trimEnd last)) p))
+    (ends-from (flattenBack ls ++ trimEnd last) (flattenBack ls ++ last) line q
+    (like-append (like-refl (flattenBack ls)) (like-trimEnd last)) p))
 
 module _ (f : Formatter) (b raw : List ℕ) (like : Like (flattenBack (f .lines)) b) where
   -- the prefab that the line leaves open, where y is open before it
@@ -151,10 +188,12 @@ module _ (f : Formatter) (b raw : List ℕ) (like : Like (flattenBack (f .lines)
 
   on-kept : (z : Carry) → New (f .carry) (asWritten z raw ∷ f .lines)
   on-kept z =
-      maybe-map (Ends b (asWritten z raw)) (On (asWritten z raw ∷ f .lines)) (from (asWritten z raw)) (leftOpen b (begin (f .carry)) raw)
+      maybe-map (Ends b (asWritten z raw)) (On (asWritten z raw ∷ f .lines)) (from (asWritten z raw))
+      (leftOpen b (begin (f .carry)) raw)
       (raw-open (f .carry) z b raw)
 
-  on-placed : (indent : List ℕ) → White indent → New Carry.Code ((indent ++ respaced (trim raw)) ∷ linesBefore f (respaced (trim raw)))
+  on-placed : (indent : List ℕ) → White indent
+      → New Carry.Code ((indent ++ respaced (trim raw)) ∷ linesBefore f (respaced (trim raw)))
   on-placed indent white =
       let line : List ℕ = respaced (trim raw) in
       let ls : List (List ℕ) = linesBefore f line in

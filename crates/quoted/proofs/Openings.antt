@@ -1,11 +1,11 @@
 -- Where a prefab opens that its line leaves open: its place among the cells, and in the trimmed line.
 use Prim.Native.Nat.{ℕ, zero, suc}
-use lib.Dec.{eqb}
-use borrow.Author.Tests.{eqb-true}
 use mathlib.Core.Bool.{Bool, true, false, _&&_}
 use mathlib.Core.List.{List, [], _∷_, _++_, append-assoc, append-nil}
 use mathlib.Core.Option.{Option, none, some}
 use mathlib.Core.Path.{_≡_, refl, sym, ap, _∙_}
+use lib.Dec.{eqb}
+use borrow.Author.Tests.{eqb-true}
 use Rattle.unicode.proofs.Tests.{by-test, and-left, and-right}
 use Rattle.unicode.proofs.Trim.{White}
 use Rattle.rules.specs.Basics.{choose, startsWith, codes}
@@ -34,14 +34,18 @@ next-class : (n : ℕ) (k : Class) (s : List ℕ) → k ≡ Class.Prefab → nex
 next-class zero k s e = mark-class Mode.Prefab s refl
 next-class (suc n) k s e = e
 
-stays-cells : (t : Mark) (s : List ℕ) → t .class ≡ Class.Prefab → t .mode ≡ Mode.Prefab → stays t s ≡ true → scan t s ≡ label Class.Prefab s
+stays-cells : (t : Mark) (s : List ℕ) → t .class ≡ Class.Prefab → t .mode ≡ Mode.Prefab → stays t s ≡ true
+    → scan t s ≡ label Class.Prefab s
 unfolding stays scan label
 stays-cells t [] k m h = refl
 stays-cells t (c ∷ s) k m h =
     let u : Mark = next t (c ∷ s) in
-    let e : u .class ≡ Class.Prefab = ap (λ (j : Mode). nextOf (t .more) (t .class) j (c ∷ s) .class) m ∙ next-class (t .more) (t .class) (c ∷ s) k in
+    let e : u .class ≡ Class.Prefab =
+    ap (λ (j : Mode). nextOf (t .more) (t .class) j (c ∷ s) .class) m ∙ next-class (t .more) (t .class) (c ∷ s) k in
     let n : u .mode ≡ Mode.Prefab = prefab-mode (u .mode) (and-left (inPrefabMode (u .mode)) (stays u s) h) in
-    ap {B = List Cell} (λ j. cell c j ∷ scan u s) e ∙ ap {B = List Cell} (λ xs. cell c Class.Prefab ∷ xs) (stays-cells u s e n (and-right (inPrefabMode (u .mode)) (stays u s) h))
+    ap {B = List Cell} (λ j. cell c j ∷ scan u s) e
+    ∙ ap {B = List Cell} (λ xs. cell c Class.Prefab ∷ xs)
+    (stays-cells u s e n (and-right (inPrefabMode (u .mode)) (stays u s) h))
 
 IfPrefab : ℕ → Mark → Type 0
 IfPrefab c u = isPrefab (u .class) ≡ true → c ≡ 36
@@ -85,7 +89,8 @@ open-cut b t [] = tt
 open-cut b t (c ∷ s) =
     let u : Mark = next t (c ∷ s) in
     choose-case (Maybe (OpenCut b t (c ∷ s))) (λ h. here h)
-    (λ h. maybe-map (OpenCut (b ++ (c ∷ [])) u s) (OpenCut b t (c ∷ s)) (λ q k. later q k) (leftOpen (b ++ (c ∷ [])) u s) (open-cut (b ++ (c ∷ [])) u s))
+    (λ h. maybe-map (OpenCut (b ++ (c ∷ [])) u s) (OpenCut b t (c ∷ s)) (λ q k. later q k)
+    (leftOpen (b ++ (c ∷ [])) u s) (open-cut (b ++ (c ∷ [])) u s))
   where
     later : (q : Prefab) → OpenCut (b ++ (c ∷ [])) (next t (c ∷ s)) s q → OpenCut b t (c ∷ s) q
     later q k = unfold scan charsOf in
@@ -98,16 +103,23 @@ open-cut b t (c ∷ s) =
           none = k .none;
         })
 
-    here : opens isPrefab t (next t (c ∷ s)) && inPrefabMode (next t (c ∷ s) .mode) && stays (next t (c ∷ s)) s ≡ true → OpenCut b t (c ∷ s) (opened b (c ∷ s))
+    here : opens isPrefab t (next t (c ∷ s)) && inPrefabMode (next t (c ∷ s) .mode) && stays (next t (c ∷ s)) s ≡ true
+        → OpenCut b t (c ∷ s) (opened b (c ∷ s))
     here h = unfold scan charsOf label opens in
         (let u : Mark = next t (c ∷ s) in
         let o : Bool = opens isPrefab t u in
         let a : o && inPrefabMode (u .mode) ≡ true = and-left (o && inPrefabMode (u .mode)) (stays u s) h in
-        let k : u .class ≡ Class.Prefab = prefab-class (u .class) (and-right (eqb (t .more) 0 && inCodeMode (t .mode)) (isPrefab (u .class)) (and-left o (inPrefabMode (u .mode)) a)) in
+        let k : u .class ≡ Class.Prefab =
+        prefab-class (u .class)
+        (and-right (eqb (t .more) 0 && inCodeMode (t .mode)) (isPrefab (u .class))
+        (and-left o (inPrefabMode (u .mode)) a)) in
         let m : u .mode ≡ Mode.Prefab = prefab-mode (u .mode) (and-right o (inPrefabMode (u .mode)) a) in
         record {
           front = [];
-          whole = ap {B = List Cell} (λ j. cell c j ∷ scan u s) k ∙ ap {B = List Cell} (λ xs. cell c Class.Prefab ∷ xs) (stays-cells u s k m (and-right (o && inPrefabMode (u .mode)) (stays u s) h));
+          whole =
+              ap {B = List Cell} (λ j. cell c j ∷ scan u s) k
+              ∙ ap {B = List Cell} (λ xs. cell c Class.Prefab ∷ xs)
+              (stays-cells u s k m (and-right (o && inPrefabMode (u .mode)) (stays u s) h));
           before = sym (append-nil b);
           rest = s;
           starts = ap {B = List ℕ} (λ j. j ∷ s) (dollar t c s (and-left o (inPrefabMode (u .mode)) a));
@@ -119,14 +131,17 @@ open-cut b t (c ∷ s) =
 open-none : (b : List ℕ) (t : Mark) (w : List ℕ) → White w → leftOpen b t w ≡ none
 unfolding leftOpen choose
 open-none b t [] h = refl
-open-none b t (c ∷ w) h = rw (not-open c (sep-white c (h .0)) isPrefab refl t w) (open-none (b ++ (c ∷ [])) (next t (c ∷ w)) w (h .1))
+open-none b t (c ∷ w) h =
+    rw (not-open c (sep-white c (h .0)) isPrefab refl t w) (open-none (b ++ (c ∷ [])) (next t (c ∷ w)) w (h .1))
 
-pub open-before : (b w s : List ℕ) → White w → leftOpen b (begin Carry.Code) (w ++ s) ≡ leftOpen (b ++ w) (begin Carry.Code) s
+pub open-before : (b w s : List ℕ) → White w
+    → leftOpen b (begin Carry.Code) (w ++ s) ≡ leftOpen (b ++ w) (begin Carry.Code) s
 unfolding leftOpen choose
 open-before b [] s h = ap (λ (l : List ℕ). leftOpen l (begin Carry.Code) s) (sym (append-nil b))
 open-before b (c ∷ w) s h =
     rw (not-open c (sep-white c (h .0)) isPrefab refl (begin Carry.Code) (w ++ s), blank-code c (w ++ s) (h .0))
-    (open-before (b ++ (c ∷ [])) w s (h .1) ∙ ap (λ (l : List ℕ). leftOpen l (begin Carry.Code) s) (append-assoc b (c ∷ []) w))
+    (open-before (b ++ (c ∷ [])) w s (h .1)
+    ∙ ap (λ (l : List ℕ). leftOpen l (begin Carry.Code) s) (append-assoc b (c ∷ []) w))
 
 stays-white : (t : Mark) (w : List ℕ) → t .mode ≡ Mode.Prefab → White w → stays t w ≡ true
 unfolding stays
@@ -141,7 +156,8 @@ stays-behind t [] w m h = stays-white t w m h
 stays-behind t (c ∷ s) w m h =
     ap (λ (u : Mark). inPrefabMode (u .mode) && stays u (s ++ w)) (next-ahead t (c ∷ s) w h)
     ∙ by-test (inPrefabMode (next t (c ∷ s) .mode))
-    (λ e. ap (λ (v : Bool). inPrefabMode (next t (c ∷ s) .mode) && v) (stays-behind (next t (c ∷ s)) s w (prefab-mode (next t (c ∷ s) .mode) e) h))
+    (λ e. ap (λ (v : Bool). inPrefabMode (next t (c ∷ s) .mode) && v)
+    (stays-behind (next t (c ∷ s)) s w (prefab-mode (next t (c ∷ s) .mode) e) h))
     (λ e. rw e)
 
 -- more at the end of the opening line
@@ -155,10 +171,13 @@ open-behind b t [] w h = open-none b t w h
 open-behind b t (c ∷ s) w h =
     let u : Mark = next t (c ∷ s) in
     let o : Bool = opens isPrefab t u && inPrefabMode (u .mode) in
-    ap (λ (v : Mark). choose (opens isPrefab t v && inPrefabMode (v .mode) && stays v (s ++ w)) (some (opened b (c ∷ (s ++ w)))) (leftOpen (b ++ (c ∷ [])) v (s ++ w))) (next-ahead t (c ∷ s) w h)
+    ap (λ (v : Mark). choose (opens isPrefab t v && inPrefabMode (v .mode) && stays v (s ++ w))
+    (some (opened b (c ∷ (s ++ w)))) (leftOpen (b ++ (c ∷ [])) v (s ++ w))) (next-ahead t (c ∷ s) w h)
     ∙ ap (choose (o && stays u (s ++ w)) (some (opened b (c ∷ (s ++ w))))) (open-behind (b ++ (c ∷ [])) u s w h)
-    ∙ by-test o (λ e. ap (λ (v : Bool). choose (o && v) (some (opened b (c ∷ (s ++ w)))) (more w (leftOpen (b ++ (c ∷ [])) u s)))
-    (stays-behind u s w (prefab-mode (u .mode) (and-right (opens isPrefab t u) (inPrefabMode (u .mode)) e)) h) ∙ push (o && stays u s))
+    ∙ by-test o (λ e. ap (λ (v : Bool). choose (o && v) (some (opened b (c ∷ (s ++ w))))
+    (more w (leftOpen (b ++ (c ∷ [])) u s)))
+    (stays-behind u s w (prefab-mode (u .mode) (and-right (opens isPrefab t u) (inPrefabMode (u .mode)) e)) h)
+    ∙ push (o && stays u s))
     (λ e. rw e)
   where
     push : (v : Bool) → choose v (some (opened b (c ∷ (s ++ w)))) (more w (leftOpen (b ++ (c ∷ [])) (next t (c ∷ s)) s))

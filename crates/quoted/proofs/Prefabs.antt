@@ -2,7 +2,7 @@
 --     Opened            the newest lines are those within a prefab, behind the one that it opens on
 --     Closed            a line that is not empty stands behind such lines
 use Prim.Native.Nat.{ℕ}
-use mathlib.Core.Bool.{Bool, true, false, _&&_}
+use mathlib.Core.Bool.{true, false, _&&_}
 use mathlib.Core.Logic.{inl, inr}
 use mathlib.Core.List.{List, [], _∷_, _++_, map, foldl, reverseAux, append-assoc, append-nil}
 use mathlib.Core.Option.{Option, none, some}
@@ -43,7 +43,8 @@ unfolding stays final
 stays-final t [] m h = m
 stays-final t (c ∷ s) m h =
     let u : Mark = next t (c ∷ s) in
-    stays-final u s (prefab-mode (u .mode) (and-left (inPrefabMode (u .mode)) (stays u s) h)) (and-right (inPrefabMode (u .mode)) (stays u s) h)
+    stays-final u s (prefab-mode (u .mode) (and-left (inPrefabMode (u .mode)) (stays u s) h))
+    (and-right (inPrefabMode (u .mode)) (stays u s) h)
 
 stays-some : (t : Mark) (s : List ℕ) → stays t s ≡ false → isEmpty s ≡ false
 unfolding stays
@@ -53,20 +54,25 @@ stays-some t (c ∷ s) h = refl
 LeavesPrefab : Carry → List ℕ → Prefab → Type 0
 LeavesPrefab y raw q = carryAfter y raw ≡ Carry.Prefab
 
-open-final : (b : List ℕ) (t : Mark) (s : List ℕ) → Maybe (λ (q : Prefab). final t s .mode ≡ Mode.Prefab) (leftOpen b t s)
+open-final : (b : List ℕ) (t : Mark) (s : List ℕ)
+    → Maybe (λ (q : Prefab). final t s .mode ≡ Mode.Prefab) (leftOpen b t s)
 unfolding leftOpen final Maybe
 open-final b t [] = tt
 open-final b t (c ∷ s) =
     let u : Mark = next t (c ∷ s) in
     choose-case (Maybe (λ (q : Prefab). final u s .mode ≡ Mode.Prefab))
-    (λ h. stays-final u s (prefab-mode (u .mode) (and-right (opens isPrefab t u) (inPrefabMode (u .mode)) (and-left (opens isPrefab t u && inPrefabMode (u .mode)) (stays u s) h)))
+    (λ h. stays-final u s
+    (prefab-mode (u .mode)
+    (and-right (opens isPrefab t u) (inPrefabMode (u .mode))
+    (and-left (opens isPrefab t u && inPrefabMode (u .mode)) (stays u s) h)))
     (and-right (opens isPrefab t u && inPrefabMode (u .mode)) (stays u s) h))
     (λ h. open-final (b ++ (c ∷ [])) u s)
 
 open-carry : (b : List ℕ) (y : Carry) (raw : List ℕ) → Maybe (LeavesPrefab y raw) (leftOpen b (begin y) raw)
 unfolding LeavesPrefab carryAfter
 open-carry b y raw =
-    maybe-map (λ (q : Prefab). final (begin y) raw .mode ≡ Mode.Prefab) (LeavesPrefab y raw) (λ q h. ap openAfter h) (leftOpen b (begin y) raw) (open-final b (begin y) raw)
+    maybe-map (λ (q : Prefab). final (begin y) raw .mode ≡ Mode.Prefab) (LeavesPrefab y raw) (λ q h. ap openAfter h)
+    (leftOpen b (begin y) raw) (open-final b (begin y) raw)
 
 stays-carry : (raw : List ℕ) → stays (begin Carry.Prefab) raw ≡ true → carryAfter Carry.Prefab raw ≡ Carry.Prefab
 unfolding carryAfter
@@ -107,13 +113,15 @@ NowOf f none = Unit {0}
 NowOf f (some p) = Now f p
 
 ends-longer : (b l : List ℕ) (p : Prefab) (m : List ℕ) → Ends b l p → Ends b l (longer p m)
-ends-longer b l p m e = record { front = e .front; line = e .line; whole = e .whole; behind = e .behind; opening = e .opening }
+ends-longer b l p m e =
+    record { front = e .front; line = e .line; whole = e .whole; behind = e .behind; opening = e .opening }
 
 on-opened : (ls : List (List ℕ)) (q : Prefab) → q .inner ≡ [] → On ls q → Opened ls q
 on-opened [] q e h = absurd h
 on-opened (l ∷ ls) q e h = record { line = l; older = ls; lines = rw e; ends = h }
 
-reverse-snoc : (ls : List (List ℕ)) (l : List ℕ) (acc : List (List ℕ)) → reverseAux (ls ++ (l ∷ [])) acc ≡ l ∷ reverseAux ls acc
+reverse-snoc : (ls : List (List ℕ)) (l : List ℕ) (acc : List (List ℕ))
+    → reverseAux (ls ++ (l ∷ [])) acc ≡ l ∷ reverseAux ls acc
 reverse-snoc [] l acc = refl
 reverse-snoc (m ∷ ls) l acc = reverse-snoc ls l (m ∷ acc)
 
@@ -131,7 +139,8 @@ module _ (o : Options) (off : o .printWidth ≡ PrintWidth.Off) (white : White (
     goes = goes-line o off white f raw
 
     -- a prefab that the line leaves open
-    begun-of : (r : Option Prefab) → Maybe (On (g .lines)) r → Maybe (LeavesPrefab (f .carry) raw) r → Maybe (OpenCut b (begin (f .carry)) raw) r
+    begun-of : (r : Option Prefab) → Maybe (On (g .lines)) r → Maybe (LeavesPrefab (f .carry) raw) r
+        → Maybe (OpenCut b (begin (f .carry)) raw) r
         → NowOf g r
     unfolding Maybe NowOf LeavesPrefab
     begun-of none h k c = tt
@@ -139,7 +148,8 @@ module _ (o : Options) (off : o .printWidth ≡ PrintWidth.Off) (white : White (
 
     begun : NowOf g (leftOpen b (begin (f .carry)) raw)
     begun =
-        begun-of (leftOpen b (begin (f .carry)) raw) (on-line f b raw like (g .lines) (goes .lines)) (open-carry b (f .carry) raw)
+        begun-of (leftOpen b (begin (f .carry)) raw) (on-line f b raw like (g .lines) (goes .lines))
+        (open-carry b (f .carry) raw)
         (open-cut b (begin (f .carry)) raw)
 
     module _ (p : Prefab) (n : Now f p) where
@@ -148,7 +158,8 @@ module _ (o : Options) (off : o .printWidth ≡ PrintWidth.Off) (white : White (
       unfolding NowOf
       longer-now e =
           record {
-            carry = goes .carry ∙ ap (λ (y : Carry). carryAfter y raw) (n .carry) ∙ stays-carry raw (rw (n .carry) at e);
+            carry =
+                goes .carry ∙ ap (λ (y : Carry). carryAfter y raw) (n .carry) ∙ stays-carry raw (rw (n .carry) at e);
             opened =
                 record {
                   line = n .opened .line;
@@ -164,7 +175,9 @@ module _ (o : Options) (off : o .printWidth ≡ PrintWidth.Off) (white : White (
       closed-in e = rw (prefab-line f raw (n .carry)) (inl (stays-some (begin (f .carry)) raw e, n .opened))
 
     old : (xs : List Prefab) → All (In (f .lines)) xs → All (In (g .lines)) xs
-    old xs a = all-map (In (f .lines)) (In (g .lines)) (λ p i. among-line (Closed p) (closed-lasts p) f raw (g .lines) (goes .lines) i) xs a
+    old xs a =
+        all-map (In (f .lines)) (In (g .lines))
+        (λ p i. among-line (Closed p) (closed-lasts p) f raw (g .lines) (goes .lines) i) xs a
 
   -- all lines, behind those of which xs are closed
   abbrev Lines : List (List ℕ) → Formatter → List Prefab → Type 0
@@ -178,11 +191,13 @@ module _ (o : Options) (off : o .printWidth ≡ PrintWidth.Off) (white : White (
     abbrev rest : Option Prefab → List Prefab
     rest q = prefabsFrom (b ++ (l ++ codes "\n")) (carryAfter (f .carry) (dropCr l)) q ls
 
-    one-line : ((q : Option Prefab) → NowOf after q → (ys : List Prefab) → All (In (after .lines)) ys → Lines ls after (ys ++ rest q))
+    one-line : ((q : Option Prefab) → NowOf after q → (ys : List Prefab) → All (In (after .lines)) ys
+        → Lines ls after (ys ++ rest q))
         → (p : Option Prefab) → NowOf f p → (xs : List Prefab) → All (In (f .lines)) xs
         → Lines ls after (xs ++ prefabsFrom b (f .carry) p (l ∷ ls))
     unfolding prefabsFrom NowOf
-    one-line again none n xs a = again (leftOpen b (begin (f .carry)) (dropCr l)) (begun f b (dropCr l) like) xs (old f b (dropCr l) like xs a)
+    one-line again none n xs a =
+        again (leftOpen b (begin (f .carry)) (dropCr l)) (begun f b (dropCr l) like) xs (old f b (dropCr l) like xs a)
     one-line again (some p) n xs a =
         let raw : List ℕ = dropCr l in
         let a′ : All (In (after .lines)) xs = old f b raw like xs a in
@@ -193,7 +208,8 @@ module _ (o : Options) (off : o .printWidth ≡ PrintWidth.Off) (white : White (
         (again q (begun f b raw like) (xs ++ (p ∷ []))
         (all-append (In (after .lines)) xs (p ∷ []) a′ (closed-in f b raw like p n e, tt))))
 
-  all-lines : (ls : List (List ℕ)) (b : List ℕ) (f : Formatter) → Holds o b f → (p : Option Prefab) → NowOf f p → (xs : List Prefab)
+  all-lines : (ls : List (List ℕ)) (b : List ℕ) (f : Formatter) → Holds o b f → (p : Option Prefab) → NowOf f p
+      → (xs : List Prefab)
       → All (In (f .lines)) xs → Lines ls f (xs ++ prefabsFrom b (f .carry) p ls)
   unfolding prefabsFrom
   all-lines [] b f h p n xs a = rw (append-nil xs) a
@@ -251,7 +267,8 @@ module _ (eol : List ℕ) (white : White eol) where
         after = l;
         whole =
             ap {B = List ℕ} (λ m. joined eol (l ∷ m)) (u .lines) ∙ joined-inner (p .inner) l (u .line) (u .older)
-            ∙ ap {B = List ℕ} (λ m. m ++ (eol ++ (ended eol (p .inner) ++ l))) (d .whole ∙ ap {B = List ℕ} (λ m. d .pre ++ m) (e .whole))
+            ∙ ap {B = List ℕ} (λ m. m ++ (eol ++ (ended eol (p .inner) ++ l)))
+            (d .whole ∙ ap {B = List ℕ} (λ m. d .pre ++ m) (e .whole))
             ∙ simp append-assoc;
         behind = (like-append (d .like) (like-refl (e .front)) then e .behind) .same;
         opening = e .opening;
@@ -265,8 +282,11 @@ module _ (eol : List ℕ) (white : White eol) where
   follows-lines (l ∷ m ∷ ls) p (inl k) = follows-here l (m ∷ ls) p (k .1)
   follows-lines (l ∷ m ∷ ls) p (inr h) = follows-more (joined eol (m ∷ ls)) (eol ++ l) p (follows-lines (m ∷ ls) p h)
 
-  follows-text : (ls : List (List ℕ)) (r : List ℕ) (p : Prefab) → In ls p → Follows eol (joined eol (dropEmpty ls) ++ r) p
-  follows-text ls r p h = follows-more (joined eol (dropEmpty ls)) r p (follows-lines (dropEmpty ls) p (among-empty (Closed p) (closed-lasts p) ls h))
+  follows-text : (ls : List (List ℕ)) (r : List ℕ) (p : Prefab) → In ls p
+      → Follows eol (joined eol (dropEmpty ls) ++ r) p
+  follows-text ls r p h =
+      follows-more (joined eol (dropEmpty ls)) r p
+      (follows-lines (dropEmpty ls) p (among-empty (Closed p) (closed-lasts p) ls h))
 
 pub prefabs-follow : (o : Options) → allBlank (o .indent) ≡ true → o .printWidth ≡ PrintWidth.Off → (source : List ℕ)
     → All (Follows (asStr (endingOf (o .endOfLine) source)) (formatWith o source .text)) (prefabsOf source)
@@ -276,5 +296,6 @@ prefabs-follow o h off source =
     let e : LineEnding = endingOf (o .endOfLine) source in
     let f : Formatter = foldl (formatLine o) start (linesOf source) in
     all-map (In (f .lines)) (Follows (asStr e) (formatWith o source .text))
-    (λ p i. follows-text (asStr e) (white-ending e) (f .lines) (lastEnding (o .insertFinalNewline) source (asStr e)) p i) (prefabsOf source)
+    (λ p i. follows-text (asStr e) (white-ending e) (f .lines)
+    (lastEnding (o .insertFinalNewline) source (asStr e)) p i) (prefabsOf source)
     (all-lines o off w (pieces (splitOn "\n" source)) [] start (kept-like (like-refl [])) none tt [] tt)

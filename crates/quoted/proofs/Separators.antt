@@ -1,15 +1,16 @@
--- White space and commas: characters that no mark is told by, so that they part what stands before them from what follows.
+-- White space and commas: characters that no mark is told by, so that they part what stands before them from what
+-- follows.
 --     Sep               such a character
 --     mark-sep          a mark at one: its mode goes on
 --     next-before, next-ahead     a mark before one, and before white space at a line's end
 --     not-open          nothing opens at one
 use Prim.Native.Nat.{ℕ, zero, suc}
 use native.Mathlib.Omega.{arith}
-use lib.Dec.{eqb, leb}
-use borrow.Author.Tests.{eqb-true, ne-eqb, leb-true}
 use mathlib.Core.Bool.{Bool, true, false, not, _&&_}
 use mathlib.Core.List.{List, [], _∷_, _++_, append-nil}
 use mathlib.Core.Path.{_≡_, refl, sym, ap, _∙_}
+use lib.Dec.{eqb, leb}
+use borrow.Author.Tests.{eqb-true, ne-eqb, leb-true}
 use Rattle.unicode.specs.Unicode.{isWhite}
 use Rattle.unicode.proofs.Tests.{by-test, and-left, and-right}
 use Rattle.unicode.proofs.Trim.{White}
@@ -61,7 +62,8 @@ module _ (w : ℕ) (sep : Sep w) where
   starts-sep [] r [] v = refl
   starts-sep [] r (k ∷ p) v = rw (sep .apart k (and-left (marking k) (allMarking p) v))
   starts-sep (c ∷ s) r [] v = refl
-  starts-sep (c ∷ s) r (k ∷ p) v = ap (λ (b : Bool). eqb c k && b) (starts-sep s r p (and-right (marking k) (allMarking p) v))
+  starts-sep (c ∷ s) r (k ∷ p) v =
+      ap (λ (b : Bool). eqb c k && b) (starts-sep s r p (and-right (marking k) (allMarking p) v))
 
   -- a mark at a separator
   pub mark-sep : (m : Mode) (s : List ℕ) → markAt m (w ∷ s) ≡ rest m

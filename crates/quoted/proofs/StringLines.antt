@@ -1,8 +1,8 @@
 -- Each line has its own strings among the lines that are written.
 use Prim.Native.Nat.{ℕ}
-use mathlib.Core.Logic.{inl, inr}
+use mathlib.Core.Logic.{inl}
 use mathlib.Core.List.{List, [], _∷_, _++_}
-use mathlib.Core.Path.{_≡_, refl, sym, ap, _∙_, subst}
+use mathlib.Core.Path.{_≡_, refl, _∙_}
 use Rattle.unicode.specs.Unicode.{trim}
 use Rattle.unicode.proofs.Trim.{White}
 use Rattle.rules.specs.Scan.{begin}
@@ -11,7 +11,6 @@ use Rattle.rules.specs.Else.{joinElse}
 use Rattle.rules.specs.Line.{Formatter, asWritten, linesBefore}
 use Rattle.rules.specs.Quoted.{Quoted, quotedIn, All}
 use Rattle.rules.specs.declared.Carry.{Carry}
-use Rattle.rules.proofs.Choose.{choose-case}
 use Rattle.rules.proofs.Struck.{Like, like-eq, _then_, flattenBack}
 use Rattle.rules.proofs.LineLaws.{flattenBack-before}
 use Rattle.quoted.proofs.Strings.{all-map}
@@ -39,7 +38,8 @@ module _ (f : Formatter) (b raw : List ℕ) (like : Like (flattenBack (f .lines)
       (λ x p. inl (placed-written z (flattenBack (f .lines)) raw x (placed-from p (flattenBack (f .lines)) like)))
       (quotedIn b (begin (f .carry)) raw) (placed-raw (f .carry) b raw)
 
-  new-placed : (indent : List ℕ) → White indent → New Carry.Code b raw ((indent ++ respaced (trim raw)) ∷ linesBefore f (respaced (trim raw)))
+  new-placed : (indent : List ℕ) → White indent
+      → New Carry.Code b raw ((indent ++ respaced (trim raw)) ∷ linesBefore f (respaced (trim raw)))
   new-placed indent white =
       let line : List ℕ = respaced (trim raw) in
       let ls : List (List ℕ) = linesBefore f line in
@@ -52,7 +52,8 @@ module _ (f : Formatter) (b raw : List ℕ) (like : Like (flattenBack (f .lines)
   new-joins =
       let line : List ℕ = respaced (trim raw) in
       all-map (Placed b line) (In (joinElse line (f .lines)))
-      (λ x p. joined-in line (f .lines) x (placed-from p (flattenBack (f .lines)) like)) (quotedIn b (begin Carry.Code) raw)
+      (λ x p. joined-in line (f .lines) x (placed-from p (flattenBack (f .lines)) like))
+      (quotedIn b (begin Carry.Code) raw)
       (placed-spaced b raw)
 
   pub new-line : (ms : List (List ℕ)) → Written f raw ms → New (f .carry) b raw ms

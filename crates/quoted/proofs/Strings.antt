@@ -3,23 +3,23 @@
 --     reads             one character of a string: it goes on, or this is the quote that ends it
 --     Cut, all-cut      each string of a line is a row of cells of class Str, from quote to quote
 use Prim.Native.Nat.{ℕ}
-use lib.Dec.{eqb}
-use borrow.Author.Tests.{eqb-true}
-use mathlib.Core.Bool.{Bool, true, false, _&&_, true≢false}
+use mathlib.Core.Bool.{Bool, true, false}
 use mathlib.Core.List.{List, [], _∷_, _++_, append-assoc, append-nil}
 use mathlib.Core.Option.{Option, none, some, Option·map}
 use mathlib.Core.Path.{_≡_, refl, sym, ap, _∙_}
+use lib.Dec.{eqb}
+use borrow.Author.Tests.{eqb-true}
 use Rattle.unicode.specs.Unicode.{isWhite}
-use Rattle.unicode.proofs.Tests.{and-left, and-right}
+use Rattle.unicode.proofs.Tests.{and-left}
 use Rattle.rules.specs.Basics.{choose, is, isBlank, isCloser, startsWith}
-use Rattle.rules.specs.Scan.{quote, one, long, inCode, inQuoted, inInterp, inInner, markAt, nextOf, next, Cell, cell, charsOf, scan, isStr}
+use Rattle.rules.specs.Scan.{quote, long, inCode, inQuoted, inInterp, inInner, markAt, nextOf, next, Cell, cell, charsOf, scan, isStr}
+use Rattle.rules.specs.Prefabs.{inCodeMode, opens}
+use Rattle.rules.specs.Quoted.{Quoted, closing, found, quotedAt, quotedIn, All}
 use Rattle.rules.specs.declared.Class.{Class}
 use Rattle.rules.specs.declared.Mode.{Mode}
 use Rattle.rules.specs.declared.Mark.{Mark}
-use Rattle.rules.proofs.Choose.{choose-case, choose-true}
+use Rattle.rules.proofs.Choose.{choose-case}
 use Rattle.rules.proofs.ScanBytes.{label}
-use Rattle.rules.specs.Prefabs.{inCodeMode, opens}
-use Rattle.rules.specs.Quoted.{Quoted, closing, found, quotedAt, quotedIn, All}
 use Rattle.quoted.proofs.Marks.{never, opens-code}
 
 -- ---- of all members
@@ -34,7 +34,7 @@ all-map P Q f (x ∷ xs) h = (f x (h .0), all-map P Q f xs (h .1))
 
 -- ---- from quote to quote
 
--- a character that spacing neither removes nor asks no space before
+-- a character that spacing keeps, and before which it keeps the space behind a comma
 pub record Edge (c : ℕ) : Type 0 where
   pub solid : isWhite c ≡ false
   pub full : isBlank c ≡ false
@@ -104,7 +104,8 @@ reads-mark Mode.Line c s h = never h refl
 reads-mark (Mode.Block d) c s h = never h refl
 reads-mark Mode.Prefab c s h = never h refl
 
-reads-next : (n : ℕ) (k : Class) (m : Mode) (c : ℕ) (s : List ℕ) → k ≡ Class.Str → inString m ≡ true → Reads c (nextOf n k m (c ∷ s))
+reads-next : (n : ℕ) (k : Class) (m : Mode) (c : ℕ) (s : List ℕ) → k ≡ Class.Str → inString m ≡ true
+    → Reads c (nextOf n k m (c ∷ s))
 reads-next ℕ.zero k m c s e h = reads-mark m c s h
 reads-next (ℕ.suc n) k m c s e h = goes (record { class = e; mode = h })
 
@@ -139,8 +140,20 @@ code-opening : (c : ℕ) (s : List ℕ) → Opening c (inCode (c ∷ s))
 unfolding inCode startsWith Opening
 code-opening c s =
     choose-case (Opening c) (λ i. no-opening c 1 Class.Code Mode.Code refl)
-    (λ i. choose-case (Opening c) (λ j e. record { within = record { class = refl; mode = refl }; left = true; at = eqb-true c 34 (and-left (eqb c 34) true j) })
-    (λ j. choose-case (Opening c) (λ k e. record { within = record { class = refl; mode = refl }; left = false; at = eqb-true c 39 (and-left (eqb c 39) true k) })
+    (λ i. choose-case (Opening c)
+    (λ j e. record {
+      within = record { class = refl; mode = refl };
+      left = true;
+      at = eqb-true c 34
+          (and-left (eqb c 34) true j);
+    })
+    (λ j. choose-case (Opening c)
+    (λ k e. record {
+      within = record { class = refl; mode = refl };
+      left = false;
+      at = eqb-true c 39
+          (and-left (eqb c 39) true k);
+    })
     (λ k. choose-case (Opening c) (λ l. no-opening c 0 Class.LineComment Mode.Line refl)
     (λ l. choose-case (Opening c) (λ m. no-opening c 1 Class.BlockComment (Mode.Block 1) refl)
     (λ m. choose-case (Opening c) (λ n. no-opening c 3 Class.Prefab Mode.Prefab refl)
@@ -164,13 +177,16 @@ RestOf : Mark → List ℕ → Option (List ℕ) → Type 0
 RestOf t s none = Unit {0}
 RestOf t s (some l) = Rest t s l
 
-rest-cons : (t : Mark) (c : ℕ) (s : List ℕ) (r : Option (List ℕ)) → next t (c ∷ s) .class ≡ Class.Str → RestOf (next t (c ∷ s)) s r → RestOf t (c ∷ s) (Option·map (λ (l : List ℕ). c ∷ l) r)
+rest-cons : (t : Mark) (c : ℕ) (s : List ℕ) (r : Option (List ℕ)) → next t (c ∷ s) .class ≡ Class.Str
+    → RestOf (next t (c ∷ s)) s r → RestOf t (c ∷ s) (Option·map (λ (l : List ℕ). c ∷ l) r)
 unfolding RestOf scan label
 rest-cons t c s none e h = tt
 rest-cons t c s (some l) e h =
     record {
       back = h .back;
-      cells = ap {B = List Cell} (λ k. cell c k ∷ scan (next t (c ∷ s)) s) e ∙ ap {B = List Cell} (λ xs. cell c Class.Str ∷ xs) (h .cells);
+      cells =
+          ap {B = List Cell} (λ k. cell c k ∷ scan (next t (c ∷ s)) s) e
+          ∙ ap {B = List Cell} (λ xs. cell c Class.Str ∷ xs) (h .cells);
       right = h .right;
       most = c ∷ h .most;
       closed = ap {B = List ℕ} (λ m. c ∷ m) (h .closed);
@@ -181,8 +197,11 @@ unfolding closing RestOf
 rest-of t [] w = tt
 rest-of t (c ∷ s) w = go (reads t c s w) (rest-of (next t (c ∷ s)) s)
   where
-    go : Reads c (next t (c ∷ s)) → (Within (next t (c ∷ s)) → RestOf (next t (c ∷ s)) s (closing (next t (c ∷ s)) s)) → RestOf t (c ∷ s) (closing t (c ∷ s))
-    go (goes v) i = unfold choose in rw (not-code (next t (c ∷ s) .mode) (v .mode)) (rest-cons t c s (closing (next t (c ∷ s)) s) (v .class) (i v))
+    go : Reads c (next t (c ∷ s)) → (Within (next t (c ∷ s)) → RestOf (next t (c ∷ s)) s (closing (next t (c ∷ s)) s))
+        → RestOf t (c ∷ s) (closing t (c ∷ s))
+    go (goes v) i =
+        unfold choose in rw (not-code (next t (c ∷ s) .mode) (v .mode))
+        (rest-cons t c s (closing (next t (c ∷ s)) s) (v .class) (i v))
     go (ends q e k m) i = unfold choose scan label in
         rw m
         (record {
@@ -194,21 +213,24 @@ rest-of t (c ∷ s) w = go (reads t c s w) (rest-of (next t (c ∷ s)) s)
         })
 
 -- a string of a line that goes on with s behind the mark t, and before which b stands
-pub record Cut (k : Class) (b : List ℕ) (t : Mark) (s : List ℕ) (x : Quoted) : Type 0 where
+pub record Cut (b : List ℕ) (t : Mark) (s : List ℕ) (x : Quoted) : Type 0 where
   pub front : List Cell
   pub back : List Cell
-  pub whole : scan t s ≡ front ++ (label k (x .string) ++ back)
+  pub whole : scan t s ≡ front ++ (label Class.Str (x .string) ++ back)
   pub before : x .before ≡ b ++ charsOf front
   pub isSealed : Sealed (x .string)
 
-cut-found : (b : List ℕ) (t : Mark) (c : ℕ) (s : List ℕ) → Opened c (next t (c ∷ s)) → (r : Option (List ℕ)) → RestOf (next t (c ∷ s)) s r → All (Cut Class.Str b t (c ∷ s)) (found b c r)
+cut-found : (b : List ℕ) (t : Mark) (c : ℕ) (s : List ℕ) → Opened c (next t (c ∷ s)) → (r : Option (List ℕ))
+    → RestOf (next t (c ∷ s)) s r → All (Cut b t (c ∷ s)) (found b c r)
 unfolding RestOf scan label charsOf
 cut-found b t c s o none h = tt
 cut-found b t c s o (some l) h = (
   record {
     front = [];
     back = h .back;
-    whole = ap {B = List Cell} (λ k. cell c k ∷ scan (next t (c ∷ s)) s) (o .within .class) ∙ ap {B = List Cell} (λ xs. cell c Class.Str ∷ xs) (h .cells);
+    whole =
+        ap {B = List Cell} (λ k. cell c k ∷ scan (next t (c ∷ s)) s) (o .within .class)
+        ∙ ap {B = List Cell} (λ xs. cell c Class.Str ∷ xs) (h .cells);
     before = sym (append-nil b);
     isSealed =
         record {
@@ -225,16 +247,19 @@ cut-found b t c s o (some l) h = (
   tt,
 )
 
-cut-at : (b : List ℕ) (t : Mark) (c : ℕ) (s : List ℕ) → All (Cut Class.Str b t (c ∷ s)) (quotedAt b t (next t (c ∷ s)) c s)
+cut-at : (b : List ℕ) (t : Mark) (c : ℕ) (s : List ℕ)
+    → All (Cut b t (c ∷ s)) (quotedAt b t (next t (c ∷ s)) c s)
 unfolding quotedAt
 cut-at b t c s =
-    choose-case (All (Cut Class.Str b t (c ∷ s)))
-    (λ h. let o = open-mark t c s h in cut-found b t c s o (closing (next t (c ∷ s)) s) (rest-of (next t (c ∷ s)) s (o .within)))
+    choose-case (All (Cut b t (c ∷ s)))
+    (λ h. let o = open-mark t c s h in cut-found b t c s o (closing (next t (c ∷ s)) s)
+    (rest-of (next t (c ∷ s)) s (o .within)))
     (λ h. tt)
 
-pub cut-later : (k : Class) (b : List ℕ) (t : Mark) (c : ℕ) (s : List ℕ) (x : Quoted) → Cut k (b ++ (c ∷ [])) (next t (c ∷ s)) s x → Cut k b t (c ∷ s) x
+cut-later : (b : List ℕ) (t : Mark) (c : ℕ) (s : List ℕ) (x : Quoted)
+    → Cut (b ++ (c ∷ [])) (next t (c ∷ s)) s x → Cut b t (c ∷ s) x
 unfolding scan charsOf
-cut-later k b t c s x h =
+cut-later b t c s x h =
     record {
       front = cell c (next t (c ∷ s) .class) ∷ h .front;
       back = h .back;
@@ -243,10 +268,12 @@ cut-later k b t c s x h =
       isSealed = h .isSealed;
     }
 
-pub all-cut : (b : List ℕ) (t : Mark) (s : List ℕ) → All (Cut Class.Str b t s) (quotedIn b t s)
+pub all-cut : (b : List ℕ) (t : Mark) (s : List ℕ) → All (Cut b t s) (quotedIn b t s)
 unfolding quotedIn
 all-cut b t [] = tt
 all-cut b t (c ∷ s) =
-    all-append (Cut Class.Str b t (c ∷ s)) (quotedAt b t (next t (c ∷ s)) c s) (quotedIn (b ++ (c ∷ [])) (next t (c ∷ s)) s) (cut-at b t c s)
-    (all-map (Cut Class.Str (b ++ (c ∷ [])) (next t (c ∷ s)) s) (Cut Class.Str b t (c ∷ s)) (cut-later Class.Str b t c s) (quotedIn (b ++ (c ∷ [])) (next t (c ∷ s)) s)
+    all-append (Cut b t (c ∷ s)) (quotedAt b t (next t (c ∷ s)) c s)
+    (quotedIn (b ++ (c ∷ [])) (next t (c ∷ s)) s) (cut-at b t c s)
+    (all-map (Cut (b ++ (c ∷ [])) (next t (c ∷ s)) s) (Cut b t (c ∷ s))
+    (cut-later b t c s) (quotedIn (b ++ (c ∷ [])) (next t (c ∷ s)) s)
     (all-cut (b ++ (c ∷ [])) (next t (c ∷ s)) s))

@@ -2,7 +2,7 @@
 use Prim.Native.Nat.{ℕ}
 use mathlib.Core.Bool.{true}
 use mathlib.Core.List.{List, [], _∷_, _++_, map, foldl, flatten, append-assoc, append-nil}
-use mathlib.Core.Path.{_≡_, refl, sym, ap, _∙_, subst}
+use mathlib.Core.Path.{_≡_, refl, ap, _∙_, subst}
 use Rattle.unicode.specs.Unicode.{isWhite}
 use Rattle.unicode.proofs.Trim.{White}
 use Rattle.rules.specs.Basics.{codes, pieces, splitOn}
@@ -15,7 +15,7 @@ use Rattle.rules.specs.Quoted.{Quoted, quotedIn, quotedFrom, quotedOf, Stands, 
 use Rattle.rules.specs.declared.Carry.{Carry}
 use Rattle.rules.specs.declared.LineEnding.{LineEnding}
 use Rattle.rules.specs.declared.PrintWidth.{PrintWidth}
-use Rattle.rules.proofs.Struck.{Like, like-eq, like-refl, like-sym, _then_, like-append, like-after, flattenBack, kept-like, kept-from}
+use Rattle.rules.proofs.Struck.{like-eq, like-refl, like-sym, _then_, like-append, like-after, flattenBack, kept-like, kept-from}
 use Rattle.rules.proofs.SpacingLaws.{all-white}
 use Rattle.rules.proofs.LineLaws.{Holds, holds-lines}
 use Rattle.rules.proofs.Demand3.{like-dropCr, white-ending}
@@ -31,11 +31,13 @@ pub holds-next : (o : Options) → White (o .indent) → (l b : List ℕ) (f : F
 unfolding flatten isWhite
 holds-next o white l b f h =
     kept-from
-    (like-append (like-refl b) (like-eq (append-nil (dropCr l)) then like-dropCr l then like-sym (like-after (codes "\n") l (refl, tt))))
+    (like-append (like-refl b)
+    (like-eq (append-nil (dropCr l)) then like-dropCr l then like-sym (like-after (codes "\n") l (refl, tt))))
     (holds-lines o white (dropCr l ∷ []) b f h)
 
 module _ (o : Options) (off : o .printWidth ≡ PrintWidth.Off) (white : White (o .indent)) where
-  all-lines : (ls : List (List ℕ)) (b : List ℕ) (f : Formatter) → Holds o b f → (xs : List Quoted) → All (In (f .lines)) xs
+  all-lines : (ls : List (List ℕ)) (b : List ℕ) (f : Formatter) → Holds o b f → (xs : List Quoted)
+      → All (In (f .lines)) xs
       → All (In (foldl (formatLine o) f (map dropCr ls) .lines)) (xs ++ quotedFrom b (f .carry) ls)
   unfolding quotedFrom
   all-lines [] b f h xs a = rw (append-nil xs) a
@@ -47,7 +49,8 @@ module _ (o : Options) (off : o .printWidth ≡ PrintWidth.Off) (white : White (
       let here : List Quoted = quotedIn b (begin (f .carry)) raw in
       let r = all-lines ls c g (holds-next o white l b f h) (xs ++ here)
       (all-append (In (g .lines)) xs here
-      (all-map (In (f .lines)) (In (g .lines)) (λ x i. among-line (Has x) (has-lasts x) f raw (g .lines) (k .lines) i) xs a)
+      (all-map (In (f .lines)) (In (g .lines))
+      (λ x i. among-line (Has x) (has-lasts x) f raw (g .lines) (k .lines) i) xs a)
       (new-line f b raw (record { same = h .unbroken off }) (g .lines) (k .lines)))
       in
       subst (All (In (foldl (formatLine o) g (map dropCr ls) .lines)))
@@ -62,5 +65,6 @@ strings-stand o h off source =
     let e : LineEnding = endingOf (o .endOfLine) source in
     let f : Formatter = foldl (formatLine o) start (linesOf source) in
     all-map (In (f .lines)) (Stands (formatWith o source .text))
-    (stands-text (asStr e) (white-ending e) (f .lines) (lastEnding (o .insertFinalNewline) source (asStr e))) (quotedOf source)
+    (stands-text (asStr e) (white-ending e) (f .lines) (lastEnding (o .insertFinalNewline) source (asStr e)))
+    (quotedOf source)
     (all-lines o off (all-white (o .indent) h) (pieces (splitOn "\n" source)) [] start (kept-like (like-refl [])) [] tt)

@@ -1,7 +1,6 @@
 -- C-22: the strings that are closed on their line, with their places; where one stands in a text; what a text keeps of
 -- its source's quoted text with no print width.
 use Prim.Native.Nat.{ℕ}
-use mathlib.Core.Bool.{Bool}
 use mathlib.Core.List.{List, [], _∷_, _++_}
 use mathlib.Core.Option.{Option, none, some, Option·map}
 use mathlib.Core.Path.{_≡_}

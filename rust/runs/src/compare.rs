@@ -3,6 +3,7 @@
 use crate::call::{Call, Chosen, Outcome, kind_scratch_needed};
 use crate::library::Library;
 use crate::model;
+use crate::quoted;
 use crate::safe::SafeCall;
 use std::fmt::Debug;
 use upstream::FormatOptions;
@@ -170,7 +171,15 @@ impl Buffers {
     fn format(&mut self, library: &dyn Library, call: &Call) -> Option<String> {
         let found = model::text_of(call);
         let room = call.output.of(model::length(&found));
-        self.outcome(library, call, room, &model::outcome(&found, room))
+        let must = model::outcome(&found, room);
+        let different = self.outcome(library, call, room, &must);
+        if different.is_some() || must.answer.refusal != 0 || call.width_set != 0 {
+            return different;
+        }
+        // the text is the Rust's, and both keep quoted text
+        let source = std::str::from_utf8(&call.source).expect("an accepted source is UTF-8");
+        let text = std::str::from_utf8(&must.text).expect("the Rust's text is UTF-8");
+        quoted::lost(source, text, quoted::ending(source, call.line_ending))
     }
 
     /// Calls with an output of `room` bytes.

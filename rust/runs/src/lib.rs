@@ -7,6 +7,7 @@ pub mod grammar;
 pub mod lent;
 pub mod library;
 pub mod model;
+pub mod quoted;
 pub mod random;
 pub mod safe;
 pub mod shrink;

@@ -6,9 +6,12 @@
 //! up to a number of checks. `--seconds` is for all stages, `--sources` for each; the first batch of
 //! a stage is made whatever the time. `--standin` puts the Rust in the library's place. The first
 //! difference is made small and printed, with status 1; a stage that made no check gives status 1 too.
+//! In each text without a print width every closed string of the source and every line within a closed
+//! prefab is looked for (`runs::quoted`).
 
 use runs::compare::{Buffers, Check};
 use runs::library::{Library, Linked, Standin};
+use runs::quoted;
 use runs::safe::SafeCall;
 use runs::shrink::shrink;
 use runs::stages::{self, Stage};
@@ -156,6 +159,7 @@ fn main() {
     }
     let library: &dyn Library = if standin { &Standin(None) } else { &Linked };
     let mut stages = stages::all(seed);
+    let whole = only.is_none();
     if let Some(name) = only {
         stages.retain(|stage| stage.name == name);
         if stages.is_empty() {
@@ -193,6 +197,12 @@ fn main() {
     }
     if !idle.is_empty() {
         println!("NO CHECK was made by: {}", idle.join(", "));
+        std::process::exit(1);
+    }
+    let (strings, lines) = quoted::looked_for();
+    println!("with no width, {strings} strings and {lines} lines within prefabs are kept");
+    if whole && (strings == 0 || lines == 0) {
+        println!("NO STRING or no line within a prefab was looked for");
         std::process::exit(1);
     }
     println!(

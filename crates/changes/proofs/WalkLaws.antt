@@ -30,7 +30,8 @@ use Rattle.changes.specs.declared.Change.{Change}
 -- ---- an entry
 
 pub noted : (x : List ℕ) (n : ℕ) (c : Change) → n * 4 + 4 ≤ length x
-    → Noted x (set (set (set (set x (n * 4) (c .at)) (n * 4 + 1) (c .removed)) (n * 4 + 2) (c .from)) (n * 4 + 3) (c .put)) n c
+    → Noted x
+    (set (set (set (set x (n * 4) (c .at)) (n * 4 + 1) (c .removed)) (n * 4 + 2) (c .from)) (n * 4 + 3) (c .put)) n c
 unfolding numbers
 noted x n c h =
     let k = n * 4 in
@@ -51,16 +52,19 @@ noted-none x n c h = record { long = refl; fits = λ l. absurd (omega arith) }
 -- ---- one gap
 
 pub gap-size : (s : List ℕ) (i a : ℕ) → GapEnd s i a → size (gap (decode (drop i s))) ≡ a - i
-gap-size s i a q = ap length (sym (q .bytes)) ∙ length-take-le (a - i) (drop i s) (omega (arith, length-drop i s, q .fits))
+gap-size s i a q =
+    ap length (sym (q .bytes)) ∙ length-take-le (a - i) (drop i s) (omega (arith, length-drop i s, q .fits))
 
 pub gap-scalars : (s : List ℕ) (i a : ℕ) → GapEnd s i a → Scalars (gap (decode (drop i s)))
-gap-scalars s i a q = scalars-left (gap (decode (drop i s))) (decode (drop a s)) (subst Scalars (q .chars) (decode-scalars (drop i s)))
+gap-scalars s i a q =
+    scalars-left (gap (decode (drop i s))) (decode (drop a s)) (subst Scalars (q .chars) (decode-scalars (drop i s)))
 
 pub change-none : (i j : ℕ) (g h : List ℕ) → g ≡ h → changeAt i j g h ≡ []
 unfolding changeAt
 change-none i j g h e = choose-true (same g h) _ _ (ap (λ (l : List ℕ). same l h) e ∙ same-itself h)
 
-pub change-one : (i j p q : ℕ) (g h : List ℕ) → (g ≡ h → ⊥) → size g ≡ p → size h ≡ q → changeAt i j g h ≡ change i p j q ∷ []
+pub change-one : (i j p q : ℕ) (g h : List ℕ) → (g ≡ h → ⊥) → size g ≡ p → size h ≡ q
+    → changeAt i j g h ≡ change i p j q ∷ []
 unfolding changeAt
 change-one i j p q g h f ep eq =
     choose-false (same g h) _ _ (by-test (same g h) (λ e. absurd (f (same-eq g h e))) (λ e. e))
@@ -68,7 +72,8 @@ change-one i j p q g h f ep eq =
     ∙ ap (λ (n : ℕ). change i p j n ∷ []) eq
 
 module _ (s t : List ℕ) (n : ℕ) (c : Change) (p : GapPair s t n c) (r : Bool)
-    (e : (r ≡ true → part s (c .at) (c .at + c .removed) ≡ part t (c .from) (c .from + c .put)) × (part s (c .at) (c .at + c .removed) ≡ part t (c .from) (c .from + c .put) → r ≡ true)) where
+    (e : (r ≡ true → part s (c .at) (c .at + c .removed) ≡ part t (c .from) (c .from + c .put)) ×
+    (part s (c .at) (c .at + c .removed) ≡ part t (c .from) (c .from + c .put) → r ≡ true)) where
   abbrev gapIn : List ℕ
   gapIn = gap (decode (drop (c .at) s))
 
@@ -80,7 +85,8 @@ module _ (s t : List ℕ) (n : ℕ) (c : Change) (p : GapPair s t n c) (r : Bool
   note-same x y =
       let q : encode gapIn ≡ encode gapOut = sym (p .gapSource .bytes) ∙ e .0 y ∙ p .gapText .bytes in
       let o : gapIn ≡ gapOut =
-      sym (decode-encode gapIn (gap-scalars s _ _ (p .gapSource))) ∙ ap decode q ∙ decode-encode gapOut (gap-scalars t _ _ (p .gapText)) in
+      sym (decode-encode gapIn (gap-scalars s _ _ (p .gapSource))) ∙ ap decode q
+      ∙ decode-encode gapOut (gap-scalars t _ _ (p .gapText)) in
       let z : changeAt (c .at) (c .from) gapIn gapOut ≡ [] = change-none (c .at) (c .from) gapIn gapOut o in
       record {
         count = sym (ap (λ (l : List Change). n + length l) z ∙ omega arith);
@@ -89,10 +95,12 @@ module _ (s t : List ℕ) (n : ℕ) (c : Change) (p : GapPair s t n c) (r : Bool
         front = λ k. sym (ap (λ (l : List Change). take (n * 4) x ++ numbers l) z ∙ append-nil (take (n * 4) x));
       }
 
-  pub note-other : (x x′ : List ℕ) → r ≡ false → Noted x x′ n c → NotedGap x x′ n (changeAt (c .at) (c .from) gapIn gapOut) (n + 1)
+  pub note-other : (x x′ : List ℕ) → r ≡ false → Noted x x′ n c
+      → NotedGap x x′ n (changeAt (c .at) (c .from) gapIn gapOut) (n + 1)
   unfolding numbers put
   note-other x x′ y w =
-      let f : (gapIn ≡ gapOut → ⊥) = λ o. subst T (sym (e .1 (p .gapSource .bytes ∙ ap encode o ∙ sym (p .gapText .bytes))) ∙ y) tt in
+      let f : (gapIn ≡ gapOut → ⊥) =
+      λ o. subst T (sym (e .1 (p .gapSource .bytes ∙ ap encode o ∙ sym (p .gapText .bytes))) ∙ y) tt in
       let z : changeAt (c .at) (c .from) gapIn gapOut ≡ c ∷ [] =
       change-one (c .at) (c .from) (c .removed) (c .put) gapIn gapOut f
       (gap-size s (c .at) _ (p .gapSource) ∙ omega arith) (gap-size t (c .from) _ (p .gapText) ∙ omega arith) in
@@ -114,11 +122,14 @@ module _ (s t : List ℕ) (n : ℕ) (c : Change) (p : GapPair s t n c) (r : Bool
 
 pub changes-step : (i j k : ℕ) (ks l m : List ℕ) → strike l ≡ k ∷ ks
     → changesFrom (strike l) i j l m
-    ≡ changeAt i j (gap l) (gap m) ++ changesFrom ks (i + size (gap l) + length (encodeChar k)) (j + size (gap m) + length (encodeChar k)) (after l) (after m)
+    ≡ changeAt i j (gap l) (gap m)
+    ++ changesFrom ks (i + size (gap l) + length (encodeChar k)) (j + size (gap m) + length (encodeChar k))
+    (after l) (after m)
 unfolding changesFrom
 changes-step i j k ks l m e = ap (λ (q : List ℕ). changesFrom q i j l m) e
 
-pub changes-last : (i j : ℕ) (l m : List ℕ) → strike l ≡ [] → changesFrom (strike l) i j l m ≡ changeAt i j (gap l) (gap m)
+pub changes-last : (i j : ℕ) (l m : List ℕ) → strike l ≡ []
+    → changesFrom (strike l) i j l m ≡ changeAt i j (gap l) (gap m)
 unfolding changesFrom
 changes-last i j l m e = ap (λ (q : List ℕ). changesFrom q i j l m) e
 
@@ -131,7 +142,8 @@ numbers-append (c ∷ a) b = ap {B = List ℕ} (λ l. c .at ∷ c .removed ∷ c
 
 pub record Walk (s t x₀ x : List ℕ) (n i j a b : ℕ) : Type 0 where
   pub done : List Change
-  pub whole : changes (decode s) (decode t) ≡ done ++ changesFrom (strike (decode (drop i s))) i j (decode (drop i s)) (decode (drop j t))
+  pub whole : changes (decode s) (decode t) ≡ done
+      ++ changesFrom (strike (decode (drop i s))) i j (decode (drop i s)) (decode (drop j t))
   pub count : n ≡ length done
   pub bound : length s < 2 ^ 60
   pub few : n ≤ i
@@ -157,7 +169,8 @@ walk-begin s t x a b q g h =
       gapText = h;
     }
 
-pub walk-pair : (s t x₀ x : List ℕ) (n i j a b : ℕ) → Walk s t x₀ x n i j a b → GapPair s t n (change i (a - i) j (b - j))
+pub walk-pair : (s t x₀ x : List ℕ) (n i j a b : ℕ) → Walk s t x₀ x n i j a b
+    → GapPair s t n (change i (a - i) j (b - j))
 walk-pair s t x₀ x n i j a b q =
     let ea : a ≡ i + (a - i) = omega (arith, q .gapSource .from) in
     let eb : b ≡ j + (b - j) = omega (arith, q .gapText .from) in
@@ -173,14 +186,16 @@ pub record Both (s t : List ℕ) (i j a b z : ℕ) : Type 0 where
   pub source : CutAt (decode (drop i s)) (codeAt (drop a s)) (decode (drop (a + z) s))
   pub text : CutAt (decode (drop j t)) (codeAt (drop a s)) (decode (drop (b + z) t))
 
-module _ (s t : List ℕ) (i j a b z : ℕ) (gs : GapEnd s i a) (gt : GapEnd t j b) (e : strike (decode (drop j t)) ≡ strike (decode (drop i s)))
+module _ (s t : List ℕ) (i j a b z : ℕ) (gs : GapEnd s i a) (gt : GapEnd t j b)
+    (e : strike (decode (drop j t)) ≡ strike (decode (drop i s)))
     (h : a < length s) (v : Step s a z) where
   cut-source : CutAt (decode (drop i s)) (codeAt (drop a s)) (decode (drop (a + z) s))
   cut-source = cut-at _ _ _ (gs .chars ∙ ap (λ (q : List ℕ). gap (decode (drop i s)) ++ q) (v .chars)) (gs .stop h)
 
   text-rest : decode (drop b t) ≡ codeAt (drop a s) ∷ after (decode (drop j t))
   text-rest =
-      let c : Cut (decode (drop j t)) (codeAt (drop a s)) (strike (decode (drop (a + z) s))) = cut-some _ _ _ (e ∙ cut-source .struck) in
+      let c : Cut (decode (drop j t)) (codeAt (drop a s)) (strike (decode (drop (a + z) s))) =
+      cut-some _ _ _ (e ∙ cut-source .struck) in
       append-cancel-left (gap (decode (drop j t))) _ _ (sym (gt .chars) ∙ c .chars)
 
   text-more : (b < length t) ⊎ (length t ≤ b) → b < length t
@@ -193,20 +208,25 @@ module _ (s t : List ℕ) (i j a b z : ℕ) (gs : GapEnd s i a) (gt : GapEnd t j
 
   text-at : (y : ℕ) → Step t b y → Both s t i j a b z
   text-at y w =
-      let u : codeAt (drop b t) ∷ decode (drop (b + y) t) ≡ codeAt (drop a s) ∷ after (decode (drop j t)) = sym (w .chars) ∙ text-rest in
+      let u : codeAt (drop b t) ∷ decode (drop (b + y) t) ≡ codeAt (drop a s) ∷ after (decode (drop j t)) =
+      sym (w .chars) ∙ text-rest in
       let k : codeAt (drop b t) ≡ codeAt (drop a s) = cc in
       let m : y ≡ z = sym (w .long) ∙ ap (λ (c : ℕ). length (encodeChar c)) k ∙ v .long in
       let o : Step t b z = subst (Step t b) m w in
       record {
         step = o;
         source = cut-source;
-        text = cut-at _ _ _ (gt .chars ∙ ap (λ (q : List ℕ). gap (decode (drop j t)) ++ q) (o .chars ∙ ap {B = List ℕ} (λ c. c ∷ decode (drop (b + z) t)) k)) (gs .stop h);
+        text = cut-at _ _ _
+            (gt .chars
+            ∙ ap (λ (q : List ℕ). gap (decode (drop j t)) ++ q)
+            (o .chars ∙ ap {B = List ℕ} (λ c. c ∷ decode (drop (b + z) t)) k)) (gs .stop h);
       }
 
   both-at : Both s t i j a b z
   both-at = text-at (seqAt (drop b t)) (first-char t b (text-more (split b (length t))) (gt .well))
 
-pub walk-both : (s t x₀ x : List ℕ) (n i j a b z : ℕ) → Walk s t x₀ x n i j a b → a < length s → Step s a z → Both s t i j a b z
+pub walk-both : (s t x₀ x : List ℕ) (n i j a b z : ℕ) → Walk s t x₀ x n i j a b → a < length s → Step s a z
+    → Both s t i j a b z
 walk-both s t x₀ x n i j a b z q h v = both-at s t i j a b z (q .gapSource) (q .gapText) (q .struck) h v
 
 -- where the next gaps start
@@ -219,24 +239,35 @@ walk-text s t q = record { fits = omega arith; well = q .wellText }
 pub walk-source-on : (s t x₀ x : List ℕ) (n i j a b z : ℕ) → Walk s t x₀ x n i j a b → Step s a z → From s (a + z)
 walk-source-on s t x₀ x n i j a b z q v = record { fits = v .fits; well = v .well (q .gapSource .well) }
 
-pub walk-text-on : (s t x₀ x : List ℕ) (n i j a b z : ℕ) → Walk s t x₀ x n i j a b → a < length s → Step s a z → From t (b + z)
+pub walk-text-on : (s t x₀ x : List ℕ) (n i j a b z : ℕ) → Walk s t x₀ x n i j a b → a < length s → Step s a z
+    → From t (b + z)
 walk-text-on s t x₀ x n i j a b z q h v =
-    let o = walk-both s t x₀ x n i j a b z q h v in record { fits = o .step .fits; well = o .step .well (q .gapText .well) }
+    let o = walk-both s t x₀ x n i j a b z q h v in record {
+      fits = o .step .fits;
+      well =
+          o .step .well (q .gapText .well);
+    }
 
 module _ (s t x₀ x x′ : List ℕ) (n i j a b r : ℕ) (q : Walk s t x₀ x n i j a b)
     (w : NotedGap x x′ n (changeAt i j (gap (decode (drop i s))) (gap (decode (drop j t)))) r) where
   noted-count : length (q .done ++ changeAt i j (gap (decode (drop i s))) (gap (decode (drop j t)))) ≡ r
-  noted-count = length-append (q .done) _ ∙ sym (w .count ∙ ap (λ (k : ℕ). k + length (changeAt i j (gap (decode (drop i s))) (gap (decode (drop j t))))) (q .count))
+  noted-count =
+      length-append (q .done) _
+      ∙ sym (w .count ∙ ap (λ (k : ℕ). k + length (changeAt i j (gap (decode (drop i s))) (gap (decode (drop j t)))))
+      (q .count))
 
-  noted-front : r * 4 ≤ length x′ → take (r * 4) x′ ≡ numbers (q .done ++ changeAt i j (gap (decode (drop i s))) (gap (decode (drop j t))))
+  noted-front : r * 4 ≤ length x′
+      → take (r * 4) x′ ≡ numbers (q .done ++ changeAt i j (gap (decode (drop i s))) (gap (decode (drop j t))))
   noted-front k =
       let g = w .long in
       let c = w .count in
       w .front (omega arith)
-      ∙ ap (λ (l : List ℕ). l ++ numbers (changeAt i j (gap (decode (drop i s))) (gap (decode (drop j t))))) (q .front (omega arith))
+      ∙ ap (λ (l : List ℕ). l ++ numbers (changeAt i j (gap (decode (drop i s))) (gap (decode (drop j t)))))
+      (q .front (omega arith))
       ∙ sym (numbers-append (q .done) (changeAt i j (gap (decode (drop i s))) (gap (decode (drop j t)))))
 
-  pub walk-turn : (z a′ b′ : ℕ) → a < length s → Step s a z → GapEnd s (a + z) a′ → GapEnd t (b + z) b′ → Walk s t x₀ x′ r (a + z) (b + z) a′ b′
+  pub walk-turn : (z a′ b′ : ℕ) → a < length s → Step s a z → GapEnd s (a + z) a′ → GapEnd t (b + z) b′
+      → Walk s t x₀ x′ r (a + z) (b + z) a′ b′
   walk-turn z a′ b′ h v gs gt =
       let o = walk-both s t x₀ x n i j a b z q h v in
       let k = codeAt (drop a s) in
@@ -245,8 +276,10 @@ module _ (s t x₀ x x′ : List ℕ) (n i j a b r : ℕ) (q : Walk s t x₀ x n
       let l′ = decode (drop (a + z) s) in
       let m′ = decode (drop (b + z) t) in
       let c = changeAt i j (gap l) (gap m) in
-      let ea : i + size (gap l) + length (encodeChar k) ≡ a + z = omega (arith, gap-size s i a (q .gapSource), q .gapSource .from, v .long) in
-      let eb : j + size (gap m) + length (encodeChar k) ≡ b + z = omega (arith, gap-size t j b (q .gapText), q .gapText .from, v .long) in
+      let ea : i + size (gap l) + length (encodeChar k) ≡ a + z =
+      omega (arith, gap-size s i a (q .gapSource), q .gapSource .from, v .long) in
+      let eb : j + size (gap m) + length (encodeChar k) ≡ b + z =
+      omega (arith, gap-size t j b (q .gapText), q .gapText .from, v .long) in
       let g : changesFrom (strike l) i j l m ≡ c ++ changesFrom (strike l′) (a + z) (b + z) l′ m′ =
       changes-step i j k (strike l′) l m (o .source .struck) ∙ rw (ea, eb, o .source .after, o .text .after) in
       record {

@@ -13,24 +13,25 @@ use Rattle.changes.specs.declared.Change.{Change}
 abbrev pub change : ℕ → ℕ → ℕ → ℕ → Change
 change at removed from put = record { at = at; removed = removed; from = from; put = put }
 
--- the change of a gap g of the source, at its byte i, to the gap h of the text, at its byte j: none where they are equal
+-- the change of a gap g of the source, at its byte i, to the gap h of the text, at its byte j: none if they are equal
 unfoldable pub changeAt : ℕ → ℕ → List ℕ → List ℕ → List Change
 changeAt i j g h = choose (same g h) [] (change i (size g) j (size h) ∷ [])
 
--- the changes of a source from its byte i on, to a text from its byte j on: of the gap before each of the kept characters, and
--- of the last gap
+-- the changes of a source from its byte i on, to a text from its byte j on: of the gap before each of the kept
+-- characters, and of the last gap
 unfoldable pub changesFrom : List ℕ → ℕ → ℕ → List ℕ → List ℕ → List Change
 changesFrom [] i j source text = changeAt i j (gap source) (gap text)
 changesFrom (k ∷ ks) i j source text =
     changeAt i j (gap source) (gap text)
-    ++ changesFrom ks (i + size (gap source) + length (encodeChar k)) (j + size (gap text) + length (encodeChar k)) (after source) (after text)
+    ++ changesFrom ks (i + size (gap source) + length (encodeChar k)) (j + size (gap text) + length (encodeChar k))
+    (after source) (after text)
 
 unfoldable pub changes : List ℕ → List ℕ → List Change
 changes source text = changesFrom (strike source) 0 0 source text
 
 -- ---- what is asked of changes
 
--- carrying out changes on the bytes of a source, from its byte `at` on; what is put in is read from the bytes of the text
+-- carrying out changes on the bytes of a source, from its byte `at` on; what is put in is read from the text's
 unfoldable pub carried : ℕ → List Change → List ℕ → List ℕ → List ℕ
 carried at [] source text = drop at source
 carried at (c ∷ cs) source text =
@@ -51,7 +52,8 @@ pub record UnkeptPart (s : List ℕ) (a e : ℕ) : Type 0 where
 abbrev pub Harmless : List Change → List ℕ → List ℕ → Type 0
 Harmless [] source text = Unit {0}
 Harmless (c ∷ cs) source text =
-    UnkeptPart source (c .at) (c .at + c .removed) × UnkeptPart text (c .from) (c .from + c .put) × Harmless cs source text
+    UnkeptPart source (c .at) (c .at + c .removed) × UnkeptPart text (c .from)
+    (c .from + c .put) × Harmless cs source text
 
 -- the changes of a source's bytes to a text's
 pub record Faithful (source text : List ℕ) (cs : List Change) : Type 0 where

@@ -20,7 +20,7 @@ pub record GapPair (source text : List ℕ) (n : ℕ) (c : Change) : Type 0 wher
   pub gapSource : GapEnd source (c .at) (c .at + c .removed)
   pub gapText : GapEnd text (c .from) (c .from + c .put)
 
--- the list x, of which n entries are in use, has the changes cs as its next, where there is room for them; r are then in use
+-- the list x, of which n entries are in use, has the changes cs as its next, if there is room; r are then in use
 pub record NotedGap (x x′ : List ℕ) (n : ℕ) (cs : List Change) (r : ℕ) : Type 0 where
   pub count : r ≡ n + length cs
   pub most : r ≤ n + 1

@@ -6,7 +6,7 @@ ghost use Rattle.gaps.specs.Gaps.{gap, Alike};
 ghost use Rattle.changes.specs.Changes.{changeAt};
 ghost use Rattle.changes.specs.Writing.{Noted, GapPair, NotedGap, Written};
 
-// At the byte `at` of the source, `removed` bytes give way to the `put` bytes that stand at the byte `from` of the text.
+// At the byte `at` of the source, `removed` bytes give way to the `put` bytes at the byte `from` of the text.
 pub struct Change {
     pub at: usize,
     pub removed: usize,
@@ -31,7 +31,9 @@ fn note(list: &mut [u64], n: usize, c: Change)
 // Writes the change of one gap, if it is one, as the entry n of a list, and gives the number of entries after it.
 fn note_gap(source: &[u8], text: &[u8], list: &mut [u64], n: usize, c: Change) -> usize
     requires { ⌜ GapPair (now source) (now text) n c ⌝ }
-    ensures { λ r. ⌜ NotedGap (now (list .entry)) (now (list .exit)) n (changeAt (c .at) (c .from) (gap (decode (drop (c .at) (now (source .entry))))) (gap (decode (drop (c .from) (now (text .entry)))))) r ⌝ }
+    ensures { λ r. ⌜ NotedGap (now (list .entry)) (now (list .exit)) n (changeAt (c .at) (c .from)
+        (gap (decode (drop (c .at) (now (source .entry)))))
+        (gap (decode (drop (c .from) (now (text .entry)))))) r ⌝ }
 {
     let i = c.at;
     let j = c.from;

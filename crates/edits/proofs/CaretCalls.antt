@@ -22,7 +22,8 @@ use Rattle.edits.proofs.TextLaws.{Stopped, stopped, passed-by, text-cha
 
 -- a refused call
 refused-by : (c : Call) (line column : ℕ) (why : Refusal) (number place : ℕ) (r : CaretAnswer) (out work : List ℕ)
-    → caretVerdict c line column ≡ Verdict.Refused why → number ≡ numberOf why → place ≡ placeOf why → r ≡ refusedCaret number place
+    → caretVerdict c line column ≡ Verdict.Refused why → number ≡ numberOf why → place ≡ placeOf why
+    → r ≡ refusedCaret number place
     → out ≡ replicate (c .output) 0 → work ≡ replicate (c .scratch) 0 → CaretAnswered c line column r out work
 refused-by c line column why number place r out work v en ep er eo ew =
     let z : r .refusal ≡ 0 → ⊥ = λ e. numbered why (sym en ∙ sym (ap (λ (b : CaretAnswer). b .refusal) er) ∙ e) in
@@ -36,30 +37,46 @@ refused-by c line column why number place r out work v en ep er eo ew =
     }
 
 module _ (c : Call) (a : Answer) (out work : List ℕ) (q : FormatAnswered c a out work) (line column : ℕ) where
-  pub caret-stopped : (r : CaretAnswer) → (a .refusal ≡ 0 → ⊥) → r ≡ refusedCaret (a .refusal) (a .place) → CaretAnswered c line column r out work
+  pub caret-stopped : (r : CaretAnswer) → (a .refusal ≡ 0 → ⊥) → r ≡ refusedCaret (a .refusal) (a .place)
+      → CaretAnswered c line column r out work
   unfolding caretVerdict
   caret-stopped r h e =
       let s : Stopped c (a .refusal) (a .place) out = stopped c a out work q h in
-      refused-by c line column (s .why) (a .refusal) (a .place) r out work (s .verdict _) (s .number-is) (s .place-is) e (s .zeros) (q .scratch)
+      refused-by c line column (s .why) (a .refusal) (a .place) r out work (s .verdict _) (s .number-is)
+      (s .place-is) e (s .zeros) (q .scratch)
 
-  module _ (z : a .refusal ≡ 0) (f : Bool) (l k : ℕ) (m : CaretMoved (c .source) (take (a .length) out) line column f l k) where
-    pub caret-none : (number place : ℕ) (r : CaretAnswer) (zeros : List ℕ) → f ≡ false → zeros ≡ replicate (length out) 0
+  module _ (z : a .refusal ≡ 0) (f : Bool) (l k : ℕ)
+      (m : CaretMoved (c .source) (take (a .length) out) line column f l k) where
+    pub caret-none : (number place : ℕ) (r : CaretAnswer) (zeros : List ℕ) → f ≡ false
+        → zeros ≡ replicate (length out) 0
         → number ≡ numberOf Refusal.NoPlace → place ≡ placeOf Refusal.NoPlace → r ≡ refusedCaret number place
         → CaretAnswered c line column r zeros work
     unfolding caretVerdict noPlace
     caret-none number place r zeros y o en ep e =
         let v : caretVerdict c line column ≡ Verdict.Refused Refusal.NoPlace =
         passed-by c a out work q z _ ∙ test-on _ _ (ap not (sym (m .found) ∙ y)) in
-        refused-by c line column Refusal.NoPlace number place r zeros work v en ep e (o ∙ ap (λ (n : ℕ). replicate n 0) (text-room c a out work q z)) (q .scratch)
+        refused-by c line column Refusal.NoPlace number place r zeros work v en ep e
+        (o ∙ ap (λ (n : ℕ). replicate n 0) (text-room c a out work q z)) (q .scratch)
 
     pub caret-goes : f ≡ true
         → CaretAnswered c line column
-        (record { refusal = 0; place = 0; length = a .length; «imports_split» = a .«imports_split»; «blank_names» = a .«blank_names»; line = l; column = k })
+        (record {
+          refusal = 0;
+          place = 0;
+          length = a .length;
+          «imports_split» = a .«imports_split»;
+          «blank_names» =
+              a .«blank_names»;
+          line = l;
+          column = k;
+        })
         out work
     unfolding caretVerdict caretIn noPlace
     caret-goes y =
-        let v : caretVerdict c line column ≡ Verdict.Accepted = passed-by c a out work q z _ ∙ test-off _ _ (ap not (sym (m .found) ∙ y)) in
-        let to : LineColumnOf (movedTo line column (decode (c .source)) (decode (take (a .length) out))) l k = m .goes y in
+        let v : caretVerdict c line column ≡ Verdict.Accepted =
+        passed-by c a out work q z _ ∙ test-off _ _ (ap not (sym (m .found) ∙ y)) in
+        let to : LineColumnOf (movedTo line column (decode (c .source)) (decode (take (a .length) out))) l k =
+        m .goes y in
         let w : movedTo line column (decode (c .source)) (decode (take (a .length) out)) ≡ caretIn c line column =
         ap (movedTo line column (decode (c .source))) (text-chars c a out work q z) in
         record {
@@ -68,5 +85,6 @@ module _ (c : Call) (a : Answer) (out work : List ℕ) (q : FormatAnswered c a o
           scratch = q .scratch;
           well = λ e. q .well z;
           kept = λ e. q .kept z;
-          follows = λ e. follows-at line column (decode (c .source)) (decode (take (a .length) out)) l k (q .kept z .struck) to;
+          follows = λ e.
+              follows-at line column (decode (c .source)) (decode (take (a .length) out)) l k (q .kept z .struck) to;
         }

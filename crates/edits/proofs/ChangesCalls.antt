@@ -27,8 +27,10 @@ use Rattle.edits.proofs.TextLaws.{Stopped, stopped, passed-by, text-cha
 
 -- a refused call
 refused-by : (c : Call) (room : ℕ) (why : Refusal) (number place : ℕ) (r : ChangesAnswer) (out list work : List ℕ)
-    → changesVerdict c room ≡ Verdict.Refused why → number ≡ numberOf why → place ≡ placeOf why → r ≡ refusedChanges number place
-    → out ≡ replicate (c .output) 0 → list ≡ replicate room 0 → work ≡ replicate (c .scratch) 0 → ChangesAnswered c room r out list work
+    → changesVerdict c room ≡ Verdict.Refused why → number ≡ numberOf why → place ≡ placeOf why
+    → r ≡ refusedChanges number place
+    → out ≡ replicate (c .output) 0 → list ≡ replicate room 0 → work ≡ replicate (c .scratch) 0
+    → ChangesAnswered c room r out list work
 refused-by c room why number place r out list work v en ep er eo el ew =
     let z : r .refusal ≡ 0 → ⊥ = λ e. numbered why (sym en ∙ sym (ap (λ (b : ChangesAnswer). b .refusal) er) ∙ e) in
     record {
@@ -47,9 +49,11 @@ module _ (c : Call) (a : Answer) (out work : List ℕ) (q : FormatAnswered c a o
   unfolding changesVerdict
   changes-stopped r list h o e =
       let s : Stopped c (a .refusal) (a .place) out = stopped c a out work q h in
-      refused-by c room (s .why) (a .refusal) (a .place) r out list work (s .verdict _) (s .number-is) (s .place-is) e (s .zeros) o (q .scratch)
+      refused-by c room (s .why) (a .refusal) (a .place) r out list work (s .verdict _) (s .number-is) (s .place-is) e
+      (s .zeros) o (q .scratch)
 
-  module _ (z : a .refusal ≡ 0) (x x′ : List ℕ) (n : ℕ) (k : length x ≡ room) (w : Written (c .source) (take (a .length) out) x x′ n) where
+  module _ (z : a .refusal ≡ 0) (x x′ : List ℕ) (n : ℕ) (k : length x ≡ room)
+      (w : Written (c .source) (take (a .length) out) x x′ n) where
     changes-are : changes (decode (c .source)) (decode (take (a .length) out)) ≡ changesOf c
     unfolding changesOf
     changes-are = ap (changes (decode (c .source))) (text-chars c a out work q z)
@@ -57,8 +61,10 @@ module _ (c : Call) (a : Answer) (out work : List ℕ) (q : FormatAnswered c a o
     count-is : n ≡ length (changesOf c)
     count-is = w .count ∙ ap length changes-are
 
-    pub changes-short : (number place : ℕ) (r : ChangesAnswer) (zeros list : List ℕ) → length x′ / 4 < n → zeros ≡ replicate (length out) 0
-        → list ≡ replicate (length x′) 0 → number ≡ numberOf (Refusal.ListShort n) → place ≡ placeOf (Refusal.ListShort n)
+    pub changes-short : (number place : ℕ) (r : ChangesAnswer) (zeros list : List ℕ) → length x′ / 4 < n
+        → zeros ≡ replicate (length out) 0
+        → list ≡ replicate (length x′) 0 → number ≡ numberOf (Refusal.ListShort n)
+        → place ≡ placeOf (Refusal.ListShort n)
         → r ≡ refusedChanges number place → ChangesAnswered c room r zeros list work
     unfolding changesVerdict shortList
     changes-short number place r zeros list h o ol en ep e =
@@ -67,22 +73,34 @@ module _ (c : Call) (a : Answer) (out work : List ℕ) (q : FormatAnswered c a o
         ∙ test-on _ _ (lt-ltb (room / 4) (length (changesOf c)) (omega (arith, k, w .long, count-is)))
         ∙ ap (λ (m : ℕ). Verdict.Refused (Refusal.ListShort m)) (sym count-is) in
         refused-by c room (Refusal.ListShort n) number place r zeros list work v en ep e
-        (o ∙ ap (λ (m : ℕ). replicate m 0) (text-room c a out work q z)) (ol ∙ ap (λ (m : ℕ). replicate m 0) (w .long ∙ k)) (q .scratch)
+        (o ∙ ap (λ (m : ℕ). replicate m 0) (text-room c a out work q z))
+        (ol ∙ ap (λ (m : ℕ). replicate m 0) (w .long ∙ k)) (q .scratch)
 
     pub changes-given : (list : List ℕ) → n ≤ length x′ / 4 → Finishes x′ list (n * 4)
         → ChangesAnswered c room
-        (record { refusal = 0; place = 0; length = a .length; «imports_split» = a .«imports_split»; «blank_names» = a .«blank_names»; changes = n })
+        (record {
+          refusal = 0;
+          place = 0;
+          length = a .length;
+          «imports_split» = a .«imports_split»;
+          «blank_names» =
+              a .«blank_names»;
+          changes = n;
+        })
         out list work
     unfolding changesVerdict shortList filled
     changes-given list h f =
         let v : changesVerdict c room ≡ Verdict.Accepted =
-        passed-by c a out work q z _ ∙ test-off _ _ (le-ltb (room / 4) (length (changesOf c)) (omega (arith, k, w .long, count-is))) in
-        let long : length (numbers (changesOf c)) ≡ n * 4 = length-numbers (changesOf c) ∙ ap (λ (m : ℕ). m * 4) (sym count-is) in
+        passed-by c a out work q z _
+        ∙ test-off _ _ (le-ltb (room / 4) (length (changesOf c)) (omega (arith, k, w .long, count-is))) in
+        let long : length (numbers (changesOf c)) ≡ n * 4 =
+        length-numbers (changesOf c) ∙ ap (λ (m : ℕ). m * 4) (sym count-is) in
         let room-is : length x′ ≡ room = w .long ∙ k in
         let l : list ≡ filled room (numbers (changesOf c)) =
         f .is ∙ rw (w .front (omega (arith, w .long)), changes-are, room-is, ← long) in
         let t = take (a .length) out in
-        let g : Faithful (c .source) t (changesOf c) = subst (Faithful (c .source) t) changes-are (faithful (c .source) t (alike c a out work q z)) in
+        let g : Faithful (c .source) t (changesOf c) =
+        subst (Faithful (c .source) t) changes-are (faithful (c .source) t (alike c a out work q z)) in
         let back : changesIn (take (n * 4) list) ≡ changesOf c =
         ap (λ (y : List ℕ). changesIn (take (n * 4) y)) l
         ∙ ap (λ (m : ℕ). changesIn (take (m * 4) (filled room (numbers (changesOf c))))) count-is

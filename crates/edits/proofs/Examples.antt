@@ -19,12 +19,19 @@ opened = tt
 
 -- ` a  b `, of which the text is `a b` and LF
 abbrev spaced : Call
-spaced = record { source = codes " a  b "; choices = record { indent = defaults .indent; numbers = defaultNumbers }; output = 5; scratch = 400 }
+spaced = record {
+  source = codes " a  b ";
+  choices =
+      record { indent = defaults .indent; numbers = defaultNumbers };
+  output = 5;
+  scratch = 400;
+}
 
 -- before b; in the white space behind a; before a
 moved : (column : ℕ) → ℕ × ℕ
 moved column =
-    let a = caretAnswer (caretVerdict spaced 0 column) (formatCall spaced .answer) (caretIn spaced 0 column) in (a .line, a .column)
+    let a = caretAnswer (caretVerdict spaced 0 column) (formatCall spaced .answer) (caretIn spaced 0 column) in
+    (a .line, a .column)
 
 before-b : moved 4 ≡ (0, 2)
 unfolding opened moved
@@ -46,7 +53,8 @@ past-the-last : caretVerdict spaced 1 0 ≡ Verdict.Refused Refusal.NoPlace
 unfolding opened
 past-the-last = refl
 
-listed : listLeft (changesVerdict spaced 13) 13 (changesOf spaced) ≡ 0 ∷ 1 ∷ 0 ∷ 0 ∷ 2 ∷ 2 ∷ 1 ∷ 1 ∷ 5 ∷ 1 ∷ 3 ∷ 1 ∷ 0 ∷ []
+listed : listLeft (changesVerdict spaced 13) 13
+    (changesOf spaced) ≡ 0 ∷ 1 ∷ 0 ∷ 0 ∷ 2 ∷ 2 ∷ 1 ∷ 1 ∷ 5 ∷ 1 ∷ 3 ∷ 1 ∷ 0 ∷ []
 unfolding opened
 listed = refl
 

@@ -55,7 +55,8 @@ module _ (c : Call) (a : Answer) (out work : List ℕ) (q : FormatAnswered c a o
         go Verdict.Accepted e = pass (verdictOf c) (v ∷ []) e ∙ one-test v
         go (Verdict.Refused r) e = absurd (numbered r (sym (rw e) ∙ no-refusal))
 
-    given : Delivered c (answerOf (outcomeOf c) .length) (answerOf (outcomeOf c) .«imports_split») (answerOf (outcomeOf c) .«blank_names»)
+    given : Delivered c (answerOf (outcomeOf c) .length) (answerOf (outcomeOf c) .«imports_split»)
+        (answerOf (outcomeOf c) .«blank_names»)
     given = delivered c (outcomeOf c) refl no-refusal
 
     pub text-chars : decode (take (a .length) out) ≡ formatted c .text

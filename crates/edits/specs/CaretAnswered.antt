@@ -20,8 +20,10 @@ pub record CaretAnswered (c : Call) (line column : ℕ) (r : CaretAnswer) (out w
   -- of an accepted call, what a formatting call promises of its text and counts
   pub well : r .refusal ≡ 0 → WellFormed (take (r .length) out)
   pub kept : r .refusal ≡ 0
-      → Kept (optionsOf (c .choices) .printWidth) (decode (c .source)) (decode (take (r .length) out)) (r .«imports_split») (r .«blank_names»)
-  -- and its line and column are a place of the text that has the same count before it as the source's, and the same letter next
+      → Kept (optionsOf (c .choices) .printWidth) (decode (c .source)) (decode (take (r .length) out))
+      (r .«imports_split») (r .«blank_names»)
+  -- and its line and column are a place of the text with the same count before it, and the same letter next
   pub follows : r .refusal ≡ 0
       → Follows (before line column (decode (c .source))) (behind line column (decode (c .source)))
-      (before (r .line) (r .column) (decode (take (r .length) out))) (behind (r .line) (r .column) (decode (take (r .length) out)))
+      (before (r .line) (r .column) (decode (take (r .length) out)))
+      (behind (r .line) (r .column) (decode (take (r .length) out)))

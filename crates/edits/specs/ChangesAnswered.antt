@@ -12,7 +12,7 @@ use Rattle.edits.specs.Text.{textLeft}
 use Rattle.edits.specs.ChangesCall.{changesOf, changesVerdict, changesAnswer, listLeft}
 use Rattle.edits.specs.declared.with_changes.ChangesAnswer.{ChangesAnswer}
 
--- The answer r to the call c with a list of so many numbers, and what its output, its list and its scratch hold after it.
+-- The answer r to the call c with a list of so many numbers, and what output, list and scratch hold after it.
 pub record ChangesAnswered (c : Call) (room : ℕ) (r : ChangesAnswer) (out list work : List ℕ) : Type 0 where
   pub answer : r ≡ changesAnswer (changesVerdict c room) (formatCall c .answer) (changesOf c)
   pub output : out ≡ textLeft (changesVerdict c room) c
@@ -21,7 +21,8 @@ pub record ChangesAnswered (c : Call) (room : ℕ) (r : ChangesAnswer) (out list
   -- of an accepted call, what a formatting call promises of its text and counts
   pub well : r .refusal ≡ 0 → WellFormed (take (r .length) out)
   pub kept : r .refusal ≡ 0
-      → Kept (optionsOf (c .choices) .printWidth) (decode (c .source)) (decode (take (r .length) out)) (r .«imports_split») (r .«blank_names»)
-  -- and the changes that the list holds turn the source's bytes into the text's; they ascend, spare what is kept, and are none
-  -- where the text is the source
+      → Kept (optionsOf (c .choices) .printWidth) (decode (c .source)) (decode (take (r .length) out))
+      (r .«imports_split») (r .«blank_names»)
+  -- and the changes that the list holds turn the source's bytes into the text's; they ascend, spare what is kept, and
+  -- are none where the text is the source
   pub faithful : r .refusal ≡ 0 → Faithful (c .source) (take (r .length) out) (changesIn (take (r .changes * 4) list))

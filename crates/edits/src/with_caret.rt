@@ -43,7 +43,9 @@ pub fn format_caret(
     output: &mut [u8],
     scratch: &mut [u8],
 ) -> CaretAnswer
-    ensures { λ r. ⌜ CaretAnswered (callOf (now (source .entry)) (now (indent .entry)) numbers (length (now (output .entry))) (length (now (scratch .entry)))) line column r (now (output .exit)) (now (scratch .exit)) ⌝ }
+    ensures { λ r. ⌜ CaretAnswered (callOf (now (source .entry)) (now (indent .entry)) numbers
+        (length (now (output .entry))) (length (now (scratch .entry)))) line column
+        r (now (output .exit)) (now (scratch .exit)) ⌝ }
 {
     let a = call::format_call(source, indent, numbers, output, scratch);
     if a.refusal == 0 {

@@ -40,7 +40,9 @@ pub fn format_changes(
     list: &mut [u64],
     scratch: &mut [u8],
 ) -> ChangesAnswer
-    ensures { λ r. ⌜ ChangesAnswered (callOf (now (source .entry)) (now (indent .entry)) numbers (length (now (output .entry))) (length (now (scratch .entry)))) (length (now (list .entry))) r (now (output .exit)) (now (list .exit)) (now (scratch .exit)) ⌝ }
+    ensures { λ r. ⌜ ChangesAnswered (callOf (now (source .entry)) (now (indent .entry)) numbers
+        (length (now (output .entry))) (length (now (scratch .entry)))) (length (now (list .entry)))
+        r (now (output .exit)) (now (list .exit)) (now (scratch .exit)) ⌝ }
 {
     let a = call::format_call(source, indent, numbers, output, scratch);
     if a.refusal == 0 {

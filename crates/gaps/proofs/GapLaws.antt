@@ -1,5 +1,5 @@
 -- Laws of the gap at the start of a text.
---     cut-none, cut-some   a text with no kept character is its gap; else it is its gap, the first kept character, and what is after it
+--     cut-none, cut-some   a text is its gap, or its gap, the first kept character, and what is after it
 --     cut-at               that is the only way to take a text apart so
 use Prim.Native.Nat.{ℕ, zero, suc, _+_, _-_, _<_, _≤_}
 use mathlib.Core.Bool.{Bool, true, false, not, _&&_}
@@ -83,7 +83,9 @@ cut-some (c ∷ l) k ks e = go (isKept c) refl (cut-some l k ks)
     go false h f =
         let r : Cut l k ks = f (sym (strike-other c l h) ∙ e) in
         record {
-          chars = ap {B = List ℕ} (λ m. c ∷ m) (r .chars) ∙ sym (ap (λ (g : List ℕ). g ++ k ∷ after (c ∷ l)) (gap-other c l h) ∙ ap {B = List ℕ} (λ m. c ∷ gap l ++ k ∷ m) (after-other c l h));
+          chars = ap {B = List ℕ} (λ m. c ∷ m) (r .chars)
+              ∙ sym (ap (λ (g : List ℕ). g ++ k ∷ after (c ∷ l)) (gap-other c l h)
+              ∙ ap {B = List ℕ} (λ m. c ∷ gap l ++ k ∷ m) (after-other c l h));
           kept = r .kept;
           rest = ap strike (after-other c l h) ∙ r .rest;
         }

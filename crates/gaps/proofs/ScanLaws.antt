@@ -45,7 +45,8 @@ unkept-comma s i h e =
       step = λ p. ascii-step s i h (omega arith);
     }
 
-pub unkept-white : (s : List ℕ) (i n : ℕ) → i < length s → WellFormed (drop i s) → (getD s i 0 ≡ 44 → ⊥) → WhiteAt s i n → UnkeptAt s i n
+pub unkept-white : (s : List ℕ) (i n : ℕ) → i < length s → WellFormed (drop i s) → (getD s i 0 ≡ 44 → ⊥)
+    → WhiteAt s i n → UnkeptAt s i n
 unkept-white s i n h w f v =
     let t : Step s i (seqAt (drop i s)) = first-char s i h w in
     record {
@@ -59,7 +60,8 @@ unkept-white s i n h w f v =
 part-char : (s : List ℕ) (a n : ℕ) → Step s a n → part s a (a + n) ≡ encode (codeAt (drop a s) ∷ [])
 part-char s a n t =
     let m : a + n - a ≡ n = omega arith in
-    rw m (ap (take n) (t .bytes) ∙ take-at (encodeChar (codeAt (drop a s))) (drop (a + n) s) n (t .long) ∙ sym (encode-one (codeAt (drop a s))))
+    rw m (ap (take n) (t .bytes) ∙ take-at (encodeChar (codeAt (drop a s))) (drop (a + n) s) n (t .long)
+    ∙ sym (encode-one (codeAt (drop a s))))
 
 gap-unkept : (g l : List ℕ) → Unkept g → gap l ≡ [] → gap (g ++ l) ≡ g
 unfolding gap
@@ -102,14 +104,18 @@ gap-turn s i a n q v z =
       fits = t .fits;
       well = t .well (q .well);
       passed = q .passed ++ c ∷ [];
-      bytes = part-join s i a (a + n) (q .from) (omega arith) ∙ rw (q .bytes, part-char s a n t, encode-append (q .passed) (c ∷ []));
-      chars = q .chars ∙ ap (λ (l : List ℕ). q .passed ++ l) (t .chars) ∙ sym (append-assoc (q .passed) (c ∷ []) (decode (drop (a + n) s)));
+      bytes = part-join s i a (a + n) (q .from) (omega arith)
+          ∙ rw (q .bytes, part-char s a n t, encode-append (q .passed) (c ∷ []));
+      chars = q .chars ∙ ap (λ (l : List ℕ). q .passed ++ l) (t .chars)
+          ∙ sym (append-assoc (q .passed) (c ∷ []) (decode (drop (a + n) s)));
       unkept = unkept-snoc (q .passed) c (q .unkept) (v .is ∙ ne-eqb n 0 z);
     }
 
-gap-done : (s : List ℕ) (i a : ℕ) → GapScan s i a → gap (decode (drop a s)) ≡ [] → (a < length s → isKept (codeAt (drop a s)) ≡ true) → GapEnd s i a
+gap-done : (s : List ℕ) (i a : ℕ) → GapScan s i a → gap (decode (drop a s)) ≡ []
+    → (a < length s → isKept (codeAt (drop a s)) ≡ true) → GapEnd s i a
 gap-done s i a q e h =
-    let g : gap (decode (drop i s)) ≡ q .passed = ap gap (q .chars) ∙ gap-unkept (q .passed) (decode (drop a s)) (q .unkept) e in
+    let g : gap (decode (drop i s)) ≡ q .passed =
+    ap gap (q .chars) ∙ gap-unkept (q .passed) (decode (drop a s)) (q .unkept) e in
     record {
       from = q .from;
       fits = q .fits;

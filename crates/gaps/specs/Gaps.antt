@@ -1,4 +1,4 @@
--- The gaps between the characters that are kept; a source and its text have the same kept characters, and differ in gaps alone.
+-- The gaps between the characters that are kept: a source and its text differ in gaps alone.
 use Prim.Native.Nat.{ℕ, _+_, _≤_, _<_, _^_}
 use mathlib.Core.Bool.{Bool, true, false}
 use mathlib.Core.List.{List, [], _∷_, _++_}

@@ -5,7 +5,8 @@ ghost use Rattle.edits.specs.CaretAnswered.{CaretAnswered};
 use edits::with_caret::CaretAnswer;
 use rules::OptionNumbers;
 
-// The text of a source, and the line and the character column, both from 0, that the caret gets in it; the options as for wirescript_format.
+// The text of a source, and the line and the character column, both from 0, that the caret gets in it. The options are
+// those of wirescript_format.
 #[no_mangle]
 pub extern "C" fn wirescript_format_caret(
     source: &[u8],
@@ -19,7 +20,10 @@ pub extern "C" fn wirescript_format_caret(
     output: &mut [u8],
     scratch: &mut [u8],
 ) -> CaretAnswer
-    ensures { λ r. ⌜ CaretAnswered (callOf (now (source .entry)) (now (indent .entry)) (numbersOf «width_set» width «line_ending» «final_newline») (length (now (output .entry))) (length (now (scratch .entry)))) line column r (now (output .exit)) (now (scratch .exit)) ⌝ }
+    ensures { λ r. ⌜ CaretAnswered (callOf (now (source .entry)) (now (indent .entry))
+        (numbersOf «width_set» width «line_ending» «final_newline»)
+        (length (now (output .entry))) (length (now (scratch .entry)))) line column
+        r (now (output .exit)) (now (scratch .exit)) ⌝ }
 {
     let numbers = OptionNumbers {
         width_set,

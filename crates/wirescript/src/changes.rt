@@ -5,8 +5,8 @@ ghost use Rattle.edits.specs.ChangesAnswered.{ChangesAnswered};
 use edits::with_changes::ChangesAnswer;
 use rules::OptionNumbers;
 
-// The text of a source, and in `changes`, for each gap that differs: byte offset in the source, bytes removed, offset in the text, bytes
-// put in; the options as for wirescript_format.
+// The text of a source, and in `changes`, for each gap that differs: byte offset in the source, bytes removed, offset
+// in the text, bytes put in. The options are those of wirescript_format.
 #[no_mangle]
 pub extern "C" fn wirescript_format_changes(
     source: &[u8],
@@ -19,7 +19,10 @@ pub extern "C" fn wirescript_format_changes(
     changes: &mut [u64],
     scratch: &mut [u8],
 ) -> ChangesAnswer
-    ensures { λ r. ⌜ ChangesAnswered (callOf (now (source .entry)) (now (indent .entry)) (numbersOf «width_set» width «line_ending» «final_newline») (length (now (output .entry))) (length (now (scratch .entry)))) (length (now (changes .entry))) r (now (output .exit)) (now (changes .exit)) (now (scratch .exit)) ⌝ }
+    ensures { λ r. ⌜ ChangesAnswered (callOf (now (source .entry)) (now (indent .entry))
+        (numbersOf «width_set» width «line_ending» «final_newline»)
+        (length (now (output .entry))) (length (now (scratch .entry)))) (length (now (changes .entry)))
+        r (now (output .exit)) (now (changes .exit)) (now (scratch .exit)) ⌝ }
 {
     let numbers = OptionNumbers {
         width_set,

@@ -384,7 +384,7 @@ fn list_rows(formatter: &mut Formatter) {
 fn edit_rows(sizes: &[usize], formatter: &mut Formatter) {
     let options = Options::new();
     for &size in sizes {
-        let source = written(size, 8);
+        let source = written(size, 0);
         let line = source.split('\n').count() as u64 - 1;
         let caret = best(|| {
             let moved = formatter.format_with_caret(black_box(&source), &options, line, 0);
@@ -399,8 +399,20 @@ fn edit_rows(sizes: &[usize], formatter: &mut Formatter) {
             .expect("accepted")
             .text
             .len();
-        row("with a caret, hostile", source.len(), text, None, caret);
-        row("as changes, hostile", source.len(), text, None, changes);
+        row(
+            "grammar, tidy, with a caret",
+            source.len(),
+            text,
+            None,
+            caret,
+        );
+        row(
+            "grammar, tidy, as changes",
+            source.len(),
+            text,
+            None,
+            changes,
+        );
     }
 }
 

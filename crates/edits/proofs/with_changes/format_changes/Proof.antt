@@ -11,13 +11,19 @@ format-call-requires : tie.Need-format-call-requires
 format-call-requires c κs = search needs
 
 slice-reshare-prefix-write-changes : tie.Need-slice-reshare-prefix-write-changes
-slice-reshare-prefix-write-changes c = text-fits _ _ _ _ (c .before .before .before .before .before .before .format-call .ensures) (c .if1 .taken)
+slice-reshare-prefix-write-changes c =
+    text-fits _ _ _ _ (c .before .before .before .before .before .before .format-call .ensures) (c .if1 .taken)
 
 slice-aggregate-write-changes : tie.Need-slice-aggregate-write-changes
-slice-aggregate-write-changes c = sym (length-take-le _ _ (text-fits _ _ _ _ (c .before .before .before .before .before .before .before .format-call .ensures) (c .before .if1 .taken)))
+slice-aggregate-write-changes c =
+    sym (length-take-le _ _
+    (text-fits _ _ _ _ (c .before .before .before .before .before .before .before .format-call .ensures)
+    (c .before .if1 .taken)))
 
 write-changes-requires : tie.Need-write-changes-requires
-write-changes-requires c κs = alike _ _ _ _ (c .before .before .before .before .before .before .before .before .format-call .ensures) (c .before .before .if1 .taken)
+write-changes-requires c κs =
+    alike _ _ _ _ (c .before .before .before .before .before .before .before .before .format-call .ensures)
+    (c .before .before .if1 .taken)
 
 mul-finish : tie.Need-mul-finish
 mul-finish c = search needs
@@ -37,7 +43,9 @@ same-length-3 c = search needs
 returns : tie.Need-returns
 returns c =
     let s = c .before .before .before .before .before .before .before .before .before .before in
-    changes-given _ _ _ _ (s .before .before .before .before .before .before .format-call .ensures) _ (s .if1 .taken) _ _ _ refl (c .before .before .before .before .before .before .before .write-changes .ensures) _ (c .before .before .before .before .if2 .taken)
+    changes-given _ _ _ _ (s .before .before .before .before .before .before .format-call .ensures) _
+    (s .if1 .taken) _ _ _ refl (c .before .before .before .before .before .before .before .write-changes .ensures) _
+    (c .before .before .before .before .if2 .taken)
     (c .before .before .finish .ensures)
 
 zero-requires : tie.Need-zero-requires
@@ -66,8 +74,10 @@ same-length-6 c = search needs
 
 returns-2 : tie.Need-returns-2
 returns-2 c =
-    let s = c .before .before .before .before .before .before .before .before .before .before .before .before .before .before .before .before .before in
-    changes-short _ _ _ _ (s .before .before .before .before .before .before .format-call .ensures) _ (s .if1 .taken) _ _ _ refl (c .before .before .before .before .before .before .before .before .before .before .before .before .before .before .write-changes .ensures) _ _ _ _ _
+    let w = c .before .before .before .before .before .before .before .before .before .before .before .before .before .before in
+    let s = w .before .before .before in
+    changes-short _ _ _ _ (s .before .before .before .before .before .before .format-call .ensures) _
+    (s .if1 .taken) _ _ _ refl (w .write-changes .ensures) _ _ _ _ _
     (c .before .before .before .before .before .before .before .before .before .before .before .if2 .left)
     (c .before .before .before .before .before .before .before .before .before .zero .ensures)
     (c .before .before .before .before .before .zero2 .ensures)
@@ -91,7 +101,11 @@ same-length-9 : tie.Need-same-length-9
 same-length-9 c = search needs
 
 returns-3 : tie.Need-returns-3
-returns-3 c = changes-stopped _ _ _ _ (c .before .before .before .before .before .before .before .before .before .before .before .format-call .ensures) _ _ _ (c .before .before .before .before .before .if1 .left) (c .before .before .before .zero3 .ensures) (c .refused2 .ensures)
+returns-3 c =
+    let s = c .before .before .before .before .before in
+    changes-stopped _ _ _ _ (s .before .before .before .before .before .before .format-call .ensures) _ _ _
+    (s .if1 .left) (c .before .before .before .zero3 .ensures)
+    (c .refused2 .ensures)
 
 pub format-changes-spec : {M : Type 1} → statement M
 format-changes-spec =

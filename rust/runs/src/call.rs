@@ -1,6 +1,7 @@
 //! What a call is given, and what it comes to.
 
 use upstream::{FormatOptions, LineEnding};
+use wirescript_format::Options;
 use wirescript_format::raw::{Answer, Choices, Settings};
 
 /// The length of a lent buffer: what the call needs and some more or less, or a number.
@@ -28,6 +29,7 @@ pub struct Call {
     pub width: u64,
     pub line_ending: u64,
     pub final_newline: u64,
+    pub strengths: Vec<u8>,
     pub output: Size,
     pub scratch: Size,
 }
@@ -54,6 +56,7 @@ pub fn choices_of(options: &FormatOptions) -> Choices<'_> {
             Some(LineEnding::Crlf) => 2,
         },
         final_newline: u64::from(options.insert_final_newline),
+        strengths: &Options::BUILT_IN_STRENGTHS,
     }
 }
 
@@ -72,6 +75,7 @@ impl Call {
             width: s.width,
             line_ending: s.line_ending,
             final_newline: s.final_newline,
+            strengths: s.strengths.into(),
             output,
             scratch,
         }
@@ -84,6 +88,7 @@ impl Call {
             width: self.width,
             line_ending: self.line_ending,
             final_newline: self.final_newline,
+            strengths: &self.strengths,
         }
     }
 

@@ -8,6 +8,7 @@ use crate::list::Case;
 use crate::list::case_at;
 use libc::STDOUT_FILENO;
 use rules::OptionNumbers;
+use rules::Strengths;
 
 mod list;
 
@@ -65,10 +66,13 @@ fn agrees(list: &[u8], c: Case, output: &mut [u8], scratch: &mut [u8]) -> bool
         final_newline: c.final_newline as u64,
     };
     let mut opened = [0u64; 0];
+    let strengths = Strengths::BUILT_IN;
+    let table = strengths.table;
     let answer = call::format_call(
         &list[source..indent],
         &list[indent..stored],
         numbers,
+        &table,
         output,
         &mut opened,
         scratch,

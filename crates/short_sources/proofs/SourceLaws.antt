@@ -19,7 +19,8 @@ use Rattle.decimal.specs.Decimal.{digits, DecimalPut}
 use Rattle.rules.specs.Basics.{choose, codes}
 use Rattle.rules.specs.Options.{Options, defaults, validIndent, allBlank}
 use Rattle.rules.specs.Assembly.{formatWith, defaultText}
-use Rattle.rules.specs.Refusals.{maxSource, scratchNeeded, refuseIf, tested, longSource, badOption, shortScratch, illFormed, shortOutput}
+use Rattle.rules.specs.Refusals.{maxSource, scratchNeeded, refuseIf, tested, wrongLength, bitsSet, longSource, badOption, shortScratch, illFormed, shortOutput}
+use Rattle.rules.specs.Strengths.{builtIn, fieldsOf, lastBits}
 use Rattle.rules.specs.Choices.{defaultNumbers, printWidthNamed, endOfLineNamed, finalNewlineNamed, isNamed, validOptions, optionsOf}
 use Rattle.rules.specs.Call.{Call, formatScratch, formatted, textOf, verdictOf, outcomeOf, answerOf}
 use Rattle.rules.specs.declared.Outcome.{Outcome}
@@ -53,7 +54,7 @@ short-ascii (c ∷ t) h =
 
 -- the call, with an output of n bytes
 abbrev shortCall : List ℕ → ℕ → Call
-shortCall source n = callOf source (codes "  ") defaultNumbers n 0 512
+shortCall source n = callOf source (codes "  ") defaultNumbers builtIn n 0 512
 
 module _ (source : List ℕ) (n : ℕ) where
   options-default : optionsOf (shortCall source n .choices) ≡ defaults
@@ -71,7 +72,7 @@ module _ (source : List ℕ) (n : ℕ) where
 
     -- no refusal applies
     accepted : 456 ≤ n → answerOf (outcomeOf (shortCall source n)) .refusal ≡ 0
-    unfolding outcomeOf verdictOf tested refuseIf longSource badOption shortScratch illFormed shortOutput choose validOptions validIndent allBlank printWidthNamed endOfLineNamed finalNewlineNamed isNamed
+    unfolding outcomeOf verdictOf tested refuseIf wrongLength bitsSet lastBits fieldsOf longSource badOption shortScratch illFormed shortOutput choose validOptions validIndent allBlank printWidthNamed endOfLineNamed finalNewlineNamed isNamed
     accepted h =
         rw (
           le-ltb maxSource (length source) (omega (arith, s .few)),

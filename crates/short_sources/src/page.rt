@@ -5,6 +5,7 @@ ghost use lib.ListN.{length};
 ghost use Rattle.short_texts.specs.Texts.{Short};
 ghost use Rattle.short_sources.specs.Printed.{digitIn, greatestIn, TextIn, Added, Paged};
 use rules::OptionNumbers;
+use rules::Strengths;
 use short_texts::Place;
 
 // More than a source adds: 20 digits, LF and a text of at most 456 bytes.
@@ -54,10 +55,13 @@ fn format_short(source: &[u8], output: &mut [u8]) -> usize
 {
     let mut scratch = [0u8; 512];
     let mut opened = [0u64; 0];
+    let strengths = Strengths::BUILT_IN;
+    let table = strengths.table;
     let answer = call::format_call(
         source,
         b"  ",
         OptionNumbers::DEFAULTS,
+        &table,
         output,
         &mut opened,
         &mut scratch,

@@ -1,5 +1,6 @@
-// The setting steps over numbers and bytes, for a host.
+// The setting steps over numbers and bytes, for a host. They leave its table of strengths as it is, and so are told none.
 ghost use mathlib.Core.Path.{_≡_};
+ghost use Rattle.rules.specs.Strengths.{builtIn};
 ghost use Rattle.call.specs.Ran.{numbersOf};
 ghost use Rattle.options.specs.Held.{optionsIn, held, changeIn};
 ghost use Rattle.wirescript.specs.Settings.{SettingOutcome, givenIn, stepOutcome, indentOutcome, configOutcome};
@@ -13,6 +14,7 @@ use options::Changed;
 use options::FormatOptions;
 use rules::OptionNumbers;
 use rules::Refusal;
+use rules::Strengths;
 
 // What a setting step gives: refusal 0 and the changed options, their indent's bytes in the lent output; or a refusal with its
 // place, the other numbers 0 and the output all zeros.
@@ -92,7 +94,7 @@ pub extern "C" fn wirescript_indent_with(
     size: u64,
     output: &mut [u8],
 ) -> Settings
-    ensures { λ r. ⌜ SettingsAnswered (indentOutcome (record { indent = now (indent .entry); numbers = numbersOf «width_set» width «line_ending» «final_newline» }) tabs size) r (now (output .entry)) (now (output .exit)) ⌝ }
+    ensures { λ r. ⌜ SettingsAnswered (indentOutcome (record { indent = now (indent .entry); numbers = numbersOf «width_set» width «line_ending» «final_newline»; strengths = builtIn }) tabs size) r (now (output .entry)) (now (output .exit)) ⌝ }
 {
     let numbers = OptionNumbers {
         width_set,
@@ -100,7 +102,7 @@ pub extern "C" fn wirescript_indent_with(
         line_ending,
         final_newline,
     };
-    let old = FormatOptions::from_numbers(indent, numbers);
+    let old = FormatOptions::from_numbers(indent, numbers, Strengths::BUILT_IN);
     let options = old.options;
     if old.refused {
         return refuse(Refusal::BadOption, output);
@@ -119,9 +121,9 @@ fn configure(
     values: ConfigNumbers,
     output: &mut [u8],
 ) -> Settings
-    ensures { λ r. ⌜ SettingsAnswered (configOutcome (record { indent = now (indent .entry); numbers = numbers }) values) r (now (output .entry)) (now (output .exit)) ⌝ }
+    ensures { λ r. ⌜ SettingsAnswered (configOutcome (record { indent = now (indent .entry); numbers = numbers; strengths = builtIn }) values) r (now (output .entry)) (now (output .exit)) ⌝ }
 {
-    let old = FormatOptions::from_numbers(indent, numbers);
+    let old = FormatOptions::from_numbers(indent, numbers, Strengths::BUILT_IN);
     let options = old.options;
     if old.refused {
         return refuse(Refusal::BadOption, output);
@@ -152,7 +154,7 @@ pub extern "C" fn wirescript_editorconfig(
     newline: u64,
     output: &mut [u8],
 ) -> Settings
-    ensures { λ r. ⌜ SettingsAnswered (configOutcome (record { indent = now (indent .entry); numbers = numbersOf «width_set» width «line_ending» «final_newline» }) (record { style = style; «size_kind» = «size_kind»; size = size; «tab_set» = «tab_set»; tab = tab; «max_kind» = «max_kind»; max = max; ending = ending; newline = newline })) r (now (output .entry)) (now (output .exit)) ⌝ }
+    ensures { λ r. ⌜ SettingsAnswered (configOutcome (record { indent = now (indent .entry); numbers = numbersOf «width_set» width «line_ending» «final_newline»; strengths = builtIn }) (record { style = style; «size_kind» = «size_kind»; size = size; «tab_set» = «tab_set»; tab = tab; «max_kind» = «max_kind»; max = max; ending = ending; newline = newline })) r (now (output .entry)) (now (output .exit)) ⌝ }
 {
     let numbers = OptionNumbers {
         width_set,

@@ -20,7 +20,8 @@ use Rattle.decimal.specs.Decimal.{digits, DecimalPut}
 use Rattle.decimal.proofs.DigitLaws.{digits-short}
 use Rattle.rules.specs.Basics.{choose, codes}
 use Rattle.rules.specs.Options.{defaults}
-use Rattle.rules.specs.Refusals.{maxSource, scratchNeeded, numberOf, placeOf, tested, longSource, badOption, shortScratch, illFormed, shortOutput}
+use Rattle.rules.specs.Refusals.{maxSource, scratchNeeded, numberOf, placeOf, tested, refuseIf, wrongLength, bitsSet, longSource, badOption, shortScratch, illFormed, shortOutput}
+use Rattle.rules.specs.Strengths.{builtIn, fieldsOf, lastBits}
 use Rattle.rules.specs.Choices.{validOptions, optionsOf}
 use Rattle.rules.specs.Call.{Call, formatted, textOf, formatScratch, verdictOf, outcomeAfter, outcomeOf, answerOf, filled, outputOf}
 use Rattle.rules.specs.declared.Refusal.{Refusal}
@@ -91,7 +92,7 @@ too-long source h = rw (lt-ltb maxInput (length source) h)
 -- a call with the default options, whose scratch is enough
 module _
     (c : Call) (a : Answer) (out list work : List ℕ) (f : FormatAnswered c a out list work) (o : optionsOf (c .choices) ≡ defaults)
-    (v : validOptions (c .choices) ≡ true) (short : length (c .source) ≤ maxInput)
+    (v : validOptions (c .choices) ≡ true) (t : c .choices .strengths ≡ builtIn) (short : length (c .source) ≤ maxInput)
     (room : scratchNeeded formatScratch (c .source) ≤ c .scratch) (size : c .output ≡ maxText)
   where
     abbrev source : List ℕ
@@ -101,11 +102,20 @@ module _
     unfolding textOf formatted defaultText
     text-is = rw o
 
-    -- the tests: 1 to 3 let the call pass, 4 and 5 are left
+    -- the tests: 12, 13 and 1 to 3 let the call pass, 4 and 5 are left
+    table-length : wrongLength (c .choices .strengths) ≡ Verdict.Accepted
+    unfolding wrongLength refuseIf choose
+    table-length = rw t
+
+    table-bits : bitsSet (c .choices .strengths) ≡ Verdict.Accepted
+    unfolding bitsSet lastBits fieldsOf refuseIf choose
+    table-bits = rw t
+
     tests-left : verdictOf c ≡ tested (illFormed source ∷ shortOutput (length (textOf c)) (c .output) ∷ [])
     unfolding verdictOf longSource badOption shortScratch
     tests-left =
-        pass _ _ (test-off _ _ (le-ltb maxSource (length source) (omega arith)))
+        pass _ _ table-length ∙ pass _ _ table-bits
+        ∙ pass _ _ (test-off _ _ (le-ltb maxSource (length source) (omega arith)))
         ∙ pass _ _ (test-off _ _ (rw v))
         ∙ pass _ _ (test-off _ _ (le-ltb (c .scratch) (scratchNeeded formatScratch source) room))
 

@@ -6,6 +6,7 @@ ghost use Rattle.wsfmt_run.specs.Program.{maxInput, refusal, Printed};
 ghost use Rattle.wsfmt_run.specs.Steps.{Called};
 use rules::Answer;
 use rules::OptionNumbers;
+use rules::Strengths;
 
 // The bytes that the program takes, and those that it has for the text.
 pub const MAX_INPUT: usize = 4096;
@@ -30,10 +31,13 @@ fn format_default(source: &[u8], output: &mut [u8; MAX_TEXT]) -> Answer
 {
     let mut scratch = [0u8; call::FORMAT_SCRATCH * MAX_INPUT + 256];
     let mut opened = [0u64; 0];
+    let strengths = Strengths::BUILT_IN;
+    let table = strengths.table;
     call::format_call(
         source,
         b"  ",
         OptionNumbers::DEFAULTS,
+        &table,
         output,
         &mut opened,
         &mut scratch,

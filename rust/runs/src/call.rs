@@ -1,6 +1,7 @@
 //! What a call is given, and what it comes to.
 
 use upstream::{FormatOptions, LineEnding};
+use wirescript_format::Options;
 use wirescript_format::raw::{Answer, Choices, Settings};
 
 /// The length of a lent buffer: what the call needs and some more or less, or a number.
@@ -28,6 +29,7 @@ pub struct Call {
     pub width: u64,
     pub line_ending: u64,
     pub final_newline: u64,
+    pub strengths: Vec<u8>,
     pub output: Size,
     pub scratch: Size,
 }
@@ -87,7 +89,11 @@ impl Chosen {
 
     /// The text and the counts of a source.
     pub fn format(&self, source: &str) -> upstream::Counted {
-        let mut counted = by_rust(source, &self.rust);
+        self.ended(source, by_rust(source, &self.rust))
+    }
+
+    /// The same of what the Rust's options give: never has no ending after the last line.
+    pub fn ended(&self, source: &str, mut counted: upstream::Counted) -> upstream::Counted {
         if self.never {
             let text = counted.text.strip_suffix('\n').expect("an ending");
             counted.text = match self.ending(source) {
@@ -122,6 +128,7 @@ pub fn choices_of(options: &FormatOptions) -> Choices<'_> {
             Some(LineEnding::Crlf) => 2,
         },
         final_newline: u64::from(options.insert_final_newline),
+        strengths: &Options::BUILT_IN_STRENGTHS,
     }
 }
 
@@ -145,6 +152,7 @@ impl Call {
             width: s.width,
             line_ending: s.line_ending,
             final_newline: s.final_newline,
+            strengths: s.strengths.into(),
             output,
             scratch,
         }
@@ -157,6 +165,7 @@ impl Call {
             width: self.width,
             line_ending: self.line_ending,
             final_newline: self.final_newline,
+            strengths: &self.strengths,
         }
     }
 

@@ -5,13 +5,28 @@ use crate::call::{Call, Chosen, Outcome, Settled, kind_scratch_needed, scratch_n
 use ec4rs::Properties;
 use ec4rs::property::{EndOfLine, FinalNewline, IndentSize, IndentStyle, MaxLineLen, TabWidth};
 use upstream::TextKind;
+use wirescript_format::Options;
 use wirescript_format::raw::{Answer, Kind, Resolved, Settings};
 
 const MAX_SOURCE: usize = 1_048_576;
 
-/// The text and the counts of a call to which none of refusals 1 to 4 applies; else the
+/// The strengths of a table, and its last four bits: it is one number of 88 bits.
+fn fields(table: &[u8; 11]) -> ([u8; 21], u8) {
+    let number = table.iter().fold(0, |n: u128, b| n << 8 | u128::from(*b));
+    let field = |k: usize| (number >> (84 - 4 * k) & 15) as u8;
+    (std::array::from_fn(field), field(21))
+}
+
+/// The text and the counts of a call to which none of refusals 12, 13 and 1 to 4 applies; else the
 /// refusal's number and place.
 pub fn text_of(call: &Call) -> Result<upstream::Counted, (u64, u64)> {
+    let Ok(table) = <[u8; 11]>::try_from(&call.strengths[..]) else {
+        return Err((12, 0));
+    };
+    let (strengths, rest) = fields(&table);
+    if rest != 0 {
+        return Err((13, 0));
+    }
     if call.source.len() > MAX_SOURCE {
         return Err((1, MAX_SOURCE as u64));
     }
@@ -23,7 +38,13 @@ pub fn text_of(call: &Call) -> Result<upstream::Counted, (u64, u64)> {
         return Err((3, needed as u64));
     }
     match std::str::from_utf8(&call.source) {
-        Ok(source) => Ok(options.format(source)),
+        Ok(source) if table == Options::BUILT_IN_STRENGTHS => Ok(options.format(source)),
+        Ok(source) => {
+            let mut counted = upstream::format_counted(source, &options.rust);
+            // the counts are the same whatever the strengths
+            counted.text = upstream::table::format_by(strengths, source, &options.rust);
+            Ok(options.ended(source, counted))
+        }
         Err(error) => Err((4, error.valid_up_to() as u64)),
     }
 }

@@ -4,6 +4,7 @@ use crate::call::{Call, Size};
 use crate::compare::{Buffers, Check, Place};
 use crate::library::Library;
 use crate::safe::SafeCall;
+use wirescript_format::Options;
 
 /// Makes a check that differs as small as it gets: the first smaller one that differs
 /// still, again and again.
@@ -133,7 +134,8 @@ fn safe_candidates(call: &SafeCall, take: &mut dyn FnMut(SafeCall) -> bool) -> b
     }
 }
 
-const PLAINER: [fn(&mut Call); 9] = [
+const PLAINER: [fn(&mut Call); 10] = [
+    |c| c.strengths = Options::BUILT_IN_STRENGTHS.into(),
     |c| c.output = Size::Needed(0),
     |c| c.scratch = Size::Needed(0),
     |c| c.final_newline = c.final_newline.min(1),

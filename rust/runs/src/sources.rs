@@ -6,6 +6,7 @@ use crate::random::Random;
 use ec4rs::Properties;
 use ec4rs::property::{EndOfLine, FinalNewline, IndentSize, IndentStyle, MaxLineLen, TabWidth};
 use upstream::{FormatOptions, LineEnding};
+use wirescript_format::Options;
 
 /// The twelve characters over which every short source is run.
 pub const TWELVE: [&str; 12] = [
@@ -155,7 +156,7 @@ pub fn values(random: &mut Random) -> Properties {
 }
 
 /// An expression with operators.
-fn expression(random: &mut Random) -> String {
+pub fn expression(random: &mut Random) -> String {
     let operands = [
         "a",
         "b1",
@@ -316,6 +317,34 @@ const BYTES: &[&[u8]] = &[
     b"\xf5\x80\x80\x80", b"\xff", b"\xfe", b"\0", b"\x7f", b"\xef\xbf\xbf", b"\xef\xbb\xbf",
 ];
 
+/// The operators in the order of a table of strengths.
+pub const OPERATORS: [&str; 21] = [
+    "||", "^^", "&&", "|", "^", "&", "==", "!=", "<", ">", "<=", ">=", "<<", ">>", "..", "+", "-",
+    "*", "/", "%", "**",
+];
+
+/// The table with these strengths.
+pub fn table(fields: &[u8; 21]) -> [u8; 11] {
+    std::array::from_fn(|k| fields[2 * k] << 4 | fields.get(2 * k + 1).unwrap_or(&0))
+}
+
+/// A table: random strengths, with many zeros, few different ones or all fifteen, or the built-in one.
+pub fn strengths(random: &mut Random) -> Vec<u8> {
+    let shift = random.below(15);
+    let kind = random.below(6);
+    let mut field = |k: usize| match kind {
+        0 => random.below(16),
+        1 => [0, 1 + random.below(15)][random.below(2)],
+        2 => 1 + random.below(2),
+        3 => 1 + (7 * k + shift) % 15,
+        _ => [0, 0, 0, 15][random.below(4)],
+    };
+    match kind {
+        5 => Options::BUILT_IN_STRENGTHS.into(),
+        _ => table(&std::array::from_fn(|k| field(k) as u8)).into(),
+    }
+}
+
 /// A call that may be refused.
 pub fn call(random: &mut Random) -> Call {
     let mut call = Call::new(short(random), &options(random));
@@ -340,6 +369,9 @@ pub fn call(random: &mut Random) -> Call {
         5 => call.final_newline = 3,
         6 => call.indent = b"\xc2\xa0".into(),
         7 => call.width_set = u64::MAX,
+        8 => call.strengths.truncate(random.below(11)),
+        9 => call.strengths.push(0),
+        10 => call.strengths[10] |= 1 << random.below(4),
         _ => {}
     }
     call

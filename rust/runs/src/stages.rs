@@ -71,6 +71,7 @@ pub fn all(seed: u64) -> Vec<Stage> {
         Stage::list(LONG, long_sources()),
         Stage::list("indent_with", indents()),
         Stage::list("editorconfig", configs()),
+        strength_pairs(),
         every("twelve", &sources::TWELVE, 6, &TWELVE_WIDTHS),
     ];
     for (name, alphabet) in &ALPHABETS[1..] {
@@ -130,6 +131,19 @@ pub fn all(seed: u64) -> Vec<Stage> {
                 })
             }
         }
+    }));
+    stages.push(Stage::new("strengths", None, move |n| {
+        let mut r = random(7, n);
+        let source = match r.below(3) {
+            0 => sources::short(&mut r),
+            1 => written(&mut r),
+            _ => sources::expression(&mut r),
+        };
+        Check::Format(Call {
+            strengths: sources::strengths(&mut r),
+            output: sources::room(&mut r),
+            ..Call::new(unmarked(&source), &wide(&mut r))
+        })
     }));
     stages.push(Stage::new("safe", None, move |n| {
         Check::Safe(safe(&mut random(6, n)))
@@ -266,6 +280,34 @@ fn short_blocks(most: u32) -> Stage {
         Check::Format(Call {
             output: sources::room(&mut r),
             ..Call::new(source, &sources::options(&mut r))
+        })
+    })
+}
+
+/// The source with no marker, so that it has no protected block, which the models of strengths and
+/// rulers don't have.
+fn unmarked(source: &str) -> String {
+    source.replace("fmt-ignore", "fmt_ignore")
+}
+
+/// Two operators in a line, each with every strength.
+fn strength_pairs() -> Stage {
+    let operators = &sources::OPERATORS;
+    let each = operators.len() as u64;
+    Stage::new("pairs of strengths", Some(each * each * 256), move |n| {
+        let n = scatter(n, each * each * 256);
+        let (first, second) = ((n / 256 / each) as usize, (n / 256 % each) as usize);
+        let mut fields = [1; 21];
+        fields[first] = (n / 16 % 16) as u8;
+        fields[second] = (n % 16) as u8;
+        let source = format!("a {} b {} c", operators[first], operators[second]);
+        let options = FormatOptions {
+            print_width: Some(n as usize % 7),
+            ..FormatOptions::default()
+        };
+        Check::Format(Call {
+            strengths: sources::table(&fields).into(),
+            ..Call::new(source, &options)
         })
     })
 }

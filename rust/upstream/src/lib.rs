@@ -4,6 +4,8 @@
 
 include!(concat!(env!("OUT_DIR"), "/upstream.rs"));
 
+pub mod table;
+
 pub use format::blocks::{Blocks, format_blocks};
 pub use format::reach::{
     Carry, Class, Counted, Prepared, TextKind, classify, format_counted, normalize_spacing,

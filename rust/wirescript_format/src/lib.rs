@@ -160,8 +160,7 @@ impl Formatter {
         options: &Options,
     ) -> Result<Formatted<&str, &[u64]>, Refusal> {
         let source = source.as_ref();
-        let answer =
-            self.with_room(source, |buffers, room| buffers.call(source, options, room))?;
+        let answer = self.with_room(source, |buffers, room| buffers.call(source, options, room))?;
         self.last = answer.length as usize;
         let listed = self.opened.len().min(answer.open_brackets as usize);
         Ok(Formatted {

@@ -22,13 +22,15 @@ pub enum FinalNewline {
     Never,
 }
 
-/// What a host chooses. The defaults: two spaces, width 100, ending kept, final newline.
+/// What a host chooses. The defaults: two spaces, width 100, ending kept, final newline, the built-in
+/// strengths of operators.
 #[derive(Clone, Debug, PartialEq, Eq)]
 pub struct Options {
     pub(crate) indent: String,
     pub(crate) width: Option<u64>,
     pub(crate) line_ending: LineEnding,
     pub(crate) final_newline: FinalNewline,
+    pub(crate) strengths: Vec<u8>,
 }
 
 impl Default for Options {
@@ -38,12 +40,18 @@ impl Default for Options {
             width: Some(Self::DEFAULT_WIDTH),
             line_ending: LineEnding::Kept,
             final_newline: FinalNewline::Always,
+            strengths: Self::BUILT_IN_STRENGTHS.into(),
         }
     }
 }
 
 impl Options {
     pub const DEFAULT_WIDTH: u64 = 100;
+
+    /// The strengths that operators have by default: 1 to 12.
+    pub const BUILT_IN_STRENGTHS: [u8; 11] = [
+        0x11, 0x23, 0x45, 0x66, 0x77, 0x77, 0x88, 0x9a, 0xab, 0xbb, 0xc0,
+    ];
 
     #[must_use]
     pub fn new() -> Self {
@@ -86,6 +94,30 @@ impl Options {
         self
     }
 
+    /// How tightly each operator binds: a line that is too wide is broken before its loosest ones
+    /// first, and never before one of strength 0. The table has 11 bytes: a field of 4 bits for each of
+    /// `|| ^^ && | ^ & == != < > <= >= << >> .. + - * / % **`, the upper ones of a byte first, then four
+    /// zero bits. Another length and other last bits are refused by the call.
+    ///
+    /// ```
+    /// use wirescript_format::{Options, Refusal, format};
+    ///
+    /// let options = Options::new().width(Some(6));
+    /// assert_eq!(format("a + b*c", &options)?.text, "a\n  + b*c\n");
+    /// // `+` and `-` bind tightest
+    /// let mut table = Options::BUILT_IN_STRENGTHS;
+    /// (table[7], table[8]) = (0x9d, 0xdb);
+    /// let options = options.strengths(table);
+    /// assert_eq!(format("a + b*c", &options)?.text, "a + b\n  *c\n");
+    /// assert_eq!(format("", &options.strengths([1, 2])), Err(Refusal::StrengthsLength));
+    /// # Ok::<(), wirescript_format::Refusal>(())
+    /// ```
+    #[must_use]
+    pub fn strengths(mut self, table: impl Into<Vec<u8>>) -> Self {
+        self.strengths = table.into();
+        self
+    }
+
     /// These options with a tab as their indent, or with `size` spaces. A size over 64 is refused,
     /// needed or not; the options that were asked stay as they are.
     ///
@@ -100,7 +132,7 @@ impl Options {
     pub fn indent_with(&self, tabs: bool, size: u64) -> Result<Self, Refusal> {
         let mut indent = [0; MAX_INDENT];
         let set = raw::indent_with(self.choices(), u64::from(tabs), size, &mut indent);
-        Self::of(set, &indent)
+        self.of(set, &indent)
     }
 
     /// These options overridden by what .editorconfig files say. A size over 64 is refused; the
@@ -122,7 +154,7 @@ impl Options {
     pub fn with_editorconfig(&self, config: EditorConfig) -> Result<Self, Refusal> {
         let mut indent = [0; MAX_INDENT];
         let set = raw::editorconfig(self.choices(), config.resolved(), &mut indent);
-        Self::of(set, &indent)
+        self.of(set, &indent)
     }
 
     /// The options as the library takes them.
@@ -142,10 +174,12 @@ impl Options {
                 FinalNewline::Always => 1,
                 FinalNewline::Never => 2,
             },
+            strengths: &self.strengths,
         }
     }
 
-    fn of(set: Settings, indent: &[u8]) -> Result<Self, Refusal> {
+    /// The options that a setting step on these gave.
+    fn of(&self, set: Settings, indent: &[u8]) -> Result<Self, Refusal> {
         if let Some(refusal) = Refusal::of(set.refusal, set.place) {
             return Err(refusal);
         }
@@ -163,6 +197,7 @@ impl Options {
                 1 => FinalNewline::Always,
                 _ => FinalNewline::Never,
             },
+            strengths: self.strengths.clone(),
         })
     }
 }
@@ -255,19 +290,24 @@ mod tests {
             width: 100,
             line_ending: 0,
             final_newline: 1,
+            strengths: &[
+                0x11, 0x23, 0x45, 0x66, 0x77, 0x77, 0x88, 0x9a, 0xab, 0xbb, 0xc0,
+            ],
         };
         assert_eq!(Options::new().choices(), choices);
         let other = Options::new()
             .indent("\t")
             .width(None)
             .line_ending(LineEnding::Crlf)
-            .final_newline(FinalNewline::AsSource);
+            .final_newline(FinalNewline::AsSource)
+            .strengths([1, 2, 3]);
         let choices = Choices {
             indent: b"\t",
             width_set: 0,
             width: 0,
             line_ending: 2,
             final_newline: 0,
+            strengths: &[1, 2, 3],
         };
         assert_eq!(other.choices(), choices);
     }
@@ -283,16 +323,19 @@ mod tests {
             .indent("\t")
             .width(None)
             .line_ending(LineEnding::Lf)
-            .final_newline(FinalNewline::AsSource);
-        assert_eq!(Options::of(set, b"\t\0"), Ok(wanted));
+            .final_newline(FinalNewline::AsSource)
+            .strengths([7; 11]);
+        // the table is the one that the options had
+        let old = Options::new().strengths([7; 11]);
+        assert_eq!(old.of(set, b"\t\0"), Ok(wanted));
         set.refusal = 2;
-        assert_eq!(Options::of(set, b"\t\0"), Err(Refusal::BadOption));
+        assert_eq!(old.of(set, b"\t\0"), Err(Refusal::BadOption));
         (set.refusal, set.place) = (17, 3);
         let other = Refusal::Other {
             number: 17,
             place: 3,
         };
-        assert_eq!(Options::of(set, b"\t\0"), Err(other));
+        assert_eq!(old.of(set, b"\t\0"), Err(other));
     }
 
     #[test]

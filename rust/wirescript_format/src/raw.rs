@@ -64,7 +64,8 @@ pub struct Kinds {
 }
 
 /// Options as numbers. `width_set`: 0 no width, 1 the width. `line_ending`: 0 kept, 1 LF,
-/// 2 CRLF. `final_newline`: 0 as the source, 1 always, 2 never. Other numbers name no choice.
+/// 2 CRLF. `final_newline`: 0 as the source, 1 always, 2 never. Other numbers name no choice. `strengths`: a
+/// table as [`Options::strengths`](crate::Options::strengths) says; the setting steps leave it as it is.
 #[derive(Clone, Copy, Debug, PartialEq, Eq)]
 pub struct Choices<'a> {
     pub indent: &'a [u8],
@@ -72,6 +73,7 @@ pub struct Choices<'a> {
     pub width: u64,
     pub line_ending: u64,
     pub final_newline: u64,
+    pub strengths: &'a [u8],
 }
 
 /// What a setting step comes to: the changed options, whose indent is in the output; with a
@@ -112,6 +114,7 @@ mod linked {
         pub fn wirescript_format(
             source: *const u8, source_length: usize, indent: *const u8, indent_length: usize,
             width_set: u64, width: u64, line_ending: u64, final_newline: u64,
+            strengths: *const u8, strengths_length: usize,
             output: *mut u8, output_length: usize, opened: *mut u64, opened_length: usize,
             scratch: *mut u8, scratch_length: usize,
         ) -> Answer;
@@ -176,6 +179,7 @@ pub fn format(
     opened: &mut [u64],
     scratch: &mut [u8],
 ) -> Answer {
+    let (table, fields) = (s.strengths.as_ptr(), s.strengths.len());
     let (text, room) = (output.as_mut_ptr(), output.len());
     let (list, lines) = (opened.as_mut_ptr(), opened.len());
     let (work, left) = (scratch.as_mut_ptr(), scratch.len());
@@ -186,7 +190,7 @@ pub fn format(
             wirescript_format,
             (source.as_ptr(), source.len()),
             s,
-            (text, room, list, lines, work, left)
+            (table, fields, text, room, list, lines, work, left)
         )
     }
 }

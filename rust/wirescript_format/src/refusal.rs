@@ -31,6 +31,10 @@ pub enum Refusal {
     PlacesUnordered,
     /// There are fewer answer bytes than places.
     KindsShort,
+    /// The table of strengths has another length than 11 bytes.
+    StrengthsLength,
+    /// The last four bits of the table of strengths are not zero.
+    StrengthsBits,
     /// No expression has the character at this byte of the source, or the source ends early there.
     NotExpression { place: u64 },
     /// The bracket at this byte of the source stands deeper than 64.
@@ -63,6 +67,8 @@ impl Refusal {
             (6, 0) => Self::NoPlace,
             (9, 0) => Self::PlacesUnordered,
             (10, 0) => Self::KindsShort,
+            (12, 0) => Self::StrengthsLength,
+            (13, 0) => Self::StrengthsBits,
             (14, place) => Self::NotExpression { place },
             (15, place) => Self::TooDeep { place },
             (16, needed) => Self::ListShort { needed },
@@ -82,6 +88,8 @@ impl Refusal {
             Self::NoPlace => 6,
             Self::PlacesUnordered => 9,
             Self::KindsShort => 10,
+            Self::StrengthsLength => 12,
+            Self::StrengthsBits => 13,
             Self::NotExpression { .. } => 14,
             Self::TooDeep { .. } => 15,
             Self::ListShort { .. } => 16,
@@ -94,7 +102,12 @@ impl Refusal {
     pub fn place(self) -> u64 {
         match self {
             Self::SourceTooLong => SOURCE_END,
-            Self::BadOption | Self::NoPlace | Self::PlacesUnordered | Self::KindsShort => 0,
+            Self::BadOption
+            | Self::NoPlace
+            | Self::PlacesUnordered
+            | Self::KindsShort
+            | Self::StrengthsLength
+            | Self::StrengthsBits => 0,
             Self::ScratchShort { needed }
             | Self::OutputShort { needed }
             | Self::ListShort { needed } => needed,
@@ -127,6 +140,10 @@ impl fmt::Display for Refusal {
             Self::NoPlace => write!(f, "the source has no such line or column"),
             Self::PlacesUnordered => write!(f, "the places are not in ascending order"),
             Self::KindsShort => write!(f, "there are fewer answer bytes than places"),
+            Self::StrengthsLength => write!(f, "the table of strengths has not 11 bytes"),
+            Self::StrengthsBits => {
+                write!(f, "the last bits of the table of strengths are not zero")
+            }
             Self::NotExpression { place } => write!(f, "not an expression at byte {place}"),
             Self::TooDeep { place } => write!(f, "brackets deeper than 64 at byte {place}"),
             Self::ListShort { needed } => {
@@ -166,6 +183,8 @@ mod tests {
             (6, 0, Refusal::NoPlace),
             (9, 0, Refusal::PlacesUnordered),
             (10, 0, Refusal::KindsShort),
+            (12, 0, Refusal::StrengthsLength),
+            (13, 0, Refusal::StrengthsBits),
             (14, 7, Refusal::NotExpression { place: 7 }),
             (15, 7, Refusal::TooDeep { place: 7 }),
             (16, 7, Refusal::ListShort { needed: 7 }),

@@ -84,6 +84,10 @@ fn refuses() {
         format(b"a\xff", &options),
         Err(Refusal::NotUtf8 { prefix: 1 })
     );
+    let table = options.clone().strengths([0x11; 10]);
+    assert_eq!(format(b"\xff", &table), Err(Refusal::StrengthsLength));
+    let table = options.clone().strengths([0x11; 11]);
+    assert_eq!(format(b"\xff", &table), Err(Refusal::StrengthsBits));
     let mut small = Formatter::new().most(3);
     assert_eq!(
         small.format("abc", &options),

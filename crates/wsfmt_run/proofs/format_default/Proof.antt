@@ -1,4 +1,5 @@
 use borrow.Author.Needs.{needs}
+use mathlib.Core.Path.{refl}
 use Rattle.rules.proofs.CallExamples.{defaults-named, defaults-valid}
 use Rattle.wsfmt_run.proofs.ProgramLaws.{called}
 use Rattle.wsfmt_run.proofs.format_default.Statement.{statement}
@@ -14,7 +15,7 @@ format-call-requires : tie.Need-format-call-requires
 format-call-requires c κs = search needs
 
 returns : tie.Need-returns
-returns c = called _ _ _ _ _ (c .before .format-call .ensures) defaults-named defaults-valid (search needs) (search needs) (search needs)
+returns c = called _ _ _ _ _ (c .before .format-call .ensures) defaults-named defaults-valid refl (search needs) (search needs) (search needs)
 
 pub format-default-spec : {M : Type 1} → statement M
 format-default-spec =

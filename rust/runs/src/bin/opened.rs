@@ -10,6 +10,7 @@
 use runs::random::Random;
 use runs::{grammar, sources};
 use upstream::{Counted, FormatOptions, format_counted};
+use wirescript_format::Options;
 use wirescript_format::raw::{self, Answer, Choices};
 
 const GUARD: u64 = 0xc5c5_c5c5_c5c5_c5c5;
@@ -41,6 +42,7 @@ const DEFAULTS: Choices = Choices {
     width: 100,
     line_ending: 0,
     final_newline: 1,
+    strengths: &Options::BUILT_IN_STRENGTHS,
 };
 
 /// One call with a list of `room` lines: what it answers, and the list, whose guards are checked.

@@ -69,7 +69,7 @@ module _ (text : List ℕ) (w : WellFormed text) (n : ℕ) (s : Step text 0 n) (
 
 -- ---- lines by bytes and by characters
 
-abbrev AllScalars : List (List ℕ) → Type 0
+abbrev pub AllScalars : List (List ℕ) → Type 0
 AllScalars [] = Unit {0}
 AllScalars (p ∷ ps) = Scalars p × AllScalars ps
 

@@ -1,5 +1,6 @@
 // What a host links.
 mod config;
+pub mod editorconfig;
 pub mod grouping;
 pub mod interface;
 pub mod kinds;

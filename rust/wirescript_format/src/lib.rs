@@ -17,6 +17,7 @@
 //! fails where it is missing. An archive with other signatures than this crate declares doesn't
 //! link: the error names the symbol `wirescript_interface_N`, with this crate's number for N.
 
+pub mod editorconfig;
 pub mod group;
 mod interface;
 mod kinds;

@@ -1,6 +1,8 @@
 use std::error::Error;
 use std::fmt;
 
+use crate::editorconfig::MAX_TEXT;
+
 /// The longest source, in bytes.
 pub const MAX_SOURCE: usize = 1_048_576;
 
@@ -21,10 +23,15 @@ pub enum Refusal {
     BadOption,
     /// The scratch buffer is under this many bytes.
     ScratchShort { needed: u64 },
-    /// The source is not well-formed UTF-8 after this many bytes.
+    /// The source is not well-formed UTF-8 after this many bytes. Of .editorconfig texts and their
+    /// path, 0: one of them isn't.
     NotUtf8 { prefix: u64 },
     /// The text takes this many bytes, more than the output has.
     OutputShort { needed: u64 },
+    /// An .editorconfig text is over [`crate::editorconfig::MAX_TEXT`] bytes.
+    ConfigTooLong,
+    /// A section of an .editorconfig text has a name of more than 1,024 characters.
+    NameTooLong,
     /// The places are not in ascending order of line, then column.
     PlacesUnordered,
     /// There are fewer answer bytes than places.
@@ -56,6 +63,8 @@ impl Refusal {
             (3, needed) => Self::ScratchShort { needed },
             (4, prefix) => Self::NotUtf8 { prefix },
             (5, needed) => Self::OutputShort { needed },
+            (7, 0) => Self::ConfigTooLong,
+            (8, 0) => Self::NameTooLong,
             (9, 0) => Self::PlacesUnordered,
             (10, 0) => Self::KindsShort,
             (14, place) => Self::NotExpression { place },
@@ -73,6 +82,8 @@ impl Refusal {
             Self::ScratchShort { .. } => 3,
             Self::NotUtf8 { .. } => 4,
             Self::OutputShort { .. } => 5,
+            Self::ConfigTooLong => 7,
+            Self::NameTooLong => 8,
             Self::PlacesUnordered => 9,
             Self::KindsShort => 10,
             Self::NotExpression { .. } => 14,
@@ -86,7 +97,11 @@ impl Refusal {
     pub fn place(self) -> u64 {
         match self {
             Self::SourceTooLong => SOURCE_END,
-            Self::BadOption | Self::PlacesUnordered | Self::KindsShort => 0,
+            Self::BadOption
+            | Self::ConfigTooLong
+            | Self::NameTooLong
+            | Self::PlacesUnordered
+            | Self::KindsShort => 0,
             Self::ScratchShort { needed } | Self::OutputShort { needed } => needed,
             Self::NotUtf8 { prefix } => prefix,
             Self::NotExpression { place } | Self::TooDeep { place } | Self::Other { place, .. } => {
@@ -113,6 +128,12 @@ impl fmt::Display for Refusal {
                     f,
                     "the text takes {needed} bytes, more than there is room for"
                 )
+            }
+            Self::ConfigTooLong => {
+                write!(f, "an .editorconfig text is over {MAX_TEXT} bytes")
+            }
+            Self::NameTooLong => {
+                write!(f, "a section's name in an .editorconfig text is over 1024 characters")
             }
             Self::PlacesUnordered => write!(f, "the places are not in ascending order"),
             Self::KindsShort => write!(f, "there are fewer answer bytes than places"),
@@ -149,6 +170,8 @@ mod tests {
             (3, 7, Refusal::ScratchShort { needed: 7 }),
             (4, 7, Refusal::NotUtf8 { prefix: 7 }),
             (5, 7, Refusal::OutputShort { needed: 7 }),
+            (7, 0, Refusal::ConfigTooLong),
+            (8, 0, Refusal::NameTooLong),
             (9, 0, Refusal::PlacesUnordered),
             (10, 0, Refusal::KindsShort),
             (14, 7, Refusal::NotExpression { place: 7 }),

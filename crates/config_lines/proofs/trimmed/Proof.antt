@@ -2,48 +2,34 @@ use borrow.Author.Needs.{needs}
 use Rattle.config_lines.proofs.PartLaws.{end-well, trimmed-is}
 use Rattle.config_lines.proofs.trimmed.Statement.{statement}
 use Rattle.config_lines.proofs.trimmed.Tie as tie
-use Rattle.config_lines.proofs.trimmed.Reads as reads
-use Rattle.config_lines.proofs.trimmed.Lts as lts
-use Rattle.unicode.proofs.trim_end.Reads as trim-end-reads
-use Rattle.unicode.proofs.trim_start.Reads as trim-start-reads
 
--- src/lib.rt:65:9
 trim-start-requires : tie.Need-trim-start-requires
 trim-start-requires c κs = search needs
 
--- src/lib.rt:66:22
 sub-trim-end : tie.Need-sub-trim-end
 sub-trim-end c = search needs
 
--- src/lib.rt:66:22
 part-trim-end-start : tie.Need-part-trim-end-start
 part-trim-end-start c = search needs
 
--- src/lib.rt:66:22
 part-trim-end-end : tie.Need-part-trim-end-end
 part-trim-end-end c = search needs
 
--- src/lib.rt:66:9
 trim-end-requires : tie.Need-trim-end-requires
 trim-end-requires c κs = search (needs, end-well)
 
--- src/lib.rt:67:14
 add-result : tie.Need-add-result
 add-result c = search needs
 
--- src/lib.rt:67:5
 sub-result : tie.Need-sub-result
 sub-result c = search needs
 
--- src/lib.rt:67:5
 part-result-start : tie.Need-part-result-start
 part-result-start c = search needs
 
--- src/lib.rt:67:5
 part-result-end : tie.Need-part-result-end
 part-result-end c = search needs
 
--- src/lib.rt:61:1
 returns : tie.Need-returns
 returns c = search (needs, trimmed-is)
 

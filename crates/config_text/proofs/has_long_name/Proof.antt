@@ -5,13 +5,6 @@ use lib.ListN.{length}
 use Rattle.config_text.proofs.WalkLaws.{Names, names-start, names-found, names-more, names-end, line-well}
 use Rattle.config_text.proofs.has_long_name.Statement.{statement}
 use Rattle.config_text.proofs.has_long_name.Tie as tie
-use Rattle.config_text.proofs.has_long_name.Reads as reads
-use Rattle.config_text.proofs.has_long_name.Lts as lts
-use Rattle.config_lines.proofs.kinds.kind_of.Reads as kind-of-reads
-use Rattle.config_lines.proofs.trimmed.Reads as trimmed-reads
-use Rattle.config_text.proofs.start_of.Reads as start-of-reads
-use Rattle.config_text.proofs.steps.is_long.Reads as is-long-reads
-use Rattle.line_ends.proofs.line_end.Reads as line-end-reads
 
 abbrev Inv-loop : tie.InvT-loop
 Inv-loop text at₀ at = Names text at
@@ -19,59 +12,45 @@ Inv-loop text at₀ at = Names text at
 abbrev μ-loop : tie.MeasureT-loop
 μ-loop text at₀ at = length text + 1 - at
 
--- src/lib.rt:36:9
 start-of-requires : tie.Need-start-of-requires Inv-loop μ-loop
 start-of-requires c κs = c .before .pre .well
 
--- src/lib.rt:37:5
 loop-holds : tie.Need-loop-holds Inv-loop μ-loop
 loop-holds c = search (needs, names-start)
 
--- src/lib.rt:38:13
 line-end-requires : tie.Need-line-end-requires Inv-loop μ-loop
 line-end-requires c κs = search needs
 
--- src/lib.rt:39:28
 sub-trimmed : tie.Need-sub-trimmed Inv-loop μ-loop
 sub-trimmed c = search needs
 
--- src/lib.rt:39:28
 part-trimmed-start : tie.Need-part-trimmed-start Inv-loop μ-loop
 part-trimmed-start c = search needs
 
--- src/lib.rt:39:28
 part-trimmed-end : tie.Need-part-trimmed-end Inv-loop μ-loop
 part-trimmed-end c = search needs
 
--- src/lib.rt:39:13
 trimmed-requires : tie.Need-trimmed-requires Inv-loop μ-loop
 trimmed-requires c κs = line-well _ _ (c .before .before .before .loop .inv .reached) (omega arith) _ (c .before .line-end .ensures)
 
--- src/lib.rt:40:13
 kind-of-requires : tie.Need-kind-of-requires Inv-loop μ-loop
 kind-of-requires c κs = search needs
 
--- src/lib.rt:41:12
 is-long-requires : tie.Need-is-long-requires Inv-loop μ-loop
 is-long-requires c κs = c .kind-of .ensures .parts
 
--- src/lib.rt:42:13
 returns : tie.Need-returns Inv-loop μ-loop
 returns c = names-found _ _ (c .before .before .before .before .before .before .before .loop .inv) (omega arith) _ (c .before .before .before .before .before .line-end .ensures) _ _ (c .before .before .before .trimmed .ensures) (c .before .before .kind-of .ensures) _ (c .before .is-long .ensures) (c .if1 .taken)
 
--- src/lib.rt:44:14
 add-at : tie.Need-add-at Inv-loop μ-loop
 add-at c = omega (arith, c .before .before .before .before .before .line-end .ensures .fits, c .before .before .before .before .before .before .before .before .before .before .pre .short)
 
--- src/lib.rt:37:5
 loop-less : tie.Need-loop-less Inv-loop μ-loop
 loop-less c = search needs
 
--- src/lib.rt:37:5
 loop-again : tie.Need-loop-again Inv-loop μ-loop
 loop-again c = names-more _ _ (c .before .before .before .before .before .before .before .loop .inv) (omega arith) _ (c .before .before .before .before .before .line-end .ensures) _ _ (c .before .before .before .trimmed .ensures) (c .before .before .kind-of .ensures) _ (c .before .is-long .ensures) (c .if1 .left)
 
--- src/lib.rt:32:1
 returns-2 : tie.Need-returns-2 Inv-loop μ-loop
 returns-2 c = search (needs, names-end)
 

@@ -5,14 +5,6 @@ use lib.ListN.{length}
 use Rattle.config_text.proofs.WalkLaws.{Root, root-start, root-found, root-more, root-end, line-well}
 use Rattle.config_text.proofs.is_root.Statement.{statement}
 use Rattle.config_text.proofs.is_root.Tie as tie
-use Rattle.config_text.proofs.is_root.Reads as reads
-use Rattle.config_text.proofs.is_root.Lts as lts
-use Rattle.config_lines.proofs.kinds.kind_of.Reads as kind-of-reads
-use Rattle.config_lines.proofs.trimmed.Reads as trimmed-reads
-use Rattle.config_text.proofs.start_of.Reads as start-of-reads
-use Rattle.config_text.proofs.steps.root_after.Reads as root-after-reads
-use Rattle.config_text.proofs.steps.starts_section.Reads as starts-section-reads
-use Rattle.line_ends.proofs.line_end.Reads as line-end-reads
 
 abbrev Inv-loop : tie.InvT-loop
 Inv-loop text root₀ at₀ root at = Root text root at
@@ -20,63 +12,48 @@ Inv-loop text root₀ at₀ root at = Root text root at
 abbrev μ-loop : tie.MeasureT-loop
 μ-loop text root₀ at₀ root at = length text + 1 - at
 
--- src/lib.rt:55:9
 start-of-requires : tie.Need-start-of-requires Inv-loop μ-loop
 start-of-requires c κs = c .before .pre .well
 
--- src/lib.rt:56:5
 loop-holds : tie.Need-loop-holds Inv-loop μ-loop
 loop-holds c = search (needs, root-start)
 
--- src/lib.rt:57:13
 line-end-requires : tie.Need-line-end-requires Inv-loop μ-loop
 line-end-requires c κs = search needs
 
--- src/lib.rt:58:28
 sub-trimmed : tie.Need-sub-trimmed Inv-loop μ-loop
 sub-trimmed c = search needs
 
--- src/lib.rt:58:28
 part-trimmed-start : tie.Need-part-trimmed-start Inv-loop μ-loop
 part-trimmed-start c = search needs
 
--- src/lib.rt:58:28
 part-trimmed-end : tie.Need-part-trimmed-end Inv-loop μ-loop
 part-trimmed-end c = search needs
 
--- src/lib.rt:58:13
 trimmed-requires : tie.Need-trimmed-requires Inv-loop μ-loop
 trimmed-requires c κs = line-well _ _ (c .before .before .before .loop .inv .reached) (omega arith) _ (c .before .line-end .ensures)
 
--- src/lib.rt:59:13
 kind-of-requires : tie.Need-kind-of-requires Inv-loop μ-loop
 kind-of-requires c κs = search needs
 
--- src/lib.rt:60:12
 starts-section-requires : tie.Need-starts-section-requires Inv-loop μ-loop
 starts-section-requires c κs = search needs
 
--- src/lib.rt:61:13
 returns : tie.Need-returns Inv-loop μ-loop
 returns c = root-found _ _ _ (c .before .before .before .before .before .before .before .loop .inv) (omega arith) _ (c .before .before .before .before .before .line-end .ensures) _ _ (c .before .before .before .trimmed .ensures) (c .before .before .kind-of .ensures) _ (c .before .starts-section .ensures) (c .if1 .taken)
 
--- src/lib.rt:63:9
 root-after-requires : tie.Need-root-after-requires Inv-loop μ-loop
 root-after-requires c κs = c .before .before .kind-of .ensures .parts
 
--- src/lib.rt:64:14
 add-at : tie.Need-add-at Inv-loop μ-loop
 add-at c = omega (arith, c .before .before .before .before .before .before .line-end .ensures .fits, c .before .before .before .before .before .before .before .before .before .before .before .pre .short)
 
--- src/lib.rt:56:5
 loop-less : tie.Need-loop-less Inv-loop μ-loop
 loop-less c = search needs
 
--- src/lib.rt:56:5
 loop-again : tie.Need-loop-again Inv-loop μ-loop
 loop-again c = root-more _ _ _ (c .before .before .before .before .before .before .before .before .loop .inv) (omega arith) _ (c .before .before .before .before .before .before .line-end .ensures) _ _ (c .before .before .before .before .trimmed .ensures) (c .before .before .before .kind-of .ensures) _ (c .before .before .starts-section .ensures) (c .before .if1 .left) _ (c .root-after .ensures)
 
--- src/lib.rt:50:1
 returns-2 : tie.Need-returns-2 Inv-loop μ-loop
 returns-2 c = search (needs, root-end)
 

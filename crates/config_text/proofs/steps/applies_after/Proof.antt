@@ -4,41 +4,29 @@ use Rattle.config_lines.specs.Kinds.{lineIn}
 use Rattle.config_text.proofs.StepLaws.{header-long, header-well, header-fits, applies-header}
 use Rattle.config_text.proofs.steps.applies_after.Statement.{statement}
 use Rattle.config_text.proofs.steps.applies_after.Tie as tie
-use Rattle.config_text.proofs.steps.applies_after.Reads as reads
-use Rattle.config_text.proofs.steps.applies_after.Lts as lts
-use Rattle.config_text.proofs.steps.name_in.Reads as name-in-reads
-use Rattle.glob_match.proofs.glob_matches.Reads as glob-matches-reads
 
--- src/steps.rt:84:30
 enum-told : tie.Need-enum-told
 enum-told c = search needs
 
--- src/steps.rt:85:42
 enum-told-2 : tie.Need-enum-told-2
 enum-told-2 c = search needs
 
--- src/steps.rt:85:42
 name-in-requires : tie.Need-name-in-requires
 name-in-requires c κs = header-long _ _ (c .enum-told2 .given .1) (c .before .before .before .before .pre .parts)
 
--- src/steps.rt:85:29
 glob-matches-requires : tie.Need-glob-matches-requires
 glob-matches-requires c κs = (header-well _ _ (c .before .enum-told2 .given .1) _ (c .name-in .ensures) (c .before .before .before .before .before .pre .parts), c .before .before .before .before .before .pre .well, header-fits _ _ (c .before .enum-told2 .given .1) _ (c .name-in .ensures) (c .before .before .before .before .before .pre .short))
 
--- src/steps.rt:86:30
 enum-told-3 : tie.Need-enum-told-3
 enum-told-3 c = search needs
 
--- src/steps.rt:79:1
 returns : tie.Need-returns
 unfolding appliesAfter lineIn
 returns c = rw (c .enum-told .given .1)
 
--- src/steps.rt:79:1
 returns-2 : tie.Need-returns-2
 returns-2 c = search (needs, applies-header)
 
--- src/steps.rt:79:1
 returns-3 : tie.Need-returns-3
 unfolding appliesAfter lineIn
 returns-3 c = search needs

@@ -4,41 +4,29 @@ use Rattle.config_lines.specs.Kinds.{lineIn}
 use Rattle.config_text.proofs.StepLaws.{header-long, header-well, long-header}
 use Rattle.config_text.proofs.steps.is_long.Statement.{statement}
 use Rattle.config_text.proofs.steps.is_long.Tie as tie
-use Rattle.config_text.proofs.steps.is_long.Reads as reads
-use Rattle.config_text.proofs.steps.is_long.Lts as lts
-use Rattle.config_text.proofs.steps.name_in.Reads as name-in-reads
-use Rattle.unicode.proofs.char_count.Reads as char-count-reads
 
--- src/steps.rt:35:30
 enum-told : tie.Need-enum-told
 enum-told c = search needs
 
--- src/steps.rt:37:45
 enum-told-2 : tie.Need-enum-told-2
 enum-told-2 c = search needs
 
--- src/steps.rt:37:45
 name-in-requires : tie.Need-name-in-requires
 name-in-requires c κs = search (needs, header-long)
 
--- src/steps.rt:37:17
 char-count-requires : tie.Need-char-count-requires
 char-count-requires c κs = search (needs, header-well)
 
--- src/steps.rt:40:30
 enum-told-3 : tie.Need-enum-told-3
 enum-told-3 c = search needs
 
--- src/steps.rt:30:1
 returns : tie.Need-returns
 unfolding longName lineIn
 returns c = rw (c .enum-told .given .1)
 
--- src/steps.rt:30:1
 returns-2 : tie.Need-returns-2
 returns-2 c = search (needs, long-header)
 
--- src/steps.rt:30:1
 returns-3 : tie.Need-returns-3
 unfolding longName lineIn
 returns-3 c = search needs

@@ -2,26 +2,19 @@ use borrow.Author.Needs.{needs}
 use Rattle.config_text.proofs.StepLaws.{cut-name}
 use Rattle.config_text.proofs.steps.name_in.Statement.{statement}
 use Rattle.config_text.proofs.steps.name_in.Tie as tie
-use Rattle.config_text.proofs.steps.name_in.Reads as reads
-use Rattle.config_text.proofs.steps.name_in.Lts as lts
 
--- src/steps.rt:25:13
 sub-n : tie.Need-sub-n
 sub-n c = search needs
 
--- src/steps.rt:26:5
 sub-result : tie.Need-sub-result
 sub-result c = search needs
 
--- src/steps.rt:26:5
 part-result-start : tie.Need-part-result-start
 part-result-start c = search needs
 
--- src/steps.rt:26:5
 part-result-end : tie.Need-part-result-end
 part-result-end c = search needs
 
--- src/steps.rt:21:1
 returns : tie.Need-returns
 returns c = search (needs, cut-name)
 

@@ -4,37 +4,27 @@ use Rattle.config_lines.specs.Kinds.{lineIn}
 use Rattle.config_text.proofs.StepLaws.{pair-parts, root-pair-is}
 use Rattle.config_text.proofs.steps.root_after.Statement.{statement}
 use Rattle.config_text.proofs.steps.root_after.Tie as tie
-use Rattle.config_text.proofs.steps.root_after.Reads as reads
-use Rattle.config_text.proofs.steps.root_after.Lts as lts
-use Rattle.config_text.proofs.steps.root_pair.Reads as root-pair-reads
 
--- src/steps.rt:64:30
 enum-told : tie.Need-enum-told
 enum-told c = search needs
 
--- src/steps.rt:65:29
 enum-told-2 : tie.Need-enum-told-2
 enum-told-2 c = search needs
 
--- src/steps.rt:66:24
 enum-known-kind : tie.Need-enum-known-kind
 enum-known-kind c = search needs
 
--- src/steps.rt:66:30
 root-pair-requires : tie.Need-root-pair-requires
 root-pair-requires c κs = pair-parts _ _ _ (c .before .kind .given .1) (c .before .before .before .before .pre)
 
--- src/steps.rt:59:1
 returns : tie.Need-returns
 unfolding rootAfter lineIn
 returns c = rw (c .enum-told .given .1)
 
--- src/steps.rt:59:1
 returns-2 : tie.Need-returns-2
 unfolding rootAfter lineIn
 returns-2 c = rw (c .enum-told2 .given .1)
 
--- src/steps.rt:59:1
 returns-3 : tie.Need-returns-3
 returns-3 c = search (needs, root-pair-is)
 

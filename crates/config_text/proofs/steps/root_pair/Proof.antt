@@ -5,60 +5,43 @@ use native.Mathlib.Omega.{arith}
 use lib.Seq.{length-take-le}
 use Rattle.config_text.proofs.steps.root_pair.Statement.{statement}
 use Rattle.config_text.proofs.steps.root_pair.Tie as tie
-use Rattle.config_text.proofs.steps.root_pair.Reads as reads
-use Rattle.config_text.proofs.steps.root_pair.Lts as lts
-use Rattle.config_lines.proofs.is_word.Reads as is-word-reads
-use Rattle.config_lines.proofs.trimmed.Reads as trimmed-reads
 
--- src/steps.rt:51:21
 slice-aggregate-trimmed : tie.Need-slice-aggregate-trimmed
 slice-aggregate-trimmed c = sym (length-take-le (c .before .before .args .i) (c .before .before .args .line .now) (omega (arith, c .before .before .pre .0)))
 
--- src/steps.rt:51:9
 trimmed-requires : tie.Need-trimmed-requires
 trimmed-requires c κs = search needs
 
--- src/steps.rt:52:19
 slice-aggregate-is-word : tie.Need-slice-aggregate-is-word
 slice-aggregate-is-word c = search needs
 
--- src/steps.rt:52:8
 is-word-requires : tie.Need-is-word-requires
 is-word-requires c κs = search needs
 
--- src/steps.rt:53:31
 add-trimmed : tie.Need-add-trimmed
 add-trimmed c = search needs
 
--- src/steps.rt:53:25
 sub-trimmed : tie.Need-sub-trimmed
 sub-trimmed c = search needs
 
--- src/steps.rt:53:25
 part-trimmed-start : tie.Need-part-trimmed-start
 part-trimmed-start c = search needs
 
--- src/steps.rt:53:25
 part-trimmed-end : tie.Need-part-trimmed-end
 part-trimmed-end c = search needs
 
--- src/steps.rt:53:13
 trimmed-requires-2 : tie.Need-trimmed-requires-2
 trimmed-requires-2 c κs = search (needs, value-well)
 
--- src/steps.rt:54:27
 slice-aggregate-is-word-2 : tie.Need-slice-aggregate-is-word-2
 slice-aggregate-is-word-2 c = search needs
 
--- src/steps.rt:54:9
 is-word-requires-2 : tie.Need-is-word-requires-2
 is-word-requires-2 c κs = search needs
 
--- src/steps.rt:54:9
 returns : tie.Need-returns
 returns c = search (needs, root-set)
 
--- src/steps.rt:47:1
 returns-2 : tie.Need-returns-2
 returns-2 c = search (needs, root-other)
 

@@ -2,32 +2,24 @@ use borrow.Author.Needs.{needs}
 use Rattle.config_text.specs.Steps.{startsSection}
 use Rattle.config_text.proofs.steps.starts_section.Statement.{statement}
 use Rattle.config_text.proofs.steps.starts_section.Tie as tie
-use Rattle.config_text.proofs.steps.starts_section.Reads as reads
-use Rattle.config_text.proofs.steps.starts_section.Lts as lts
 
--- src/steps.rt:40:30
 enum-told : tie.Need-enum-told
 enum-told c = search needs
 
--- src/steps.rt:41:29
 enum-told-2 : tie.Need-enum-told-2
 enum-told-2 c = search needs
 
--- src/steps.rt:42:30
 enum-told-3 : tie.Need-enum-told-3
 enum-told-3 c = search needs
 
--- src/steps.rt:36:1
 returns : tie.Need-returns
 unfolding startsSection
 returns c = search needs
 
--- src/steps.rt:36:1
 returns-2 : tie.Need-returns-2
 unfolding startsSection
 returns-2 c = search needs
 
--- src/steps.rt:36:1
 returns-3 : tie.Need-returns-3
 unfolding startsSection
 returns-3 c = search needs

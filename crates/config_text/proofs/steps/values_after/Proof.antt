@@ -4,41 +4,30 @@ use Rattle.config_lines.specs.Kinds.{lineIn}
 use Rattle.config_text.proofs.StepLaws.{pair-parts, values-set, values-kept}
 use Rattle.config_text.proofs.steps.values_after.Statement.{statement}
 use Rattle.config_text.proofs.steps.values_after.Tie as tie
-use Rattle.config_text.proofs.steps.values_after.Reads as reads
-use Rattle.config_text.proofs.steps.values_after.Lts as lts
-use Rattle.config_text.proofs.steps.values_pair.Reads as values-pair-reads
 
--- src/steps.rt:100:30
 enum-told : tie.Need-enum-told
 enum-told c = search needs
 
--- src/steps.rt:101:29
 enum-told-2 : tie.Need-enum-told-2
 enum-told-2 c = search needs
 
--- src/steps.rt:102:24
 enum-known-kind : tie.Need-enum-known-kind
 enum-known-kind c = search needs
 
--- src/steps.rt:104:17
 values-pair-requires : tie.Need-values-pair-requires
 values-pair-requires c κs = pair-parts _ _ _ (c .before .before .kind .given .1) (c .before .before .before .before .before .pre)
 
--- src/steps.rt:104:17
 returns : tie.Need-returns
 returns c = search (needs, values-set)
 
--- src/steps.rt:95:1
 returns-2 : tie.Need-returns-2
 unfolding valuesAfter lineIn
 returns-2 c = rw (c .enum-told .given .1)
 
--- src/steps.rt:95:1
 returns-3 : tie.Need-returns-3
 unfolding valuesAfter lineIn
 returns-3 c = rw (c .enum-told2 .given .1)
 
--- src/steps.rt:95:1
 returns-4 : tie.Need-returns-4
 returns-4 c = search (needs, values-kept)
 

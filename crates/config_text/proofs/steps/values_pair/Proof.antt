@@ -5,44 +5,31 @@ use native.Mathlib.Omega.{arith}
 use lib.Seq.{length-take-le}
 use Rattle.config_text.proofs.steps.values_pair.Statement.{statement}
 use Rattle.config_text.proofs.steps.values_pair.Tie as tie
-use Rattle.config_text.proofs.steps.values_pair.Reads as reads
-use Rattle.config_text.proofs.steps.values_pair.Lts as lts
-use Rattle.config_lines.proofs.pairs.superseded.Reads as superseded-reads
-use Rattle.config_lines.proofs.trimmed.Reads as trimmed-reads
 
--- src/steps.rt:90:21
 slice-aggregate-trimmed : tie.Need-slice-aggregate-trimmed
 slice-aggregate-trimmed c = sym (length-take-le (c .before .before .args .i) (c .before .before .args .line .now) (omega (arith, c .before .before .pre .0)))
 
--- src/steps.rt:90:9
 trimmed-requires : tie.Need-trimmed-requires
 trimmed-requires c κs = search needs
 
--- src/steps.rt:91:27
 add-trimmed : tie.Need-add-trimmed
 add-trimmed c = search needs
 
--- src/steps.rt:91:21
 sub-trimmed : tie.Need-sub-trimmed
 sub-trimmed c = search needs
 
--- src/steps.rt:91:21
 part-trimmed-start : tie.Need-part-trimmed-start
 part-trimmed-start c = search needs
 
--- src/steps.rt:91:21
 part-trimmed-end : tie.Need-part-trimmed-end
 part-trimmed-end c = search needs
 
--- src/steps.rt:91:9
 trimmed-requires-2 : tie.Need-trimmed-requires-2
 trimmed-requires-2 c κs = search (needs, value-well)
 
--- src/steps.rt:92:5
 superseded-requires : tie.Need-superseded-requires
 superseded-requires c κs = search needs
 
--- src/steps.rt:86:1
 returns : tie.Need-returns
 returns c = search (needs, values-pair-is)
 

@@ -1,6 +1,6 @@
 // Our .editorconfig files, for a host.
 ghost use mathlib.Core.List.{[], _∷_};
-ghost use Rattle.config.specs.ConfigAnswered.{ConfigAnswered};
+ghost use Rattle.config_read.specs.ConfigAnswered.{ConfigAnswered};
 use config_rules::ConfigAnswer;
 
 // The values that eight texts set for a path: the first from the file's own directory, each next from one directory up.
@@ -18,7 +18,7 @@ pub extern "C" fn wirescript_read_editorconfig(
 ) -> ConfigAnswer
     ensures { λ r. ⌜ ConfigAnswered (now (path .entry)) (now («text_1» .entry) ∷ now («text_2» .entry) ∷ now («text_3» .entry) ∷ now («text_4» .entry) ∷ now («text_5» .entry) ∷ now («text_6» .entry) ∷ now («text_7» .entry) ∷ now («text_8» .entry) ∷ []) r ⌝ }
 {
-    config::config_call(
+    config_read::answer(
         path,
         text_1,
         text_2,

@@ -190,7 +190,10 @@ pub fn find(file: impl AsRef<Path>) -> io::Result<Files> {
         .collect();
     let mut parts = Vec::new();
     for part in file.components().skip_while(|part| {
-        !matches!(part, std::path::Component::Normal(_) | std::path::Component::ParentDir)
+        !matches!(
+            part,
+            std::path::Component::Normal(_) | std::path::Component::ParentDir
+        )
     }) {
         let part = part.as_os_str().to_str();
         parts.push(part.ok_or_else(|| io::Error::new(ErrorKind::InvalidData, "not UTF-8"))?);
@@ -272,7 +275,10 @@ mod tests {
         let ill = Err(Refusal::NotUtf8 { prefix: 0 });
         assert_eq!(EditorConfig::read([0x80], &[&long]), ill);
         let huge = [b'#'; MAX_TEXT + 1];
-        assert_eq!(EditorConfig::read([0x80], &[&huge[1..], &huge]), Err(Refusal::ConfigTooLong));
+        assert_eq!(
+            EditorConfig::read([0x80], &[&huge[1..], &huge]),
+            Err(Refusal::ConfigTooLong)
+        );
         assert_eq!(EditorConfig::read([0x80], &[&huge[1..]]), ill);
     }
 }

@@ -133,7 +133,10 @@ impl fmt::Display for Refusal {
                 write!(f, "an .editorconfig text is over {MAX_TEXT} bytes")
             }
             Self::NameTooLong => {
-                write!(f, "a section's name in an .editorconfig text is over 1024 characters")
+                write!(
+                    f,
+                    "a section's name in an .editorconfig text is over 1024 characters"
+                )
             }
             Self::PlacesUnordered => write!(f, "the places are not in ascending order"),
             Self::KindsShort => write!(f, "there are fewer answer bytes than places"),

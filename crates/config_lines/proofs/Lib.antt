@@ -4,3 +4,5 @@ pub mod LineBytes
 pub mod PartLaws
 pub mod WholeLaws
 pub mod ValueLaws
+pub mod KindLaws
+pub mod PairLaws

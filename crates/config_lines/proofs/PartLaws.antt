@@ -7,7 +7,7 @@ use native.Mathlib.Numerals.{add-one}
 use native.Mathlib.Omega.{arith}
 use borrow.Author.Tests.{lt-ltb, le-ltb, ne-eqb, eq-eqb}
 use lib.Dec.{ltb, eqb}
-use lib.ListN.{length, take, drop, getD, length-drop, drop-of-length-le}
+use lib.ListN.{length, take, drop, getD, drop-of-length-le}
 use lib.Seq.{drop-cons, take-suc, take-length, drop-length}
 use Rattle.unicode.specs.Unicode.{decode, WellFormed, trim, trimStart, trimEnd}
 use Rattle.unicode.specs.Places.{TrimmedStart, TrimmedEnd}
@@ -15,7 +15,6 @@ use Rattle.buffer.proofs.RegionLaws.{part-from}
 use Rattle.rules.specs.Basics.{choose, is}
 use Rattle.config_rules.specs.Lines.{hasEq, key, setting}
 use Rattle.config_lines.specs.Words.{EqAt, Trimmed}
-use Rattle.config_lines.specs.declared.Part.{Part}
 
 -- no `=` before i
 pub record NoEq (s : List ℕ) (i : ℕ) : Type 0 where
@@ -98,17 +97,9 @@ module _ (s : List ℕ) (i : ℕ) (w : NoEq s i) where
 pub end-well : (s : List ℕ) (a : ℕ) → TrimmedStart s a → WellFormed (take (length s - a) (drop a s))
 end-well s a b = rw (part-from s a) (b .well)
 
-pub trimmed-is : (s : List ℕ) (a n : ℕ) → TrimmedStart s a → TrimmedEnd (take (length s - a) (drop a s)) n → Trimmed s (record { from = a; to = a + n })
+pub trimmed-is : (s : List ℕ) (a n : ℕ) → TrimmedStart s a → TrimmedEnd (take (length s - a) (drop a s)) n → Trimmed s (take (a + n - a) (drop a s))
 unfolding trim
 trimmed-is s a n b e =
-    let p : take (length s - a) (drop a s) ≡ drop a s = part-from s a in
-    let q : TrimmedEnd (drop a s) n = rw p at e in
-    let f : a ≤ length s = b .fits in
-    let g : n ≤ length (drop a s) = q .fits in
+    let q : TrimmedEnd (drop a s) n = rw (part-from s a) at e in
     let z : a + n - a ≡ n = omega arith in
-    record {
-      order = omega arith;
-      fits = omega (arith, length-drop a s);
-      well = rw z (q .well);
-      is = rw z (q .text ∙ ap trimEnd (b .text));
-    }
+    record { well = rw z (q .well); is = rw z (q .text ∙ ap trimEnd (b .text)) }

@@ -53,11 +53,11 @@ lower-digits (c ∷ s) e =
     rw (same-digit c t, lower-digits s (omega (arith, k))))
     (λ t. let k : choose (isDigit c) (suc (digitCount s)) 0 ≡ 0 = choose-false (isDigit c) (suc (digitCount s)) 0 t in absurd (omega (arith, k)))
 
-not-whole : (v : List ℕ) → eqb (digitCount v) (length v) ≡ false → isWhole v ≡ false
+pub not-whole : (v : List ℕ) → eqb (digitCount v) (length v) ≡ false → isWhole v ≡ false
 unfolding isWhole
 not-whole v d = rw (d, and-false (ltb 0 (length v)))
 
-whole-lower : {A : Type 0} (f : ℕ → A) (z : A) (v : List ℕ) → choose (isWhole v) (f (value v)) z ≡ choose (isWhole (lower v)) (f (value (lower v))) z
+pub whole-lower : {A : Type 0} (f : ℕ → A) (z : A) (v : List ℕ) → choose (isWhole v) (f (value v)) z ≡ choose (isWhole (lower v)) (f (value (lower v))) z
 whole-lower f z v =
     by-test (eqb (digitCount v) (length v))
     (λ t. rw (lower-digits v (eqb-true (digitCount v) (length v) t)))

@@ -1,5 +1,5 @@
 -- Words, and the parts of a line by bytes.
-use Prim.Native.Nat.{ℕ, _+_, _-_, _≤_}
+use Prim.Native.Nat.{ℕ, _+_, _≤_}
 use mathlib.Core.List.{List}
 use mathlib.Core.Path.{_≡_}
 use lib.Dec.{ltb}
@@ -7,7 +7,6 @@ use lib.ListN.{length, take, drop}
 use Rattle.unicode.specs.Unicode.{within, decode, WellFormed, trim}
 use Rattle.rules.specs.Basics.{choose}
 use Rattle.config_rules.specs.Lines.{hasEq, key, setting}
-use Rattle.config_lines.specs.declared.Part.{Part}
 
 -- a character without regard to the case of the ASCII letters, as `lower` changes it
 abbrev pub lowered : ℕ → ℕ
@@ -20,9 +19,7 @@ pub record EqAt (s : List ℕ) (r : ℕ) : Type 0 where
   pub key : key s ≡ take r s
   pub setting : setting s ≡ drop (r + 1) s
 
--- the part of s that is left of it trimmed
-pub record Trimmed (s : List ℕ) (p : Part) : Type 0 where
-  pub order : p .from ≤ p .to
-  pub fits : p .to ≤ length s
-  pub well : WellFormed (take (p .to - p .from) (drop (p .from) s))
-  pub is : decode (take (p .to - p .from) (drop (p .from) s)) ≡ trim (decode s)
+-- r is what is left of s trimmed
+pub record Trimmed (s r : List ℕ) : Type 0 where
+  pub well : WellFormed r
+  pub is : decode r ≡ trim (decode s)

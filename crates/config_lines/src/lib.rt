@@ -1,4 +1,5 @@
 // The lines of an .editorconfig text, by bytes.
+pub mod kinds;
 pub mod number;
 pub mod pairs;
 pub mod values;
@@ -56,18 +57,12 @@ pub fn eq_at(line: &[u8]) -> usize
     i
 }
 
-// A part of a slice: where it starts, and where it ends.
-pub struct Part {
-    pub from: usize,
-    pub to: usize,
-}
-
 // What is left of a well-formed slice without the white space at its ends.
-pub fn trimmed(s: &[u8]) -> Part
+pub fn trimmed(s: &[u8]) -> &[u8]
     requires { ⌜ WellFormed (now s) ⌝ }
-    ensures { λ r. ⌜ Trimmed (now (s .entry)) r ⌝ }
+    ensures { λ r. ⌜ Trimmed (now (s .entry)) (now r) ⌝ }
 {
     let from = trim_start(s);
     let n = trim_end(&s[from..]);
-    Part { from, to: from + n }
+    &s[from..from + n]
 }

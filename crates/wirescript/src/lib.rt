@@ -2,6 +2,7 @@
 pub mod caret;
 pub mod changes;
 mod config;
+pub mod editorconfig;
 pub mod grouping;
 pub mod interface;
 pub mod kinds;

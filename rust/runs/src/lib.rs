@@ -3,6 +3,8 @@
 
 pub mod call;
 pub mod compare;
+pub mod config;
+pub mod globs;
 pub mod grammar;
 pub mod lent;
 pub mod library;

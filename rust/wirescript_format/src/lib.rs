@@ -19,6 +19,7 @@
 
 mod caret;
 mod changes;
+pub mod editorconfig;
 pub mod group;
 mod interface;
 mod kinds;

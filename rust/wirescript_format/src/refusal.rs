@@ -1,6 +1,8 @@
 use std::error::Error;
 use std::fmt;
 
+use crate::editorconfig::MAX_TEXT;
+
 /// The longest source, in bytes.
 pub const MAX_SOURCE: usize = 1_048_576;
 
@@ -21,12 +23,17 @@ pub enum Refusal {
     BadOption,
     /// The scratch buffer is under this many bytes.
     ScratchShort { needed: u64 },
-    /// The source is not well-formed UTF-8 after this many bytes.
+    /// The source is not well-formed UTF-8 after this many bytes. Of .editorconfig texts and their
+    /// path, 0: one of them isn't.
     NotUtf8 { prefix: u64 },
     /// The text takes this many bytes, more than the output has.
     OutputShort { needed: u64 },
     /// The source has no such line, or the line is shorter than the column.
     NoPlace,
+    /// An .editorconfig text is over [`crate::editorconfig::MAX_TEXT`] bytes.
+    ConfigTooLong,
+    /// A section of an .editorconfig text has a name of more than 1,024 characters.
+    NameTooLong,
     /// The places are not in ascending order of line, then column.
     PlacesUnordered,
     /// There are fewer answer bytes than places.
@@ -65,6 +72,8 @@ impl Refusal {
             (4, prefix) => Self::NotUtf8 { prefix },
             (5, needed) => Self::OutputShort { needed },
             (6, 0) => Self::NoPlace,
+            (7, 0) => Self::ConfigTooLong,
+            (8, 0) => Self::NameTooLong,
             (9, 0) => Self::PlacesUnordered,
             (10, 0) => Self::KindsShort,
             (12, 0) => Self::StrengthsLength,
@@ -86,6 +95,8 @@ impl Refusal {
             Self::NotUtf8 { .. } => 4,
             Self::OutputShort { .. } => 5,
             Self::NoPlace => 6,
+            Self::ConfigTooLong => 7,
+            Self::NameTooLong => 8,
             Self::PlacesUnordered => 9,
             Self::KindsShort => 10,
             Self::StrengthsLength => 12,
@@ -104,6 +115,8 @@ impl Refusal {
             Self::SourceTooLong => SOURCE_END,
             Self::BadOption
             | Self::NoPlace
+            | Self::ConfigTooLong
+            | Self::NameTooLong
             | Self::PlacesUnordered
             | Self::KindsShort
             | Self::StrengthsLength
@@ -138,6 +151,15 @@ impl fmt::Display for Refusal {
                 )
             }
             Self::NoPlace => write!(f, "the source has no such line or column"),
+            Self::ConfigTooLong => {
+                write!(f, "an .editorconfig text is over {MAX_TEXT} bytes")
+            }
+            Self::NameTooLong => {
+                write!(
+                    f,
+                    "a section's name in an .editorconfig text is over 1024 characters"
+                )
+            }
             Self::PlacesUnordered => write!(f, "the places are not in ascending order"),
             Self::KindsShort => write!(f, "there are fewer answer bytes than places"),
             Self::StrengthsLength => write!(f, "the table of strengths has not 11 bytes"),
@@ -181,6 +203,8 @@ mod tests {
             (4, 7, Refusal::NotUtf8 { prefix: 7 }),
             (5, 7, Refusal::OutputShort { needed: 7 }),
             (6, 0, Refusal::NoPlace),
+            (7, 0, Refusal::ConfigTooLong),
+            (8, 0, Refusal::NameTooLong),
             (9, 0, Refusal::PlacesUnordered),
             (10, 0, Refusal::KindsShort),
             (12, 0, Refusal::StrengthsLength),

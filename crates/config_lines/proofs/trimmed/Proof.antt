@@ -1,5 +1,4 @@
 use borrow.Author.Needs.{needs}
-use native.Mathlib.Omega.{arith}
 use Rattle.config_lines.proofs.PartLaws.{end-well, trimmed-is}
 use Rattle.config_lines.proofs.trimmed.Statement.{statement}
 use Rattle.config_lines.proofs.trimmed.Tie as tie
@@ -19,8 +18,17 @@ part-trim-end-end c = search needs
 trim-end-requires : tie.Need-trim-end-requires
 trim-end-requires c κs = search (needs, end-well)
 
-add-t5 : tie.Need-add-t5
-add-t5 c = search needs
+add-result : tie.Need-add-result
+add-result c = search needs
+
+sub-result : tie.Need-sub-result
+sub-result c = search needs
+
+part-result-start : tie.Need-part-result-start
+part-result-start c = search needs
+
+part-result-end : tie.Need-part-result-end
+part-result-end c = search needs
 
 returns : tie.Need-returns
 returns c = search (needs, trimmed-is)
@@ -34,5 +42,8 @@ trimmed-spec =
     part-trim-end-start
     part-trim-end-end
     trim-end-requires
-    add-t5
+    add-result
+    sub-result
+    part-result-start
+    part-result-end
     returns)

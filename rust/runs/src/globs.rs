@@ -1,12 +1,7 @@
-//! The matcher of names beside an independent model: every name up to a length over a small alphabet, with every path.
-//! The model is written from the page on EditorConfig: a syntax tree, and sets of the places that a match may end at.
-//! Build: rt staticlib config_parts; rustc -O --edition 2024 FILE -L target/staticlib -lconfig_parts
+//! Which paths a section's name matches, from the page on EditorConfig and not from our code: a syntax tree, and
+//! the sets of places that a match may end at.
 
 use std::collections::BTreeSet;
-
-unsafe extern "C" {
-    fn config_test_glob(name: *const u8, name_len: usize, path: *const u8, path_len: usize) -> u64;
-}
 
 #[derive(Debug, Clone)]
 enum Node {
@@ -34,7 +29,11 @@ fn set_end(s: &[char], from: usize) -> Option<usize> {
 }
 
 fn set_of(s: &[char]) -> Node {
-    let (negated, s) = if s.first() == Some(&'!') { (true, &s[1..]) } else { (false, s) };
+    let (negated, s) = if s.first() == Some(&'!') {
+        (true, &s[1..])
+    } else {
+        (false, s)
+    };
     // characters, each with whether it was escaped
     let mut cs = Vec::new();
     let mut i = 0;
@@ -62,7 +61,11 @@ fn set_of(s: &[char]) -> Node {
 }
 
 fn number_at(s: &[char], from: usize) -> usize {
-    let start = if s.get(from) == Some(&'-') { from + 1 } else { from };
+    let start = if s.get(from) == Some(&'-') {
+        from + 1
+    } else {
+        from
+    };
     let mut end = start;
     while end < s.len() && s[end].is_ascii_digit() {
         end += 1;
@@ -81,7 +84,10 @@ fn range_at(s: &[char], i: usize) -> Option<(Node, usize)> {
         return None;
     }
     let text = |a: usize, b: usize| s[a..b].iter().collect::<String>();
-    Some((Node::Range(text(i + 1, dots), text(dots + 2, dots + 2 + n)), dots + 3 + n))
+    Some((
+        Node::Range(text(i + 1, dots), text(dots + 2, dots + 2 + n)),
+        dots + 3 + n,
+    ))
 }
 
 /// The marks of a name, in the order of the text: a node, or a brace or comma outside brackets.
@@ -157,7 +163,11 @@ fn tree(marks: Vec<Mark>) -> Vec<Node> {
             Mark::Close if depth == 1 => top[0].push(Node::Char('}')),
             Mark::Close => {
                 let mut alternatives = stack.pop().expect("checked");
-                let into = stack.last_mut().expect("never empty").last_mut().expect("never empty");
+                let into = stack
+                    .last_mut()
+                    .expect("never empty")
+                    .last_mut()
+                    .expect("never empty");
                 if alternatives.len() == 1 {
                     into.push(Node::Char('{'));
                     into.append(&mut alternatives[0]);
@@ -170,7 +180,11 @@ fn tree(marks: Vec<Mark>) -> Vec<Node> {
     }
     while stack.len() > 1 {
         let alternatives = stack.pop().expect("checked");
-        let into = stack.last_mut().expect("never empty").last_mut().expect("never empty");
+        let into = stack
+            .last_mut()
+            .expect("never empty")
+            .last_mut()
+            .expect("never empty");
         into.push(Node::Char('{'));
         for (i, mut part) in alternatives.into_iter().enumerate() {
             if i > 0 {
@@ -179,14 +193,21 @@ fn tree(marks: Vec<Mark>) -> Vec<Node> {
             into.append(&mut part);
         }
     }
-    stack.pop().expect("one is left").pop().expect("one alternative")
+    stack
+        .pop()
+        .expect("one is left")
+        .pop()
+        .expect("one alternative")
 }
 
 /// Where a match of the nodes that starts at `at` may end.
 fn ends(nodes: &[Node], path: &[char], at: usize) -> BTreeSet<usize> {
     let mut places = BTreeSet::from([at]);
     for node in nodes {
-        places = places.into_iter().flat_map(|p| node_ends(node, path, p)).collect();
+        places = places
+            .into_iter()
+            .flat_map(|p| node_ends(node, path, p))
+            .collect();
     }
     places
 }
@@ -201,7 +222,9 @@ fn node_ends(node: &Node, path: &[char], p: usize) -> Vec<usize> {
         Node::Char(c) => one(path.get(p) == Some(c)),
         Node::One => one(path.get(p).is_some_and(|&c| c != '/')),
         Node::Star => {
-            let stop = (p..path.len()).find(|&i| path[i] == '/').unwrap_or(path.len());
+            let stop = (p..path.len())
+                .find(|&i| path[i] == '/')
+                .unwrap_or(path.len());
             (p..=stop).collect()
         }
         Node::Stars => (p..=path.len()).collect(),
@@ -210,7 +233,10 @@ fn node_ends(node: &Node, path: &[char], p: usize) -> Vec<usize> {
                 return Vec::new();
             }
             // `/`, or `/`, any string, `/`
-            (p..path.len()).filter(|&i| path[i] == '/').map(|i| i + 1).collect()
+            (p..path.len())
+                .filter(|&i| path[i] == '/')
+                .map(|i| i + 1)
+                .collect()
         }
         Node::Set(negated, ranges) => one(path
             .get(p)
@@ -236,15 +262,23 @@ fn node_ends(node: &Node, path: &[char], p: usize) -> Vec<usize> {
     }
 }
 
-fn model(name: &str, path: &str) -> bool {
+/// Whether a name matches a path relative to the directory of its text.
+#[must_use]
+pub fn matches(name: &str, path: &str) -> bool {
     let name: Vec<char> = name.chars().collect();
     let path: Vec<char> = path.chars().collect();
     let (_, slash) = marks(&name);
-    let dropped = if name.first() == Some(&'/') { &name[1..] } else { &name[..] };
+    let dropped = if name.first() == Some(&'/') {
+        &name[1..]
+    } else {
+        &name[..]
+    };
     let starts: String = dropped.iter().take(3).collect();
     if starts == "**/" {
         // read as if a `/` stood before it
-        let with: Vec<char> = std::iter::once('/').chain(dropped.iter().copied()).collect();
+        let with: Vec<char> = std::iter::once('/')
+            .chain(dropped.iter().copied())
+            .collect();
         let path: Vec<char> = std::iter::once('/').chain(path.iter().copied()).collect();
         return ends(&tree(marks(&with).0), &path, 0).contains(&path.len());
     }
@@ -252,88 +286,9 @@ fn model(name: &str, path: &str) -> bool {
     if slash {
         return ends(&nodes, &path, 0).contains(&path.len());
     }
-    let levels = std::iter::once(0).chain((0..path.len()).filter(|&i| path[i] == '/').map(|i| i + 1));
-    levels.into_iter().any(|at| ends(&nodes, &path, at).contains(&path.len()))
-}
-
-fn ours(name: &str, path: &str) -> u64 {
-    // Safety: both slices are alive during the call.
-    unsafe { config_test_glob(name.as_ptr(), name.len(), path.as_ptr(), path.len()) }
-}
-
-fn words(alphabet: &[char], length: usize) -> Vec<String> {
-    let mut out = vec![String::new()];
-    let mut from = 0;
-    for _ in 0..length {
-        let to = out.len();
-        for i in from..to {
-            for &c in alphabet {
-                out.push(format!("{}{c}", out[i]));
-            }
-        }
-        from = to;
-    }
-    out
-}
-
-fn compare(names: &[String], paths: &[String]) -> u64 {
-    let mut checks = 0;
-    for name in names {
-        for path in paths {
-            let (a, b) = (ours(name, path), u64::from(model(name, path)));
-            assert_eq!(a, b, "name {name:?}, path {path:?}");
-            checks += 1;
-        }
-    }
-    checks
-}
-
-struct Random(u64);
-
-impl Random {
-    fn below(&mut self, n: usize) -> usize {
-        self.0 ^= self.0 << 13;
-        self.0 ^= self.0 >> 7;
-        self.0 ^= self.0 << 17;
-        (self.0 % n as u64) as usize
-    }
-    fn word(&mut self, alphabet: &[&str], most: usize) -> String {
-        (0..self.below(most + 1)).map(|_| alphabet[self.below(alphabet.len())]).collect()
-    }
-}
-
-fn main() {
-    let mut all = 0;
-    let sets = [
-        ("braces", vec!['{', '}', ',', 'a', '\\'], 6, vec!['a', ',', '{', '}'], 4),
-        ("brackets", vec!['[', ']', '!', '-', 'a', 'c', '\\'], 5, vec!['a', 'b', '-', ']', '/'], 2),
-        ("slashes", vec!['/', '*', 'a', '?'], 6, vec!['a', '/'], 5),
-        ("mixed", vec!['*', '{', ',', '}', '/', 'a', '['], 5, vec!['a', '/', '['], 3),
-    ];
-    for (what, names, n, paths, m) in sets {
-        let checks = compare(&words(&names, n), &words(&paths, m));
-        println!("{what}: {checks} checks, no difference");
-        all += checks;
-    }
-    let ends = words(&['-', '0', '1', '2'], 3);
-    let mut ranges = Vec::new();
-    for m in &ends {
-        for n in &ends {
-            ranges.push(format!("{{{m}..{n}}}"));
-            ranges.push(format!("{{{m}..{n}}}1"));
-        }
-    }
-    let checks = compare(&ranges, &words(&['-', '0', '1', '2', '3'], 3));
-    println!("ranges: {checks} checks, no difference");
-    all += checks;
-    let mut random = Random(0x9E37_79B9_7F4A_7C15);
-    let pieces = ["*", "**", "/**/", "**/", "/", "?", "[a-c]", "[!b]", "[", "]", "{", "}", ",", "\\", "a", "b", "é", "{1..30}", "{-7..12}", "{9..4}", "0", "12", "-"];
-    let steps = ["/", "a", "b", "c", "é", "1", "0", "12", "-", ",", "{", "}", "[", "*"];
-    for _ in 0..400_000 {
-        let (name, path) = (random.word(&pieces, 9), random.word(&steps, 9));
-        let (a, b) = (ours(&name, &path), u64::from(model(&name, &path)));
-        assert_eq!(a, b, "name {name:?}, path {path:?}");
-        all += 1;
-    }
-    println!("random: 400000 checks, no difference\nall: {all}");
+    let levels =
+        std::iter::once(0).chain((0..path.len()).filter(|&i| path[i] == '/').map(|i| i + 1));
+    levels
+        .into_iter()
+        .any(|at| ends(&nodes, &path, at).contains(&path.len()))
 }

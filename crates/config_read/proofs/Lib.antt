@@ -1,0 +1,3 @@
+-- Laws.
+pub mod LevelLaws
+pub mod RefusalLaws

@@ -1,0 +1,3 @@
+-- Laws.
+pub mod StepLaws
+pub mod WalkLaws

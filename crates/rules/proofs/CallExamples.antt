@@ -38,8 +38,18 @@ abbrev call : List ℕ → List ℕ → ℕ → ℕ → ℕ → ℕ → ℕ → 
 call source indent set width ending newline scratch output =
     record {
       source = source;
-      choices = record { indent = indent; numbers = record { «width_set» = set; width = width; «line_ending» = ending; «final_newline» = newline } };
+      choices = record { indent = indent; numbers = record { «width_set» = set; width = width; «line_ending» = ending; «final_newline» = newline; «ruler_tab» = 0 } };
       output = output;
+      scratch = scratch;
+    }
+
+-- at a ruler, with the other options' numbers by default
+abbrev ruled : ℕ → List ℕ → List ℕ → ℕ → Call
+ruled ruler source indent scratch =
+    record {
+      source = source;
+      choices = record { indent = indent; numbers = record { «width_set» = 1; width = 100; «line_ending» = 0; «final_newline» = 1; «ruler_tab» = ruler } };
+      output = 8;
       scratch = scratch;
     }
 
@@ -67,6 +77,9 @@ fine len = Outcome.Formatted len 0 0
 
 abbrev bad : Outcome
 bad = Outcome.Refused Refusal.BadOption
+
+abbrev wide : Outcome
+wide = Outcome.Refused Refusal.RulerTooWide
 
 abbrev pub calls : List (Call × Outcome)
 calls =
@@ -97,6 +110,11 @@ calls =
     ∷ (call [] [] 1 100 3 1 256 1, bad)
     ∷ (call [] [] 1 100 0 2 256 1, fine 0)
     ∷ (call [] [] 1 100 0 3 256 1, bad)
+    -- the ruler tab: between the other options and the scratch
+    ∷ (ruled 16 [] [] 256, fine 1)
+    ∷ (ruled 17 [] [] 256, wide)
+    ∷ (ruled 17 (0xFF ∷ []) [] 0, wide)
+    ∷ (ruled 17 [] (codes "q") 256, bad)
     -- the first that applies is given
     ∷ (call (0xFF ∷ []) (codes "q") 1 100 0 1 0 0, bad)
     ∷ (plain (0xFF ∷ []) 263 0, Outcome.Refused (Refusal.ScratchShort 264))
@@ -240,6 +258,7 @@ steps =
         printWidth = PrintWidth.Off;
         endOfLine = EndOfLine.Set LineEnding.Crlf;
         insertFinalNewline = FinalNewline.Never;
+        rulerTab = 0;
       }),
     )
     ∷ []

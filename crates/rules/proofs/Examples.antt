@@ -21,6 +21,7 @@ atWidth n =
       printWidth = PrintWidth.Columns n;
       endOfLine = defaults .endOfLine;
       insertFinalNewline = defaults .insertFinalNewline;
+      rulerTab = defaults .rulerTab;
     }
 
 abbrev ending : FinalNewline → Options
@@ -30,6 +31,7 @@ ending n =
       printWidth = defaults .printWidth;
       endOfLine = defaults .endOfLine;
       insertFinalNewline = n;
+      rulerTab = defaults .rulerTab;
     }
 
 abbrev noFinalNewline : Options

@@ -6,7 +6,7 @@ use lib.ListN.{length, replicate}
 use Rattle.unicode.specs.Unicode.{decode, encode}
 use Rattle.rules.specs.Choices.{Choices, validOptions, optionsOf}
 use Rattle.rules.specs.Assembly.{Formatted, formatWith}
-use Rattle.rules.specs.Refusals.{scratchNeeded, numberOf, placeOf, tested, longSource, badOption, shortScratch, illFormed, shortOutput}
+use Rattle.rules.specs.Refusals.{scratchNeeded, numberOf, placeOf, tested, longSource, badOption, wideRuler, shortScratch, illFormed, shortOutput}
 use Rattle.rules.specs.declared.Verdict.{Verdict}
 use Rattle.rules.specs.declared.Outcome.{Outcome}
 use Rattle.rules.specs.declared.Answer.{Answer}
@@ -26,17 +26,18 @@ formatted c = formatWith (optionsOf (c .choices)) (decode (c .source))
 unfoldable pub textOf : Call → List ℕ
 textOf c = encode (formatted c .text)
 
--- ---- the refusals, tested in number order
+-- ---- the refusals, in the order in which they are tested
 
 -- 8 times the source's length, and 256
 abbrev pub formatScratch : ℕ
 formatScratch = 8
 
--- 1 to 4, of a source, whether an option is bad, and the scratch's length
-abbrev pub formatTests : List ℕ → Bool → ℕ → List Verdict
-formatTests source bad scratch =
+-- 1, 2, 11, 3 and 4, of a source, whether an option is bad, the ruler tab, and the scratch's length
+abbrev pub formatTests : List ℕ → Bool → ℕ → ℕ → List Verdict
+formatTests source bad ruler scratch =
     longSource source
     ∷ badOption bad
+    ∷ wideRuler ruler
     ∷ shortScratch (scratchNeeded formatScratch source) scratch
     ∷ illFormed source
     ∷ []
@@ -44,7 +45,8 @@ formatTests source bad scratch =
 unfoldable pub verdictOf : Call → Verdict
 verdictOf c =
     tested
-    (formatTests (c .source) (not (validOptions (c .choices))) (c .scratch) ++ (shortOutput (length (textOf c)) (c .output) ∷ []))
+    (formatTests (c .source) (not (validOptions (c .choices))) (c .choices .numbers .«ruler_tab») (c .scratch)
+    ++ (shortOutput (length (textOf c)) (c .output) ∷ []))
 
 abbrev pub outcomeAfter : Verdict → ℕ → ℕ → ℕ → Outcome
 outcomeAfter Verdict.Accepted len imports blanks = Outcome.Formatted len imports blanks

@@ -6,6 +6,7 @@ use lib.Dec.{ltb}
 use lib.ListN.{length}
 use Rattle.unicode.specs.Unicode.{wellFormed, prefixLen}
 use Rattle.rules.specs.Basics.{choose}
+use Rattle.rules.specs.Options.{maxRuler}
 use Rattle.rules.specs.declared.Refusal.{Refusal}
 use Rattle.rules.specs.declared.Verdict.{Verdict}
 
@@ -26,6 +27,7 @@ numberOf (Refusal.NotUtf8 prefix) = 4
 numberOf (Refusal.OutputShort needed) = 5
 numberOf Refusal.PlacesUnordered = 9
 numberOf Refusal.KindsShort = 10
+numberOf Refusal.RulerTooWide = 11
 
 abbrev pub placeOf : Refusal → ℕ
 placeOf Refusal.SourceTooLong = maxSource
@@ -35,6 +37,7 @@ placeOf (Refusal.NotUtf8 prefix) = prefix
 placeOf (Refusal.OutputShort needed) = needed
 placeOf Refusal.PlacesUnordered = 0
 placeOf Refusal.KindsShort = 0
+placeOf Refusal.RulerTooWide = 0
 
 -- a test refuses if it applies
 unfoldable pub refuseIf : Bool → Refusal → Verdict
@@ -75,3 +78,7 @@ unordered inOrder = refuseIf (not inOrder) Refusal.PlacesUnordered
 -- 10
 unfoldable pub shortKinds : ℕ → ℕ → Verdict
 shortKinds needed kinds = refuseIf (ltb kinds needed) Refusal.KindsShort
+
+-- 11
+unfoldable pub wideRuler : ℕ → Verdict
+wideRuler ruler = refuseIf (ltb maxRuler ruler) Refusal.RulerTooWide

@@ -8,6 +8,7 @@ ghost use Rattle.rules.specs.Lines.{asStr};
 ghost use Rattle.rules.specs.Options.{Options};
 ghost use Rattle.rules.specs.Operators.{maxStrength, AtMost};
 ghost use Rattle.rules.specs.SplitOperation.{splitOperation};
+ghost use Rattle.split.specs.Measure.{InUse};
 ghost use Rattle.split_operation.specs.Operation.{LineFits, Broken, lineOf, RestFits, RestWritten, RoundBreak, FirstBroken, OperationFits};
 use operators::MAX_STRENGTH;
 use operators::Strengths;
@@ -34,6 +35,7 @@ pub enum OperationSplit {
 pub struct Breaking {
     pub level: usize,
     pub max: Utf16Column,
+    pub ruler: u8,
     pub ending: LineEnding,
     pub strengths: [u8; 21],
     pub rounds: usize,
@@ -66,6 +68,7 @@ fn write_rest(
     let under = Layout {
         level: s.level + 1,
         max: Utf16Column(s.max.0),
+        ruler: s.ruler,
         ending,
     };
     let strength = b.strength;
@@ -86,7 +89,7 @@ fn write_rest(
 // Where a first line is broken: nowhere if it fits, if no rounds are left, or if none of its bytes starts an operator, which is told at once.
 fn round_break(line: &[u8], class: &[u8], s: Breaking, indent: &[u8]) -> Break
     requires { ⌜ LineFits (now line) (now class) (now indent) (s .level) ⌝ }
-    ensures { λ r. ⌜ RoundBreak (s .strengths) (now (indent .entry)) (s .level) (s .max .0) (s .rounds) (now (line .entry)) (now (class .entry)) r ⌝ }
+    ensures { λ r. ⌜ RoundBreak (s .strengths) (s .ruler) (now (indent .entry)) (s .level) (s .max .0) (s .rounds) (now (line .entry)) (now (class .entry)) r ⌝ }
 {
     if s.rounds == 0 {
         return unbroken();
@@ -95,6 +98,7 @@ fn round_break(line: &[u8], class: &[u8], s: Breaking, indent: &[u8]) -> Break
     let own = Layout {
         level: s.level,
         max: Utf16Column(s.max.0),
+        ruler: s.ruler,
         ending,
     };
     if over_wide(own, indent, line) {
@@ -116,7 +120,7 @@ fn break_first(
     at: usize,
 ) -> OperationSplit
     requires { ⌜ OperationFits (now line) (now class) (now indent) (s .level) (asStr (s .ending)) at ⌝ }
-    ensures { λ r. ⌜ FirstBroken (s .strengths) (now (line .entry)) (now (indent .entry)) (s .level) (asStr (s .ending)) (s .max .0) (s .rounds)
+    ensures { λ r. ⌜ FirstBroken (s .strengths) (s .ruler) (now (line .entry)) (now (indent .entry)) (s .level) (asStr (s .ending)) (s .max .0) (s .rounds)
         (now (out .entry)) (now (out .exit)) at r ⌝ }
 {
     let b = round_break(line, class, s, indent);
@@ -148,7 +152,7 @@ pub fn split_operation(
     at: usize,
 ) -> OperationSplit
     requires { ⌜ OperationFits (now line) (now class) (now indent) (s .level) (asStr (s .ending)) at × AtMost maxStrength (strengths .of) ⌝ }
-    ensures { λ r. ⌜ ((o : Options) → o .indent ≡ now (indent .entry)
+    ensures { λ r. ⌜ ((o : Options) → InUse o (now (indent .entry)) (s .ruler)
         → Broken (asStr (s .ending)) (splitOperation (strengths .of) o (s .max .0) (s .level) (decode (now (line .entry)))) (now (out .entry)) (now (out .exit)) at r) ⌝ }
 {
     let ending = s.ending;
@@ -156,6 +160,7 @@ pub fn split_operation(
     let b = Breaking {
         level: s.level,
         max: Utf16Column(s.max.0),
+        ruler: s.ruler,
         ending,
         strengths: table,
         rounds: MAX_STRENGTH,

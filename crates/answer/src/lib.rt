@@ -52,6 +52,7 @@ pub fn number_of(r: Refusal) -> u64
         Refusal::OutputShort(_) => 5,
         Refusal::PlacesUnordered => 9,
         Refusal::KindsShort => 10,
+        Refusal::RulerTooWide => 11,
     }
 }
 
@@ -66,6 +67,7 @@ pub fn place_of(r: Refusal) -> u64
         Refusal::OutputShort(needed) => needed as u64,
         Refusal::PlacesUnordered => 0,
         Refusal::KindsShort => 0,
+        Refusal::RulerTooWide => 0,
     }
 }
 

@@ -1,7 +1,7 @@
 -- The finish, and what a call comes to, by its tests in their order.
 --     ending-kept, ending-set, last-always, last-source     the ending, and the last one
 --     text-short, text-fits                                 the text in the output
---     test-long, test-option, test-rest                     the tests
+--     test-long, test-option, test-ruler, test-rest         the tests
 --     ran-refused, ran-formatted                            the outcome of a call; answered the answer
 use Prim.Native.Nat.{ℕ, _≤_, _<_}
 use native.Mathlib.Omega.{arith}
@@ -16,10 +16,10 @@ use Rattle.unicode.proofs.Decode.{test-wf}
 use Rattle.unicode.proofs.Tests.{and-left, and-right}
 use Rattle.rules.specs.Basics.{choose}
 use Rattle.rules.specs.Lines.{asStr, linesOf, dominantIn, endsInLf}
-use Rattle.rules.specs.Options.{Options, allBlank, validIndent, maxIndent}
+use Rattle.rules.specs.Options.{Options, allBlank, validIndent, maxIndent, maxRuler}
 use Rattle.rules.specs.Line.{Formatter, start}
 use Rattle.rules.specs.Assembly.{Formatted, endingOf, dropEmpty, joined, lastEnding, finish, formatLines, formatWith}
-use Rattle.rules.specs.Refusals.{maxSource, scratchNeeded, refuseIf, tested, longSource, badOption, shortScratch, illFormed, shortOutput}
+use Rattle.rules.specs.Refusals.{maxSource, scratchNeeded, refuseIf, tested, longSource, badOption, wideRuler, shortScratch, illFormed, shortOutput}
 use Rattle.rules.specs.Choices.{validOptions, optionsOf}
 use Rattle.rules.specs.Call.{Call, formatted, textOf, formatScratch, formatTests, verdictOf, outcomeAfter, outcomeOf, answerOf, outputOf}
 use Rattle.rules.specs.declared.LineEnding.{LineEnding}
@@ -34,7 +34,7 @@ use Rattle.rules.proofs.StartsBytes.{on-decode}
 use Rattle.rules.proofs.LinesBytes.{dominant-encode, ends-lf-encode}
 use Rattle.rules.proofs.RefusalLaws.{test-on, test-off, pass, stop, one-test, goes-on, ends, source-short}
 use Rattle.rules.proofs.CallLaws.{Admitted, admitted, indent-valid, answer-well, answer-kept}
-use Rattle.options.specs.Held.{heldNamed}
+use Rattle.options.specs.Held.{held, heldNamed}
 use Rattle.options.specs.declared.FormatOptions.{FormatOptions}
 use Rattle.options.specs.declared.Changed.{Changed}
 use Rattle.options.proofs.NumbersLaws.{named-valid-is, named-options}
@@ -79,7 +79,7 @@ module _
     (source indent : List ℕ) (chosen : FormatOptions) (ending : LineEnding) (last : Bool) (st : Record)
     (out₀ scratch₀ out₁ scratch₁ out₂ scratch₂ : List ℕ) (n : ℕ)
     (e : ending ≡ endingOf (chosen .«end_of_line») (decode source))
-    (l : LinesDone source indent (record { width = chosen .«print_width»; ending = ending }) st out₁ scratch₁)
+    (l : LinesDone source indent (record { width = chosen .«print_width»; ruler = chosen .«ruler_tab»; ending = ending }) st out₁ scratch₁)
     (z : scratch₂ ≡ replicate (length scratch₁) 0)
     (k : (eol : List ℕ) → choose last eol [] ≡ lastEnding (chosen .«insert_final_newline») (decode source) eol)
     (w : Finished (asStr ending) (choose last (asStr ending) []) out₁ (st .text) out₂ n)
@@ -89,7 +89,7 @@ module _
     o = optionsWith indent chosen
 
     held-here : Holds (asStr ending) (length source) (formattedLines o source) st out₁ scratch₁
-    held-here = l .holds o (record { indents = refl; breaks = refl })
+    held-here = l .holds o (record { indents = refl; breaks = refl; ruled = refl })
 
     text-is : formatWith o (decode source) .text ≡ joined (asStr ending) (dropEmpty (formattedLines o source .lines)) ++ choose last (asStr ending) []
     unfolding formatWith finish
@@ -126,22 +126,28 @@ module _
 
 -- ---- the tests
 
-module _ (source : List ℕ) (bad : Bool) (scratch : ℕ) (v : Verdict) (e : v ≡ longSource source) where
-  pub test-long : (why : Refusal) → v ≡ Verdict.Refused why → Verdict.Refused why ≡ tested (formatTests source bad scratch)
+module _ (source : List ℕ) (bad : Bool) (ruler scratch : ℕ) (v : Verdict) (e : v ≡ longSource source) where
+  pub test-long : (why : Refusal) → v ≡ Verdict.Refused why → Verdict.Refused why ≡ tested (formatTests source bad ruler scratch)
   test-long why p = sym (stop (longSource source) why _ (sym e ∙ p))
 
   module _ (p : v ≡ Verdict.Accepted) where
     pub length-passed : length source ≤ maxSource
     length-passed = source-short source (sym e ∙ p)
 
-    pub test-option : bad ≡ true → Verdict.Refused Refusal.BadOption ≡ tested (formatTests source bad scratch)
+    pub test-option : bad ≡ true → Verdict.Refused Refusal.BadOption ≡ tested (formatTests source bad ruler scratch)
     unfolding badOption
     test-option q = sym (pass (longSource source) _ (sym e ∙ p) ∙ stop (badOption bad) _ _ (test-on bad _ q))
 
-    pub test-rest : (r : Verdict) → bad ≡ false → r ≡ tested (shortScratch (scratchNeeded formatScratch source) scratch ∷ illFormed source ∷ [])
-        → r ≡ tested (formatTests source bad scratch)
-    unfolding badOption
-    test-rest r q t = t ∙ sym (pass (longSource source) _ (sym e ∙ p) ∙ pass (badOption bad) _ (test-off bad _ q))
+    pub test-ruler : bad ≡ false → maxRuler < ruler → Verdict.Refused Refusal.RulerTooWide ≡ tested (formatTests source bad ruler scratch)
+    unfolding badOption wideRuler
+    test-ruler q h =
+        sym (pass (longSource source) _ (sym e ∙ p) ∙ pass (badOption bad) _ (test-off bad _ q) ∙ stop (wideRuler ruler) _ _ (test-on _ _ (lt-ltb maxRuler ruler h)))
+
+    pub test-rest : (r : Verdict) → bad ≡ false → ruler ≤ maxRuler → r ≡ tested (shortScratch (scratchNeeded formatScratch source) scratch ∷ illFormed source ∷ [])
+        → r ≡ tested (formatTests source bad ruler scratch)
+    unfolding badOption wideRuler
+    test-rest r q h t =
+        t ∙ sym (pass (longSource source) _ (sym e ∙ p) ∙ pass (badOption bad) _ (test-off bad _ q) ∙ pass (wideRuler ruler) _ (test-off _ _ (le-ltb maxRuler ruler h)))
 
 -- ---- the outcome of a call
 
@@ -149,17 +155,17 @@ module _ (source : List ℕ) (bad : Bool) (scratch : ℕ) (v : Verdict) (e : v �
 module _
     (source indent : List ℕ) (numbers : OptionNumbers) (output scratch : List ℕ) (t : Changed) (v : Verdict)
     (named : t ≡ heldNamed (record { indent = indent; numbers = numbers }))
-    (tests : v ≡ tested (formatTests source (t .refused) (length scratch)))
+    (tests : v ≡ tested (formatTests source (t .refused) (numbers .«ruler_tab») (length scratch)))
   where
     abbrev c : Call
     c = callOf source indent numbers (length output) (length scratch)
 
-    first-tests : tested (formatTests source (not (validOptions (c .choices))) (length scratch)) ≡ v
-    first-tests = ap (λ (b : Bool). tested (formatTests source b (length scratch))) (sym (named-valid-is (c .choices) t named)) ∙ sym tests
+    first-tests : tested (formatTests source (not (validOptions (c .choices))) (numbers .«ruler_tab») (length scratch)) ≡ v
+    first-tests = ap (λ (b : Bool). tested (formatTests source b (numbers .«ruler_tab») (length scratch))) (sym (named-valid-is (c .choices) t named)) ∙ sym tests
 
     ran-short : (why : Refusal) → v ≡ Verdict.Refused why → outcomeOf c ≡ Outcome.Refused why
     unfolding outcomeOf verdictOf
-    ran-short why e = rw (ends (formatTests source (not (validOptions (c .choices))) (length scratch)) (shortOutput (length (textOf c)) (length output) ∷ []) why (first-tests ∙ e))
+    ran-short why e = rw (ends (formatTests source (not (validOptions (c .choices))) (numbers .«ruler_tab») (length scratch)) (shortOutput (length (textOf c)) (length output) ∷ []) why (first-tests ∙ e))
 
     pub ran-refused : (why : Refusal) (r : Outcome) (out work : List ℕ) → v ≡ Verdict.Refused why
         → RefusedCall why (length output) (length scratch) r out work → Ran c r out work
@@ -184,15 +190,22 @@ module _
       passed =
           record { limit = admits .reads .short; well = test-wf source (admits .reads .well); indents = indent-is; room = omega (arith, admits .reads .room) }
 
+      options-held : t .options ≡ held (optionsOf (c .choices))
+      options-held = named-options (c .choices) t named (named-valid-is (c .choices) t named ∙ rw (admits .valid))
+
+      pub ruler-small : t .options .«ruler_tab» ≤ maxRuler
+      unfolding optionsOf
+      ruler-small = rw (ap (λ (s : FormatOptions). s .«ruler_tab») options-held) (admits .ruler)
+
       options-are : formatted c ≡ formatWith (optionsWith indent (t .options)) (decode source)
       unfolding formatted optionsOf
-      options-are = rw (named-options (c .choices) t named (named-valid-is (c .choices) t named ∙ rw (admits .valid)))
+      options-are = rw options-held
 
       outcome-is : outcomeOf c ≡ outcomeIn (length output) (formatted c)
       unfolding outcomeOf verdictOf textOf
       outcome-is =
           ap (λ (u : Verdict). outcomeAfter u (length (textOf c)) (formatted c .importsSplit) (formatted c .blankNames))
-          (goes-on (formatTests source (not (validOptions (c .choices))) (length scratch)) (shortOutput (length (textOf c)) (length output) ∷ []) (first-tests ∙ e)
+          (goes-on (formatTests source (not (validOptions (c .choices))) (numbers .«ruler_tab») (length scratch)) (shortOutput (length (textOf c)) (length output) ∷ []) (first-tests ∙ e)
           ∙ one-test (shortOutput (length (textOf c)) (length output)))
 
       pub ran-formatted : (r : Outcome) (out work : List ℕ)

@@ -20,6 +20,7 @@ optionsWith indent s =
       printWidth = s .«print_width»;
       endOfLine = s .«end_of_line»;
       insertFinalNewline = s .«insert_final_newline»;
+      rulerTab = s .«ruler_tab»;
     }
 
 -- what a finished text comes to in an output of n bytes

@@ -12,9 +12,15 @@ callOf source indent numbers output scratch =
     record { source = source; choices = record { indent = indent; numbers = numbers }; output = output; scratch = scratch }
 
 -- the numbers of the options
-abbrev pub numbersOf : ℕ → ℕ → ℕ → ℕ → OptionNumbers
-numbersOf widthSet width lineEnding finalNewline =
-    record { «width_set» = widthSet; width = width; «line_ending» = lineEnding; «final_newline» = finalNewline }
+abbrev pub numbersOf : ℕ → ℕ → ℕ → ℕ → ℕ → OptionNumbers
+numbersOf widthSet width lineEnding finalNewline rulerTab =
+    record {
+      «width_set» = widthSet;
+      width = width;
+      «line_ending» = lineEnding;
+      «final_newline» = finalNewline;
+      «ruler_tab» = rulerTab;
+    }
 
 -- the outcome r of the call c, and what its buffers hold after it
 pub record Ran (c : Call) (r : Outcome) (out work : List ℕ) : Type 0 where

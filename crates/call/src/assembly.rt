@@ -1,10 +1,11 @@
 // Assembly: all lines of a source, the ending that they get, and the finish.
 ghost use mathlib.Core.Path.{_≡_};
 ghost use mathlib.Core.List.{List, []};
-ghost use Prim.Native.Nat.{ℕ};
+ghost use Prim.Native.Nat.{ℕ, _≤_};
 ghost use lib.ListN.{length};
 ghost use Rattle.unicode.specs.Unicode.{decode, WellFormed};
 ghost use Rattle.rules.specs.Basics.{choose};
+ghost use Rattle.rules.specs.Options.{maxRuler};
 ghost use Rattle.rules.specs.Assembly.{endingOf, lastEnding, formatWith};
 ghost use Rattle.lines.specs.Lines.{Passed};
 ghost use Rattle.call.specs.Formatted.{Fitted, optionsWith};
@@ -49,13 +50,18 @@ pub fn format_with(
     scratch: &mut [u8],
 ) -> Outcome
     requires { ⌜ Passed (now source) (now indent) (now scratch) ⌝ }
+    requires { ⌜ chosen .«ruler_tab» ≤ maxRuler ⌝ }
     ensures { λ r. ⌜ Fitted (formatWith (optionsWith (now (indent .entry)) chosen) (decode (now (source .entry)))) (length (now (output .entry))) (length (now (scratch .entry))) r (now (output .exit)) (now (scratch .exit)) ⌝ }
 {
     let width = chosen.print_width;
     let end_of_line = chosen.end_of_line;
     let newline = chosen.insert_final_newline;
     let ending = ending_of(end_of_line, source);
-    let style = Style { width, ending };
+    let style = Style {
+        width,
+        ruler: chosen.ruler_tab as u8,
+        ending,
+    };
     let st = lines::format_lines(source, indent, style, output, scratch);
     buffer::zero(scratch);
     let t = st.text;

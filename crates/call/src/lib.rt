@@ -18,15 +18,21 @@ pub mod assembly;
 // The bytes of scratch for each of the source's, beside 256.
 pub const FORMAT_SCRATCH: usize = 8;
 
-// Refusals 1 to 4 in number order.
-fn test(source: &[u8], bad_option: bool, scratch: usize) -> Verdict
-    ensures { λ r. ⌜ r ≡ tested (formatTests (now (source .entry)) «bad_option» scratch) ⌝ }
+// The largest ruler tab.
+pub const MAX_RULER: u64 = 16;
+
+// Refusals 1, 2, 11, 3 and 4, in this order.
+fn test(source: &[u8], bad_option: bool, ruler_tab: u64, scratch: usize) -> Verdict
+    ensures { λ r. ⌜ r ≡ tested (formatTests (now (source .entry)) «bad_option» «ruler_tab» scratch) ⌝ }
 {
     match answer::test_length(source) {
         Verdict::Refused(why) => Verdict::Refused(why),
         Verdict::Accepted => {
             if bad_option {
                 return Verdict::Refused(Refusal::BadOption);
+            }
+            if MAX_RULER < ruler_tab {
+                return Verdict::Refused(Refusal::RulerTooWide);
             }
             answer::test_bytes(source, FORMAT_SCRATCH, scratch)
         }
@@ -54,7 +60,7 @@ fn run_call(
 {
     let named = FormatOptions::from_numbers(indent, numbers);
     let chosen = named.options;
-    match test(source, named.refused, scratch.len()) {
+    match test(source, named.refused, numbers.ruler_tab, scratch.len()) {
         Verdict::Refused(why) => refuse(output, scratch, why),
         Verdict::Accepted => assembly::format_with(source, indent, chosen, output, scratch),
     }

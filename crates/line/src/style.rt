@@ -2,8 +2,9 @@
 use rules::LineEnding;
 use rules::PrintWidth;
 
-// The print width, and the ending that the text's lines get.
+// The print width, the ruler tab, and the ending that the text's lines get.
 pub struct Style {
     pub width: PrintWidth,
+    pub ruler: u8,
     pub ending: LineEnding,
 }

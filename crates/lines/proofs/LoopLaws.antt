@@ -15,7 +15,6 @@ use Rattle.rules.specs.Line.{Formatter, start, formatLine}
 use Rattle.rules.specs.Assembly.{formatLines}
 use Rattle.rules.specs.declared.EndOfLine.{EndOfLine}
 use Rattle.rules.specs.declared.FinalNewline.{FinalNewline}
-use Rattle.rules.specs.declared.PrintWidth.{PrintWidth}
 use Rattle.basics.specs.Depth.{carryDepth}
 use Rattle.split.specs.Text.{AllWell}
 use Rattle.text.specs.Text.{Ordered}
@@ -65,10 +64,16 @@ next-line source at e q = go (split e (length source))
 
 -- ---- the invariant
 
--- options with this indent and this width
-abbrev someOptions : List ℕ → PrintWidth → Options
-someOptions indent width =
-    record { indent = indent; printWidth = width; endOfLine = EndOfLine.Kept; insertFinalNewline = FinalNewline.Always }
+-- options with this indent and this style
+abbrev someOptions : List ℕ → Style → Options
+someOptions indent style =
+    record {
+      indent = indent;
+      printWidth = style .width;
+      endOfLine = EndOfLine.Kept;
+      insertFinalNewline = FinalNewline.Always;
+      rulerTab = style .ruler;
+    }
 
 -- the lines `left` are still to come, after the definition's record f
 pub record Running (o : Options) (source eol : List ℕ) (left : List (List ℕ)) (st : Record) (out scratch : List ℕ) : Type 0 where
@@ -165,7 +170,7 @@ module _
         pub reached-more : length out′ ≡ length out → length scratch′ ≡ length scratch → Reached source indent style out₀ scratch₀ out′ scratch′ st′ (e + 1)
         reached-more eo es =
             let n = next-line source at e q in
-            let s = w (someOptions indent (style .width)) (record { indents = refl; breaks = refl }) in
+            let s = w (someOptions indent style) (record { indents = refl; breaks = refl; ruled = refl }) in
             record {
               within = omega (arith, q .fits);
               left = n .rest;

@@ -119,7 +119,14 @@ module _
   where
     pub all-named : bytes ≡ filled maxIndent (times 1 (c .indent))
         → stepped false
-        (record { indent = bytes; used = length (c .indent); «print_width» = w′; «end_of_line» = e′; «insert_final_newline» = n′ })
+        (record {
+          indent = bytes;
+          used = length (c .indent);
+          «print_width» = w′;
+          «end_of_line» = e′;
+          «insert_final_newline» = n′;
+          «ruler_tab» = c .numbers .«ruler_tab»;
+        })
         ≡ heldNamed c
     unfolding validOptions isNamed optionsOf choose
     all-named t = rw (t, times-one, ← ws, ← es, ← ns, wc, ec, nc, ← p, q)

@@ -25,6 +25,7 @@ optionsIn s =
       printWidth = s .«print_width»;
       endOfLine = s .«end_of_line»;
       insertFinalNewline = s .«insert_final_newline»;
+      rulerTab = s .«ruler_tab»;
     }
 
 -- the struct that stands for the options
@@ -36,6 +37,7 @@ held o =
       «print_width» = o .printWidth;
       «end_of_line» = o .endOfLine;
       «insert_final_newline» = o .insertFinalNewline;
+      «ruler_tab» = o .rulerTab;
     }
 
 -- what a setting step hands back: the struct of the changed options, or, refused, the struct as it was
@@ -55,6 +57,7 @@ valued s r =
       «print_width» = widthFrom (r .max) (s .«print_width»);
       «end_of_line» = endingFrom (r .ending) (s .«end_of_line»);
       «insert_final_newline» = newlineFrom (r .newline) (s .«insert_final_newline»);
+      «ruler_tab» = s .«ruler_tab»;
     }
 
 -- the struct of the options that choices name, or, refused, of the defaults

@@ -30,6 +30,7 @@ pub struct FormatOptions {
     pub print_width: PrintWidth,
     pub end_of_line: EndOfLine,
     pub insert_final_newline: FinalNewline,
+    pub ruler_tab: usize,
 }
 
 // What a setting step hands back: the changed options, or, refused, the options as they were.
@@ -53,6 +54,7 @@ impl FormatOptions {
             print_width: PrintWidth::Columns(Self::DEFAULT_PRINT_WIDTH),
             end_of_line: EndOfLine::Kept,
             insert_final_newline: FinalNewline::Always,
+            ruler_tab: 0,
         }
     }
 
@@ -91,6 +93,7 @@ impl FormatOptions {
                 print_width,
                 end_of_line,
                 insert_final_newline,
+                ruler_tab: numbers.ruler_tab as usize,
             };
             return Changed {
                 refused: false,
@@ -227,6 +230,7 @@ impl FormatOptions {
         let old_width = self.print_width;
         let old_ending = self.end_of_line;
         let old_newline = self.insert_final_newline;
+        let ruler_tab = self.ruler_tab;
         let max = r.max;
         let config_ending = r.ending;
         let config_newline = r.newline;
@@ -239,6 +243,7 @@ impl FormatOptions {
             print_width,
             end_of_line,
             insert_final_newline,
+            ruler_tab,
         }
     }
 }

@@ -23,6 +23,7 @@ use Rattle.rules.specs.declared.LineEnding.{LineEnding}
 use Rattle.rules.proofs.SplitLines.{Newest, newest, newest-one, alone-line, import-lines, operation-lines, operation-several, operation-alone}
 use Rattle.rules.proofs.StrengthRounds.{strengths-known}
 use Rattle.rules.proofs.SplitSizes.{Fit, import-fits, operation-fits}
+use Rattle.split.specs.Measure.{InUse}
 use Rattle.split.specs.Text.{indented, Fits}
 use Rattle.split_import.specs.Import.{Given, ImportFits}
 use Rattle.split_import.specs.declared.ImportLines.{ImportLines}
@@ -90,8 +91,8 @@ module _
       few : p .imports ≤ 1
       fewer : p .blanks ≤ size (decode line)
 
-    module _ (max : ℕ) (b : Bool) (o2 : List ℕ) (next : ℕ) (p : Placed) (is : p .text ≡ afterLines next b) (came : (o : Options) → o .indent ≡ indent → Came (broken o max level (decode line)) b o2 next p) where
-      came-text : (o : Options) (ls : List (List ℕ)) → o .indent ≡ indent → Text (asStr e) ls t out
+    module _ (ruler max : ℕ) (b : Bool) (o2 : List ℕ) (next : ℕ) (p : Placed) (is : p .text ≡ afterLines next b) (came : (o : Options) → InUse o indent ruler → Came (broken o max level (decode line)) b o2 next p) where
+      came-text : (o : Options) (ls : List (List ℕ)) → InUse o indent ruler → Text (asStr e) ls t out
           → Text (asStr e) (reverseAux (broken o max level (decode line) .lines) (choose drops (dropBlank ls) ls)) (p .text) o2
       came-text o ls i x =
           let r = came o i in
@@ -99,9 +100,9 @@ module _
           rw (is, n .onto (choose drops (dropBlank ls) ls))
           (lines-done (n .last) (n .before) go-on (rw (n .reversed) at (r .written)) (size-line (n .last) (n .line .some)) (n .line .trimmed) (n .line .joins) ls x)
 
-      came-breaks : Breaks max indent (decode line) level (asStr e) drops (length line) out t p o2
+      came-breaks : Breaks ruler max indent (decode line) level (asStr e) drops (length line) out t p o2
       came-breaks =
-          let r = came (indented indent) refl in
+          let r = came (indented indent ruler) (record { indents = refl; ruled = refl }) in
           let n = r .newest in
           let w = lines-grown (n .last) (n .before) go-on (rw (n .reversed) at (r .written)) b in
           record {
@@ -114,21 +115,21 @@ module _
             fewer = omega (arith, r .fewer, long);
           }
 
-    blank-of : (o : Options) → o .indent ≡ indent → allBlank (o .indent) ≡ true
-    blank-of o i = rw i (v .blank)
+    blank-of : (o : Options) → {ruler : ℕ} → InUse o indent ruler → allBlank (o .indent) ≡ true
+    blank-of o i = rw (i .indents) (v .blank)
 
-    short-of : (o : Options) → o .indent ≡ indent → length (o .indent) ≤ 64
-    short-of o i = rw i (v .short)
+    short-of : (o : Options) → {ruler : ℕ} → InUse o indent ruler → length (o .indent) ≤ 64
+    short-of o i = rw (i .indents) (v .short)
 
     -- ---- an import
 
-    module _ (max : ℕ) (brace : Bool) (ends : brace ≡ lastIs (is "}") line) (o2 : List ℕ) (i : ImportSplit)
-        (given : (o : Options) → o .indent ≡ indent → Given (splitImport o max level (classify Carry.Code (decode line))) eol o1 o2 start i) where
+    module _ (ruler max : ℕ) (brace : Bool) (ends : brace ≡ lastIs (is "}") line) (o2 : List ℕ) (i : ImportSplit)
+        (given : (o : Options) → InUse o indent ruler → Given (splitImport o max level (classify Carry.Code (decode line))) eol o1 o2 start i) where
       module _ (m : ImportLines) (yes : i ≡ ImportSplit.Split m) (u : Written) (reached : u ≡ afterLines (m .next) brace) where
         abbrev placed : Placed
         placed = record { text = u; imports = 1; blanks = m .blanks }
 
-        import-came : (o : Options) → o .indent ≡ indent → Came (broken o max level (decode line)) brace o2 (m .next) placed
+        import-came : (o : Options) → InUse o indent ruler → Came (broken o max level (decode line)) brace o2 (m .next) placed
         import-came o k = go (splitImport o max level (classify Carry.Code (decode line))) refl (given o k)
           where
             go : (s : Option Laid) → splitImport o max level (classify Carry.Code (decode line)) ≡ s → Given s eol o1 o2 start i → Came (broken o max level (decode line)) brace o2 (m .next) placed
@@ -149,21 +150,21 @@ module _
                   fewer = omega (arith, rw same-made at (w .blanks), f .blanks);
                 })
 
-        pub import-breaks : Breaks max indent (decode line) level (asStr e) drops (length line) out t placed o2
-        import-breaks = came-breaks max brace o2 (m .next) placed reached import-came
+        pub import-breaks : Breaks ruler max indent (decode line) level (asStr e) drops (length line) out t placed o2
+        import-breaks = came-breaks ruler max brace o2 (m .next) placed reached import-came
 
       -- ---- an expression
 
       module _ (other : i ≡ ImportSplit.Whole) (st : Strengths) (known : st .of ≡ strengths) (o3 : List ℕ) (r : OperationSplit)
-          (said : (o : Options) → o .indent ≡ indent → Broken eol (splitOperation (st .of) o max level (decode line)) o2 o3 start r) where
-        made : (o : Options) → o .indent ≡ indent → Broken eol (splitOperation strengths o max level (decode line)) o2 o3 start r
+          (said : (o : Options) → InUse o indent ruler → Broken eol (splitOperation (st .of) o max level (decode line)) o2 o3 start r) where
+        made : (o : Options) → InUse o indent ruler → Broken eol (splitOperation strengths o max level (decode line)) o2 o3 start r
         made o k = subst (λ (table : List ℕ). Broken eol (splitOperation table o max level (decode line)) o2 o3 start r) known (said o k)
 
         abbrev operationLaid : Options → Laid
         operationLaid o = record { lines = splitOperation strengths o max level (decode line); importsSplit = 0; blankNames = 0 }
 
         -- it is no import that is split, and nothing was written for it
-        other-same : (o : Options) → o .indent ≡ indent → (broken o max level (decode line) ≡ operationLaid o) × (o2 ≡ o1)
+        other-same : (o : Options) → InUse o indent ruler → (broken o max level (decode line) ≡ operationLaid o) × (o2 ≡ o1)
         other-same o k = go (splitImport o max level (classify Carry.Code (decode line))) refl (given o k)
           where
             go : (s : Option Laid) → splitImport o max level (classify Carry.Code (decode line)) ≡ s → Given s eol o1 o2 start i
@@ -171,7 +172,7 @@ module _
             go none q w = (unfold broken orOperation in (rw q refl), w .same)
             go (some laid) q w = absurd (let y : _≡_ {A = ℕ} 0 1 = cc (other, w .is) in omega arith)
 
-        operation-came : (b : Bool) (u : Written) (o : Options) → o .indent ≡ indent → Newest b (splitOperation strengths o max level (decode line)) → Came (broken o max level (decode line)) b o3 (lineOf r .next) (aloneIn u)
+        operation-came : (b : Bool) (u : Written) (o : Options) → InUse o indent ruler → Newest b (splitOperation strengths o max level (decode line)) → Came (broken o max level (decode line)) b o3 (lineOf r .next) (aloneIn u)
         operation-came b u o k n =
             let s = other-same o k in
             subst (λ (x : Laid). Came x b o3 (lineOf r .next) (aloneIn u)) (sym (s .0))
@@ -185,21 +186,21 @@ module _
               fewer = omega arith;
             })
 
-        operation-breaks : (b : Bool) (u : Written) (p : Placed) → ((o : Options) → o .indent ≡ indent → Newest b (splitOperation strengths o max level (decode line)))
-            → u ≡ afterLines (lineOf r .next) b → p ≡ aloneIn u → Breaks max indent (decode line) level (asStr e) drops (length line) out t p o3
+        operation-breaks : (b : Bool) (u : Written) (p : Placed) → ((o : Options) → InUse o indent ruler → Newest b (splitOperation strengths o max level (decode line)))
+            → u ≡ afterLines (lineOf r .next) b → p ≡ aloneIn u → Breaks ruler max indent (decode line) level (asStr e) drops (length line) out t p o3
         operation-breaks b u p n reached is =
-            subst (λ (x : Placed). Breaks max indent (decode line) level (asStr e) drops (length line) out t x o3) (sym is)
-            (came-breaks max b o3 (lineOf r .next) (aloneIn u) reached (λ o k. operation-came b u o k (n o k)))
+            subst (λ (x : Placed). Breaks ruler max indent (decode line) level (asStr e) drops (length line) out t x o3) (sym is)
+            (came-breaks ruler max b o3 (lineOf r .next) (aloneIn u) reached (λ o k. operation-came b u o k (n o k)))
 
         pub several-breaks : (w : NewLine) (u : Written) (p : Placed) → r ≡ OperationSplit.Broken w → u ≡ afterLines (w .next) brace → p ≡ aloneIn u
-            → Breaks max indent (decode line) level (asStr e) drops (length line) out t p o3
+            → Breaks ruler max indent (decode line) level (asStr e) drops (length line) out t p o3
         several-breaks w u p more reached is =
             operation-breaks brace u p
             (λ o k. rw (ends, brace-bytes line (g .well)) (newest (operation-several (operation-lines strengths o (blank-of o k) max level (decode line) (g .trimmed)) (sym (made o k .more) ∙ ap isBroken more))))
             (reached ∙ ap (λ (x : OperationSplit). afterLines (lineOf x .next) brace) (sym more)) is
 
         pub alone-breaks : (w : NewLine) (j : Bool) (u : Written) (p : Placed) → j ≡ joinable (decode line)
-            → r ≡ OperationSplit.Whole w → u ≡ afterLines (w .next) j → p ≡ aloneIn u → Breaks max indent (decode line) level (asStr e) drops (length line) out t p o3
+            → r ≡ OperationSplit.Whole w → u ≡ afterLines (w .next) j → p ≡ aloneIn u → Breaks ruler max indent (decode line) level (asStr e) drops (length line) out t p o3
         alone-breaks w j u p q more reached is =
             operation-breaks j u p
             (λ o k. rw (operation-alone (operation-lines strengths o (blank-of o k) max level (decode line) (g .trimmed)) (sym (made o k .more) ∙ ap isBroken more), q)

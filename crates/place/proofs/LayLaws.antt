@@ -28,6 +28,7 @@ use Rattle.text.proofs.LinesLaws.{kind-joinable}
 use Rattle.text.proofs.StepLaws.{grown-ordered}
 use Rattle.place.specs.declared.Before.{Before}
 use Rattle.place.specs.declared.Placed.{Placed}
+use Rattle.split.specs.Measure.{InUse}
 use Rattle.line.specs.Holds.{Uses, prevOf}
 use Rattle.line.specs.declared.formatter.Prev.{Prev}
 use Rattle.line.specs.declared.style.Style.{Style}
@@ -69,12 +70,15 @@ module _
     (drops : Bool) (max : PrintWidth) (p : Placed) (g : GoesOn line class) (wc : Closers line (b .closers))
     (wk : Continues line (b .prev .brace) continued) (wl : level ≡ b .levels + choose continued 1 0) (eo : b .own ≡ prevOf line)
     (er : drops ≡ dropsBlank (b .depth) (b .own .declares) (b .prev .declares)) (em : max ≡ breakWidth (style .width) marker continued (b .closers))
-    (w : Lays (choose (allCodeOrStr (classify Carry.Code (decode line))) max PrintWidth.Off) indent (decode line) level eol drops (length line) out (b .text) p out′)
+    (w : Lays (style .ruler) (choose (allCodeOrStr (classify Carry.Code (decode line))) max PrintWidth.Off) indent (decode line) level eol drops (length line) out (b .text) p out′)
   where
     closers-same : b .closers ≡ leadingClosers (decode line)
     closers-same = wc .is ∙ on-decode leadingClosers leadingClosers closers-encode line (g .well)
 
     module _ (o : Options) (f : Formatter) (u : Uses o indent style) (k : Knows eol f b out) where
+      in-use : InUse o indent (style .ruler)
+      in-use = record { indents = u .indents; ruled = u .ruled }
+
       continued-same : continued ≡ continues (f .prev) (decode line)
       continued-same = wk .is (f .prev) (sym (ap (λ (p : Prev). p .brace) (k .prev)))
 
@@ -103,15 +107,15 @@ module _
 
       lay-text : Text eol (placedLine o f marker (decode line) .lines) (p .text) out′
       unfolding placedLine
-      lay-text = rw (laid-same, lines-same) (w .text o (f .lines) (u .indents) (k .text))
+      lay-text = rw (laid-same, lines-same) (w .text o (f .lines) in-use (k .text))
 
       lay-imports : placedLine o f marker (decode line) .importsSplit ≡ f .importsSplit + p .imports
       unfolding placedLine
-      lay-imports = rw (laid-same, w .imports o (u .indents)) refl
+      lay-imports = rw (laid-same, w .imports o in-use) refl
 
       lay-blanks : placedLine o f marker (decode line) .blankNames ≡ f .blankNames + p .blanks
       unfolding placedLine
-      lay-blanks = rw (laid-same, w .blanks o (u .indents)) refl
+      lay-blanks = rw (laid-same, w .blanks o in-use) refl
 
     pub lay-done : Puts (placedBy marker (decode line)) indent style eol (length line) b out p out′
     lay-done =

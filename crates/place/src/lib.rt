@@ -157,7 +157,7 @@ fn fit_line(
     requires { ⌜ slot .level ≤ maxSource ⌝ }
     requires { ⌜ GoesOn (now line) (now class) ⌝ }
     requires { ⌜ Ordered t × (t .at .0 ≤ farPlace) ⌝ }
-    ensures { λ r. ⌜ Lays (choose (allCodeOrStr (classify Carry.Code (decode (now (line .entry))))) (style .width) PrintWidth.Off) (now (indent .entry)) (decode (now (line .entry))) (slot .level) (asStr (style .ending)) (slot .drops) (length (now (line .entry))) (now (out .entry)) t r (now (out .exit)) ⌝ }
+    ensures { λ r. ⌜ Lays (style .ruler) (choose (allCodeOrStr (classify Carry.Code (decode (now (line .entry))))) (style .width) PrintWidth.Off) (now (indent .entry)) (decode (now (line .entry))) (slot .level) (asStr (style .ending)) (slot .drops) (length (now (line .entry))) (now (out .entry)) t r (now (out .exit)) ⌝ }
 {
     let width = style.width;
     let ending = style.ending;
@@ -167,6 +167,7 @@ fn fit_line(
             let s = Layout {
                 level: slot.level,
                 max: Utf16Column(max),
+                ruler: style.ruler,
                 ending,
             };
             if over_wide(s, indent, line) {
@@ -209,7 +210,11 @@ fn lay_line(
     let width = style.width;
     let ending = style.ending;
     let max = break_width(width, marker, continued, closers);
-    let used = Style { width: max, ending };
+    let used = Style {
+        width: max,
+        ruler: style.ruler,
+        ending,
+    };
     let slot = Slot { level, drops };
     fit_line(line, class, indent, used, slot, out, t)
 }
@@ -256,7 +261,7 @@ fn break_line(
     requires { ⌜ GoesOn (now line) (now class) ⌝ }
     requires { ⌜ Ordered t × (t .at .0 ≤ farPlace) ⌝ }
     requires { ⌜ allCodeOrStr (classify Carry.Code (now line)) ≡ true ⌝ }
-    ensures { λ r. ⌜ Breaks (s .max .0) (now (indent .entry)) (decode (now (line .entry))) (s .level) (asStr (s .ending)) drops (length (now (line .entry)))
+    ensures { λ r. ⌜ Breaks (s .ruler) (s .max .0) (now (indent .entry)) (decode (now (line .entry))) (s .level) (asStr (s .ending)) drops (length (now (line .entry)))
         (now (out .entry)) t r (now (out .exit)) ⌝ }
 {
     let ending = s.ending;

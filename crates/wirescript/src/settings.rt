@@ -1,4 +1,4 @@
-// The setting steps over numbers and bytes, for a host.
+// The setting steps over numbers and bytes, for a host. They leave the ruler tab as it is, so that it is neither given nor told.
 ghost use mathlib.Core.Path.{_≡_};
 ghost use Rattle.call.specs.Ran.{numbersOf};
 ghost use Rattle.options.specs.Held.{optionsIn, held, changeIn};
@@ -92,13 +92,14 @@ pub extern "C" fn wirescript_indent_with(
     size: u64,
     output: &mut [u8],
 ) -> Settings
-    ensures { λ r. ⌜ SettingsAnswered (indentOutcome (record { indent = now (indent .entry); numbers = numbersOf «width_set» width «line_ending» «final_newline» }) tabs size) r (now (output .entry)) (now (output .exit)) ⌝ }
+    ensures { λ r. ⌜ SettingsAnswered (indentOutcome (record { indent = now (indent .entry); numbers = numbersOf «width_set» width «line_ending» «final_newline» 0 }) tabs size) r (now (output .entry)) (now (output .exit)) ⌝ }
 {
     let numbers = OptionNumbers {
         width_set,
         width,
         line_ending,
         final_newline,
+        ruler_tab: 0,
     };
     let old = FormatOptions::from_numbers(indent, numbers);
     let options = old.options;
@@ -152,13 +153,14 @@ pub extern "C" fn wirescript_editorconfig(
     newline: u64,
     output: &mut [u8],
 ) -> Settings
-    ensures { λ r. ⌜ SettingsAnswered (configOutcome (record { indent = now (indent .entry); numbers = numbersOf «width_set» width «line_ending» «final_newline» }) (record { style = style; «size_kind» = «size_kind»; size = size; «tab_set» = «tab_set»; tab = tab; «max_kind» = «max_kind»; max = max; ending = ending; newline = newline })) r (now (output .entry)) (now (output .exit)) ⌝ }
+    ensures { λ r. ⌜ SettingsAnswered (configOutcome (record { indent = now (indent .entry); numbers = numbersOf «width_set» width «line_ending» «final_newline» 0 }) (record { style = style; «size_kind» = «size_kind»; size = size; «tab_set» = «tab_set»; tab = tab; «max_kind» = «max_kind»; max = max; ending = ending; newline = newline })) r (now (output .entry)) (now (output .exit)) ⌝ }
 {
     let numbers = OptionNumbers {
         width_set,
         width,
         line_ending,
         final_newline,
+        ruler_tab: 0,
     };
     let values = ConfigNumbers {
         style,

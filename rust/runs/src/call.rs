@@ -28,6 +28,7 @@ pub struct Call {
     pub width: u64,
     pub line_ending: u64,
     pub final_newline: u64,
+    pub ruler_tab: u64,
     pub output: Size,
     pub scratch: Size,
 }
@@ -44,11 +45,17 @@ pub struct Chosen {
     /// The text never ends in a line ending; the Rust's options then ask for one, which is
     /// removed.
     pub never: bool,
+    /// How far apart the ruler's tab stops are; at 0 the Rust's own measure.
+    pub ruler: u64,
 }
 
 impl From<FormatOptions> for Chosen {
     fn from(rust: FormatOptions) -> Self {
-        Self { rust, never: false }
+        Self {
+            rust,
+            never: false,
+            ruler: 0,
+        }
     }
 }
 
@@ -68,13 +75,17 @@ impl Chosen {
         };
         Choices {
             final_newline,
+            ruler_tab: self.ruler,
             ..choices
         }
     }
 
     /// The text and the counts of a source.
     pub fn format(&self, source: &str) -> upstream::Counted {
-        let mut counted = upstream::format_counted(source, &self.rust);
+        let mut counted = match self.ruler {
+            0 => upstream::format_counted(source, &self.rust),
+            step => upstream::format_ruled(source, &self.rust, step as usize),
+        };
         if self.never {
             let text = counted.text.strip_suffix('\n').expect("an ending");
             counted.text = match self.ending(source) {
@@ -109,6 +120,7 @@ pub fn choices_of(options: &FormatOptions) -> Choices<'_> {
             Some(LineEnding::Crlf) => 2,
         },
         final_newline: u64::from(options.insert_final_newline),
+        ruler_tab: 0,
     }
 }
 
@@ -132,6 +144,7 @@ impl Call {
             width: s.width,
             line_ending: s.line_ending,
             final_newline: s.final_newline,
+            ruler_tab: s.ruler_tab,
             output,
             scratch,
         }
@@ -144,6 +157,7 @@ impl Call {
             width: self.width,
             line_ending: self.line_ending,
             final_newline: self.final_newline,
+            ruler_tab: self.ruler_tab,
         }
     }
 
@@ -168,7 +182,10 @@ impl Call {
             },
             insert_final_newline: self.final_newline == 1,
         };
-        let chosen = Chosen::from(rust);
+        let chosen = Chosen {
+            ruler: self.ruler_tab,
+            ..Chosen::from(rust)
+        };
         Some(if self.final_newline == 2 {
             chosen.never()
         } else {

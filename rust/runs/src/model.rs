@@ -9,7 +9,7 @@ use wirescript_format::raw::{Answer, Kind, Resolved, Settings};
 
 const MAX_SOURCE: usize = 1_048_576;
 
-/// The text and the counts of a call to which none of refusals 1 to 4 applies; else the
+/// The text and the counts of a call to which none of refusals 1, 2, 11, 3 and 4 applies; else the
 /// refusal's number and place.
 pub fn text_of(call: &Call) -> Result<upstream::Counted, (u64, u64)> {
     if call.source.len() > MAX_SOURCE {
@@ -18,6 +18,9 @@ pub fn text_of(call: &Call) -> Result<upstream::Counted, (u64, u64)> {
     let Some(options) = call.options() else {
         return Err((2, 0));
     };
+    if call.ruler_tab > 16 {
+        return Err((11, 0));
+    }
     let needed = scratch_needed(&call.source);
     if call.scratch_length() < needed {
         return Err((3, needed as u64));
@@ -119,6 +122,7 @@ pub fn configured(options: Chosen, values: Properties) -> Option<Chosen> {
     let set = Chosen {
         rust: upstream::with_resolved(options.rust, values),
         never: false,
+        ruler: options.ruler,
     };
     Some(match values.newline {
         Some(FinalNewline::Value(false)) => set.never(),

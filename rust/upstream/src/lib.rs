@@ -1,6 +1,9 @@
-//! The Rust formatter, compiled unchanged, and its private functions for comparison.
+//! The Rust formatter, compiled unchanged, and its private functions for comparison; and the same
+//! with lines measured by a ruler.
 
 #![allow(clippy::all, dead_code)]
+
+mod ruler;
 
 include!(concat!(env!("OUT_DIR"), "/upstream.rs"));
 
@@ -9,3 +12,4 @@ pub use format::reach::{
     scan_brackets, text_kind_at, with_resolved,
 };
 pub use format::{DEFAULT_PRINT_WIDTH, FormatOptions, LineEnding, format_with};
+pub use ruler::format_ruled;

@@ -29,7 +29,7 @@ pub use kinds::text_kinds;
 pub use options::{
     EditorConfig, EndOfLine, FinalNewline, IndentSize, IndentStyle, LineEnding, MaxLineLength, Options,
 };
-pub use refusal::{MAX_INDENT, MAX_SOURCE, Refusal};
+pub use refusal::{MAX_INDENT, MAX_RULER, MAX_SOURCE, Refusal};
 
 /// A formatted text, and what splitting did.
 #[derive(Clone, Copy, Debug, PartialEq, Eq)]

@@ -22,13 +22,14 @@ pub enum FinalNewline {
     Never,
 }
 
-/// What a host chooses. The defaults: two spaces, width 100, ending kept, final newline.
+/// What a host chooses. The defaults: two spaces, width 100, ending kept, final newline, ruler tab 0.
 #[derive(Clone, Debug, PartialEq, Eq)]
 pub struct Options {
     pub(crate) indent: String,
     pub(crate) width: Option<u64>,
     pub(crate) line_ending: LineEnding,
     pub(crate) final_newline: FinalNewline,
+    pub(crate) ruler_tab: u64,
 }
 
 impl Default for Options {
@@ -38,6 +39,7 @@ impl Default for Options {
             width: Some(Self::DEFAULT_WIDTH),
             line_ending: LineEnding::Kept,
             final_newline: FinalNewline::Always,
+            ruler_tab: 0,
         }
     }
 }
@@ -86,6 +88,27 @@ impl Options {
         self
     }
 
+    /// How far apart the tab stops of the editor's ruler are, up to 16 columns: in the width of a
+    /// line a tab goes to the next one. At 0, the default, a tab is one column. A larger ruler is
+    /// refused by the call. The setting steps leave it as it is.
+    ///
+    /// ```
+    /// use wirescript_format::{Options, Refusal, format};
+    ///
+    /// let text = |ruler| {
+    ///     let options = Options::new().width(Some(10)).ruler_tab(ruler);
+    ///     format("abcd\t+ e", &options).map(|f| f.text)
+    /// };
+    /// assert_eq!(text(0).as_deref(), Ok("abcd\t+ e\n"));
+    /// assert_eq!(text(4).as_deref(), Ok("abcd\n  + e\n"));
+    /// assert_eq!(text(17), Err(Refusal::RulerTooWide));
+    /// ```
+    #[must_use]
+    pub fn ruler_tab(mut self, ruler_tab: u64) -> Self {
+        self.ruler_tab = ruler_tab;
+        self
+    }
+
     /// These options with a tab as their indent, or with `size` spaces. A size over 64 is refused,
     /// needed or not; the options that were asked stay as they are.
     ///
@@ -100,7 +123,7 @@ impl Options {
     pub fn indent_with(&self, tabs: bool, size: u64) -> Result<Self, Refusal> {
         let mut indent = [0; MAX_INDENT];
         let set = raw::indent_with(self.choices(), u64::from(tabs), size, &mut indent);
-        Self::of(set, &indent)
+        self.set(set, &indent)
     }
 
     /// These options overridden by what .editorconfig files say. A size over 64 is refused; the
@@ -122,7 +145,7 @@ impl Options {
     pub fn with_editorconfig(&self, config: EditorConfig) -> Result<Self, Refusal> {
         let mut indent = [0; MAX_INDENT];
         let set = raw::editorconfig(self.choices(), config.resolved(), &mut indent);
-        Self::of(set, &indent)
+        self.set(set, &indent)
     }
 
     /// The options as the library takes them.
@@ -142,10 +165,12 @@ impl Options {
                 FinalNewline::Always => 1,
                 FinalNewline::Never => 2,
             },
+            ruler_tab: self.ruler_tab,
         }
     }
 
-    fn of(set: Settings, indent: &[u8]) -> Result<Self, Refusal> {
+    /// What a setting step gave; the ruler tab stays.
+    fn set(&self, set: Settings, indent: &[u8]) -> Result<Self, Refusal> {
         if let Some(refusal) = Refusal::of(set.refusal, set.place) {
             return Err(refusal);
         }
@@ -163,6 +188,7 @@ impl Options {
                 1 => FinalNewline::Always,
                 _ => FinalNewline::Never,
             },
+            ruler_tab: self.ruler_tab,
         })
     }
 }
@@ -255,19 +281,22 @@ mod tests {
             width: 100,
             line_ending: 0,
             final_newline: 1,
+            ruler_tab: 0,
         };
         assert_eq!(Options::new().choices(), choices);
         let other = Options::new()
             .indent("\t")
             .width(None)
             .line_ending(LineEnding::Crlf)
-            .final_newline(FinalNewline::AsSource);
+            .final_newline(FinalNewline::AsSource)
+            .ruler_tab(16);
         let choices = Choices {
             indent: b"\t",
             width_set: 0,
             width: 0,
             line_ending: 2,
             final_newline: 0,
+            ruler_tab: 16,
         };
         assert_eq!(other.choices(), choices);
     }
@@ -283,16 +312,18 @@ mod tests {
             .indent("\t")
             .width(None)
             .line_ending(LineEnding::Lf)
-            .final_newline(FinalNewline::AsSource);
-        assert_eq!(Options::of(set, b"\t\0"), Ok(wanted));
+            .final_newline(FinalNewline::AsSource)
+            .ruler_tab(4);
+        let old = Options::new().ruler_tab(4);
+        assert_eq!(old.set(set, b"\t\0"), Ok(wanted));
         set.refusal = 2;
-        assert_eq!(Options::of(set, b"\t\0"), Err(Refusal::BadOption));
+        assert_eq!(old.set(set, b"\t\0"), Err(Refusal::BadOption));
         (set.refusal, set.place) = (17, 3);
         let other = Refusal::Other {
             number: 17,
             place: 3,
         };
-        assert_eq!(Options::of(set, b"\t\0"), Err(other));
+        assert_eq!(old.set(set, b"\t\0"), Err(other));
     }
 
     #[test]

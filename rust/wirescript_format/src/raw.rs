@@ -38,6 +38,8 @@ pub struct Kinds {
 
 /// Options as numbers. `width_set`: 0 no width, 1 the width. `line_ending`: 0 kept, 1 LF,
 /// 2 CRLF. `final_newline`: 0 as the source, 1 always, 2 never. Other numbers name no choice.
+/// `ruler_tab`: 0 a tab is one column, else how far apart the ruler's tab stops are, up to 16; the
+/// setting steps don't look at it.
 #[derive(Clone, Copy, Debug, PartialEq, Eq)]
 pub struct Choices<'a> {
     pub indent: &'a [u8],
@@ -45,6 +47,7 @@ pub struct Choices<'a> {
     pub width: u64,
     pub line_ending: u64,
     pub final_newline: u64,
+    pub ruler_tab: u64,
 }
 
 /// What a setting step comes to: the changed options, whose indent is in the output; with a
@@ -84,7 +87,7 @@ mod linked {
     unsafe extern "C" {
         pub fn wirescript_format(
             source: *const u8, source_length: usize, indent: *const u8, indent_length: usize,
-            width_set: u64, width: u64, line_ending: u64, final_newline: u64,
+            width_set: u64, width: u64, line_ending: u64, final_newline: u64, ruler_tab: u64,
             output: *mut u8, output_length: usize, scratch: *mut u8, scratch_length: usize,
         ) -> Answer;
         pub fn wirescript_text_kind_at(
@@ -138,7 +141,7 @@ pub fn format(source: &[u8], s: Choices, output: &mut [u8], scratch: &mut [u8]) 
             wirescript_format,
             (source.as_ptr(), source.len()),
             s,
-            (text, room, work, left)
+            (s.ruler_tab, text, room, work, left)
         )
     }
 }

@@ -10,6 +10,9 @@ const SOURCE_END: u64 = MAX_SOURCE as u64;
 /// The longest indent, in bytes.
 pub const MAX_INDENT: usize = 64;
 
+/// The largest ruler tab, in columns.
+pub const MAX_RULER: u64 = 16;
+
 /// Why a call was turned away.
 #[derive(Clone, Copy, Debug, PartialEq, Eq)]
 #[non_exhaustive]
@@ -29,6 +32,8 @@ pub enum Refusal {
     PlacesUnordered,
     /// There are fewer answer bytes than places.
     KindsShort,
+    /// The ruler tab is over [`MAX_RULER`] columns.
+    RulerTooWide,
     /// No expression has the character at this byte of the source, or the source ends early there.
     NotExpression { place: u64 },
     /// The bracket at this byte of the source stands deeper than 64.
@@ -58,6 +63,7 @@ impl Refusal {
             (5, needed) => Self::OutputShort { needed },
             (9, 0) => Self::PlacesUnordered,
             (10, 0) => Self::KindsShort,
+            (11, 0) => Self::RulerTooWide,
             (14, place) => Self::NotExpression { place },
             (15, place) => Self::TooDeep { place },
             (number, place) => Self::Other { number, place },
@@ -75,6 +81,7 @@ impl Refusal {
             Self::OutputShort { .. } => 5,
             Self::PlacesUnordered => 9,
             Self::KindsShort => 10,
+            Self::RulerTooWide => 11,
             Self::NotExpression { .. } => 14,
             Self::TooDeep { .. } => 15,
             Self::Other { number, .. } => number,
@@ -86,7 +93,7 @@ impl Refusal {
     pub fn place(self) -> u64 {
         match self {
             Self::SourceTooLong => SOURCE_END,
-            Self::BadOption | Self::PlacesUnordered | Self::KindsShort => 0,
+            Self::BadOption | Self::PlacesUnordered | Self::KindsShort | Self::RulerTooWide => 0,
             Self::ScratchShort { needed } | Self::OutputShort { needed } => needed,
             Self::NotUtf8 { prefix } => prefix,
             Self::NotExpression { place } | Self::TooDeep { place } | Self::Other { place, .. } => {
@@ -116,6 +123,7 @@ impl fmt::Display for Refusal {
             }
             Self::PlacesUnordered => write!(f, "the places are not in ascending order"),
             Self::KindsShort => write!(f, "there are fewer answer bytes than places"),
+            Self::RulerTooWide => write!(f, "the ruler tab is over {MAX_RULER} columns"),
             Self::NotExpression { place } => write!(f, "not an expression at byte {place}"),
             Self::TooDeep { place } => write!(f, "brackets deeper than 64 at byte {place}"),
             Self::Other { number, place } => write!(f, "refusal {number} at {place}"),
@@ -151,6 +159,7 @@ mod tests {
             (5, 7, Refusal::OutputShort { needed: 7 }),
             (9, 0, Refusal::PlacesUnordered),
             (10, 0, Refusal::KindsShort),
+            (11, 0, Refusal::RulerTooWide),
             (14, 7, Refusal::NotExpression { place: 7 }),
             (15, 7, Refusal::TooDeep { place: 7 }),
         ];

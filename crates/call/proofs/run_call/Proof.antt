@@ -1,6 +1,6 @@
 -- `call::run_call` meets its contract. In each answer, s is the place after the tests, and a the arguments.
 use borrow.Author.Needs.{needs}
-use Rattle.call.proofs.CallLaws.{ran-refused, passed, ran-formatted}
+use Rattle.call.proofs.CallLaws.{ran-refused, passed, ruler-small, ran-formatted}
 use Rattle.call.proofs.run_call.Statement.{statement}
 use Rattle.call.proofs.run_call.Tie as tie
 
@@ -23,10 +23,10 @@ format-with-requires : tie.Need-format-with-requires
 format-with-requires c κs =
     let s = c .before .before .before .before in
     let a = s .before .before .before .before .before .before .before .args in
-    passed _ _ _ (a .output .now) (a .scratch .now) _ _
-    (s .before .before .from-numbers .ensures)
-    (s .test .ensures)
-    (c .before .before .enum-told .given .1)
+    let n = s .before .before .from-numbers .ensures in
+    let t = s .test .ensures in
+    let e = c .before .before .enum-told .given .1 in
+    (passed _ _ _ (a .output .now) (a .scratch .now) _ _ n t e, ruler-small _ _ _ (a .output .now) (a .scratch .now) _ _ n t e)
 
 same-length : tie.Need-same-length
 same-length c = search needs

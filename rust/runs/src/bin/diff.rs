@@ -91,13 +91,14 @@ fn show(check: &Check) -> String {
     };
     match check {
         Check::Format(c) => format!(
-            "source {}\nindent {}, width_set {}, width {}, line_ending {}, final_newline {}, output {:?}, scratch {:?}",
+            "source {}\nindent {}, width_set {}, width {}, line_ending {}, final_newline {}, ruler_tab {}, output {:?}, scratch {:?}",
             text(&c.source),
             text(&c.indent),
             c.width_set,
             c.width,
             c.line_ending,
             c.final_newline,
+            c.ruler_tab,
             c.output,
             c.scratch
         ),

@@ -45,7 +45,7 @@ use Rattle.rules.specs.declared.Resolved.{Resolved}
 use Rattle.rules.proofs.Computing.{computing}
 
 abbrev opts : String → PrintWidth → EndOfLine → FinalNewline → Options
-opts i w e n = record { indent = codes i; printWidth = w; endOfLine = e; insertFinalNewline = n }
+opts i w e n = record { indent = codes i; printWidth = w; endOfLine = e; insertFinalNewline = n; rulerTab = 0 }
 
 ";
 
@@ -150,7 +150,7 @@ Case = Call × Answer × List ℕ
 
 abbrev call : List ℕ → List ℕ → ℕ → ℕ → ℕ → ℕ → ℕ → ℕ → Call
 call s i ws w e n o c =
-    record { source = s; choices = record { indent = i; numbers = record { «width_set» = ws; width = w; «line_ending» = e; «final_newline» = n } }; output = o; scratch = c }
+    record { source = s; choices = record { indent = i; numbers = record { «width_set» = ws; width = w; «line_ending» = e; «final_newline» = n; «ruler_tab» = 0 } }; output = o; scratch = c }
 
 abbrev ans : ℕ → ℕ → ℕ → ℕ → ℕ → Answer
 ans r p l i b = record { refusal = r; place = p; length = l; «imports_split» = i; «blank_names» = b }

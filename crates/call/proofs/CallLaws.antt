@@ -1,7 +1,7 @@
 -- The finish, and what a call comes to, by its tests in their order.
 --     ending-kept, ending-set, last-always, last-source     the ending, and the last one
 --     text-short, text-fits                                 the text in the output
---     test-table, test-long, test-option, test-rest         the tests
+--     test-table, test-long, test-option, test-ruler, test-rest   the tests
 --     ran-refused, ran-formatted                            the outcome of a call; answered the answer
 use Prim.Native.Nat.{ℕ, _-_, _≤_, _<_}
 use native.Mathlib.Omega.{arith}
@@ -17,11 +17,11 @@ use Rattle.unicode.proofs.Decode.{test-wf}
 use Rattle.unicode.proofs.Tests.{and-left, and-right}
 use Rattle.rules.specs.Basics.{choose}
 use Rattle.rules.specs.Lines.{asStr, linesOf, dominantIn, endsInLf}
-use Rattle.rules.specs.Options.{Options, allBlank, validIndent, maxIndent}
+use Rattle.rules.specs.Options.{Options, allBlank, validIndent, maxIndent, maxRuler}
 use Rattle.rules.specs.Brackets.{openLines}
 use Rattle.rules.specs.Line.{Formatter, start}
 use Rattle.rules.specs.Assembly.{Formatted, endingOf, dropEmpty, joined, lastEnding, finish, formatLines, formatWith}
-use Rattle.rules.specs.Refusals.{maxSource, scratchNeeded, refuseIf, tested, longSource, badOption, shortScratch, illFormed, shortOutput, wrongLength, bitsSet}
+use Rattle.rules.specs.Refusals.{maxSource, scratchNeeded, refuseIf, tested, longSource, badOption, wideRuler, shortScratch, illFormed, shortOutput, wrongLength, bitsSet}
 use Rattle.rules.specs.Strengths.{tableLength}
 use Rattle.rules.specs.Choices.{validOptions, optionsOf}
 use Rattle.rules.specs.Call.{Call, formatted, textOf, formatScratch, formatTests, verdictOf, outcomeAfter, outcomeOf, answerOf, filled, listed, outputOf, openedOf}
@@ -39,7 +39,7 @@ use Rattle.rules.proofs.LinesBytes.{dominant-encode, ends-lf-encode}
 use Rattle.rules.proofs.RefusalLaws.{test-on, test-off, pass, stop, one-test, goes-on, ends, head-passed, source-short}
 use Rattle.rules.proofs.CallLaws.{Admitted, admitted, indent-valid, answer-well, answer-kept}
 use Rattle.quoted.proofs.C22.{c22-call}
-use Rattle.options.specs.Held.{heldNamed}
+use Rattle.options.specs.Held.{heldNamed, held}
 use Rattle.options.specs.declared.FormatOptions.{FormatOptions}
 use Rattle.options.specs.declared.Changed.{Changed}
 use Rattle.options.proofs.NumbersLaws.{named-valid-is, named-options}
@@ -95,7 +95,7 @@ module _
     (source indent : List ℕ) (chosen : FormatOptions) (ending : LineEnding) (last : Bool) (st : Record)
     (out₀ list₀ scratch₀ out₁ scratch₁ out₂ list₁ scratch₂ : List ℕ) (n r : ℕ)
     (e : ending ≡ endingOf (chosen .«end_of_line») (decode source))
-    (l : LinesDone source indent (record { width = chosen .«print_width»; ending = ending; strengths = chosen .strengths }) st out₁ scratch₁)
+    (l : LinesDone source indent (record { width = chosen .«print_width»; ruler = chosen .«ruler_tab»; ending = ending; strengths = chosen .strengths }) st out₁ scratch₁)
     (k : (eol : List ℕ) → choose last eol [] ≡ lastEnding (chosen .«insert_final_newline») (decode source) eol)
     (w : Finished (asStr ending) (choose last (asStr ending) []) out₁ (st .text) out₂ n)
     (eo : length out₁ ≡ length out₀) (es : length scratch₁ ≡ length scratch₀) (ef : length out₂ ≡ length out₁)
@@ -104,7 +104,7 @@ module _
     o = optionsWith indent chosen
 
     held-here : Holds (asStr ending) (length source) (formattedLines o source) st out₁ scratch₁
-    held-here = l .holds o (record { indents = refl; breaks = refl; strengths = refl })
+    held-here = l .holds o (record { indents = refl; breaks = refl; ruled = refl; strengths = refl })
 
     text-is : formatWith o (decode source) .text ≡ joined (asStr ending) (dropEmpty (formattedLines o source .lines)) ++ choose last (asStr ending) []
     unfolding formatWith finish
@@ -158,28 +158,38 @@ pub length-passed : (source : List ℕ) (v : Verdict) → v ≡ longSource sourc
 length-passed source v e p = source-short source (sym e ∙ p)
 
 module _
-    (table source : List ℕ) (bad : Bool) (scratch : ℕ) (u : Verdict) (eu : u ≡ tested (wrongLength table ∷ bitsSet table ∷ []))
+    (table source : List ℕ) (bad : Bool) (ruler scratch : ℕ) (u : Verdict) (eu : u ≡ tested (wrongLength table ∷ bitsSet table ∷ []))
   where
-    pub test-table : (why : Refusal) → u ≡ Verdict.Refused why → Verdict.Refused why ≡ tested (formatTests table source bad scratch)
+    pub test-table : (why : Refusal) → u ≡ Verdict.Refused why → Verdict.Refused why ≡ tested (formatTests table source bad ruler scratch)
     test-table why p = sym (ends (wrongLength table ∷ bitsSet table ∷ []) _ why (sym eu ∙ p))
 
     module _ (pu : u ≡ Verdict.Accepted) (v : Verdict) (e : v ≡ longSource source) where
-      on : tested (formatTests table source bad scratch)
-          ≡ tested (longSource source ∷ badOption bad ∷ shortScratch (scratchNeeded formatScratch source) scratch ∷ illFormed source ∷ [])
+      on : tested (formatTests table source bad ruler scratch)
+          ≡ tested (longSource source ∷ badOption bad ∷ wideRuler ruler ∷ shortScratch (scratchNeeded formatScratch source) scratch ∷ illFormed source ∷ [])
       on = goes-on (wrongLength table ∷ bitsSet table ∷ []) _ (sym eu ∙ pu)
 
-      pub test-long : (why : Refusal) → v ≡ Verdict.Refused why → Verdict.Refused why ≡ tested (formatTests table source bad scratch)
+      pub test-long : (why : Refusal) → v ≡ Verdict.Refused why → Verdict.Refused why ≡ tested (formatTests table source bad ruler scratch)
       test-long why p = sym (on ∙ stop (longSource source) why _ (sym e ∙ p))
 
       module _ (p : v ≡ Verdict.Accepted) where
-        pub test-option : bad ≡ true → Verdict.Refused Refusal.BadOption ≡ tested (formatTests table source bad scratch)
+        pub test-option : bad ≡ true → Verdict.Refused Refusal.BadOption ≡ tested (formatTests table source bad ruler scratch)
         unfolding badOption
         test-option q = sym (on ∙ pass (longSource source) _ (sym e ∙ p) ∙ stop (badOption bad) _ _ (test-on bad _ q))
 
-        pub test-rest : (r : Verdict) → bad ≡ false → r ≡ tested (shortScratch (scratchNeeded formatScratch source) scratch ∷ illFormed source ∷ [])
-            → r ≡ tested (formatTests table source bad scratch)
-        unfolding badOption
-        test-rest r q t = t ∙ sym (on ∙ pass (longSource source) _ (sym e ∙ p) ∙ pass (badOption bad) _ (test-off bad _ q))
+        pub test-ruler : bad ≡ false → maxRuler < ruler → Verdict.Refused Refusal.RulerTooWide ≡ tested (formatTests table source bad ruler scratch)
+        unfolding badOption wideRuler
+        test-ruler q h =
+            sym (on ∙ pass (longSource source) _ (sym e ∙ p) ∙ pass (badOption bad) _ (test-off bad _ q)
+            ∙ stop (wideRuler ruler) _ _ (test-on _ _ (lt-ltb maxRuler ruler h)))
+
+        pub test-rest : (r : Verdict) → bad ≡ false → ruler ≤ maxRuler
+            → r ≡ tested (shortScratch (scratchNeeded formatScratch source) scratch ∷ illFormed source ∷ [])
+            → r ≡ tested (formatTests table source bad ruler scratch)
+        unfolding badOption wideRuler
+        test-rest r q h t =
+            t
+            ∙ sym (on ∙ pass (longSource source) _ (sym e ∙ p) ∙ pass (badOption bad) _ (test-off bad _ q)
+            ∙ pass (wideRuler ruler) _ (test-off _ _ (le-ltb maxRuler ruler h)))
 
 -- a table that passed has its length
 whole-table : (table : List ℕ) → wrongLength table ≡ Verdict.Accepted → length table ≡ tableLength
@@ -200,7 +210,7 @@ module _
     (source indent : List ℕ) (numbers : OptionNumbers) (table output list scratch : List ℕ) (s : Strengths) (t : Changed) (v : Verdict)
     (reads : length table ≡ tableLength → s .table ≡ table)
     (named : t ≡ heldNamed (record { indent = indent; numbers = numbers; strengths = s .table }))
-    (tests : v ≡ tested (formatTests table source (t .refused) (length scratch)))
+    (tests : v ≡ tested (formatTests table source (t .refused) (numbers .«ruler_tab») (length scratch)))
   where
     abbrev c : Call
     c = callOf source indent numbers table (length output) (length list) (length scratch)
@@ -210,12 +220,12 @@ module _
     unfolding validOptions
     bad-is = named-valid-is (record { indent = indent; numbers = numbers; strengths = s .table }) t named
 
-    first-tests : tested (formatTests table source (not (validOptions (c .choices))) (length scratch)) ≡ v
-    first-tests = ap (λ (b : Bool). tested (formatTests table source b (length scratch))) (sym bad-is) ∙ sym tests
+    first-tests : tested (formatTests table source (not (validOptions (c .choices))) (numbers .«ruler_tab») (length scratch)) ≡ v
+    first-tests = ap (λ (b : Bool). tested (formatTests table source b (numbers .«ruler_tab») (length scratch))) (sym bad-is) ∙ sym tests
 
     ran-short : (why : Refusal) → v ≡ Verdict.Refused why → outcomeOf c ≡ Outcome.Refused why
     unfolding outcomeOf verdictOf
-    ran-short why e = rw (ends (formatTests table source (not (validOptions (c .choices))) (length scratch)) (shortOutput (length (textOf c)) (length output) ∷ []) why (first-tests ∙ e))
+    ran-short why e = rw (ends (formatTests table source (not (validOptions (c .choices))) (numbers .«ruler_tab») (length scratch)) (shortOutput (length (textOf c)) (length output) ∷ []) why (first-tests ∙ e))
 
     pub ran-refused : (why : Refusal) (r : Outcome) (out list′ work : List ℕ) → v ≡ Verdict.Refused why
         → RefusedCall why (length output) (length list) (length scratch) r out list′ work → Ran c r out list′ work
@@ -251,15 +261,22 @@ module _
       passed =
           record { limit = admits .reads .short; well = test-wf source (admits .reads .well); indents = indent-is; room = omega (arith, admits .reads .room) }
 
+      options-held : t .options ≡ held (optionsOf (c .choices))
+      options-held = named-options (c .choices) t named-here (bad-is ∙ rw (admits .valid))
+
+      pub ruler-small : t .options .«ruler_tab» ≤ maxRuler
+      unfolding optionsOf
+      ruler-small = rw (ap (λ (s : FormatOptions). s .«ruler_tab») options-held) (admits .ruler)
+
       options-are : formatted c ≡ formatWith (optionsWith indent (t .options)) (decode source)
       unfolding formatted optionsOf
-      options-are = rw (named-options (c .choices) t named-here (bad-is ∙ rw (admits .valid)))
+      options-are = rw options-held
 
       outcome-is : outcomeOf c ≡ outcomeIn (length output) (formatted c)
       unfolding outcomeOf verdictOf textOf
       outcome-is =
           ap (λ (u : Verdict). outcomeAfter u (length (textOf c)) (formatted c))
-          (goes-on (formatTests table source (not (validOptions (c .choices))) (length scratch)) (shortOutput (length (textOf c)) (length output) ∷ []) (first-tests ∙ e)
+          (goes-on (formatTests table source (not (validOptions (c .choices))) (numbers .«ruler_tab») (length scratch)) (shortOutput (length (textOf c)) (length output) ∷ []) (first-tests ∙ e)
           ∙ one-test (shortOutput (length (textOf c)) (length output)))
 
       pub ran-formatted : (r : Outcome) (out list′ work : List ℕ)

@@ -21,6 +21,7 @@ optionsWith indent s =
       printWidth = s .«print_width»;
       endOfLine = s .«end_of_line»;
       insertFinalNewline = s .«insert_final_newline»;
+      rulerTab = s .«ruler_tab»;
       strengths = s .strengths;
     }
 

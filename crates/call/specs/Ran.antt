@@ -18,9 +18,15 @@ callOf source indent numbers strengths output opened scratch =
     }
 
 -- the numbers of the options
-abbrev pub numbersOf : ℕ → ℕ → ℕ → ℕ → OptionNumbers
-numbersOf widthSet width lineEnding finalNewline =
-    record { «width_set» = widthSet; width = width; «line_ending» = lineEnding; «final_newline» = finalNewline }
+abbrev pub numbersOf : ℕ → ℕ → ℕ → ℕ → ℕ → OptionNumbers
+numbersOf widthSet width lineEnding finalNewline rulerTab =
+    record {
+      «width_set» = widthSet;
+      width = width;
+      «line_ending» = lineEnding;
+      «final_newline» = finalNewline;
+      «ruler_tab» = rulerTab;
+    }
 
 -- the outcome r of the call c, and what its buffers hold after it
 pub record Ran (c : Call) (r : Outcome) (out list work : List ℕ) : Type 0 where

@@ -5,6 +5,7 @@ ghost use Prim.Native.Nat.{ℕ, _+_, _*_, _≤_};
 ghost use lib.ListN.{length};
 ghost use Rattle.unicode.specs.Unicode.{decode, WellFormed};
 ghost use Rattle.rules.specs.Basics.{choose};
+ghost use Rattle.rules.specs.Options.{maxRuler};
 ghost use Rattle.rules.specs.Assembly.{endingOf, lastEnding, formatWith};
 ghost use Rattle.rules.specs.Brackets.{openLines};
 ghost use Rattle.brackets.specs.Stack.{entrySize, stacked};
@@ -63,6 +64,7 @@ pub fn format_with(
     scratch: &mut [u8],
 ) -> Outcome
     requires { ⌜ Passed (now source) (now indent) (now scratch) ⌝ }
+    requires { ⌜ chosen .«ruler_tab» ≤ maxRuler ⌝ }
     ensures { λ r. ⌜ Fitted (formatWith (optionsWith (now (indent .entry)) chosen) (decode (now (source .entry)))) (length (now (output .entry))) (length (now (opened .entry))) (length (now (scratch .entry))) r (now (output .exit)) (now (opened .exit)) (now (scratch .exit)) ⌝ }
 {
     let width = chosen.print_width;
@@ -72,6 +74,7 @@ pub fn format_with(
     let ending = ending_of(end_of_line, source);
     let style = Style {
         width,
+        ruler: chosen.ruler_tab as u8,
         ending,
         strengths,
     };

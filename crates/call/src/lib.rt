@@ -18,9 +18,18 @@ pub mod assembly;
 // The bytes of scratch for each of the source's, beside 256.
 pub const FORMAT_SCRATCH: usize = 12;
 
-// Refusals 12 and 13, then 1 to 4.
-fn test(strengths: &[u8], source: &[u8], bad_option: bool, scratch: usize) -> Verdict
-    ensures { λ r. ⌜ r ≡ tested (formatTests (now (strengths .entry)) (now (source .entry)) «bad_option» scratch) ⌝ }
+// The largest ruler tab.
+pub const MAX_RULER: u64 = 16;
+
+// Refusals 12, 13, 1, 2, 11, 3 and 4, in this order.
+fn test(
+    strengths: &[u8],
+    source: &[u8],
+    bad_option: bool,
+    ruler_tab: u64,
+    scratch: usize,
+) -> Verdict
+    ensures { λ r. ⌜ r ≡ tested (formatTests (now (strengths .entry)) (now (source .entry)) «bad_option» «ruler_tab» scratch) ⌝ }
 {
     match answer::test_strengths(strengths) {
         Verdict::Refused(why) => Verdict::Refused(why),
@@ -29,6 +38,9 @@ fn test(strengths: &[u8], source: &[u8], bad_option: bool, scratch: usize) -> Ve
             Verdict::Accepted => {
                 if bad_option {
                     return Verdict::Refused(Refusal::BadOption);
+                }
+                if MAX_RULER < ruler_tab {
+                    return Verdict::Refused(Refusal::RulerTooWide);
                 }
                 answer::test_bytes(source, FORMAT_SCRATCH, scratch)
             }
@@ -60,7 +72,7 @@ fn run_call(
     let table = options::strengths::read(strengths);
     let named = FormatOptions::from_numbers(indent, numbers, table);
     let chosen = named.options;
-    match test(strengths, source, named.refused, scratch.len()) {
+    match test(strengths, source, named.refused, numbers.ruler_tab, scratch.len()) {
         Verdict::Refused(why) => refuse(output, opened, scratch, why),
         Verdict::Accepted => {
             assembly::format_with(source, indent, chosen, output, opened, scratch)

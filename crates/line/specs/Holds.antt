@@ -120,6 +120,7 @@ pub record Blanked (eol : List ℕ) (st : Record) (out : List ℕ) (st′ : Reco
 pub record Uses (o : Options) (indent : List ℕ) (style : Style) : Type 0 where
   pub indents : o .indent ≡ indent
   pub breaks : o .printWidth ≡ style .width
+  pub ruled : o .rulerTab ≡ style .ruler
   pub strengths : o .strengths ≡ style .strengths
 
 -- an indent of spaces and tabs

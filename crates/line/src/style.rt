@@ -3,9 +3,10 @@ use rules::LineEnding;
 use rules::PrintWidth;
 use rules::Strengths;
 
-// The print width, the ending that the text's lines get, and the strengths of the operators.
+// The print width, the ruler tab, the ending that the text's lines get, and the strengths of the operators.
 pub struct Style {
     pub width: PrintWidth,
+    pub ruler: u8,
     pub ending: LineEnding,
     pub strengths: Strengths,
 }

@@ -89,6 +89,7 @@ someOptions indent style =
       printWidth = style .width;
       endOfLine = EndOfLine.Kept;
       insertFinalNewline = FinalNewline.Always;
+      rulerTab = style .ruler;
       strengths = style .strengths;
     }
 
@@ -179,7 +180,7 @@ module _
       where
         -- what a step gives for some options
         stepped : Stepped (λ f. anyLine (someOptions indent style) f (decode raw)) (length raw) (length source) (asStr (style .ending)) st out scratch st′ out′ scratch′
-        stepped = w (someOptions indent style) (record { indents = refl; breaks = refl; strengths = refl })
+        stepped = w (someOptions indent style) (record { indents = refl; breaks = refl; ruled = refl; strengths = refl })
 
         pub number-fits : st′ .nesting .line + 1 < 2 ^ 64
         number-fits = omega (arith, stepped .line, r .line, p .limit)

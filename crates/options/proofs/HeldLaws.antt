@@ -48,6 +48,7 @@ pub held-parts : (o : Options) (bytes : List ℕ) (n : ℕ) → bytes ≡ filled
       «print_width» = o .printWidth;
       «end_of_line» = o .endOfLine;
       «insert_final_newline» = o .insertFinalNewline;
+      «ruler_tab» = o .rulerTab;
       strengths = o .strengths;
     })
     (held o)

@@ -125,6 +125,7 @@ module _
           «print_width» = w′;
           «end_of_line» = e′;
           «insert_final_newline» = n′;
+          «ruler_tab» = c .numbers .«ruler_tab»;
           strengths = record { table = c .strengths };
         })
         ≡ heldNamed c

@@ -25,6 +25,7 @@ optionsIn s =
       printWidth = s .«print_width»;
       endOfLine = s .«end_of_line»;
       insertFinalNewline = s .«insert_final_newline»;
+      rulerTab = s .«ruler_tab»;
       strengths = s .strengths;
     }
 
@@ -37,6 +38,7 @@ held o =
       «print_width» = o .printWidth;
       «end_of_line» = o .endOfLine;
       «insert_final_newline» = o .insertFinalNewline;
+      «ruler_tab» = o .rulerTab;
       strengths = o .strengths;
     }
 
@@ -57,6 +59,7 @@ valued s r =
       «print_width» = widthFrom (r .max) (s .«print_width»);
       «end_of_line» = endingFrom (r .ending) (s .«end_of_line»);
       «insert_final_newline» = newlineFrom (r .newline) (s .«insert_final_newline»);
+      «ruler_tab» = s .«ruler_tab»;
       strengths = s .strengths;
     }
 

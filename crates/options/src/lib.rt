@@ -32,6 +32,7 @@ pub struct FormatOptions {
     pub print_width: PrintWidth,
     pub end_of_line: EndOfLine,
     pub insert_final_newline: FinalNewline,
+    pub ruler_tab: usize,
     pub strengths: Strengths,
 }
 
@@ -56,6 +57,7 @@ impl FormatOptions {
             print_width: PrintWidth::Columns(Self::DEFAULT_PRINT_WIDTH),
             end_of_line: EndOfLine::Kept,
             insert_final_newline: FinalNewline::Always,
+            ruler_tab: 0,
             strengths: Strengths::BUILT_IN,
         }
     }
@@ -95,6 +97,7 @@ impl FormatOptions {
                 print_width,
                 end_of_line,
                 insert_final_newline,
+                ruler_tab: numbers.ruler_tab as usize,
                 strengths,
             };
             return Changed {
@@ -232,6 +235,7 @@ impl FormatOptions {
         let old_width = self.print_width;
         let old_ending = self.end_of_line;
         let old_newline = self.insert_final_newline;
+        let ruler_tab = self.ruler_tab;
         let strengths = self.strengths;
         let max = r.max;
         let config_ending = r.ending;
@@ -245,6 +249,7 @@ impl FormatOptions {
             print_width,
             end_of_line,
             insert_final_newline,
+            ruler_tab,
             strengths,
         }
     }

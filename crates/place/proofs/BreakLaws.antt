@@ -27,6 +27,7 @@ use Rattle.rules.specs.declared.Strengths.{Strengths}
 use Rattle.rules.proofs.SplitLines.{Newest, newest, newest-one, alone-line, import-lines, operation-lines, operation-several, operation-alone}
 use Rattle.rules.proofs.SplitSizes.{Fit, import-fits, operation-fits}
 use Rattle.split.specs.Text.{Fits}
+use Rattle.split.specs.Measure.{InUse}
 use Rattle.split_import.specs.Import.{Given, ImportFits}
 use Rattle.split_import.specs.declared.ImportLines.{ImportLines}
 use Rattle.split_import.specs.declared.ImportSplit.{ImportSplit}
@@ -44,13 +45,14 @@ use Rattle.line.proofs.HoldsLaws.{brace-bytes}
 use Rattle.place.specs.Placing.{GoesOn, LaidBy, Breaks, aloneIn}
 
 -- some options in use
-abbrev some-options : List ℕ → Strengths → Options
-some-options indent st =
+abbrev some-options : List ℕ → ℕ → Strengths → Options
+some-options indent ruler st =
     record {
       indent = indent;
       printWidth = PrintWidth.Off;
       endOfLine = EndOfLine.Kept;
       insertFinalNewline = FinalNewline.Always;
+      rulerTab = ruler;
       strengths = st;
     }
 
@@ -101,9 +103,9 @@ module _
       few : p .imports ≤ 1
       fewer : p .blanks ≤ size (decode line)
 
-    module _ (st : Strengths) (max : ℕ) (b : Bool) (o2 : List ℕ) (next : ℕ) (p : Placed) (is : p .text ≡ afterLines next b)
-        (came : (o : Options) → LaidBy o indent st → Came (broken o max level (decode line)) b o2 next p) where
-      came-text : (o : Options) (ls : List (List ℕ)) → LaidBy o indent st → Text (asStr e) ls t out
+    module _ (st : Strengths) (ruler max : ℕ) (b : Bool) (o2 : List ℕ) (next : ℕ) (p : Placed) (is : p .text ≡ afterLines next b)
+        (came : (o : Options) → LaidBy o indent ruler st → Came (broken o max level (decode line)) b o2 next p) where
+      came-text : (o : Options) (ls : List (List ℕ)) → LaidBy o indent ruler st → Text (asStr e) ls t out
           → Text (asStr e) (reverseAux (broken o max level (decode line) .lines) (choose drops (dropBlank ls) ls)) (p .text) o2
       came-text o ls i x =
           let r = came o i in
@@ -111,9 +113,9 @@ module _
           rw (is, n .onto (choose drops (dropBlank ls) ls))
           (lines-done (n .last) (n .before) go-on (rw (n .reversed) at (r .written)) (size-line (n .last) (n .line .some)) (n .line .trimmed) (n .line .joins) ls x)
 
-      came-breaks : Breaks max indent st (decode line) level (asStr e) drops (length line) out t p o2
+      came-breaks : Breaks ruler max indent st (decode line) level (asStr e) drops (length line) out t p o2
       came-breaks =
-          let r = came (some-options indent st) (record { indents = refl; strengths = refl }) in
+          let r = came (some-options indent ruler st) (record { used = record { indents = refl; ruled = refl }; strengths = refl }) in
           let n = r .newest in
           let w = lines-grown (n .last) (n .before) go-on (rw (n .reversed) at (r .written)) b in
           record {
@@ -126,29 +128,29 @@ module _
             fewer = omega (arith, r .fewer, long);
           }
 
-    blank-of : (o : Options) → o .indent ≡ indent → allBlank (o .indent) ≡ true
-    blank-of o i = rw i (v .blank)
+    blank-of : (o : Options) → {ruler : ℕ} → InUse o indent ruler → allBlank (o .indent) ≡ true
+    blank-of o i = rw (i .indents) (v .blank)
 
-    short-of : (o : Options) → o .indent ≡ indent → length (o .indent) ≤ 64
-    short-of o i = rw i (v .short)
+    short-of : (o : Options) → {ruler : ℕ} → InUse o indent ruler → length (o .indent) ≤ 64
+    short-of o i = rw (i .indents) (v .short)
 
     -- ---- an import
 
-    module _ (st : Strengths) (max : ℕ) (brace : Bool) (ends : brace ≡ lastIs (is "}") line) (o2 : List ℕ) (i : ImportSplit)
-        (given : (o : Options) → o .indent ≡ indent → Given (splitImport o max level (classify Carry.Code (decode line))) eol o1 o2 start i) where
+    module _ (st : Strengths) (ruler max : ℕ) (brace : Bool) (ends : brace ≡ lastIs (is "}") line) (o2 : List ℕ) (i : ImportSplit)
+        (given : (o : Options) → InUse o indent ruler → Given (splitImport o max level (classify Carry.Code (decode line))) eol o1 o2 start i) where
       module _ (m : ImportLines) (yes : i ≡ ImportSplit.Split m) (u : Written) (reached : u ≡ afterLines (m .next) brace) where
         abbrev placed : Placed
         placed = record { text = u; imports = 1; blanks = m .blanks }
 
-        import-came : (o : Options) → LaidBy o indent st → Came (broken o max level (decode line)) brace o2 (m .next) placed
-        import-came o k = go (splitImport o max level (classify Carry.Code (decode line))) refl (given o (k .indents))
+        import-came : (o : Options) → LaidBy o indent ruler st → Came (broken o max level (decode line)) brace o2 (m .next) placed
+        import-came o k = go (splitImport o max level (classify Carry.Code (decode line))) refl (given o (k .used))
           where
             go : (s : Option Laid) → splitImport o max level (classify Carry.Code (decode line)) ≡ s → Given s eol o1 o2 start i → Came (broken o max level (decode line)) brace o2 (m .next) placed
             go none q w = absurd (let y : _≡_ {A = ℕ} 0 1 = cc (yes, w .is) in omega arith)
             go (some laid) q w =
                 let same-made : w .made ≡ m = cc (yes, w .is) in
-                let r = import-lines o (blank-of o (k .indents)) max level (decode line) (g .trimmed) laid q in
-                let f = import-fits o (blank-of o (k .indents)) (short-of o (k .indents)) level flat (asStr e) eol-small max (decode line) laid q in
+                let r = import-lines o (blank-of o (k .used)) max level (decode line) (g .trimmed) laid q in
+                let f = import-fits o (blank-of o (k .used)) (short-of o (k .used)) level flat (asStr e) eol-small max (decode line) laid q in
                 let same : broken o max level (decode line) ≡ laid = unfold broken orOperation in (rw q refl) in
                 subst (λ (x : Laid). Came x brace o2 (m .next) placed) (sym same)
                 (record {
@@ -161,13 +163,13 @@ module _
                   fewer = omega (arith, rw same-made at (w .blanks), f .blanks);
                 })
 
-        pub import-breaks : Breaks max indent st (decode line) level (asStr e) drops (length line) out t placed o2
-        import-breaks = came-breaks st max brace o2 (m .next) placed reached import-came
+        pub import-breaks : Breaks ruler max indent st (decode line) level (asStr e) drops (length line) out t placed o2
+        import-breaks = came-breaks st ruler max brace o2 (m .next) placed reached import-came
 
       -- ---- an expression
 
       module _ (other : i ≡ ImportSplit.Whole) (o3 : List ℕ) (r : OperationSplit)
-          (made : (o : Options) → o .indent ≡ indent → Broken eol (splitOperation (strengthsIn (st .table)) o max level (decode line)) o2 o3 start r) where
+          (made : (o : Options) → InUse o indent ruler → Broken eol (splitOperation (strengthsIn (st .table)) o max level (decode line)) o2 o3 start r) where
         abbrev table : List ℕ
         table = strengthsIn (st .table)
 
@@ -175,47 +177,47 @@ module _
         operationLaid o = record { lines = splitOperation table o max level (decode line); importsSplit = 0; blankNames = 0 }
 
         -- it is no import that is split, and nothing was written for it
-        other-same : (o : Options) → LaidBy o indent st → (broken o max level (decode line) ≡ operationLaid o) × (o2 ≡ o1)
-        other-same o k = go (splitImport o max level (classify Carry.Code (decode line))) refl (given o (k .indents))
+        other-same : (o : Options) → LaidBy o indent ruler st → (broken o max level (decode line) ≡ operationLaid o) × (o2 ≡ o1)
+        other-same o k = go (splitImport o max level (classify Carry.Code (decode line))) refl (given o (k .used))
           where
             go : (s : Option Laid) → splitImport o max level (classify Carry.Code (decode line)) ≡ s → Given s eol o1 o2 start i
                 → (broken o max level (decode line) ≡ operationLaid o) × (o2 ≡ o1)
             go none q w = (unfold broken orOperation in (rw (q, k .strengths) refl), w .same)
             go (some laid) q w = absurd (let y : _≡_ {A = ℕ} 0 1 = cc (other, w .is) in omega arith)
 
-        operation-came : (b : Bool) (u : Written) (o : Options) → LaidBy o indent st → Newest b (splitOperation table o max level (decode line)) → Came (broken o max level (decode line)) b o3 (lineOf r .next) (aloneIn u)
+        operation-came : (b : Bool) (u : Written) (o : Options) → LaidBy o indent ruler st → Newest b (splitOperation table o max level (decode line)) → Came (broken o max level (decode line)) b o3 (lineOf r .next) (aloneIn u)
         operation-came b u o k n =
             let s = other-same o k in
             subst (λ (x : Laid). Came x b o3 (lineOf r .next) (aloneIn u)) (sym (s .0))
             (record {
               newest = n;
-              written = rw (eq, s .1) at (made o (k .indents) .written .text);
-              fit = operation-fits o (blank-of o (k .indents)) (short-of o (k .indents)) level flat (asStr e) eol-small table max (decode line);
+              written = rw (eq, s .1) at (made o (k .used) .written .text);
+              fit = operation-fits o (blank-of o (k .used)) (short-of o (k .used)) level flat (asStr e) eol-small table max (decode line);
               imports = refl;
               blanks = refl;
               few = omega arith;
               fewer = omega arith;
             })
 
-        operation-breaks : (b : Bool) (u : Written) (p : Placed) → ((o : Options) → LaidBy o indent st → Newest b (splitOperation table o max level (decode line)))
-            → u ≡ afterLines (lineOf r .next) b → p ≡ aloneIn u → Breaks max indent st (decode line) level (asStr e) drops (length line) out t p o3
+        operation-breaks : (b : Bool) (u : Written) (p : Placed) → ((o : Options) → LaidBy o indent ruler st → Newest b (splitOperation table o max level (decode line)))
+            → u ≡ afterLines (lineOf r .next) b → p ≡ aloneIn u → Breaks ruler max indent st (decode line) level (asStr e) drops (length line) out t p o3
         operation-breaks b u p n reached is =
-            subst (λ (x : Placed). Breaks max indent st (decode line) level (asStr e) drops (length line) out t x o3) (sym is)
-            (came-breaks st max b o3 (lineOf r .next) (aloneIn u) reached (λ o k. operation-came b u o k (n o k)))
+            subst (λ (x : Placed). Breaks ruler max indent st (decode line) level (asStr e) drops (length line) out t x o3) (sym is)
+            (came-breaks st ruler max b o3 (lineOf r .next) (aloneIn u) reached (λ o k. operation-came b u o k (n o k)))
 
         pub several-breaks : (w : NewLine) (u : Written) (p : Placed) → r ≡ OperationSplit.Broken w → u ≡ afterLines (w .next) brace → p ≡ aloneIn u
-            → Breaks max indent st (decode line) level (asStr e) drops (length line) out t p o3
+            → Breaks ruler max indent st (decode line) level (asStr e) drops (length line) out t p o3
         several-breaks w u p more reached is =
             operation-breaks brace u p
-            (λ o k. rw (ends, brace-bytes line (g .well)) (newest (operation-several (operation-lines table o (blank-of o (k .indents)) max level (decode line) (g .trimmed)) (sym (made o (k .indents) .more) ∙ ap isBroken more))))
+            (λ o k. rw (ends, brace-bytes line (g .well)) (newest (operation-several (operation-lines table o (blank-of o (k .used)) max level (decode line) (g .trimmed)) (sym (made o (k .used) .more) ∙ ap isBroken more))))
             (reached ∙ ap (λ (x : OperationSplit). afterLines (lineOf x .next) brace) (sym more)) is
 
         pub alone-breaks : (w : NewLine) (j : Bool) (u : Written) (p : Placed) → j ≡ joinable (decode line)
-            → r ≡ OperationSplit.Whole w → u ≡ afterLines (w .next) j → p ≡ aloneIn u → Breaks max indent st (decode line) level (asStr e) drops (length line) out t p o3
+            → r ≡ OperationSplit.Whole w → u ≡ afterLines (w .next) j → p ≡ aloneIn u → Breaks ruler max indent st (decode line) level (asStr e) drops (length line) out t p o3
         alone-breaks w j u p q more reached is =
             operation-breaks j u p
-            (λ o k. rw (operation-alone (operation-lines table o (blank-of o (k .indents)) max level (decode line) (g .trimmed)) (sym (made o (k .indents) .more) ∙ ap isBroken more), q)
-            (newest-one (alone-line o (blank-of o (k .indents)) level (decode line) (some-of (decode line) (omega (arith, long, g .some))) (g .trimmed))))
+            (λ o k. rw (operation-alone (operation-lines table o (blank-of o (k .used)) max level (decode line) (g .trimmed)) (sym (made o (k .used) .more) ∙ ap isBroken more), q)
+            (newest-one (alone-line o (blank-of o (k .used)) level (decode line) (some-of (decode line) (omega (arith, long, g .some))) (g .trimmed))))
             (reached ∙ ap (λ (x : OperationSplit). afterLines (lineOf x .next) j) (sym more)) is
           where
             some-of : (l : List ℕ) → 1 ≤ size l → isEmpty l ≡ false

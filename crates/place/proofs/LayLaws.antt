@@ -69,14 +69,14 @@ module _
     (drops : Bool) (max : PrintWidth) (p : Placed) (g : GoesOn line class) (wc : Closers line (b .closers))
     (wk : Continues line (b .prev .brace) continued) (wl : level ≡ b .levels + choose continued 1 0) (eo : b .own ≡ prevOf line)
     (er : drops ≡ dropsBlank (b .depth) (b .own .declares) (b .prev .declares)) (em : max ≡ breakWidth (style .width) marker continued (b .closers))
-    (w : Lays (choose (allCodeOrStr (classify Carry.Code (decode line))) max PrintWidth.Off) indent (style .strengths) (decode line) level eol drops (length line) out (b .text) p out′)
+    (w : Lays (style .ruler) (choose (allCodeOrStr (classify Carry.Code (decode line))) max PrintWidth.Off) indent (style .strengths) (decode line) level eol drops (length line) out (b .text) p out′)
   where
     closers-same : b .closers ≡ leadingClosers (decode line)
     closers-same = wc .is ∙ on-decode leadingClosers leadingClosers closers-encode line (g .well)
 
     module _ (o : Options) (f : Formatter) (u : Uses o indent style) (k : Knows eol f b out) where
-      laid-by : LaidBy o indent (style .strengths)
-      laid-by = record { indents = u .indents; strengths = u .strengths }
+      laid-by : LaidBy o indent (style .ruler) (style .strengths)
+      laid-by = record { used = record { indents = u .indents; ruled = u .ruled }; strengths = u .strengths }
 
       continued-same : continued ≡ continues (f .prev) (decode line)
       continued-same = wk .is (f .prev) (sym (ap (λ (p : Prev). p .brace) (k .prev)))

@@ -22,6 +22,7 @@ use Rattle.format.specs.Words.{sameOf}
 use Rattle.format.specs.declared.words.Declaration.{Declaration}
 use Rattle.text.specs.Text.{Text, Ordered, farPlace}
 use Rattle.text.specs.declared.Written.{Written}
+use Rattle.split.specs.Measure.{InUse}
 use Rattle.line.specs.Holds.{Uses, prevOf}
 use Rattle.line.specs.declared.style.Style.{Style}
 use Rattle.place.specs.declared.Before.{Before}
@@ -77,16 +78,16 @@ placedBy marker line o f = placedLine o f marker line
 abbrev pub dropsBlank : ℕ → Declaration → Declaration → Bool
 dropsBlank depth d before = choose (eqb depth 0) (sameOf d before) false
 
--- the options in use where a line is laid out: those that have this indent and these strengths
-pub record LaidBy (o : Options) (indent : List ℕ) (st : Strengths) : Type 0 where
-  pub indents : o .indent ≡ indent
+-- the options in use where a line is laid out: those that have this indent, this ruler tab and these strengths
+pub record LaidBy (o : Options) (indent : List ℕ) (ruler : ℕ) (st : Strengths) : Type 0 where
+  pub used : InUse o indent ruler
   pub strengths : o .strengths ≡ st
 
 -- the line of characters l was laid out at a level as `splitWide` says for the width w, after an empty newest line was dropped if `drops` says so
-pub record Lays (w : PrintWidth) (indent : List ℕ) (st : Strengths) (l : List ℕ) (level : ℕ) (eol : List ℕ) (drops : Bool) (n : ℕ) (out : List ℕ) (t : Written) (r : Placed) (out′ : List ℕ) : Type 0 where
-  pub text : (o : Options) (ls : List (List ℕ)) → LaidBy o indent st → Text eol ls t out → Text eol (reverseAux (splitWide w o level l .lines) (choose drops (dropBlank ls) ls)) (r .text) out′
-  pub imports : (o : Options) → LaidBy o indent st → r .imports ≡ splitWide w o level l .importsSplit
-  pub blanks : (o : Options) → LaidBy o indent st → r .blanks ≡ splitWide w o level l .blankNames
+pub record Lays (ruler : ℕ) (w : PrintWidth) (indent : List ℕ) (st : Strengths) (l : List ℕ) (level : ℕ) (eol : List ℕ) (drops : Bool) (n : ℕ) (out : List ℕ) (t : Written) (r : Placed) (out′ : List ℕ) : Type 0 where
+  pub text : (o : Options) (ls : List (List ℕ)) → LaidBy o indent ruler st → Text eol ls t out → Text eol (reverseAux (splitWide w o level l .lines) (choose drops (dropBlank ls) ls)) (r .text) out′
+  pub imports : (o : Options) → LaidBy o indent ruler st → r .imports ≡ splitWide w o level l .importsSplit
+  pub blanks : (o : Options) → LaidBy o indent ruler st → r .blanks ≡ splitWide w o level l .blankNames
   pub ordered : Ordered (r .text)
   pub at : r .text .at .0 ≤ t .at .0 + (n + 1) * respacedGrowth
   pub few : r .imports ≤ 1
@@ -98,10 +99,10 @@ breakWidth width marker continued closers =
     choose continued PrintWidth.Off (choose (eqb closers 0) (choose marker PrintWidth.Off width) PrintWidth.Off)
 
 -- the line of characters l was broken at a level as `broken` says
-pub record Breaks (max : ℕ) (indent : List ℕ) (st : Strengths) (l : List ℕ) (level : ℕ) (eol : List ℕ) (drops : Bool) (n : ℕ) (out : List ℕ) (t : Written) (r : Placed) (out′ : List ℕ) : Type 0 where
-  pub text : (o : Options) (ls : List (List ℕ)) → LaidBy o indent st → Text eol ls t out → Text eol (reverseAux (broken o max level l .lines) (choose drops (dropBlank ls) ls)) (r .text) out′
-  pub imports : (o : Options) → LaidBy o indent st → r .imports ≡ broken o max level l .importsSplit
-  pub blanks : (o : Options) → LaidBy o indent st → r .blanks ≡ broken o max level l .blankNames
+pub record Breaks (ruler max : ℕ) (indent : List ℕ) (st : Strengths) (l : List ℕ) (level : ℕ) (eol : List ℕ) (drops : Bool) (n : ℕ) (out : List ℕ) (t : Written) (r : Placed) (out′ : List ℕ) : Type 0 where
+  pub text : (o : Options) (ls : List (List ℕ)) → LaidBy o indent ruler st → Text eol ls t out → Text eol (reverseAux (broken o max level l .lines) (choose drops (dropBlank ls) ls)) (r .text) out′
+  pub imports : (o : Options) → LaidBy o indent ruler st → r .imports ≡ broken o max level l .importsSplit
+  pub blanks : (o : Options) → LaidBy o indent ruler st → r .blanks ≡ broken o max level l .blankNames
   pub ordered : Ordered (r .text)
   pub at : r .text .at .0 ≤ t .at .0 + (n + 1) * respacedGrowth
   pub few : r .imports ≤ 1

@@ -157,7 +157,7 @@ fn fit_line(
     requires { ⌜ slot .level ≤ maxSource ⌝ }
     requires { ⌜ GoesOn (now line) (now class) ⌝ }
     requires { ⌜ Ordered t × (t .at .0 ≤ farPlace) ⌝ }
-    ensures { λ r. ⌜ Lays (choose (allCodeOrStr (classify Carry.Code (decode (now (line .entry))))) (style .width) PrintWidth.Off) (now (indent .entry)) (style .strengths) (decode (now (line .entry))) (slot .level) (asStr (style .ending)) (slot .drops) (length (now (line .entry))) (now (out .entry)) t r (now (out .exit)) ⌝ }
+    ensures { λ r. ⌜ Lays (style .ruler) (choose (allCodeOrStr (classify Carry.Code (decode (now (line .entry))))) (style .width) PrintWidth.Off) (now (indent .entry)) (style .strengths) (decode (now (line .entry))) (slot .level) (asStr (style .ending)) (slot .drops) (length (now (line .entry))) (now (out .entry)) t r (now (out .exit)) ⌝ }
 {
     let width = style.width;
     let ending = style.ending;
@@ -168,6 +168,7 @@ fn fit_line(
             let s = Layout {
                 level: slot.level,
                 max: Utf16Column(max),
+                ruler: style.ruler,
                 ending,
                 strengths,
             };
@@ -214,6 +215,7 @@ fn lay_line(
     let max = break_width(width, marker, continued, closers);
     let used = Style {
         width: max,
+        ruler: style.ruler,
         ending,
         strengths,
     };
@@ -263,7 +265,7 @@ fn break_line(
     requires { ⌜ GoesOn (now line) (now class) ⌝ }
     requires { ⌜ Ordered t × (t .at .0 ≤ farPlace) ⌝ }
     requires { ⌜ allCodeOrStr (classify Carry.Code (now line)) ≡ true ⌝ }
-    ensures { λ r. ⌜ Breaks (s .max .0) (now (indent .entry)) (s .strengths) (decode (now (line .entry))) (s .level) (asStr (s .ending)) drops (length (now (line .entry)))
+    ensures { λ r. ⌜ Breaks (s .ruler) (s .max .0) (now (indent .entry)) (s .strengths) (decode (now (line .entry))) (s .level) (asStr (s .ending)) drops (length (now (line .entry)))
         (now (out .entry)) t r (now (out .exit)) ⌝ }
 {
     let ending = s.ending;

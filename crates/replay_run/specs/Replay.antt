@@ -18,7 +18,7 @@ use Rattle.replay_run.specs.declared.Progress.{Progress}
 abbrev pub callIn : List ℕ → Case → ℕ → ℕ → Call
 callIn list c n m =
     callOf (part list (c .from) (indentAt c)) (part list (indentAt c) (answerAt c))
-    (numbersOf (c .«width_set») (c .width) (c .«line_ending») (c .«final_newline»)) builtIn n 0 m
+    (numbersOf (c .«width_set») (c .width) (c .«line_ending») (c .«final_newline») 0) builtIn n 0 m
 
 -- the call is accepted, and its text is the stored answer
 unfoldable pub agrees : List ℕ → Case → ℕ → ℕ → Bool

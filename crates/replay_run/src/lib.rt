@@ -64,6 +64,7 @@ fn agrees(list: &[u8], c: Case, output: &mut [u8], scratch: &mut [u8]) -> bool
         width: c.width as u64,
         line_ending: c.line_ending as u64,
         final_newline: c.final_newline as u64,
+        ruler_tab: 0,
     };
     let mut opened = [0u64; 0];
     let strengths = Strengths::BUILT_IN;

@@ -42,10 +42,26 @@ call source indent set width ending newline scratch output =
       choices =
           record {
             indent = indent;
-            numbers = record { «width_set» = set; width = width; «line_ending» = ending; «final_newline» = newline };
+            numbers = record { «width_set» = set; width = width; «line_ending» = ending; «final_newline» = newline; «ruler_tab» = 0 };
             strengths = builtIn;
           };
       output = output;
+      opened = 0;
+      scratch = scratch;
+    }
+
+-- at a ruler, with the other options' numbers by default
+abbrev ruled : ℕ → List ℕ → List ℕ → ℕ → Call
+ruled ruler source indent scratch =
+    record {
+      source = source;
+      choices =
+          record {
+            indent = indent;
+            numbers = record { «width_set» = 1; width = 100; «line_ending» = 0; «final_newline» = 1; «ruler_tab» = ruler };
+            strengths = builtIn;
+          };
+      output = 8;
       opened = 0;
       scratch = scratch;
     }
@@ -90,6 +106,9 @@ fine len = Outcome.Formatted len 0 0 0
 abbrev bad : Outcome
 bad = Outcome.Refused Refusal.BadOption
 
+abbrev wide : Outcome
+wide = Outcome.Refused Refusal.RulerTooWide
+
 abbrev pub calls : List (Call × Outcome)
 calls =
     -- the output: the exact length fits, one less is refused with that length
@@ -119,6 +138,11 @@ calls =
     ∷ (call [] [] 1 100 3 1 256 1, bad)
     ∷ (call [] [] 1 100 0 2 256 1, fine 0)
     ∷ (call [] [] 1 100 0 3 256 1, bad)
+    -- the ruler tab: between the other options and the scratch
+    ∷ (ruled 16 [] [] 256, fine 1)
+    ∷ (ruled 17 [] [] 256, wide)
+    ∷ (ruled 17 (0xFF ∷ []) [] 0, wide)
+    ∷ (ruled 17 [] (codes "q") 256, bad)
     -- a table of strengths: its length, then its last four bits, before everything else
     ∷ (loaded (take 10 builtIn) [] 256 1, Outcome.Refused Refusal.StrengthsLength)
     ∷ (loaded (builtIn ++ (0 ∷ [])) [] 256 1, Outcome.Refused Refusal.StrengthsLength)
@@ -305,6 +329,7 @@ steps =
         printWidth = PrintWidth.Off;
         endOfLine = EndOfLine.Set LineEnding.Crlf;
         insertFinalNewline = FinalNewline.Never;
+        rulerTab = 0;
         strengths = defaults .strengths;
       }),
     )

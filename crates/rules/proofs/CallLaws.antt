@@ -18,7 +18,7 @@ use Rattle.unicode.proofs.Table.{scalar-low}
 use Rattle.unicode.proofs.Decode.{decode-encode, decode-scalars, wf-encode}
 use Rattle.rules.specs.Basics.{is, consIf, keep}
 use Rattle.rules.specs.Demand3.{isKept, strike, Kept}
-use Rattle.rules.specs.Options.{allBlank, validIndent, maxIndent}
+use Rattle.rules.specs.Options.{allBlank, validIndent, maxIndent, maxRuler}
 use Rattle.rules.specs.Assembly.{Formatted}
 use Rattle.rules.specs.Choices.{Choices, validOptions, optionsOf}
 use Rattle.rules.specs.Refusals.{tested, shortOutput}
@@ -26,7 +26,7 @@ use Rattle.rules.specs.Call.{Call, formatted, textOf, formatScratch, for
 use Rattle.rules.specs.declared.Verdict.{Verdict}
 use Rattle.rules.specs.declared.Outcome.{Outcome}
 use Rattle.rules.specs.declared.Answer.{Answer}
-use Rattle.rules.proofs.RefusalLaws.{numbered, Readable, readable, option-good, output-fits, head-passed, tail-passed, front-passed, back-passed}
+use Rattle.rules.proofs.RefusalLaws.{numbered, Readable, readable, option-good, ruler-fits, output-fits, head-passed, tail-passed, front-passed, back-passed}
 use Rattle.rules.proofs.Demand3.{demand3}
 
 -- ---- characters that are struck are scalar values
@@ -89,16 +89,20 @@ strike-scalars s t e h = scalars-keep isKept struck-scalar t (subst Scalars (sym
 -- what the tests before the text's let pass
 pub record Admitted (source : List ℕ) (choices : Choices) (scratch : ℕ) : Type 0 where
   pub valid : validOptions choices ≡ true
+  pub ruler : choices .numbers .«ruler_tab» ≤ maxRuler
   pub reads : Readable formatScratch source scratch
 
 pub admitted : (source : List ℕ) (choices : Choices) (scratch : ℕ)
-    → tested (formatTests (choices .strengths) source (not (validOptions choices)) scratch) ≡ Verdict.Accepted → Admitted source choices scratch
+    → tested (formatTests (choices .strengths) source (not (validOptions choices)) (choices .numbers .«ruler_tab») scratch) ≡ Verdict.Accepted
+    → Admitted source choices scratch
 admitted source choices scratch e =
-    let s = tail-passed _ _ (tail-passed _ _ e) in
-    let r = tail-passed _ _ s in
+    let t = tail-passed _ _ (tail-passed _ _ e) in
+    let r = tail-passed _ _ t in
+    let s = tail-passed _ _ r in
     record {
       valid = not-false (validOptions choices) (option-good _ (head-passed _ _ r));
-      reads = readable formatScratch source scratch (head-passed _ _ s) (tail-passed _ _ r);
+      ruler = ruler-fits _ (head-passed _ _ s);
+      reads = readable formatScratch source scratch (head-passed _ _ t) (tail-passed _ _ s);
     }
 
 -- r is the outcome of c, and no refusal
@@ -112,7 +116,8 @@ unfolding outcomeOf verdictOf
 accepted c = go (verdictOf c) refl
   where
     tests : List Verdict
-    tests = formatTests (c .choices .strengths) (c .source) (not (validOptions (c .choices))) (c .scratch)
+    tests =
+        formatTests (c .choices .strengths) (c .source) (not (validOptions (c .choices))) (c .choices .numbers .«ruler_tab») (c .scratch)
 
     last : List Verdict
     last = shortOutput (length (textOf c)) (c .output) ∷ []

@@ -21,6 +21,7 @@ withWidth w =
       printWidth = w;
       endOfLine = defaults .endOfLine;
       insertFinalNewline = defaults .insertFinalNewline;
+      rulerTab = defaults .rulerTab;
       strengths = defaults .strengths;
     }
 
@@ -34,6 +35,7 @@ ending n =
       printWidth = defaults .printWidth;
       endOfLine = defaults .endOfLine;
       insertFinalNewline = n;
+      rulerTab = defaults .rulerTab;
       strengths = defaults .strengths;
     }
 

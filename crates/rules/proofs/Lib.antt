@@ -3,6 +3,8 @@ pub mod Choose
 pub mod TestLaws
 pub mod Computing
 pub mod Examples
+-- the measure
+pub mod Columns
 -- on the bytes of a text as on the text
 pub mod StartsBytes
 pub mod Leading
@@ -38,4 +40,5 @@ pub mod Readings
 pub mod OperatorReadings
 pub mod BlockReadings
 pub mod CallExamples
+pub mod RulerExamples
 pub mod QuotedExamples

@@ -58,6 +58,7 @@ by table n source =
       printWidth = PrintWidth.Columns n;
       endOfLine = defaults .endOfLine;
       insertFinalNewline = defaults .insertFinalNewline;
+      rulerTab = defaults .rulerTab;
       strengths = record { table = table };
     })
     (codes source) .text

@@ -14,7 +14,8 @@ use lib.ListN.{length}
 use borrow.Author.Tests.{ltb-false, not-false}
 use Rattle.unicode.specs.Unicode.{wellFormed}
 use Rattle.rules.specs.Basics.{choose}
-use Rattle.rules.specs.Refusals.{maxSource, scratchNeeded, numberOf, refuseIf, tested, longSource, badOption, shortScratch, illFormed, shortOutput, unordered, shortKinds}
+use Rattle.rules.specs.Options.{maxRuler}
+use Rattle.rules.specs.Refusals.{maxSource, scratchNeeded, numberOf, refuseIf, tested, longSource, badOption, shortScratch, illFormed, shortOutput, unordered, shortKinds, wideRuler}
 use Rattle.rules.specs.declared.Refusal.{Refusal}
 use Rattle.rules.specs.declared.Verdict.{Verdict}
 
@@ -30,6 +31,7 @@ numbered (Refusal.OutputShort n) e = omega arith
 numbered Refusal.NoPlace e = omega arith
 numbered Refusal.PlacesUnordered e = omega arith
 numbered Refusal.KindsShort e = omega arith
+numbered Refusal.RulerTooWide e = omega arith
 numbered Refusal.StrengthsLength e = omega arith
 numbered Refusal.StrengthsBits e = omega arith
 numbered (Refusal.ListShort n) e = omega arith
@@ -76,6 +78,10 @@ places-ordered inOrder e = not-false inOrder (passed-off _ _ e)
 pub kinds-fit : (needed kinds : ℕ) → shortKinds needed kinds ≡ Verdict.Accepted → needed ≤ kinds
 unfolding shortKinds
 kinds-fit needed kinds e = ltb-false kinds needed (passed-off _ _ e)
+
+pub ruler-fits : (ruler : ℕ) → wideRuler ruler ≡ Verdict.Accepted → ruler ≤ maxRuler
+unfolding wideRuler
+ruler-fits ruler e = ltb-false maxRuler ruler (passed-off _ _ e)
 
 -- ---- several tests
 

@@ -6,7 +6,7 @@ use lib.ListN.{length, take, replicate}
 use Rattle.unicode.specs.Unicode.{decode, encode}
 use Rattle.rules.specs.Choices.{Choices, validOptions, optionsOf}
 use Rattle.rules.specs.Assembly.{Formatted, formatWith}
-use Rattle.rules.specs.Refusals.{scratchNeeded, numberOf, placeOf, tested, wrongLength, bitsSet, longSource, badOption, shortScratch, illFormed, shortOutput}
+use Rattle.rules.specs.Refusals.{scratchNeeded, numberOf, placeOf, tested, wrongLength, bitsSet, longSource, badOption, wideRuler, shortScratch, illFormed, shortOutput}
 use Rattle.rules.specs.declared.Verdict.{Verdict}
 use Rattle.rules.specs.declared.Outcome.{Outcome}
 use Rattle.rules.specs.declared.Answer.{Answer}
@@ -27,19 +27,20 @@ formatted c = formatWith (optionsOf (c .choices)) (decode (c .source))
 unfoldable pub textOf : Call → List ℕ
 textOf c = encode (formatted c .text)
 
--- ---- the refusals: 12 and 13 first, the others in number order
+-- ---- the refusals, in the order in which they are tested
 
 -- 12 times the source's length, and 256
 abbrev pub formatScratch : ℕ
 formatScratch = 12
 
--- 12, 13, then 1 to 4, of a table of strengths, a source, whether an option is bad, and the scratch's length
-abbrev pub formatTests : List ℕ → List ℕ → Bool → ℕ → List Verdict
-formatTests table source bad scratch =
+-- 12, 13, 1, 2, 11, 3 and 4, of a table of strengths, a source, whether an option is bad, the ruler tab, and the scratch's length
+abbrev pub formatTests : List ℕ → List ℕ → Bool → ℕ → ℕ → List Verdict
+formatTests table source bad ruler scratch =
     wrongLength table
     ∷ bitsSet table
     ∷ longSource source
     ∷ badOption bad
+    ∷ wideRuler ruler
     ∷ shortScratch (scratchNeeded formatScratch source) scratch
     ∷ illFormed source
     ∷ []
@@ -47,7 +48,7 @@ formatTests table source bad scratch =
 unfoldable pub verdictOf : Call → Verdict
 verdictOf c =
     tested
-    (formatTests (c .choices .strengths) (c .source) (not (validOptions (c .choices))) (c .scratch)
+    (formatTests (c .choices .strengths) (c .source) (not (validOptions (c .choices))) (c .choices .numbers .«ruler_tab») (c .scratch)
     ++ (shortOutput (length (textOf c)) (c .output) ∷ []))
 
 -- what a finished text of so many bytes comes to

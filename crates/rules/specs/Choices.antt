@@ -17,7 +17,7 @@ pub record Choices : Type 0 where
 
 -- the numbers of the defaults, whose indent is two spaces, and whose table is the built-in one
 abbrev pub defaultNumbers : OptionNumbers
-defaultNumbers = record { «width_set» = 1; width = 100; «line_ending» = 0; «final_newline» = 1 }
+defaultNumbers = record { «width_set» = 1; width = 100; «line_ending» = 0; «final_newline» = 1; «ruler_tab» = 0 }
 
 -- width_set: 0 none, 1 the width
 unfoldable pub printWidthNamed : ℕ → ℕ → Option PrintWidth
@@ -51,7 +51,7 @@ validOptions c =
     && isNamed (endOfLineNamed (c .numbers .«line_ending»))
     && isNamed (finalNewlineNamed (c .numbers .«final_newline»))
 
--- the options that valid choices name
+-- the options that valid choices name; the ruler tab is a number as it stands
 unfoldable pub optionsOf : Choices → Options
 optionsOf c =
     record {
@@ -59,5 +59,6 @@ optionsOf c =
       printWidth = Option·getD (printWidthNamed (c .numbers .«width_set») (c .numbers .width)) (defaults .printWidth);
       endOfLine = Option·getD (endOfLineNamed (c .numbers .«line_ending»)) (defaults .endOfLine);
       insertFinalNewline = Option·getD (finalNewlineNamed (c .numbers .«final_newline»)) (defaults .insertFinalNewline);
+      rulerTab = c .numbers .«ruler_tab»;
       strengths = record { table = c .strengths };
     }

@@ -78,6 +78,7 @@ configured o r =
       printWidth = widthFrom (r .max) (o .printWidth);
       endOfLine = endingFrom (r .ending) (o .endOfLine);
       insertFinalNewline = newlineFrom (r .newline) (o .insertFinalNewline);
+      rulerTab = o .rulerTab;
       strengths = o .strengths;
     }
 

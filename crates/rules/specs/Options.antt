@@ -1,12 +1,12 @@
 -- options.rs: what the host chooses, the defaults, and `indent_with` with its limit.
-use Prim.Native.Nat.{ℕ, _+_}
+use Prim.Native.Nat.{ℕ, _+_, _*_, _/_}
 use mathlib.Core.Bool.{Bool, true, false, _&&_}
 use mathlib.Core.List.{List, [], _∷_}
 use lib.Dec.{leb, ltb}
 use lib.ListN.{length}
 use Rattle.buffer.specs.Repeat.{times}
-use Rattle.unicode.specs.Unicode.{width}
-use Rattle.rules.specs.Basics.{choose, codes, isBlank}
+use Rattle.unicode.specs.Unicode.{units}
+use Rattle.rules.specs.Basics.{choose, is, codes, isBlank}
 use Rattle.rules.specs.Strengths.{builtIn}
 use Rattle.rules.specs.declared.EndOfLine.{EndOfLine}
 use Rattle.rules.specs.declared.PrintWidth.{PrintWidth}
@@ -18,9 +18,10 @@ pub record Options : Type 0 where
   pub printWidth : PrintWidth
   pub endOfLine : EndOfLine
   pub insertFinalNewline : FinalNewline
+  pub rulerTab : ℕ
   pub strengths : Strengths
 
--- indent two spaces, width 100, ending kept, final newline true, the built-in strengths
+-- indent two spaces, width 100, ending kept, final newline true, ruler tab 0, the built-in strengths
 abbrev pub defaults : Options
 defaults =
     record {
@@ -28,6 +29,7 @@ defaults =
       printWidth = PrintWidth.Columns 100;
       endOfLine = EndOfLine.Kept;
       insertFinalNewline = FinalNewline.Always;
+      rulerTab = 0;
       strengths = record { table = builtIn };
     }
 
@@ -49,6 +51,7 @@ withIndent o indent =
       printWidth = o .printWidth;
       endOfLine = o .endOfLine;
       insertFinalNewline = o .insertFinalNewline;
+      rulerTab = o .rulerTab;
       strengths = o .strengths;
     }
 
@@ -74,10 +77,24 @@ indentWith o tabs size =
 unfoldable pub indentOf : Options → ℕ → List ℕ
 indentOf o level = times level (o .indent)
 
--- The column that a part reaches which starts at column `from`, in UTF-16 units. Whatever measures a line uses this.
-unfoldable pub measure : Options → ℕ → List ℕ → ℕ
-measure o from part = from + width part
+-- the largest ruler tab
+abbrev pub maxRuler : ℕ
+maxRuler = 16
+
+-- the next multiple of the ruler above a column
+abbrev pub nextStop : ℕ → ℕ → ℕ
+nextStop ruler from = (from / ruler + 1) * ruler
+
+-- The column after a character that stands at column `from`: a tab goes to the next multiple of the ruler. At ruler 0 it adds its UTF-16 units,
+-- as every other character does.
+unfoldable pub columnAfter : ℕ → ℕ → ℕ → ℕ
+columnAfter ruler from c = choose (ltb 0 ruler && is "\t" c) (nextStop ruler from) (from + units c)
+
+-- The column that a part reaches which starts at column `from`. Whatever measures a line uses this.
+unfoldable pub measure : ℕ → ℕ → List ℕ → ℕ
+measure ruler from [] = from
+measure ruler from (c ∷ cs) = measure ruler (columnAfter ruler from c) cs
 
 -- a whole line is wider than the width
 unfoldable pub overWide : Options → ℕ → List ℕ → Bool
-overWide o max line = ltb max (measure o 0 line)
+overWide o max line = ltb max (measure (o .rulerTab) 0 line)

@@ -7,6 +7,7 @@ use lib.ListN.{length}
 use Rattle.unicode.specs.Unicode.{wellFormed, prefixLen}
 use Rattle.rules.specs.Basics.{choose}
 use Rattle.rules.specs.Strengths.{tableLength, lastBits}
+use Rattle.rules.specs.Options.{maxRuler}
 use Rattle.rules.specs.declared.Refusal.{Refusal}
 use Rattle.rules.specs.declared.Verdict.{Verdict}
 
@@ -28,6 +29,7 @@ numberOf (Refusal.OutputShort needed) = 5
 numberOf Refusal.NoPlace = 6
 numberOf Refusal.PlacesUnordered = 9
 numberOf Refusal.KindsShort = 10
+numberOf Refusal.RulerTooWide = 11
 numberOf Refusal.StrengthsLength = 12
 numberOf Refusal.StrengthsBits = 13
 numberOf (Refusal.ListShort needed) = 16
@@ -41,6 +43,7 @@ placeOf (Refusal.OutputShort needed) = needed
 placeOf Refusal.NoPlace = 0
 placeOf Refusal.PlacesUnordered = 0
 placeOf Refusal.KindsShort = 0
+placeOf Refusal.RulerTooWide = 0
 placeOf Refusal.StrengthsLength = 0
 placeOf Refusal.StrengthsBits = 0
 placeOf (Refusal.ListShort needed) = needed
@@ -88,6 +91,10 @@ unordered inOrder = refuseIf (not inOrder) Refusal.PlacesUnordered
 -- 10
 unfoldable pub shortKinds : ℕ → ℕ → Verdict
 shortKinds needed kinds = refuseIf (ltb kinds needed) Refusal.KindsShort
+
+-- 11
+unfoldable pub wideRuler : ℕ → Verdict
+wideRuler ruler = refuseIf (ltb maxRuler ruler) Refusal.RulerTooWide
 
 -- 12
 unfoldable pub wrongLength : List ℕ → Verdict

@@ -113,12 +113,14 @@ impl Strengths {
 }
 
 // Options as a host gives them in numbers, beside the bytes of its indent. width_set: 0 no print width, 1 the width given.
-// line_ending: 0 kept, 1 LF, 2 CRLF. final_newline: 0 as the source, 1 always, 2 never.
+// line_ending: 0 kept, 1 LF, 2 CRLF. final_newline: 0 as the source, 1 always, 2 never. ruler_tab: 0 a tab is one column,
+// else how far apart the ruler's tab stops are.
 pub struct OptionNumbers {
     pub width_set: u64,
     pub width: u64,
     pub line_ending: u64,
     pub final_newline: u64,
+    pub ruler_tab: u64,
 }
 
 impl OptionNumbers {
@@ -127,6 +129,7 @@ impl OptionNumbers {
         width: PrintWidth::DEFAULT as u64,
         line_ending: 0,
         final_newline: 1,
+        ruler_tab: 0,
     };
 }
 
@@ -140,6 +143,7 @@ pub enum Refusal {
     NoPlace,
     PlacesUnordered,
     KindsShort,
+    RulerTooWide,
     StrengthsLength,
     StrengthsBits,
     ListShort(usize),

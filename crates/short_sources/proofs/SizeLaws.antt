@@ -17,6 +17,7 @@ use Rattle.unicode.proofs.Trim.{length-trim, length-trimEnd}
 use Rattle.rules.specs.Basics.{choose, is, isOpener, Pieces, pieces, atSep, splitOn, codes, count}
 use Rattle.rules.specs.Scan.{classify}
 use Rattle.rules.specs.Lines.{asStr, linesOf, dropCr}
+use Rattle.rules.proofs.Columns.{measure-zero}
 use Rattle.rules.specs.Options.{defaults, indentOf, measure, overWide}
 use Rattle.rules.specs.Spacing.{respaced}
 use Rattle.rules.specs.Brackets.{Entry, levels, leadingClosers, countBrackets}
@@ -132,10 +133,10 @@ indent-length level = length-times level (codes "  ")
 -- a line that the print width holds is not broken
 module _ (level : ℕ) (line : List ℕ) (h : length (indentOf defaults level ++ line) ≤ 50) where
   narrow : overWide defaults 100 (indentOf defaults level ++ line) ≡ false
-  unfolding overWide measure
+  unfolding overWide
   narrow =
       let l : List ℕ = indentOf defaults level ++ line in
-      le-ltb 100 (0 + width l) (omega (arith, width-within l))
+      le-ltb 100 (measure 0 0 l) (omega (arith, measure-zero 0 l, width-within l))
 
   whole : (b : Bool) → choose b (splitWide (PrintWidth.Columns 100) defaults level line) (oneLine (indentOf defaults level ++ line))
       ≡ oneLine (indentOf defaults level ++ line)

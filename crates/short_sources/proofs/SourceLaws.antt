@@ -19,7 +19,7 @@ use Rattle.decimal.specs.Decimal.{digits, DecimalPut}
 use Rattle.rules.specs.Basics.{choose, codes}
 use Rattle.rules.specs.Options.{Options, defaults, validIndent, allBlank}
 use Rattle.rules.specs.Assembly.{formatWith, defaultText}
-use Rattle.rules.specs.Refusals.{maxSource, scratchNeeded, refuseIf, tested, wrongLength, bitsSet, longSource, badOption, shortScratch, illFormed, shortOutput}
+use Rattle.rules.specs.Refusals.{maxSource, scratchNeeded, refuseIf, tested, wrongLength, bitsSet, longSource, badOption, wideRuler, shortScratch, illFormed, shortOutput}
 use Rattle.rules.specs.Strengths.{builtIn, fieldsOf, lastBits}
 use Rattle.rules.specs.Choices.{defaultNumbers, printWidthNamed, endOfLineNamed, finalNewlineNamed, isNamed, validOptions, optionsOf}
 use Rattle.rules.specs.Call.{Call, formatScratch, formatted, textOf, verdictOf, outcomeOf, answerOf}
@@ -72,7 +72,7 @@ module _ (source : List ℕ) (n : ℕ) where
 
     -- no refusal applies
     accepted : 456 ≤ n → answerOf (outcomeOf (shortCall source n)) .refusal ≡ 0
-    unfolding outcomeOf verdictOf tested refuseIf wrongLength bitsSet lastBits fieldsOf longSource badOption shortScratch illFormed shortOutput choose validOptions validIndent allBlank printWidthNamed endOfLineNamed finalNewlineNamed isNamed
+    unfolding outcomeOf verdictOf tested refuseIf wrongLength bitsSet lastBits fieldsOf longSource badOption wideRuler shortScratch illFormed shortOutput choose validOptions validIndent allBlank printWidthNamed endOfLineNamed finalNewlineNamed isNamed
     accepted h =
         rw (
           le-ltb maxSource (length source) (omega (arith, s .few)),

@@ -7,14 +7,22 @@ use lib.ListN.{length}
 use Rattle.buffer.specs.Buffer.{Appended}
 use Rattle.buffer.specs.Repeat.{times}
 use Rattle.unicode.specs.Unicode.{encode, size, WellFormed}
-use Rattle.rules.specs.Options.{Options, defaults, withIndent, allBlank}
+use Rattle.rules.specs.Options.{Options, defaults, allBlank}
 use Rattle.rules.specs.Assembly.{joined}
 use Rattle.split.specs.Measure.{Indent}
 use Rattle.split.specs.declared.NewLine.{NewLine}
 
--- options with an indent
-abbrev pub indented : List ℕ → Options
-indented indent = withIndent defaults indent
+-- options with an indent and a ruler tab
+abbrev pub indented : List ℕ → ℕ → Options
+indented indent ruler =
+    record {
+      indent = indent;
+      printWidth = defaults .printWidth;
+      endOfLine = defaults .endOfLine;
+      insertFinalNewline = defaults .insertFinalNewline;
+      rulerTab = ruler;
+      strengths = defaults .strengths;
+    }
 
 -- a text at a level
 abbrev pub lay : List ℕ → ℕ → List ℕ → List ℕ

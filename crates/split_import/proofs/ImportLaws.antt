@@ -23,7 +23,7 @@ use Rattle.unicode.proofs.Table.{bytes as bytes-of}
 use Rattle.unicode.proofs.Decode.{encode-nil, encode-append, encode-ascii, decode-encode, decode-scalars, wf-encode}
 use Rattle.rules.specs.declared.Carry.{Carry}
 use Rattle.rules.specs.Basics.{choose, codes, startsWith, firstIs, startsThen, isIdent}
-use Rattle.rules.specs.Options.{Options, indentOf, measure, overWide}
+use Rattle.rules.specs.Options.{Options, indentOf, overWide}
 use Rattle.rules.specs.Scan.{Cell, charsOf, classify, isCode, before, from}
 use Rattle.rules.specs.ClassBytes.{classOf, cellsOf, FirstAt}
 use Rattle.rules.specs.SplitImport.{Laid, codeIs, beforeCode, fromCode, namesOf, addName, fillNames, importLines, importParts, closedImport, openedImport, startsImport, splitImport}
@@ -32,6 +32,7 @@ use Rattle.rules.proofs.ScanBytes.{label, encodeCells, encodeCells-cons, chars-
 use Rattle.rules.proofs.CellsLaws.{code-byte, cells-bytes, chars-cells, drop-cells, length-classBytes, length-classify, Finding, find-start, find-more, find-stop, find-end}
 use Rattle.rules.proofs.WordsBytes.{import-encode, beforeCode-encode, fromCode-encode}
 use Rattle.split.specs.declared.NewLine.{NewLine}
+use Rattle.split.specs.Measure.{InUse}
 use Rattle.split.specs.Text.{indented, lay, following, lastOf, LineRoom, LineWritten}
 use Rattle.split.proofs.TextLaws.{following-append, last-append, written-lines, lay-encode, indent-short, level-fits, deeper-fits}
 use Rattle.split_import.specs.declared.Names.{Names}
@@ -83,20 +84,23 @@ code-begin c line class = find-start (codeByte c) line class
 
 -- ---- the lines of an import
 
--- of the options only the indent matters
-same-name : (o p : Options) (max : ℕ) (cont : List ℕ) (lines : List (List ℕ)) (name : List ℕ) → addName o max cont lines name ≡ addName p max cont lines name
-unfolding addName overWide measure
-same-name o p max cont [] name = refl
-same-name o p max cont (cur ∷ done) name = refl
+-- of the options only the indent and the ruler tab matter
+same-name : (o p : Options) → o .rulerTab ≡ p .rulerTab → (max : ℕ) (cont : List ℕ) (lines : List (List ℕ)) (name : List ℕ) → addName o max cont lines name ≡ addName p max cont lines name
+unfolding addName overWide
+same-name o p r max cont [] name = refl
+same-name o p r max cont (cur ∷ done) name = rw r refl
 
-same-fold : (o p : Options) (max : ℕ) (cont : List ℕ) (names lines : List (List ℕ)) → foldl (addName o max cont) lines names ≡ foldl (addName p max cont) lines names
-same-fold o p max cont [] lines = refl
-same-fold o p max cont (n ∷ ns) lines = same-fold o p max cont ns (addName o max cont lines n) ∙ ap (λ (ls : List (List ℕ)). foldl (addName p max cont) ls ns) (same-name o p max cont lines n)
+same-fold : (o p : Options) → o .rulerTab ≡ p .rulerTab → (max : ℕ) (cont : List ℕ) (names lines : List (List ℕ)) → foldl (addName o max cont) lines names ≡ foldl (addName p max cont) lines names
+same-fold o p r max cont [] lines = refl
+same-fold o p r max cont (n ∷ ns) lines = same-fold o p r max cont ns (addName o max cont lines n) ∙ ap (λ (ls : List (List ℕ)). foldl (addName p max cont) ls ns) (same-name o p r max cont lines n)
 
-same-fill : (o : Options) (indent : List ℕ) (max level : ℕ) (names : List (List ℕ)) → o .indent ≡ indent
-    → fillNames o max (indentOf o (suc level)) names ≡ fillNames (indented indent) max (times (level + 1) indent) names
+same-fill : (o : Options) (indent : List ℕ) (ruler max level : ℕ) (names : List (List ℕ)) → InUse o indent ruler
+    → fillNames o max (indentOf o (suc level)) names ≡ fillNames (indented indent ruler) max (times (level + 1) indent) names
 unfolding fillNames indentOf
-same-fill o indent max level names e = rw (add-one level) (same-fold o (indented indent) max (times (suc level) (o .indent)) names [] ∙ ap (λ (i : List ℕ). foldl (addName (indented indent) max (times (suc level) i)) [] names) e)
+same-fill o indent ruler max level names e =
+    rw (add-one level)
+    (same-fold o (indented indent ruler) (e .ruled) max (times (suc level) (o .indent)) names []
+    ∙ ap (λ (i : List ℕ). foldl (addName (indented indent ruler) max (times (suc level) i)) [] names) (e .indents))
 
 -- the first line
 module _ {head indent : List ℕ} {level at : ℕ} (f : HeadFits head indent level at) {n : ℕ} (t : TrimmedEnd head n) where
@@ -145,8 +149,8 @@ module _ {line : List ℕ} {start end : ℕ} {indent : List ℕ} {level : ℕ} {
           room = omega (arith, a₁ .room, head-long, inside-long, b .order, b .within, b .fits .room);
         }
 
-    pub tail-room : (max : ℕ) {out₂ : List ℕ} {m : ℕ} → NamesWritten (part line (start + 1) end) indent (level + 1) eol max out₁ out₂ n m → LineRoom eol indent level (take (length line - end) (drop end line)) m
-    tail-room max a₂ =
+    pub tail-room : (ruler max : ℕ) {out₂ : List ℕ} {m : ℕ} → NamesWritten ruler (part line (start + 1) end) indent (level + 1) eol max out₁ out₂ n m → LineRoom eol indent level (take (length line - end) (drop end line)) m
+    tail-room ruler max a₂ =
         record {
           indents = level-fits (b .fits);
           end = b .fits .end;
@@ -156,21 +160,21 @@ module _ {line : List ℕ} {start end : ℕ} {indent : List ℕ} {level : ℕ} {
   -- ---- what is written
 
   module _ {c : Names} (q : NamesCounted (part line (start + 1) end) c) where
-    pub parts-none : (out : List ℕ) (max : ℕ) → c .names < 2 → (o : Options) → o .indent ≡ indent → Given (partsOf o max level line start end) eol out out at ImportSplit.Whole
+    pub parts-none : (out : List ℕ) (ruler max : ℕ) → c .names < 2 → (o : Options) → InUse o indent ruler → Given (partsOf o max level line start end) eol out out at ImportSplit.Whole
     unfolding importParts
-    parts-none out max h o e =
+    parts-none out ruler max h o e =
         subst (λ (x : Option Laid). Given x eol out out at ImportSplit.Whole)
         (sym (choose-false _ _ _ (lt-leb 2 (length (namesOf (parts (part line (start + 1) end)))) (omega (arith, q .names)))))
         (record { is = refl; same = refl })
 
-    module _ {max : ℕ} {out out₁ out₂ out₃ : List ℕ} {n m : ℕ} {w : NewLine} (two : 2 ≤ c .names) (a₁ : HeadWritten (take start line) indent level out out₁ at n)
-        (a₂ : NamesWritten (part line (start + 1) end) indent (level + 1) eol max out₁ out₂ n m)
+    module _ {ruler max : ℕ} {out out₁ out₂ out₃ : List ℕ} {n m : ℕ} {w : NewLine} (two : 2 ≤ c .names) (a₁ : HeadWritten (take start line) indent level out out₁ at n)
+        (a₂ : NamesWritten ruler (part line (start + 1) end) indent (level + 1) eol max out₁ out₂ n m)
         (a₃ : LineWritten eol (lay indent level (take (length line - end) (drop end line))) out₂ out₃ m w) where
       abbrev names : List (List ℕ)
       names = namesOf (parts (part line (start + 1) end))
 
       abbrev filled : List (List ℕ)
-      filled = fillNames (indented indent) max (times (level + 1) indent) names
+      filled = fillNames (indented indent ruler) max (times (level + 1) indent) names
 
       abbrev top : List ℕ
       top = headLine indent level (take start line)
@@ -192,18 +196,18 @@ module _ {line : List ℕ} {start end : ℕ} {indent : List ℕ} {level : ℕ} {
       unfolding lastOf
       ends = rw (last-append top (map encode (reverse filled)) (bottom ∷ [])) (a₃′ .start)
 
-      module _ (o : Options) (e : o .indent ≡ indent) where
+      module _ (o : Options) (e : InUse o indent ruler) where
         top-line : encode (indentOf o level ++ (trimEnd (decode (take start line)) ++ codes " {")) ≡ top
         top-line =
-            lay-encode o indent level (trimEnd (decode (take start line)) ++ codes " {") e (level-fits (b .fits))
+            lay-encode o indent level (trimEnd (decode (take start line)) ++ codes " {") (e .indents) (level-fits (b .fits))
             ∙ rw (encode-append (trimEnd (decode (take start line))) (codes " {"), encode-ascii (codes " {") (omega arith, (omega arith, tt)))
 
         other-lines : map encode (reverse (fillNames o max (indentOf o (suc level)) names) ++ ((indentOf o level ++ decode (drop end line)) ∷ [])) ≡ map encode (reverse filled) ++ (bottom ∷ [])
         other-lines =
             map-append encode (reverse (fillNames o max (indentOf o (suc level)) names)) ((indentOf o level ++ decode (drop end line)) ∷ [])
-            ∙ rw (same-fill o indent max level names e, lay-encode o indent level (decode (drop end line)) e (level-fits (b .fits)), b .tail)
+            ∙ rw (same-fill o indent ruler max level names e, lay-encode o indent level (decode (drop end line)) (e .indents) (level-fits (b .fits)), b .tail)
 
-      pub parts-some : (o : Options) → o .indent ≡ indent → Given (partsOf o max level line start end) eol out out₃ at (ImportSplit.Split (record { next = w .next; last = w .start; blanks = c .blanks }))
+      pub parts-some : (o : Options) → InUse o indent ruler → Given (partsOf o max level line start end) eol out out₃ at (ImportSplit.Split (record { next = w .next; last = w .start; blanks = c .blanks }))
       unfolding importParts importLines
       parts-some o e =
           subst (λ (x : Option Laid). Given x eol out out₃ at (ImportSplit.Split (record { next = w .next; last = w .start; blanks = c .blanks })))
@@ -327,18 +331,18 @@ module _ {line class indent : List ℕ} {level : ℕ} {eol : List ℕ} {at : ℕ
   not-given out x e = subst (λ (y : Option Laid). Given y eol out out at ImportSplit.Whole) (sym e) (record { is = refl; same = refl })
 
   module _ (r : Bool) (q : r ≡ startsImport line) where
-    pub no-import : (out : List ℕ) (max : ℕ) → r ≡ false → (o : Options) → o .indent ≡ indent → Given (splitImport o max level chars) eol out out at ImportSplit.Whole
+    pub no-import : (out : List ℕ) (ruler max : ℕ) → r ≡ false → (o : Options) → InUse o indent ruler → Given (splitImport o max level chars) eol out out at ImportSplit.Whole
     unfolding splitImport
-    no-import out max e o i = not-given out _ (choose-false _ _ _ (starts-chars ∙ sym q ∙ e))
+    no-import out ruler max e o i = not-given out _ (choose-false _ _ _ (starts-chars ∙ sym q ∙ e))
 
     module _ (e : r ≡ true) (start : ℕ) (u : FirstAt (codeByte 123) line class start) where
       opened : (o : Options) (max : ℕ) → splitImport o max level chars ≡ openedImport o max level (charsOf (beforeCode "{" chars)) (fromCode "{" chars)
       unfolding splitImport
       opened o max = choose-true _ _ _ (starts-chars ∙ sym q ∙ e)
 
-      pub no-brace : (out : List ℕ) (max : ℕ) → length line ≤ start → (o : Options) → o .indent ≡ indent → Given (splitImport o max level chars) eol out out at ImportSplit.Whole
+      pub no-brace : (out : List ℕ) (ruler max : ℕ) → length line ≤ start → (o : Options) → InUse o indent ruler → Given (splitImport o max level chars) eol out out at ImportSplit.Whole
       unfolding openedImport
-      no-brace out max h o i =
+      no-brace out ruler max h o i =
           not-given out _ (opened o max ∙ ap (openedImport o max level (charsOf (beforeCode "{" chars))) (brace-none "{" refl chars line class cells-are class-room start u h))
 
       module _ (h : start < length line) (n : ℕ) (v : FirstAt (codeByte 125) (take (length line - (start + 1)) (drop (start + 1) line)) (take (length class - (start + 1)) (drop (start + 1) class)) n) where
@@ -361,9 +365,9 @@ module _ {line class indent : List ℕ} {level : ℕ} {eol : List ℕ} {at : ℕ
         unfolding openedImport
         closed o max = opened o max ∙ ap (openedImport o max level (charsOf (beforeCode "{" chars))) (next .is)
 
-        pub no-close : (out : List ℕ) (max : ℕ) → length line ≤ start + 1 + n → (o : Options) → o .indent ≡ indent → Given (splitImport o max level chars) eol out out at ImportSplit.Whole
+        pub no-close : (out : List ℕ) (ruler max : ℕ) → length line ≤ start + 1 + n → (o : Options) → InUse o indent ruler → Given (splitImport o max level chars) eol out out at ImportSplit.Whole
         unfolding closedImport
-        no-close out max k o i =
+        no-close out ruler max k o i =
             not-given out _ (closed o max ∙ ap (closedImport o max level (charsOf (beforeCode "{" chars)) (charsOf (beforeCode "}" inner)))
             (brace-none "}" refl inner (drop a line) (drop a class) (next .cells) room n v′ (omega (arith, length-drop a line))))
 
@@ -406,6 +410,6 @@ module _ {line class indent : List ℕ} {level : ℕ} {eol : List ℕ} {at : ℕ
               let tl : charsOf (y .head ∷ y .rest) ≡ decode (drop (start + 1 + n) line) = ap charsOf (sym (y .is)) ∙ sym (ap decode tail-is ∙ decode-encode _ (cells-scalars "}" inner scalars-inner .1)) in
               closed o max ∙ ap (closedImport o max level (charsOf (beforeCode "{" chars)) (charsOf (beforeCode "}" inner))) (y .is) ∙ rw (hd, mid, tl)
 
-          pub given-import : (out out′ : List ℕ) (s : ImportSplit) (max : ℕ) → ((o : Options) → o .indent ≡ indent → Given (partsOf o max level line start (start + 1 + n)) eol out out′ at s)
-              → (o : Options) → o .indent ≡ indent → Given (splitImport o max level chars) eol out out′ at s
-          given-import out out′ s max g o i = subst (λ (x : Option Laid). Given x eol out out′ at s) (sym (parts-are o max)) (g o i)
+          pub given-import : (out out′ : List ℕ) (s : ImportSplit) (ruler max : ℕ) → ((o : Options) → InUse o indent ruler → Given (partsOf o max level line start (start + 1 + n)) eol out out′ at s)
+              → (o : Options) → InUse o indent ruler → Given (splitImport o max level chars) eol out out′ at s
+          given-import out out′ s ruler max g o i = subst (λ (x : Option Laid). Given x eol out out′ at s) (sym (parts-are o max)) (g o i)

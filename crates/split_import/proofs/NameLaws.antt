@@ -17,15 +17,16 @@ use Rattle.unicode.specs.Unicode.{encode, decode, Scalars, WellFormed, trim}
 use Rattle.unicode.proofs.Tests.{by-test}
 use Rattle.unicode.proofs.Decode.{encode-nil, encode-append, encode-ascii, decode-ascii, decode-scalars, wf-ascii}
 use Rattle.rules.specs.Basics.{choose, isEmpty, Pieces, pieces, atSep, splitOn, is, codes}
-use Rattle.rules.specs.Options.{Options, indentOf, measure, overWide}
+use Rattle.rules.specs.Options.{Options, measure, overWide}
 use Rattle.rules.specs.SplitImport.{consName, namesOf, blanksOf, withComma, addName, fillNames}
 use Rattle.rules.proofs.Choose.{choose-true, choose-false}
 use Rattle.rules.proofs.WordsBytes.{pieces-encode}
 use Rattle.unicode.specs.declared.Utf16Column.{Utf16Column}
 use Rattle.split.specs.declared.Part.{Part}
-use Rattle.split.specs.Measure.{Measurable, Measured, Indent, IndentMeasured, Within, Trimmed}
+use Rattle.split.specs.Measure.{Measurable, Measured, Indent, lastIndent, IndentMeasured, Within, Trimmed}
 use Rattle.split.specs.Text.{indented, lay, AllWell, following, lineRoom}
-use Rattle.split.proofs.MeasureLaws.{measure-append, part-length, ascii-times}
+use Rattle.rules.proofs.Columns.{measure-append}
+use Rattle.split.proofs.MeasureLaws.{part-length, ascii-times}
 use Rattle.rules.proofs.SplitSizes.{blank-ascii}
 use Rattle.split.proofs.TextLaws.{AllScalars, all-well, all-decode, following-append, indent-short}
 use Rattle.split_import.specs.declared.Filled.{Filled}
@@ -249,16 +250,16 @@ counting-end s names blanks a q h =
 -- ---- a name on a line
 
 -- one byte, which is a character
-pub one-measurable : (from b : ℕ) → b < 0x80 → from + 2 < 2 ^ 64 → Measurable from (b ∷ [])
+pub one-measurable : (from b : ℕ) → b < 0x80 → from + 256 < 2 ^ 64 → Measurable from (b ∷ [])
 one-measurable from b h k = record { well = wf-ascii (b ∷ []) (h, tt); fits = omega arith }
 
-one-measured : (o : Options) (from b n : ℕ) → b < 0x80 → Measured from (b ∷ []) n → n ≡ measure o from (b ∷ [])
-one-measured o from b n h m = m .is o ∙ rw (decode-ascii (b ∷ []) (h, tt))
+one-measured : (ruler from b n : ℕ) → b < 0x80 → Measured ruler from (b ∷ []) n → n ≡ measure ruler from (b ∷ [])
+one-measured ruler from b n h m = m .is ∙ rw (decode-ascii (b ∷ []) (h, tt))
 
-pub name-measured : (from : ℕ) (name : List ℕ) (m n : ℕ) → Measured from name m → Measured m (44 ∷ []) n → NameMeasured from name n
-name-measured from name m n p q =
+pub name-measured : (ruler from : ℕ) (name : List ℕ) (m n : ℕ) → Measured ruler from name m → Measured ruler m (44 ∷ []) n → NameMeasured ruler from name n
+name-measured ruler from name m n p q =
     record {
-      is = λ o. one-measured o m 44 n (omega arith) q ∙ ap (λ (k : ℕ). measure o k (44 ∷ [])) (p .is o) ∙ sym (measure-append o from (decode name) (44 ∷ []));
+      is = one-measured ruler m 44 n (omega arith) q ∙ ap (λ (k : ℕ). measure ruler k (44 ∷ [])) (p .is) ∙ sym (measure-append ruler from (decode name) (44 ∷ []));
       small = omega (arith, p .small, q .small);
     }
 
@@ -280,15 +281,14 @@ pub comma-room : {eol indent : List ℕ} {level : ℕ} {name : List ℕ} {at : �
 comma-room {indent = indent} {level = level} {name = name} q a b =
     omega (arith, a .next, b .next, q .end, q .room, indent-short indent level (q .indents), length-append (times level indent) name)
 
-pub on-new-line : (indent : List ℕ) (level : ℕ) (eol name out out′ : List ℕ) (f : Filled) (c : ℕ) (col : Utf16Column) (at : ℕ) → IndentMeasured indent level c → NameMeasured c name (col .0)
-    → Appended out out′ (f .at) (eol ++ lay indent level (name ++ 44 ∷ [])) at → OnNewLine indent level eol name out out′ f (record { at = at; column = col; some = true })
-unfolding indentOf
-on-new-line indent level eol name out out′ f c col at p q a =
+pub on-new-line : (ruler : ℕ) (indent : List ℕ) (level : ℕ) (eol name out out′ : List ℕ) (f : Filled) (c : ℕ) (col : Utf16Column) (at : ℕ) → IndentMeasured ruler indent level c → NameMeasured ruler c name (col .0)
+    → Appended out out′ (f .at) (eol ++ lay indent level (name ++ 44 ∷ [])) at → OnNewLine ruler indent level eol name out out′ f (record { at = at; column = col; some = true })
+on-new-line ruler indent level eol name out out′ f c col at p q a =
     record {
       text = a;
-      column = λ o e.
-          q .is o ∙ ap (λ (k : ℕ). measure o k (withComma (decode name))) (p .is o e)
-          ∙ ap (λ (i : List ℕ). measure o (measure o 0 (times level i)) (withComma (decode name))) e ∙ sym (measure-append o 0 (times level indent) (withComma (decode name)));
+      column =
+          q .is ∙ ap (λ (k : ℕ). measure ruler k (withComma (decode name))) (p .is)
+          ∙ sym (measure-append ruler 0 (times level indent) (withComma (decode name)));
       small = omega (arith, p .small, q .small);
       some = refl;
     }
@@ -319,23 +319,18 @@ if-some : (o : Options) (max : ℕ) (cont : List ℕ) (lines : List (List ℕ)) 
 if-some o max cont lines [] h = absurd (omega arith)
 if-some o max cont lines (c ∷ cs) h = refl
 
--- what a part measures doesn't depend on the options
-measure-any : (o p : Options) (from : ℕ) (l : List ℕ) → measure o from l ≡ measure p from l
-unfolding measure
-measure-any o p from l = refl
-
-module _ (indent : List ℕ) (level : ℕ) (eol : List ℕ) (max : ℕ) (name out : List ℕ) (f : Filled) where
+module _ (ruler : ℕ) (indent : List ℕ) (level : ℕ) (eol : List ℕ) (max : ℕ) (name out : List ℕ) (f : Filled) where
   abbrev opts : Options
-  opts = indented indent
+  opts = indented indent ruler
 
   abbrev cont : List ℕ
   cont = times level indent
 
-  pub add-none : length name ≡ 0 → Added indent level eol max name out out f f
+  pub add-none : length name ≡ 0 → Added ruler indent level eol max name out out f f
   add-none z =
       record {
         to = λ lines c.
-            subst (λ (l : List ℕ). AddedTo lines (addIf opts max cont lines l) eol out out f f) (sym (none-decoded name z))
+            subst (λ (l : List ℕ). AddedTo ruler lines (addIf opts max cont lines l) eol out out f f) (sym (none-decoded name z))
             (record { column = c; grown = []; text = appended-nil out (f .at); grows = sym (append-nil (namesText eol lines)) });
         small = λ n h k. omega arith;
         room = omega arith;
@@ -348,79 +343,79 @@ module _ (indent : List ℕ) (level : ℕ) (eol : List ℕ) (max : ℕ) (name ou
     named : (lines : List (List ℕ)) → addIf opts max cont lines (decode name) ≡ addName opts max cont lines (decode name)
     named lines = if-some opts max cont lines (decode name) (some-decoded name (fits .well) (omega arith))
 
-    added-line : (lines : List (List ℕ)) (out′ : List ℕ) (r : Filled) → OnNewLine indent level eol name out out′ f r → AddedTo lines (newLine ∷ lines) eol out out′ f r
+    added-line : (lines : List (List ℕ)) (out′ : List ℕ) (r : Filled) → OnNewLine ruler indent level eol name out out′ f r → AddedTo ruler lines (newLine ∷ lines) eol out out′ f r
     added-line lines out′ r q =
         record {
-          column = record { some = q .some; at = λ o. q .column opts refl ∙ measure-any opts o 0 newLine };
+          column = record { some = q .some; at = q .column };
           grown = eol ++ lay indent level (name ++ 44 ∷ []);
           text = q .text;
           grows = text-cons eol newLine lines ∙ rw (line-bytes indent level name (fits .indents) (fits .well));
         }
 
     abbrev Result : List ℕ → Filled → Type 0
-    Result out′ r = Added indent level eol max name out out′ f r
+    Result out′ r = Added ruler indent level eol max name out out′ f r
 
-    line-small : (out′ : List ℕ) (r : Filled) → OnNewLine indent level eol name out out′ f r → (n : ℕ) → 67108928 ≤ n → f .column .0 ≤ n → r .column .0 ≤ n + 2 * length name + 4
+    line-small : (out′ : List ℕ) (r : Filled) → OnNewLine ruler indent level eol name out out′ f r → (n : ℕ) → lastIndent ≤ n → f .column .0 ≤ n → r .column .0 ≤ n + 255 * length name + 510
     line-small out′ r q n h k = omega (arith, q .small)
 
-    line-at : (out′ : List ℕ) (r : Filled) → OnNewLine indent level eol name out out′ f r → r .at ≤ f .at + (67108931 + length name)
+    line-at : (out′ : List ℕ) (r : Filled) → OnNewLine ruler indent level eol name out out′ f r → r .at ≤ f .at + (67108931 + length name)
     line-at out′ r q =
         omega (arith, q .text .next, length-append eol (lay indent level (name ++ 44 ∷ [])), length-append cont (name ++ 44 ∷ []), length-append name (44 ∷ []), indent-short indent level (fits .indents), fits .end)
 
     -- the first line
-    pub add-first : (out′ : List ℕ) (r : Filled) → f .some ≡ false → OnNewLine indent level eol name out out′ f r → Result out′ r
+    pub add-first : (out′ : List ℕ) (r : Filled) → f .some ≡ false → OnNewLine ruler indent level eol name out out′ f r → Result out′ r
     unfolding addName
     add-first out′ r e q =
         record {
-          to = λ lines c. subst (λ (ls : List (List ℕ)). AddedTo lines ls eol out out′ f r) (sym (named lines)) (go lines c);
+          to = λ lines c. subst (λ (ls : List (List ℕ)). AddedTo ruler lines ls eol out out′ f r) (sym (named lines)) (go lines c);
           small = line-small out′ r q;
           room = line-at out′ r q;
         }
       where
-        go : (lines : List (List ℕ)) → NewestAt lines f → AddedTo lines (addName opts max cont lines (decode name)) eol out out′ f r
+        go : (lines : List (List ℕ)) → NewestAt ruler lines f → AddedTo ruler lines (addName opts max cont lines (decode name)) eol out out′ f r
         go [] c = added-line [] out′ r q
         go (cur ∷ done) c = absurd (let y : _≡_ {A = ℕ} 0 1 = cc (c .some, e) in omega arith)
 
-    module _ (b n : ℕ) (e : f .some ≡ true) (p : Measured (f .column .0) (32 ∷ []) b) (q : NameMeasured b name n) where
+    module _ (b n : ℕ) (e : f .some ≡ true) (p : Measured ruler (f .column .0) (32 ∷ []) b) (q : NameMeasured ruler b name n) where
       abbrev joinedLine : List ℕ → List ℕ
       joinedLine cur = cur ++ (codes " " ++ withComma (decode name))
 
       -- the column that the newest line would reach
-      column-of : (cur : List ℕ) (done : List (List ℕ)) → NewestAt (cur ∷ done) f → (o : Options) → n ≡ measure o 0 (joinedLine cur)
-      column-of cur done c o =
-          q .is o ∙ ap (λ (k : ℕ). measure o k (withComma (decode name))) (one-measured o (f .column .0) 32 b (omega arith) p ∙ ap (λ (k : ℕ). measure o k (32 ∷ [])) (c .at o))
-          ∙ sym (measure-append o 0 cur (codes " " ++ withComma (decode name)) ∙ measure-append o (measure o 0 cur) (codes " ") (withComma (decode name)))
+      column-of : (cur : List ℕ) (done : List (List ℕ)) → NewestAt ruler (cur ∷ done) f → n ≡ measure ruler 0 (joinedLine cur)
+      column-of cur done c =
+          q .is ∙ ap (λ (k : ℕ). measure ruler k (withComma (decode name))) (one-measured ruler (f .column .0) 32 b (omega arith) p ∙ ap (λ (k : ℕ). measure ruler k (32 ∷ [])) (c .at))
+          ∙ sym (measure-append ruler 0 cur (codes " " ++ withComma (decode name)) ∙ measure-append ruler (measure ruler 0 cur) (codes " ") (withComma (decode name)))
 
-      pub add-wide : (out′ : List ℕ) (r : Filled) → max < n → OnNewLine indent level eol name out out′ f r → Result out′ r
+      pub add-wide : (out′ : List ℕ) (r : Filled) → max < n → OnNewLine ruler indent level eol name out out′ f r → Result out′ r
       unfolding addName overWide
       add-wide out′ r h l =
           record {
-            to = λ lines c. subst (λ (ls : List (List ℕ)). AddedTo lines ls eol out out′ f r) (sym (named lines)) (go lines c);
+            to = λ lines c. subst (λ (ls : List (List ℕ)). AddedTo ruler lines ls eol out out′ f r) (sym (named lines)) (go lines c);
             small = line-small out′ r l;
             room = line-at out′ r l;
           }
         where
-          go : (lines : List (List ℕ)) → NewestAt lines f → AddedTo lines (addName opts max cont lines (decode name)) eol out out′ f r
+          go : (lines : List (List ℕ)) → NewestAt ruler lines f → AddedTo ruler lines (addName opts max cont lines (decode name)) eol out out′ f r
           go [] c = absurd (let y : _≡_ {A = ℕ} 0 1 = cc (c .some, e) in omega arith)
           go (cur ∷ done) c =
-              rw (choose-true (ltb max (measure opts 0 (joinedLine cur))) (newLine ∷ cur ∷ done) (joinedLine cur ∷ done) (rw (← (column-of cur done c opts)) (lt-ltb max n h)))
+              rw (choose-true (ltb max (measure ruler 0 (joinedLine cur))) (newLine ∷ cur ∷ done) (joinedLine cur ∷ done) (rw (← (column-of cur done c)) (lt-ltb max n h)))
               (added-line (cur ∷ done) out′ r l)
 
       pub add-here : (out′ : List ℕ) (col : Utf16Column) (at : ℕ) → col .0 ≡ n → n ≤ max → Appended out out′ (f .at) (32 ∷ (name ++ 44 ∷ [])) at → Result out′ (record { at = at; column = col; some = true })
       unfolding addName overWide
       add-here out′ col at k h a =
           record {
-            to = λ lines c. subst (λ (ls : List (List ℕ)). AddedTo lines ls eol out out′ f (record { at = at; column = col; some = true })) (sym (named lines)) (go lines c);
+            to = λ lines c. subst (λ (ls : List (List ℕ)). AddedTo ruler lines ls eol out out′ f (record { at = at; column = col; some = true })) (sym (named lines)) (go lines c);
             small = λ m i j. omega (arith, q .small, p .small);
             room = omega (arith, a .next, length-append name (44 ∷ []));
           }
         where
-          go : (lines : List (List ℕ)) → NewestAt lines f → AddedTo lines (addName opts max cont lines (decode name)) eol out out′ f (record { at = at; column = col; some = true })
+          go : (lines : List (List ℕ)) → NewestAt ruler lines f → AddedTo ruler lines (addName opts max cont lines (decode name)) eol out out′ f (record { at = at; column = col; some = true })
           go [] c = absurd (let y : _≡_ {A = ℕ} 0 1 = cc (c .some, e) in omega arith)
           go (cur ∷ done) c =
-              rw (choose-false (ltb max (measure opts 0 (joinedLine cur))) (newLine ∷ cur ∷ done) (joinedLine cur ∷ done) (rw (← (column-of cur done c opts)) (le-ltb max n h)))
+              rw (choose-false (ltb max (measure ruler 0 (joinedLine cur))) (newLine ∷ cur ∷ done) (joinedLine cur ∷ done) (rw (← (column-of cur done c)) (le-ltb max n h)))
               (record {
-                column = record { some = refl; at = λ o. k ∙ column-of cur done c o };
+                column = record { some = refl; at = k ∙ column-of cur done c };
                 grown = 32 ∷ (name ++ 44 ∷ []);
                 text = a;
                 grows = text-cons eol (joinedLine cur) done ∙ grown-line eol cur name done (fits .well);
@@ -428,22 +423,22 @@ module _ (indent : List ℕ) (level : ℕ) (eol : List ℕ) (max : ℕ) (name ou
 
 -- ---- the lines of names: the pieces before a are on them
 
-pub record Filling (s indent : List ℕ) (level : ℕ) (eol : List ℕ) (max : ℕ) (out₀ : List ℕ) (at : ℕ) (out : List ℕ) (f : Filled) (a : ℕ) : Type 0 where
+pub record Filling (ruler : ℕ) (s indent : List ℕ) (level : ℕ) (eol : List ℕ) (max : ℕ) (out₀ : List ℕ) (at : ℕ) (out : List ℕ) (f : Filled) (a : ℕ) : Type 0 where
   pub pre : NamesFit s indent level eol at
   pub within : a ≤ length s + 1
   pub well : AllWell (left s a)
   pub lines : List (List ℕ)
-  pub fill : fillNames (indented indent) max (times level indent) (namesOf (parts s)) ≡ foldl (addName (indented indent) max (times level indent)) lines (namesOf (map decode (left s a)))
-  pub column : NewestAt lines f
+  pub fill : fillNames (indented indent ruler) max (times level indent) (namesOf (parts s)) ≡ foldl (addName (indented indent ruler) max (times level indent)) lines (namesOf (map decode (left s a)))
+  pub column : NewestAt ruler lines f
   pub text : Appended out₀ out at (namesText eol lines) (f .at)
-  pub narrow : f .column .0 ≤ 67108928 + 4 * a
+  pub narrow : f .column .0 ≤ lastIndent + 510 * a
   pub room : f .at ≤ at + a * lineRoom
   pub as-long : length out ≡ length out₀
 
-pub filling-start : (s indent : List ℕ) (level : ℕ) (eol : List ℕ) (max : ℕ) (out : List ℕ) (at : ℕ) (col : Utf16Column) → NamesFit s indent level eol at → col .0 ≡ 0
-    → Filling s indent level eol max out at out (record { at = at; column = col; some = false }) 0
+pub filling-start : (ruler : ℕ) (s indent : List ℕ) (level : ℕ) (eol : List ℕ) (max : ℕ) (out : List ℕ) (at : ℕ) (col : Utf16Column) → NamesFit s indent level eol at → col .0 ≡ 0
+    → Filling ruler s indent level eol max out at out (record { at = at; column = col; some = false }) 0
 unfolding fillNames following
-filling-start s indent level eol max out at col p z =
+filling-start ruler s indent level eol max out at col p z =
     let q : AllPieces s = all-pieces s (p .well) in
     record {
       pre = p;
@@ -465,7 +460,7 @@ unfolding consName
 fold-cons o max cont lines [] ns = refl
 fold-cons o max cont lines (c ∷ cs) ns = refl
 
-module _ (s indent : List ℕ) (level : ℕ) (eol : List ℕ) (max : ℕ) (out₀ : List ℕ) (at : ℕ) (out : List ℕ) (f : Filled) (a : ℕ) (q : Filling s indent level eol max out₀ at out f a)
+module _ (ruler : ℕ) (s indent : List ℕ) (level : ℕ) (eol : List ℕ) (max : ℕ) (out₀ : List ℕ) (at : ℕ) (out : List ℕ) (f : Filled) (a : ℕ) (q : Filling ruler s indent level eol max out₀ at out f a)
     (n : ℕ) (h : a ≤ length s) (l : NameLen (take (length s - a) (drop a s)) n) (p : Part) (u : Trimmed s a (a + n) p) where
   abbrev name : List ℕ
   name = part s (p .start) (p .end)
@@ -484,7 +479,7 @@ module _ (s indent : List ℕ) (level : ℕ) (eol : List ℕ) (max : ℕ) (out�
         room = omega (arith, q .room, q .pre .room, name-long, name-fits s a n h l, q .pre .short);
       }
 
-  pub filling-more : (out′ : List ℕ) (r : Filled) → Added indent level eol max name out out′ f r → length out′ ≡ length out → Filling s indent level eol max out₀ at out′ r (a + n + 1)
+  pub filling-more : (out′ : List ℕ) (r : Filled) → Added ruler indent level eol max name out out′ f r → length out′ ≡ length out → Filling ruler s indent level eol max out₀ at out′ r (a + n + 1)
   filling-more out′ r g k =
       let cons : left s a ≡ part s a (a + n) ∷ left s (a + n + 1) = left-cons s a n h l in
       let w : AllWell (part s a (a + n) ∷ left s (a + n + 1)) = subst AllWell cons (q .well) in
@@ -493,21 +488,21 @@ module _ (s indent : List ℕ) (level : ℕ) (eol : List ℕ) (max : ℕ) (out�
         pre = q .pre;
         within = omega (arith, name-fits s a n h l);
         well = w .1;
-        lines = addIf (indented indent) max (times level indent) (q .lines) (decode name);
+        lines = addIf (indented indent ruler) max (times level indent) (q .lines) (decode name);
         fill =
-            q .fill ∙ ap (λ (ps : List (List ℕ)). foldl (addName (indented indent) max (times level indent)) (q .lines) (namesOf (map decode ps))) cons
+            q .fill ∙ ap (λ (ps : List (List ℕ)). foldl (addName (indented indent ruler) max (times level indent)) (q .lines) (namesOf (map decode ps))) cons
             ∙ rw (names-cons (decode (part s a (a + n))) (map decode (left s (a + n + 1))), ← (u .text))
-            (fold-cons (indented indent) max (times level indent) (q .lines) (decode name) (namesOf (map decode (left s (a + n + 1)))));
+            (fold-cons (indented indent ruler) max (times level indent) (q .lines) (decode name) (namesOf (map decode (left s (a + n + 1)))));
         column = to .column;
         text = rw (to .grows) (appended-append (q .text) (to .text));
-        narrow = omega (arith, g .small (67108928 + 4 * a) (omega arith) (q .narrow), name-long);
+        narrow = omega (arith, g .small (lastIndent + 510 * a) (omega arith) (q .narrow), name-long);
         room = omega (arith, g .room, q .room, name-long);
         as-long = k ∙ q .as-long;
       }
 
-pub filling-end : (s indent : List ℕ) (level : ℕ) (eol : List ℕ) (max : ℕ) (out₀ : List ℕ) (at : ℕ) (out : List ℕ) (f : Filled) (a : ℕ) → Filling s indent level eol max out₀ at out f a → length s < a
-    → NamesWritten s indent level eol max out₀ out at (f .at)
+pub filling-end : (ruler : ℕ) (s indent : List ℕ) (level : ℕ) (eol : List ℕ) (max : ℕ) (out₀ : List ℕ) (at : ℕ) (out : List ℕ) (f : Filled) (a : ℕ) → Filling ruler s indent level eol max out₀ at out f a → length s < a
+    → NamesWritten ruler s indent level eol max out₀ out at (f .at)
 unfolding namesOf
-filling-end s indent level eol max out₀ at out f a q h =
-    let e : fillNames (indented indent) max (times level indent) (namesOf (parts s)) ≡ q .lines = q .fill ∙ rw (left-none s a h) in
+filling-end ruler s indent level eol max out₀ at out f a q h =
+    let e : fillNames (indented indent ruler) max (times level indent) (namesOf (parts s)) ≡ q .lines = q .fill ∙ rw (left-none s a h) in
     record { text = rw e (q .text); room = omega (arith, q .room, q .within) }

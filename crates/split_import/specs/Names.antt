@@ -12,7 +12,7 @@ use Rattle.rules.specs.Basics.{choose, isEmpty, pieces, splitOn}
 use Rattle.rules.specs.Options.{Options, measure}
 use Rattle.rules.specs.Scan.{Cell, isCode}
 use Rattle.rules.specs.SplitImport.{namesOf, blanksOf, withComma, addName, fillNames}
-use Rattle.split.specs.Measure.{Indent}
+use Rattle.split.specs.Measure.{Indent, lastIndent}
 use Rattle.split.specs.Text.{indented, lay, following, lineRoom}
 use Rattle.split_import.specs.declared.Names.{Names}
 use Rattle.split_import.specs.declared.Filled.{Filled}
@@ -53,38 +53,38 @@ pub record NamePlace (eol indent : List ℕ) (level : ℕ) (name : List ℕ) (at
 
 pub record Named (from : ℕ) (name : List ℕ) : Type 0 where
   pub well : WellFormed name
-  pub fits : from + 2 * length name + 2 < 2 ^ 64
+  pub fits : from + 256 * length name + 512 < 2 ^ 64
 
 -- r is the column after a name and its comma
-pub record NameMeasured (from : ℕ) (name : List ℕ) (r : ℕ) : Type 0 where
-  pub is : (o : Options) → r ≡ measure o from (withComma (decode name))
-  pub small : r ≤ from + 2 * length name + 2
+pub record NameMeasured (ruler from : ℕ) (name : List ℕ) (r : ℕ) : Type 0 where
+  pub is : r ≡ measure ruler from (withComma (decode name))
+  pub small : r ≤ from + 255 * length name + 255
 
 -- what f says of the lines of names so far, the newest first
-abbrev pub reached : List (List ℕ) → ℕ → Type 0
-reached [] n = Unit {0}
-reached (cur ∷ done) n = (o : Options) → n ≡ measure o 0 cur
+abbrev pub reached : ℕ → List (List ℕ) → ℕ → Type 0
+reached ruler [] n = Unit {0}
+reached ruler (cur ∷ done) n = n ≡ measure ruler 0 cur
 
-pub record NewestAt (lines : List (List ℕ)) (f : Filled) : Type 0 where
+pub record NewestAt (ruler : ℕ) (lines : List (List ℕ)) (f : Filled) : Type 0 where
   pub some : f .some ≡ not (isEmpty lines)
-  pub at : reached lines (f .column .0)
+  pub at : reached ruler lines (f .column .0)
 
 pub record NameFits (indent : List ℕ) (level : ℕ) (eol name : List ℕ) (f : Filled) : Type 0 where
   pub indents : Indent indent level
   pub end : length eol ≤ 2
   pub well : WellFormed name
   pub short : length name < 2 ^ 31
-  pub narrow : f .column .0 < 2 ^ 40
+  pub narrow : f .column .0 < 2 ^ 48
   pub room : f .at + (67108931 + length name) < 2 ^ 64
 
 -- the bytes of lines of names, the newest first, each after a line ending
 abbrev pub namesText : List ℕ → List (List ℕ) → List ℕ
 namesText eol lines = following eol (map encode (reverse lines))
 
-pub record OnNewLine (indent : List ℕ) (level : ℕ) (eol name out out′ : List ℕ) (f r : Filled) : Type 0 where
+pub record OnNewLine (ruler : ℕ) (indent : List ℕ) (level : ℕ) (eol name out out′ : List ℕ) (f r : Filled) : Type 0 where
   pub text : Appended out out′ (f .at) (eol ++ lay indent level (name ++ 44 ∷ [])) (r .at)
-  pub column : (o : Options) → o .indent ≡ indent → r .column .0 ≡ measure o 0 (times level indent ++ withComma (decode name))
-  pub small : r .column .0 ≤ 67108930 + 2 * length name
+  pub column : r .column .0 ≡ measure ruler 0 (times level indent ++ withComma (decode name))
+  pub small : r .column .0 ≤ lastIndent + 255 * length name + 255
   pub some : r .some ≡ true
 
 -- one more name, if it is not blank
@@ -92,15 +92,15 @@ abbrev pub addIf : Options → ℕ → List ℕ → List (List ℕ) → List ℕ
 addIf o max cont lines [] = lines
 addIf o max cont lines (c ∷ cs) = addName o max cont lines (c ∷ cs)
 
-pub record AddedTo (lines lines′ : List (List ℕ)) (eol out out′ : List ℕ) (f r : Filled) : Type 0 where
-  pub column : NewestAt lines′ r
+pub record AddedTo (ruler : ℕ) (lines lines′ : List (List ℕ)) (eol out out′ : List ℕ) (f r : Filled) : Type 0 where
+  pub column : NewestAt ruler lines′ r
   pub grown : List ℕ
   pub text : Appended out out′ (f .at) grown (r .at)
   pub grows : namesText eol lines′ ≡ namesText eol lines ++ grown
 
-pub record Added (indent : List ℕ) (level : ℕ) (eol : List ℕ) (max : ℕ) (name out out′ : List ℕ) (f r : Filled) : Type 0 where
-  pub to : (lines : List (List ℕ)) → NewestAt lines f → AddedTo lines (addIf (indented indent) max (times level indent) lines (decode name)) eol out out′ f r
-  pub small : (n : ℕ) → 67108928 ≤ n → f .column .0 ≤ n → r .column .0 ≤ n + 2 * length name + 4
+pub record Added (ruler : ℕ) (indent : List ℕ) (level : ℕ) (eol : List ℕ) (max : ℕ) (name out out′ : List ℕ) (f r : Filled) : Type 0 where
+  pub to : (lines : List (List ℕ)) → NewestAt ruler lines f → AddedTo ruler lines (addIf (indented indent ruler) max (times level indent) lines (decode name)) eol out out′ f r
+  pub small : (n : ℕ) → lastIndent ≤ n → f .column .0 ≤ n → r .column .0 ≤ n + 255 * length name + 510
   pub room : r .at ≤ f .at + (67108931 + length name)
 
 pub record NamesFit (s indent : List ℕ) (level : ℕ) (eol : List ℕ) (at : ℕ) : Type 0 where
@@ -110,6 +110,6 @@ pub record NamesFit (s indent : List ℕ) (level : ℕ) (eol : List ℕ) (at : �
   pub end : length eol ≤ 2
   pub room : at + (length s + 1) * lineRoom < 2 ^ 64
 
-pub record NamesWritten (s indent : List ℕ) (level : ℕ) (eol : List ℕ) (max : ℕ) (out out′ : List ℕ) (at r : ℕ) : Type 0 where
-  pub text : Appended out out′ at (namesText eol (fillNames (indented indent) max (times level indent) (namesOf (parts s)))) r
+pub record NamesWritten (ruler : ℕ) (s indent : List ℕ) (level : ℕ) (eol : List ℕ) (max : ℕ) (out out′ : List ℕ) (at r : ℕ) : Type 0 where
+  pub text : Appended out out′ at (namesText eol (fillNames (indented indent ruler) max (times level indent) (namesOf (parts s)))) r
   pub room : r ≤ at + (length s + 1) * lineRoom

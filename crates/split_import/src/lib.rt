@@ -13,6 +13,7 @@ ghost use Rattle.rules.specs.Scan.{isCode, classify};
 ghost use Rattle.rules.specs.ClassBytes.{classOf, FirstAt};
 ghost use Rattle.rules.specs.SplitImport.{splitImport, startsImport};
 ghost use Rattle.rules.specs.declared.Carry.{Carry};
+ghost use Rattle.split.specs.Measure.{InUse};
 ghost use Rattle.split.specs.Text.{lay};
 ghost use Rattle.split_import.specs.Names.{codeByte, NameLen, CountableNames, NamesCounted, NamePlace, Named, NameMeasured, NameFits, OnNewLine, Added, NamesFit, NamesWritten};
 ghost use Rattle.split_import.specs.Import.{HeadFits, HeadWritten, Braces, partsOf, Given, ImportFits};
@@ -142,11 +143,11 @@ fn put_line(out: &mut [u8], at: usize, s: Layout, indent: &[u8], name: &[u8]) ->
 }
 
 // The column after a name and its comma.
-fn name_column(from: Utf16Column, name: &[u8]) -> Utf16Column
+fn name_column(ruler: u8, from: Utf16Column, name: &[u8]) -> Utf16Column
     requires { ⌜ Named (from .0) (now name) ⌝ }
-    ensures { λ r. ⌜ NameMeasured (from .0) (now (name .entry)) (r .0) ⌝ }
+    ensures { λ r. ⌜ NameMeasured ruler (from .0) (now (name .entry)) (r .0) ⌝ }
 {
-    measure_from(measure_from(from, name), b",")
+    measure_from(ruler, measure_from(ruler, from, name), b",")
 }
 
 // The lines of names so far: the place reached, the column reached on the newest of them, and whether there is one.
@@ -158,9 +159,9 @@ pub struct Filled {
 
 fn new_line(out: &mut [u8], f: Filled, s: Layout, indent: &[u8], name: &[u8]) -> Filled
     requires { ⌜ NameFits (now indent) (s .level) (asStr (s .ending)) (now name) f ⌝ }
-    ensures { λ r. ⌜ OnNewLine (now (indent .entry)) (s .level) (asStr (s .ending)) (now (name .entry)) (now (out .entry)) (now (out .exit)) f r ⌝ }
+    ensures { λ r. ⌜ OnNewLine (s .ruler) (now (indent .entry)) (s .level) (asStr (s .ending)) (now (name .entry)) (now (out .entry)) (now (out .exit)) f r ⌝ }
 {
-    let column = name_column(indent_column(indent, s.level), name);
+    let column = name_column(s.ruler, indent_column(s.ruler, indent, s.level), name);
     Filled {
         at: put_line(out, f.at, s, indent, name),
         column,
@@ -171,14 +172,14 @@ fn new_line(out: &mut [u8], f: Filled, s: Layout, indent: &[u8], name: &[u8]) ->
 // One more name: on the newest line if the width holds it, else on a line of its own. A blank one is dropped.
 fn add_name(out: &mut [u8], f: Filled, s: Layout, indent: &[u8], name: &[u8]) -> Filled
     requires { ⌜ NameFits (now indent) (s .level) (asStr (s .ending)) (now name) f ⌝ }
-    ensures { λ r. ⌜ Added (now (indent .entry)) (s .level) (asStr (s .ending)) (s .max .0) (now (name .entry)) (now (out .entry)) (now (out .exit)) f r ⌝ }
+    ensures { λ r. ⌜ Added (s .ruler) (now (indent .entry)) (s .level) (asStr (s .ending)) (s .max .0) (now (name .entry)) (now (out .entry)) (now (out .exit)) f r ⌝ }
 {
     if name.len() == 0 {
         return f;
     }
     if f.some {
         let c = f.column;
-        let column = name_column(measure_from(c, b" "), name);
+        let column = name_column(s.ruler, measure_from(s.ruler, c, b" "), name);
         if column.0 <= s.max.0 {
             return Filled {
                 at: put_name(out, f.at, name),
@@ -194,7 +195,7 @@ fn add_name(out: &mut [u8], f: Filled, s: Layout, indent: &[u8], name: &[u8]) ->
 // The lines of the names between commas, each after a line ending.
 fn write_names(names: &[u8], s: Layout, indent: &[u8], out: &mut [u8], at: usize) -> usize
     requires { ⌜ NamesFit (now names) (now indent) (s .level) (asStr (s .ending)) at ⌝ }
-    ensures { λ r. ⌜ NamesWritten (now (names .entry)) (now (indent .entry)) (s .level) (asStr (s .ending)) (s .max .0) (now (out .entry)) (now (out .exit)) at r ⌝ }
+    ensures { λ r. ⌜ NamesWritten (s .ruler) (now (names .entry)) (now (indent .entry)) (s .level) (asStr (s .ending)) (s .max .0) (now (out .entry)) (now (out .exit)) at r ⌝ }
 {
     let mut f = Filled {
         at,
@@ -233,7 +234,7 @@ fn write_import(
     at: usize,
 ) -> ImportSplit
     requires { ⌜ Braces (now line) (braces .start) (braces .end) (now indent) (s .level) (asStr (s .ending)) at ⌝ }
-    ensures { λ r. ⌜ ((o : Options) → o .indent ≡ now (indent .entry)
+    ensures { λ r. ⌜ ((o : Options) → InUse o (now (indent .entry)) (s .ruler)
         → Given (partsOf o (s .max .0) (s .level) (now (line .entry)) (braces .start) (braces .end)) (asStr (s .ending)) (now (out .entry)) (now (out .exit)) at r) ⌝ }
 {
     let start = braces.start;
@@ -250,6 +251,7 @@ fn write_import(
     let under = Layout {
         level: s.level + 1,
         max: Utf16Column(s.max.0),
+        ruler: s.ruler,
         ending,
         strengths,
     };
@@ -272,7 +274,7 @@ pub fn split_import(
     at: usize,
 ) -> ImportSplit
     requires { ⌜ ImportFits (now line) (now class) (now indent) (s .level) (asStr (s .ending)) at ⌝ }
-    ensures { λ r. ⌜ ((o : Options) → o .indent ≡ now (indent .entry)
+    ensures { λ r. ⌜ ((o : Options) → InUse o (now (indent .entry)) (s .ruler)
         → Given (splitImport o (s .max .0) (s .level) (classify Carry.Code (decode (now (line .entry))))) (asStr (s .ending)) (now (out .entry)) (now (out .exit)) at r) ⌝ }
 {
     if starts_import(line) {

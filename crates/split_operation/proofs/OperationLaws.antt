@@ -40,7 +40,7 @@ use Rattle.split_operation.specs.declared.pass.Break.{Break}
 use Rattle.split.specs.declared.Part.{Part}
 use Rattle.split.specs.declared.NewLine.{NewLine}
 use Rattle.split_operation.specs.declared.OperationSplit.{OperationSplit}
-use Rattle.split.specs.Measure.{Indent, Wide, Within, Trimmed}
+use Rattle.split.specs.Measure.{InUse, Indent, Wide, Within, Trimmed}
 use Rattle.split.specs.Text.{indented, lay, AllWell, following, lastOf, LineRoom, LineWritten, Fits, lineRoom}
 use Rattle.split_operation.specs.Pass.{lineStart, Sound, Breakable, Cutting, breakStrength, restFrom, cutsAt, NextOp, Unbroken, BreakFound}
 use Rattle.split_operation.specs.Operation.{lineOf, isBroken, Broken, trimBytes, restLines, RestFits, After, RestWritten, Classed, OperationFits, LineFits, roundStrength, RoundBreak, firstLine, otherLines, PiecesWritten, brokenIn, FirstBroken}
@@ -200,29 +200,29 @@ module _ (table : List ℕ) (o : Options) (max level : ℕ) where
 
 -- ---- the strength of a round
 
-module _ (table indent : List ℕ) (level max rounds : ℕ) (line class : List ℕ) where
+module _ (table : List ℕ) (ruler : ℕ) (indent : List ℕ) (level max rounds : ℕ) (line class : List ℕ) where
   abbrev opts : Options
-  opts = indented indent
+  opts = indented indent ruler
 
   abbrev strengthOf : ℕ
-  strengthOf = roundStrength table indent level max rounds line (cellsOf line class)
+  strengthOf = roundStrength table ruler indent level max rounds line (cellsOf line class)
 
-  none-round : (r : Break) → Unbroken r → 0 ≡ strengthOf → RoundBreak table indent level max rounds line class r
+  none-round : (r : Break) → Unbroken r → 0 ≡ strengthOf → RoundBreak table ruler indent level max rounds line class r
   none-round r u e = record { strength = u .none ∙ e; cut = λ n. absurd (n (u .none)) }
 
-  pub round-none : (r : Break) → Unbroken r → rounds ≡ 0 → RoundBreak table indent level max rounds line class r
+  pub round-none : (r : Break) → Unbroken r → rounds ≡ 0 → RoundBreak table ruler indent level max rounds line class r
   unfolding roundStrength
   round-none r u e = none-round r u (sym (choose-true _ _ _ (eq-eqb rounds 0 e)))
 
-  module _ (some : rounds ≡ 0 → ⊥) (t : Bool) (q : Wide indent level line max t) where
-    pub round-fits : (r : Break) → Unbroken r → t ≡ false → RoundBreak table indent level max rounds line class r
+  module _ (some : rounds ≡ 0 → ⊥) (t : Bool) (q : Wide ruler indent level line max t) where
+    pub round-fits : (r : Break) → Unbroken r → t ≡ false → RoundBreak table ruler indent level max rounds line class r
     unfolding roundStrength
-    round-fits r u h = none-round r u (sym (choose-false _ _ _ (ne-eqb rounds 0 some) ∙ choose-false _ _ _ (sym (q .is opts refl) ∙ h)))
+    round-fits r u h = none-round r u (sym (choose-false _ _ _ (ne-eqb rounds 0 some) ∙ choose-false _ _ _ (sym (q .is) ∙ h)))
 
-    pub round-wide : (r : Break) → t ≡ true → BreakFound table line class r → RoundBreak table indent level max rounds line class r
+    pub round-wide : (r : Break) → t ≡ true → BreakFound table line class r → RoundBreak table ruler indent level max rounds line class r
     unfolding roundStrength
     round-wide r h e =
-        record { strength = e .strength ∙ sym (choose-false _ _ _ (ne-eqb rounds 0 some) ∙ choose-true _ _ _ (sym (q .is opts refl) ∙ h)); cut = e .cut }
+        record { strength = e .strength ∙ sym (choose-false _ _ _ (ne-eqb rounds 0 some) ∙ choose-true _ _ _ (sym (q .is) ∙ h)); cut = e .cut }
 
   break-none : anyStarts line ≡ false → length line ≤ length class → breakStrength table (cellsOf line class) ≡ 0
   unfolding breakStrength
@@ -230,7 +230,7 @@ module _ (table indent : List ℕ) (level max rounds : ℕ) (line class : List �
       choose-case (λ (n : ℕ). n ≡ 0) (λ _. refl) (λ _. choose-case (λ (n : ℕ). n ≡ 0) (λ _. refl)
       (λ _. loosest-none table (cellsOf line class) noOps (ap anyStarts (chars-cells line class h) ∙ e)))
 
-  pub round-plain : (r : Break) (b : Bool) → Unbroken r → length line ≤ length class → b ≡ anyStarts line → b ≡ false → RoundBreak table indent level max rounds line class r
+  pub round-plain : (r : Break) (b : Bool) → Unbroken r → length line ≤ length class → b ≡ anyStarts line → b ≡ false → RoundBreak table ruler indent level max rounds line class r
   unfolding roundStrength
   round-plain r b u h q e =
       none-round r u (choose-case (λ (n : ℕ). 0 ≡ n) (λ _. refl) (λ _. choose-case (λ (n : ℕ). 0 ≡ n) (λ _. sym (break-none (sym q ∙ e) h)) (λ _. refl)))
@@ -238,15 +238,15 @@ module _ (table indent : List ℕ) (level max rounds : ℕ) (line class : List �
   -- what the strength says of the round
   module _ (w : WellFormed line) (k : Classed line class) where
     breaks : (rounds ≡ 0 → ⊥) → nextBreak table opts max level (decode line) ≡ breakAt strengthOf (topLevelOps table (classify Carry.Code (decode line)))
-    unfolding nextBreak roundStrength breakAt choose
-    breaks n = rw (ne-eqb rounds 0 n, split-once table line class w k) (go (overWide opts max (indentOf opts level ++ decode line)))
+    unfolding nextBreak roundStrength breakAt choose overWide indentOf
+    breaks n = rw (ne-eqb rounds 0 n, split-once table line class w k) (go (ltb max (measure ruler 0 (times level indent ++ decode line))))
       where
         go : (t : Bool) → choose t (breakAt (breakStrength table (cellsOf line class)) (topLevelOps table (classify Carry.Code (decode line)))) none
             ≡ breakAt (choose t (breakStrength table (cellsOf line class)) 0) (topLevelOps table (classify Carry.Code (decode line)))
         go true = refl
         go false = refl
 
-    pub round-whole : 0 ≡ strengthOf → brokenIn table indent level max rounds line ≡ record { first = decode line; rest = [] }
+    pub round-whole : 0 ≡ strengthOf → brokenIn table ruler indent level max rounds line ≡ record { first = decode line; rest = [] }
     unfolding breakFirst breakAt
     round-whole e = go rounds refl
       where
@@ -256,7 +256,7 @@ module _ (table indent : List ℕ) (level max rounds : ℕ) (line class : List �
 
     -- the pieces of a round: the first broken in the rounds that are left, then the others
     pub round-pieces : (p : ℕ) → p ≡ strengthOf → (p ≡ 0 → ⊥)
-        → brokenIn table indent level max rounds line
+        → brokenIn table ruler indent level max rounds line
         ≡ record {
           first = breakFirst table opts max level (rounds - 1) (record { first = trim (piecesAt table line p .first); rest = [] }) .first;
           rest = breakFirst table opts max level (rounds - 1) (record { first = trim (piecesAt table line p .first); rest = [] }) .rest ++ map trim (piecesAt table line p .rest);
@@ -278,16 +278,16 @@ module _ (table indent : List ℕ) (level max rounds : ℕ) (line class : List �
             let m : suc n - 1 ≡ n = omega arith in
             rw m (round-broken table opts max level n (decode line) (trimmed (piecesAt table line (suc p))) (breaks (λ (y : rounds ≡ 0). some-left rounds refl y) ∙ rw (← e)))
 
-  pub round-loosest : (b : Break) → RoundBreak table indent level max rounds line class b → (b .strength ≡ 0 → ⊥) → b .strength ≡ breakStrength table (cellsOf line class)
+  pub round-loosest : (b : Break) → RoundBreak table ruler indent level max rounds line class b → (b .strength ≡ 0 → ⊥) → b .strength ≡ breakStrength table (cellsOf line class)
   unfolding roundStrength choose
-  round-loosest b e z = go (eqb rounds 0) (overWide opts max (indentOf opts level ++ decode line)) (e .strength)
+  round-loosest b e z = go (eqb rounds 0) (ltb max (measure ruler 0 (times level indent ++ decode line))) (e .strength)
     where
       go : (x y : Bool) → b .strength ≡ choose x 0 (choose y (breakStrength table (cellsOf line class)) 0) → b .strength ≡ breakStrength table (cellsOf line class)
       go true y q = absurd (z q)
       go false true q = q
       go false false q = absurd (z q)
 
-  pub rounds-left : (b : Break) → RoundBreak table indent level max rounds line class b → (b .strength ≡ 0 → ⊥) → (rounds ≡ 0 → ⊥)
+  pub rounds-left : (b : Break) → RoundBreak table ruler indent level max rounds line class b → (b .strength ≡ 0 → ⊥) → (rounds ≡ 0 → ⊥)
   unfolding roundStrength
   rounds-left b e z y = z (e .strength ∙ choose-true _ _ _ (eq-eqb rounds 0 y))
 
@@ -426,15 +426,15 @@ module _ {line class indent : List ℕ} {level : ℕ} {eol : List ℕ} {at : ℕ
   pub whole-room : at + (length (times level indent) + length line) < 2 ^ 64
   whole-room = omega (arith, indent-short indent level (level-fits (pre .fits)), pre .fits .room)
 
-module _ (table line class indent : List ℕ) (level : ℕ) (eol : List ℕ) (max rounds at : ℕ) (asks : OperationFits line class indent level eol at) where
+module _ (table : List ℕ) (ruler : ℕ) (line class indent : List ℕ) (level : ℕ) (eol : List ℕ) (max rounds at : ℕ) (asks : OperationFits line class indent level eol at) where
   abbrev pre : Fits line indent level eol at
   pre = asks .fits
 
-  pub first-whole : (b : Break) (out out′ : List ℕ) (next : ℕ) → RoundBreak table indent level max rounds line class b → b .strength ≡ 0 → Appended out out′ at (times level indent ++ line) next
-      → FirstBroken table line indent level eol max rounds out out′ at (OperationSplit.Whole (record { start = at; next = next }))
+  pub first-whole : (b : Break) (out out′ : List ℕ) (next : ℕ) → RoundBreak table ruler indent level max rounds line class b → b .strength ≡ 0 → Appended out out′ at (times level indent ++ line) next
+      → FirstBroken table ruler line indent level eol max rounds out out′ at (OperationSplit.Whole (record { start = at; next = next }))
   unfolding following lastOf
   first-whole b out out′ next e z a =
-      let b : brokenIn table indent level max rounds line ≡ record { first = decode line; rest = [] } = round-whole table indent level max rounds line class (pre .well) (asks .classed) (sym z ∙ e .strength) in
+      let b : brokenIn table ruler indent level max rounds line ≡ record { first = decode line; rest = [] } = round-whole table ruler indent level max rounds line class (pre .well) (asks .classed) (sym z ∙ e .strength) in
       let q : PiecesWritten indent level eol (record { first = decode line; rest = [] }) out out′ at (record { start = at; next = next }) =
       record { text = rw (append-nil, pre .well) a; last = rw (pre .well) (omega (arith, a .next)) } in
       record {
@@ -443,7 +443,7 @@ module _ (table line class indent : List ℕ) (level : ℕ) (eol : List ℕ) (ma
         room = omega (arith, a .next, length-append (times level indent) line, indent-short indent level (level-fits pre));
       }
 
-  module _ (b : Break) (e : RoundBreak table indent level max rounds line class b) (z : b .strength ≡ 0 → ⊥) where
+  module _ (b : Break) (e : RoundBreak table ruler indent level max rounds line class b) (z : b .strength ≡ 0 → ⊥) where
     abbrev p : ℕ
     p = b .strength
 
@@ -488,7 +488,7 @@ module _ (table line class indent : List ℕ) (level : ℕ) (eol : List ℕ) (ma
       first-text : decode piece ≡ trim (piecesAt table line p .first)
       first-text = u .text ∙ ap (λ (l : List ℕ). trim (decode l)) (cutting .first) ∙ ap trim (decode-encode _ (pieces-scalars table line p .first))
 
-      module _ (out out₁ : List ℕ) (f : OperationSplit) (g : FirstBroken table piece indent level eol max (rounds - 1) out out₁ at f) (first : NewLine) (is : first ≡ lineOf f) where
+      module _ (out out₁ : List ℕ) (f : OperationSplit) (g : FirstBroken table ruler piece indent level eol max (rounds - 1) out out₁ at f) (first : NewLine) (is : first ≡ lineOf f) where
         pub rest-fits : RestFits table p line class c indent (level + 1) eol first
         rest-fits =
             record {
@@ -504,22 +504,22 @@ module _ (table line class indent : List ℕ) (level : ℕ) (eol : List ℕ) (ma
 
         -- the pieces of the first, and the others
         abbrev inner : Pieces
-        inner = brokenIn table indent level max (rounds - 1) piece
+        inner = brokenIn table ruler indent level max (rounds - 1) piece
 
         abbrev others : List (List ℕ)
         others = map trim (piecesAt table line p .rest)
 
-        whole : brokenIn table indent level max rounds line ≡ record { first = inner .first; rest = inner .rest ++ others }
+        whole : brokenIn table ruler indent level max rounds line ≡ record { first = inner .first; rest = inner .rest ++ others }
         whole =
-            round-pieces table indent level max rounds line class (pre .well) (asks .classed) p (e .strength) z
-            ∙ ap (λ (l : List ℕ). with-rest table (indented indent) max level (breakFirst table (indented indent) max level (rounds - 1) (record { first = l; rest = [] })) others) (sym first-text)
+            round-pieces table ruler indent level max rounds line class (pre .well) (asks .classed) p (e .strength) z
+            ∙ ap (λ (l : List ℕ). with-rest table (indented indent ruler) max level (breakFirst table (indented indent ruler) max level (rounds - 1) (record { first = l; rest = [] })) others) (sym first-text)
 
         -- there is an operator, so there are others
         several-pieces : not (isEmpty (inner .rest ++ others)) ≡ true
-        several-pieces = some-append (inner .rest) others (some-map trim (piecesAt table line p .rest) (cut-some p z (topLevelOps table (classify Carry.Code (decode line))) (strength-loosest table line class (pre .well) (asks .classed) p z (round-loosest table indent level max rounds line class b e z))))
+        several-pieces = some-append (inner .rest) others (some-map trim (piecesAt table line p .rest) (cut-some p z (topLevelOps table (classify Carry.Code (decode line))) (strength-loosest table line class (pre .well) (asks .classed) p z (round-loosest table ruler indent level max rounds line class b e z))))
 
         pub first-broken : (out₂ : List ℕ) (r : NewLine) → RestWritten table p line class c indent (level + 1) eol out₁ out₂ first r
-            → FirstBroken table line indent level eol max rounds out out₂ at (OperationSplit.Broken r)
+            → FirstBroken table ruler line indent level eol max rounds out out₂ at (OperationSplit.Broken r)
         first-broken out₂ r w =
             let ls : restLines indent (level + 1) (restFrom table p line class c) ≡ map (λ (l : List ℕ). lay indent (suc level) (encode l)) others =
             ap (restLines indent (level + 1)) (cutting .rest) ∙ lines-trimmed indent (level + 1) (piecesAt table line p .rest) (pieces-scalars table line p .rest) ∙ rw (add-one level) in
@@ -534,19 +534,19 @@ module _ (table line class indent : List ℕ) (level : ℕ) (eol : List ℕ) (ma
 
 -- ---- the whole
 
-module _ (table : List ℕ) (o : Options) (indent : List ℕ) (e : o .indent ≡ indent) (max level : ℕ) where
-  -- of the options only the indent matters
-  same-next : (l : List ℕ) → nextBreak table o max level l ≡ nextBreak table (indented indent) max level l
-  unfolding nextBreak overWide measure indentOf
-  same-next l = rw e
+module _ (table : List ℕ) (o : Options) (indent : List ℕ) (ruler : ℕ) (e : InUse o indent ruler) (max level : ℕ) where
+  -- of the options only the indent and the ruler tab matter
+  same-next : (l : List ℕ) → nextBreak table o max level l ≡ nextBreak table (indented indent ruler) max level l
+  unfolding nextBreak overWide indentOf
+  same-next l = rw (e .indents, e .ruled)
 
-  same-break : (n : ℕ) (p : Pieces) → breakFirst table o max level n p ≡ breakFirst table (indented indent) max level n p
+  same-break : (n : ℕ) (p : Pieces) → breakFirst table o max level n p ≡ breakFirst table (indented indent ruler) max level n p
   unfolding breakFirst breakOn
   same-break zero p = refl
-  same-break (suc n) p = rw (same-next (p .first)) (go (nextBreak table (indented indent) max level (p .first)) (same-break n))
+  same-break (suc n) p = rw (same-next (p .first)) (go (nextBreak table (indented indent ruler) max level (p .first)) (same-break n))
     where
-      go : (b : Option Pieces) → ((p : Pieces) → breakFirst table o max level n p ≡ breakFirst table (indented indent) max level n p)
-          → breakOn b p (breakFirst table o max level n) ≡ breakOn b p (breakFirst table (indented indent) max level n)
+      go : (b : Option Pieces) → ((p : Pieces) → breakFirst table o max level n p ≡ breakFirst table (indented indent ruler) max level n p)
+          → breakOn b p (breakFirst table o max level n) ≡ breakOn b p (breakFirst table (indented indent ruler) max level n)
       go none i = refl
       go (some q) i = i _
 
@@ -559,20 +559,21 @@ several : (f : List ℕ → List ℕ) (l : List ℕ) (ls : List (List ℕ)) → 
 several f l [] = refl
 several f l (m ∷ ms) = sym (lt-ltb 1 (length (l ∷ f m ∷ map f ms)) (omega arith))
 
-pub all-broken : (table : List ℕ) {line class indent : List ℕ} {level : ℕ} {eol : List ℕ} {max at : ℕ} {out out′ : List ℕ} {r : OperationSplit}
+pub all-broken : (table : List ℕ) {line class indent : List ℕ} {ruler level : ℕ} {eol : List ℕ} {max at : ℕ} {out out′ : List ℕ} {r : OperationSplit}
     → OperationFits line class indent level eol at
-    → FirstBroken (strengthsIn table) line indent level eol max maxStrength out out′ at r → (o : Options) → o .indent ≡ indent → Broken eol (splitOperation (strengthsIn table) o max level (decode line)) out out′ at r
+    → FirstBroken (strengthsIn table) ruler line indent level eol max maxStrength out out′ at r → (o : Options) → InUse o indent ruler
+    → Broken eol (splitOperation (strengthsIn table) o max level (decode line)) out out′ at r
 unfolding layPieces
-all-broken table {line} {class} {indent} {level} {eol} {max} {at} {out} {out′} {r} ask f o e =
+all-broken table {line} {class} {indent} {ruler} {level} {eol} {max} {at} {out} {out′} {r} ask f o e =
     let pre : Fits line indent level eol at = ask .fits in
-    let p : Pieces = brokenIn (strengthsIn table) indent level max maxStrength line in
+    let p : Pieces = brokenIn (strengthsIn table) ruler indent level max maxStrength line in
     let k : allCodeOrStr (classify Carry.Code (decode line)) ≡ true = sym (all-encode (classify Carry.Code (decode line))) ∙ ap allCodeOrStr (sym (classify-encode Carry.Code (decode line)) ∙ ap (classify Carry.Code) (pre .well)) ∙ ask .classed .plain in
-    let b : breakFirst (strengthsIn table) o max level maxStrength (record { first = decode line; rest = [] }) ≡ p = same-break (strengthsIn table) o indent e max level maxStrength (record { first = decode line; rest = [] }) in
+    let b : breakFirst (strengthsIn table) o max level maxStrength (record { first = decode line; rest = [] }) ≡ p = same-break (strengthsIn table) o indent ruler e max level maxStrength (record { first = decode line; rest = [] }) in
     let d : Indent indent (suc level) = rw add-one at (deeper-fits pre) in
     subst (λ (ls : List (List ℕ)). Broken eol ls out out′ at r) (sym (fifteen-rounds table o max level (decode line) k ∙ ap (layPieces o level) b))
     (record {
       written = written-lines eol (indentOf o level ++ p .first) (map (λ (l : List ℕ). indentOf o (suc level) ++ l) (p .rest)) (firstLine indent level p) (otherLines indent level p)
-          (pre .ascii) (lay-encode o indent level (p .first) e (level-fits pre)) (lay-all o indent (suc level) e d (p .rest)) (f .pieces .text) (f .pieces .last);
+          (pre .ascii) (lay-encode o indent level (p .first) (e .indents) (level-fits pre)) (lay-all o indent (suc level) (e .indents) d (p .rest)) (f .pieces .text) (f .pieces .last);
       more = f .more ∙ several (λ (l : List ℕ). indentOf o (suc level) ++ l) (indentOf o level ++ p .first) (p .rest);
     })
 

@@ -11,7 +11,8 @@ use Rattle.rules.specs.declared.Carry.{Carry}
 use Rattle.rules.specs.Basics.{choose, isEmpty, Pieces}
 use Rattle.rules.specs.Scan.{Cell, classify, allCodeOrStr}
 use Rattle.rules.specs.ClassBytes.{classBytes, cellsOf}
-use Rattle.rules.specs.Options.{indentOf, overWide}
+use Rattle.buffer.specs.Repeat.{times}
+use Rattle.rules.specs.Options.{measure}
 use Rattle.rules.specs.SplitOperation.{breakFirst}
 use Rattle.split.specs.declared.NewLine.{NewLine}
 use Rattle.split.specs.Measure.{Indent}
@@ -78,13 +79,13 @@ pub record LineFits (line class indent : List ℕ) (level : ℕ) : Type 0 where
   pub indents : Indent indent level
 
 -- the strength that a first line is broken at, or 0: it fits, or no rounds are left
-unfoldable pub roundStrength : List ℕ → List ℕ → ℕ → ℕ → ℕ → List ℕ → List Cell → ℕ
-roundStrength table indent level max rounds line cells =
+unfoldable pub roundStrength : List ℕ → ℕ → List ℕ → ℕ → ℕ → ℕ → List ℕ → List Cell → ℕ
+roundStrength table ruler indent level max rounds line cells =
     choose (eqb rounds 0) 0
-    (choose (overWide (indented indent) max (indentOf (indented indent) level ++ decode line)) (breakStrength table cells) 0)
+    (choose (ltb max (measure ruler 0 (times level indent ++ decode line))) (breakStrength table cells) 0)
 
-pub record RoundBreak (table indent : List ℕ) (level max rounds : ℕ) (line class : List ℕ) (r : Break) : Type 0 where
-  pub strength : r .strength ≡ roundStrength table indent level max rounds line (cellsOf line class)
+pub record RoundBreak (table : List ℕ) (ruler : ℕ) (indent : List ℕ) (level max rounds : ℕ) (line class : List ℕ) (r : Break) : Type 0 where
+  pub strength : r .strength ≡ roundStrength table ruler indent level max rounds line (cellsOf line class)
   pub cut : (r .strength ≡ 0 → ⊥) → NextOp table (r .strength) line class 0 lineStart (r .cut)
 
 -- the lines of pieces, as bytes
@@ -99,10 +100,10 @@ pub record PiecesWritten (indent : List ℕ) (level : ℕ) (eol : List ℕ) (p :
   pub last : r .start + length (lastOf (firstLine indent level p) (otherLines indent level p)) ≡ r .next
 
 -- the pieces that a line alone becomes in so many rounds
-abbrev pub brokenIn : List ℕ → List ℕ → ℕ → ℕ → ℕ → List ℕ → Pieces
-brokenIn table indent level max rounds line = breakFirst table (indented indent) max level rounds (record { first = decode line; rest = [] })
+abbrev pub brokenIn : List ℕ → ℕ → List ℕ → ℕ → ℕ → ℕ → List ℕ → Pieces
+brokenIn table ruler indent level max rounds line = breakFirst table (indented indent ruler) max level rounds (record { first = decode line; rest = [] })
 
-pub record FirstBroken (table line indent : List ℕ) (level : ℕ) (eol : List ℕ) (max rounds : ℕ) (out out′ : List ℕ) (at : ℕ) (r : OperationSplit) : Type 0 where
-  pub pieces : PiecesWritten indent level eol (brokenIn table indent level max rounds line) out out′ at (lineOf r)
-  pub more : isBroken r ≡ not (isEmpty (brokenIn table indent level max rounds line .rest))
+pub record FirstBroken (table : List ℕ) (ruler : ℕ) (line indent : List ℕ) (level : ℕ) (eol : List ℕ) (max rounds : ℕ) (out out′ : List ℕ) (at : ℕ) (r : OperationSplit) : Type 0 where
+  pub pieces : PiecesWritten indent level eol (brokenIn table ruler indent level max rounds line) out out′ at (lineOf r)
+  pub more : isBroken r ≡ not (isEmpty (brokenIn table ruler indent level max rounds line .rest))
   pub room : lineOf r .next ≤ at + (length line + 1) * lineRoom

@@ -8,6 +8,7 @@ ghost use Rattle.rules.specs.Lines.{asStr};
 ghost use Rattle.rules.specs.Options.{Options};
 ghost use Rattle.rules.specs.Strengths.{strengthsIn};
 ghost use Rattle.rules.specs.SplitOperation.{splitOperation};
+ghost use Rattle.split.specs.Measure.{InUse};
 ghost use Rattle.split_operation.specs.Operation.{LineFits, Broken, lineOf, RestFits, RestWritten, RoundBreak, FirstBroken, OperationFits};
 use operators::MAX_STRENGTH;
 use operators::first::has_operator;
@@ -34,6 +35,7 @@ pub enum OperationSplit {
 pub struct Breaking {
     pub level: usize,
     pub max: Utf16Column,
+    pub ruler: u8,
     pub ending: LineEnding,
     pub table: [u8; Strengths::LENGTH],
     pub rounds: usize,
@@ -67,6 +69,7 @@ fn write_rest(
     let under = Layout {
         level: s.level + 1,
         max: Utf16Column(s.max.0),
+        ruler: s.ruler,
         ending,
         strengths: Strengths { table },
     };
@@ -88,7 +91,7 @@ fn write_rest(
 // Where a first line is broken: nowhere if it fits, if no rounds are left, or if none of its bytes starts an operator, which is told at once.
 fn round_break(line: &[u8], class: &[u8], s: Breaking, indent: &[u8]) -> Break
     requires { ⌜ LineFits (now line) (now class) (now indent) (s .level) ⌝ }
-    ensures { λ r. ⌜ RoundBreak (strengthsIn (s .table)) (now (indent .entry)) (s .level) (s .max .0) (s .rounds) (now (line .entry)) (now (class .entry)) r ⌝ }
+    ensures { λ r. ⌜ RoundBreak (strengthsIn (s .table)) (s .ruler) (now (indent .entry)) (s .level) (s .max .0) (s .rounds) (now (line .entry)) (now (class .entry)) r ⌝ }
 {
     if s.rounds == 0 {
         return unbroken();
@@ -98,6 +101,7 @@ fn round_break(line: &[u8], class: &[u8], s: Breaking, indent: &[u8]) -> Break
     let own = Layout {
         level: s.level,
         max: Utf16Column(s.max.0),
+        ruler: s.ruler,
         ending,
         strengths: Strengths { table },
     };
@@ -120,7 +124,7 @@ fn break_first(
     at: usize,
 ) -> OperationSplit
     requires { ⌜ OperationFits (now line) (now class) (now indent) (s .level) (asStr (s .ending)) at ⌝ }
-    ensures { λ r. ⌜ FirstBroken (strengthsIn (s .table)) (now (line .entry)) (now (indent .entry)) (s .level) (asStr (s .ending)) (s .max .0) (s .rounds)
+    ensures { λ r. ⌜ FirstBroken (strengthsIn (s .table)) (s .ruler) (now (line .entry)) (now (indent .entry)) (s .level) (asStr (s .ending)) (s .max .0) (s .rounds)
         (now (out .entry)) (now (out .exit)) at r ⌝ }
 {
     let b = round_break(line, class, s, indent);
@@ -151,7 +155,7 @@ pub fn split_operation(
     at: usize,
 ) -> OperationSplit
     requires { ⌜ OperationFits (now line) (now class) (now indent) (s .level) (asStr (s .ending)) at ⌝ }
-    ensures { λ r. ⌜ ((o : Options) → o .indent ≡ now (indent .entry)
+    ensures { λ r. ⌜ ((o : Options) → InUse o (now (indent .entry)) (s .ruler)
         → Broken (asStr (s .ending)) (splitOperation (strengthsIn (s .strengths .table)) o (s .max .0) (s .level) (decode (now (line .entry)))) (now (out .entry)) (now (out .exit)) at r) ⌝ }
 {
     let ending = s.ending;
@@ -160,6 +164,7 @@ pub fn split_operation(
     let b = Breaking {
         level: s.level,
         max: Utf16Column(s.max.0),
+        ruler: s.ruler,
         ending,
         table,
         rounds: MAX_STRENGTH,

@@ -170,7 +170,7 @@ pub fn well_formed_prefix(s: &[u8]) -> usize
 }
 
 // The UTF-16 units of the character that a byte starts, and 0 for a byte that starts none.
-fn units(b: u8) -> usize
+pub fn units(b: u8) -> usize
     ensures { λ r. ⌜ (r ≡ unitsOf b) × (r ≤ 2) ⌝ }
 {
     if b < 0x80 {

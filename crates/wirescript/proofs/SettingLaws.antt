@@ -149,7 +149,7 @@ module _ (c : Choices) (old : Changed) (e : old ≡ heldNamed c) {a : Settings} 
       (change-setting (old .options) _ new (length x) m ∙ rw (named-stands c old e f, named-valid c old e f, ← p, q, g))
       d
 
--- ---- the numbers of an answer name its options: a host hands them on to its next call, with its own table of strengths
+-- ---- the numbers of an answer and the old ruler tab name its options: a host hands them on to its next call, with its own table of strengths
 
 width-back : (w : PrintWidth) → printWidthNamed (widthSetNumber w) (widthNumber w) ≡ some w
 unfolding printWidthNamed widthSetNumber widthNumber
@@ -171,7 +171,13 @@ newline-back FinalNewline.Never = refl
 pub settings-name : (o : Options) (s : Settings) → s ≡ settingsAnswer (SettingOutcome.Given o)
     → optionsOf (record {
       indent = o .indent;
-      numbers = record { «width_set» = s .«width_set»; width = s .width; «line_ending» = s .«line_ending»; «final_newline» = s .«final_newline» };
+      numbers = record {
+        «width_set» = s .«width_set»;
+        width = s .width;
+        «line_ending» = s .«line_ending»;
+        «final_newline» = s .«final_newline»;
+        «ruler_tab» = o .rulerTab;
+      };
       strengths = o .strengths .table;
     })
     ≡ o

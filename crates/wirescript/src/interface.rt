@@ -4,8 +4,8 @@ ghost use mathlib.Core.Path.{_≡_};
 // The number stands in the name, so that a host crate that was written for other signatures doesn't link. It rises with
 // every change of an exported function's parameters or answer, here and in rust/wirescript_format/src/interface.rs.
 #[no_mangle]
-pub extern "C" fn wirescript_interface_3() -> u64
-    ensures { λ r. ⌜ r ≡ 3 ⌝ }
+pub extern "C" fn wirescript_interface_4() -> u64
+    ensures { λ r. ⌜ r ≡ 4 ⌝ }
 {
-    3
+    4
 }

@@ -1,4 +1,4 @@
-// The setting steps over numbers and bytes, for a host. They leave its table of strengths as it is, and so are told none.
+// The setting steps over numbers and bytes, for a host. They leave its ruler tab and its table of strengths as they are, and so are told neither.
 ghost use mathlib.Core.Path.{_≡_};
 ghost use Rattle.rules.specs.Strengths.{builtIn};
 ghost use Rattle.call.specs.Ran.{numbersOf};
@@ -94,13 +94,14 @@ pub extern "C" fn wirescript_indent_with(
     size: u64,
     output: &mut [u8],
 ) -> Settings
-    ensures { λ r. ⌜ SettingsAnswered (indentOutcome (record { indent = now (indent .entry); numbers = numbersOf «width_set» width «line_ending» «final_newline»; strengths = builtIn }) tabs size) r (now (output .entry)) (now (output .exit)) ⌝ }
+    ensures { λ r. ⌜ SettingsAnswered (indentOutcome (record { indent = now (indent .entry); numbers = numbersOf «width_set» width «line_ending» «final_newline» 0; strengths = builtIn }) tabs size) r (now (output .entry)) (now (output .exit)) ⌝ }
 {
     let numbers = OptionNumbers {
         width_set,
         width,
         line_ending,
         final_newline,
+        ruler_tab: 0,
     };
     let old = FormatOptions::from_numbers(indent, numbers, Strengths::BUILT_IN);
     let options = old.options;
@@ -154,13 +155,14 @@ pub extern "C" fn wirescript_editorconfig(
     newline: u64,
     output: &mut [u8],
 ) -> Settings
-    ensures { λ r. ⌜ SettingsAnswered (configOutcome (record { indent = now (indent .entry); numbers = numbersOf «width_set» width «line_ending» «final_newline»; strengths = builtIn }) (record { style = style; «size_kind» = «size_kind»; size = size; «tab_set» = «tab_set»; tab = tab; «max_kind» = «max_kind»; max = max; ending = ending; newline = newline })) r (now (output .entry)) (now (output .exit)) ⌝ }
+    ensures { λ r. ⌜ SettingsAnswered (configOutcome (record { indent = now (indent .entry); numbers = numbersOf «width_set» width «line_ending» «final_newline» 0; strengths = builtIn }) (record { style = style; «size_kind» = «size_kind»; size = size; «tab_set» = «tab_set»; tab = tab; «max_kind» = «max_kind»; max = max; ending = ending; newline = newline })) r (now (output .entry)) (now (output .exit)) ⌝ }
 {
     let numbers = OptionNumbers {
         width_set,
         width,
         line_ending,
         final_newline,
+        ruler_tab: 0,
     };
     let values = ConfigNumbers {
         style,

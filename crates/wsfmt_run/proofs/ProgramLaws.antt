@@ -19,8 +19,8 @@ use Rattle.buffer.proofs.WriteLaws.{appended-append}
 use Rattle.decimal.specs.Decimal.{digits, DecimalPut}
 use Rattle.decimal.proofs.DigitLaws.{digits-short}
 use Rattle.rules.specs.Basics.{choose, codes}
-use Rattle.rules.specs.Options.{defaults}
-use Rattle.rules.specs.Refusals.{maxSource, scratchNeeded, numberOf, placeOf, tested, refuseIf, wrongLength, bitsSet, longSource, badOption, shortScratch, illFormed, shortOutput}
+use Rattle.rules.specs.Options.{defaults, Options}
+use Rattle.rules.specs.Refusals.{maxSource, scratchNeeded, numberOf, placeOf, tested, refuseIf, wrongLength, bitsSet, longSource, badOption, wideRuler, shortScratch, illFormed, shortOutput}
 use Rattle.rules.specs.Strengths.{builtIn, fieldsOf, lastBits}
 use Rattle.rules.specs.Choices.{validOptions, optionsOf}
 use Rattle.rules.specs.Call.{Call, formatted, textOf, formatScratch, verdictOf, outcomeAfter, outcomeOf, answerOf, filled, outputOf}
@@ -102,7 +102,11 @@ module _
     unfolding textOf formatted defaultText
     text-is = rw o
 
-    -- the tests: 12, 13 and 1 to 3 let the call pass, 4 and 5 are left
+    ruler-none : c .choices .numbers .«ruler_tab» ≡ 0
+    unfolding optionsOf
+    ruler-none = ap (λ (p : Options). p .rulerTab) o
+
+    -- the tests: 12, 13, 1, 2, 11 and 3 let the call pass, 4 and 5 are left
     table-length : wrongLength (c .choices .strengths) ≡ Verdict.Accepted
     unfolding wrongLength refuseIf choose
     table-length = rw t
@@ -112,11 +116,12 @@ module _
     table-bits = rw t
 
     tests-left : verdictOf c ≡ tested (illFormed source ∷ shortOutput (length (textOf c)) (c .output) ∷ [])
-    unfolding verdictOf longSource badOption shortScratch
+    unfolding verdictOf longSource badOption wideRuler shortScratch
     tests-left =
         pass _ _ table-length ∙ pass _ _ table-bits
         ∙ pass _ _ (test-off _ _ (le-ltb maxSource (length source) (omega arith)))
         ∙ pass _ _ (test-off _ _ (rw v))
+        ∙ pass _ _ (test-off _ _ (rw ruler-none))
         ∙ pass _ _ (test-off _ _ (le-ltb (c .scratch) (scratchNeeded formatScratch source) room))
 
     not-utf8 : wellFormed source ≡ false → verdictOf c ≡ Verdict.Refused (Refusal.NotUtf8 (prefixLen source))

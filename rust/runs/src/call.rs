@@ -29,6 +29,7 @@ pub struct Call {
     pub width: u64,
     pub line_ending: u64,
     pub final_newline: u64,
+    pub ruler_tab: u64,
     pub strengths: Vec<u8>,
     pub output: Size,
     pub scratch: Size,
@@ -51,6 +52,8 @@ pub struct Chosen {
     /// The text never ends in a line ending; the Rust's options then ask for one, which is
     /// removed.
     pub never: bool,
+    /// How far apart the ruler's tab stops are; at 0 the Rust's own measure.
+    pub ruler: u64,
 }
 
 /// The Rust's text and counts; where the source has a protected block, which the Rust doesn't have,
@@ -67,7 +70,11 @@ fn by_rust(source: &str, options: &FormatOptions) -> upstream::Counted {
 
 impl From<FormatOptions> for Chosen {
     fn from(rust: FormatOptions) -> Self {
-        Self { rust, never: false }
+        Self {
+            rust,
+            never: false,
+            ruler: 0,
+        }
     }
 }
 
@@ -83,13 +90,22 @@ impl Chosen {
         let final_newline = if self.never { 2 } else { choices.final_newline };
         Choices {
             final_newline,
+            ruler_tab: self.ruler,
             ..choices
         }
     }
 
     /// The text and the counts of a source.
     pub fn format(&self, source: &str) -> upstream::Counted {
-        self.ended(source, by_rust(source, &self.rust))
+        self.ended(source, self.counted(source))
+    }
+
+    /// The same, whatever follows the last line.
+    pub fn counted(&self, source: &str) -> upstream::Counted {
+        match self.ruler {
+            0 => by_rust(source, &self.rust),
+            step => upstream::format_by(source, &self.rust, step as usize, None),
+        }
     }
 
     /// The same of what the Rust's options give: never has no ending after the last line.
@@ -128,6 +144,7 @@ pub fn choices_of(options: &FormatOptions) -> Choices<'_> {
             Some(LineEnding::Crlf) => 2,
         },
         final_newline: u64::from(options.insert_final_newline),
+        ruler_tab: 0,
         strengths: &Options::BUILT_IN_STRENGTHS,
     }
 }
@@ -152,6 +169,7 @@ impl Call {
             width: s.width,
             line_ending: s.line_ending,
             final_newline: s.final_newline,
+            ruler_tab: s.ruler_tab,
             strengths: s.strengths.into(),
             output,
             scratch,
@@ -165,6 +183,7 @@ impl Call {
             width: self.width,
             line_ending: self.line_ending,
             final_newline: self.final_newline,
+            ruler_tab: self.ruler_tab,
             strengths: &self.strengths,
         }
     }
@@ -190,7 +209,10 @@ impl Call {
             },
             insert_final_newline: self.final_newline == 1,
         };
-        let chosen = Chosen::from(rust);
+        let chosen = Chosen {
+            ruler: self.ruler_tab,
+            ..Chosen::from(rust)
+        };
         Some(if self.final_newline == 2 {
             chosen.never()
         } else {

@@ -74,6 +74,8 @@ pub enum Fault {
     Count,
     /// Refusal 3 before refusal 2.
     Order,
+    /// A ruler of 5 taken for one of 4.
+    Ruler,
     /// A scratch of one byte too few taken.
     ScratchSize,
     /// A place past the end of a line with a comment is a comment.
@@ -97,13 +99,14 @@ pub enum Fault {
 }
 
 impl Fault {
-    pub const ALL: [Self; 16] = [
+    pub const ALL: [Self; 17] = [
         Self::Text,
         Self::OutputRest,
         Self::OutputRefused,
         Self::Scratch,
         Self::Count,
         Self::Order,
+        Self::Ruler,
         Self::ScratchSize,
         Self::KindPastEnd,
         Self::Size64,
@@ -167,6 +170,9 @@ impl Library for Standin {
         let mut call = Self::call(source, s, output.len(), scratch.len());
         if self.has(Fault::ScratchSize) {
             call.scratch = Size::Fixed(scratch.len() + 1);
+        }
+        if self.has(Fault::Ruler) && call.ruler_tab == 5 {
+            call.ruler_tab = 4;
         }
         let mut found = model::text_of(&call);
         if self.has(Fault::Order) && found == Err((2, 0)) {

@@ -17,7 +17,7 @@ fn fields(table: &[u8; 11]) -> ([u8; 21], u8) {
     (std::array::from_fn(field), field(21))
 }
 
-/// The text and the counts of a call to which none of refusals 12, 13 and 1 to 4 applies; else the
+/// The text and the counts of a call to which none of refusals 12, 13, 1, 2, 11, 3 and 4 applies; else the
 /// refusal's number and place.
 pub fn text_of(call: &Call) -> Result<upstream::Counted, (u64, u64)> {
     let Ok(table) = <[u8; 11]>::try_from(&call.strengths[..]) else {
@@ -33,6 +33,9 @@ pub fn text_of(call: &Call) -> Result<upstream::Counted, (u64, u64)> {
     let Some(options) = call.options() else {
         return Err((2, 0));
     };
+    if call.ruler_tab > 16 {
+        return Err((11, 0));
+    }
     let needed = scratch_needed(&call.source);
     if call.scratch_length() < needed {
         return Err((3, needed as u64));
@@ -40,9 +43,8 @@ pub fn text_of(call: &Call) -> Result<upstream::Counted, (u64, u64)> {
     match std::str::from_utf8(&call.source) {
         Ok(source) if table == Options::BUILT_IN_STRENGTHS => Ok(options.format(source)),
         Ok(source) => {
-            let mut counted = upstream::format_counted(source, &options.rust);
-            // the counts are the same whatever the strengths
-            counted.text = upstream::table::format_by(strengths, source, &options.rust);
+            let step = call.ruler_tab as usize;
+            let counted = upstream::format_by(source, &options.rust, step, Some(strengths));
             Ok(options.ended(source, counted))
         }
         Err(error) => Err((4, error.valid_up_to() as u64)),
@@ -143,6 +145,7 @@ pub fn configured(options: Chosen, values: Properties) -> Option<Chosen> {
     let set = Chosen {
         rust: upstream::with_resolved(options.rust, values),
         never: false,
+        ruler: options.ruler,
     };
     Some(match values.newline {
         Some(FinalNewline::Value(false)) => set.never(),

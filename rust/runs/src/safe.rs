@@ -139,6 +139,7 @@ pub fn options_of(chosen: &Chosen) -> Options {
             (false, true) => FinalNewline::Always,
             (false, false) => FinalNewline::AsSource,
         })
+        .ruler_tab(chosen.ruler)
 }
 
 /// The host crate's values that are the Rust's.

@@ -134,13 +134,15 @@ fn safe_candidates(call: &SafeCall, take: &mut dyn FnMut(SafeCall) -> bool) -> b
     }
 }
 
-const PLAINER: [fn(&mut Call); 10] = [
+const PLAINER: [fn(&mut Call); 12] = [
     |c| c.strengths = Options::BUILT_IN_STRENGTHS.into(),
     |c| c.output = Size::Needed(0),
     |c| c.scratch = Size::Needed(0),
     |c| c.final_newline = c.final_newline.min(1),
     |c| c.final_newline = c.final_newline.min(2),
     |c| c.line_ending = 0,
+    |c| c.ruler_tab = 0,
+    |c| c.ruler_tab /= 2,
     |c| c.indent.truncate(2),
     |c| c.width_set = 0,
     |c| c.width /= 2,

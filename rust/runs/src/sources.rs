@@ -290,6 +290,49 @@ pub fn short(random: &mut Random) -> String {
     }
 }
 
+/// Lines with tabs in their indents, names and strings and between operators.
+#[rustfmt::skip]
+pub fn tabbed(random: &mut Random) -> String {
+    const NAMES: &[&str] = &[
+        "a", "\t", "a\tb", "\ta", "long\tname", "\"\t\"", "é\t", "😀\tb", "", "\\\t", "cd",
+    ];
+    const OPERANDS: &[&str] = &[
+        "a", "bc", "\"\t\"", "'x\ty'", "f(\ta,\tb)", "é", "😀", "\\\t", "long_name", "[\t]", "(c\t+ d)",
+    ];
+    const OPERATORS: &[&str] = &["+", "\t+\t", " *\t", "\t- ", " && ", "\t||", "..", "\t==\t", "\t\t** "];
+    let mut source = String::new();
+    for _ in 0..=random.below(6) {
+        source.push_str(random.pick(&["", "", "\t", " \t", "\t\t", "   "]));
+        match random.below(6) {
+            0 => source.push_str(random.pick(&["{", "(", "if a {", "}", ")", "{\t{", "((["])),
+            1 => {
+                source.push_str("import {");
+                for _ in 0..=random.below(6) {
+                    source.push_str(random.pick(NAMES));
+                    source.push_str(random.pick(&[",", ", ", ",\t", "\t,"]));
+                }
+                source.push_str(random.pick(&["}", "c\t}", "} from \"\tl\""]));
+            }
+            _ => {
+                for _ in 0..=random.below(5) {
+                    source.push_str(random.pick(OPERANDS));
+                    source.push_str(random.pick(OPERATORS));
+                }
+                source.push('z');
+            }
+        }
+        source.push_str(random.pick(&["\n", "\n", "\r\n", "\t\n"]));
+    }
+    source
+}
+
+/// What matters to the width of a line with tabs.
+pub const TABS: [&str; 10] = [
+    "a", "\t", "+", "-", " ", "\"", "(\n", "import {", "b,", "c}",
+];
+
+pub const TAB_INDENTS: [&str; 7] = ["\t", " \t", "\t ", "  ", "\t\t", "   \t  ", ""];
+
 pub const INDENTS: [&str; 5] = ["  ", "", "\t", "    ", " \t"];
 
 /// Options at random; small widths more often.
@@ -369,9 +412,11 @@ pub fn call(random: &mut Random) -> Call {
         5 => call.final_newline = 3,
         6 => call.indent = b"\xc2\xa0".into(),
         7 => call.width_set = u64::MAX,
-        8 => call.strengths.truncate(random.below(11)),
-        9 => call.strengths.push(0),
-        10 => call.strengths[10] |= 1 << random.below(4),
+        8 => call.ruler_tab = random.below(19) as u64,
+        9 => call.ruler_tab = u64::MAX,
+        10 => call.strengths.truncate(random.below(11)),
+        11 => call.strengths.push(0),
+        12 => call.strengths[10] |= 1 << random.below(4),
         _ => {}
     }
     call

@@ -78,6 +78,7 @@ pub fn all(seed: u64) -> Vec<Stage> {
         stages.push(every(name, alphabet, 5, &WIDTHS));
     }
     stages.push(every_kind(4));
+    stages.push(every_ruled(5, 25));
     let random = move |salt: u64, n: u64| {
         let mut random = Random::new(seed.wrapping_mul(1000).wrapping_add(salt));
         Random::new(random.number() ^ n.wrapping_mul(0x2545_f491_4f6c_dd1d))
@@ -92,6 +93,9 @@ pub fn all(seed: u64) -> Vec<Stage> {
     }));
     stages.push(Stage::new("refusals", None, move |n| {
         Check::Format(sources::call(&mut random(2, n)))
+    }));
+    stages.push(Stage::new("ruled", None, move |n| {
+        Check::Format(ruled(&mut random(7, n)))
     }));
     stages.push(Stage::new("grammar", None, move |n| {
         let mut r = random(3, n);
@@ -265,6 +269,48 @@ fn every(
             ..Call::new(source, &options)
         })
     })
+}
+
+/// Every source over the letters that matter to tabs, at every ruler from 1 to 16 and every small
+/// width.
+fn every_ruled(most: u32, widths: u64) -> Stage {
+    let sources: u64 = (0..=most)
+        .map(|length| sources::count(&sources::TABS, length))
+        .sum();
+    let count = sources * 16 * widths;
+    Stage::new("ruled short sources", Some(count), move |n| {
+        let n = scatter(n, count);
+        let mut r = Random::new(n);
+        let source = numbered(&sources::TABS, n / (16 * widths));
+        let mut call = Call::new(source, &sources::options(&mut r));
+        call.indent = r.pick(&sources::TAB_INDENTS).into();
+        (call.width_set, call.width) = (1, n % widths);
+        call.ruler_tab = 1 + n / widths % 16;
+        call.output = sources::room(&mut r);
+        Check::Format(call)
+    })
+}
+
+/// A call at a ruler, on lines with tabs; a ruler over 16 is refused.
+fn ruled(r: &mut Random) -> Call {
+    let source = match r.below(8) {
+        0 => written(r),
+        _ => sources::tabbed(r),
+    };
+    let mut call = Call::new(source, &sources::options(r));
+    call.indent = match r.below(12) {
+        0 => b"\t".repeat(1 + r.below(64)),
+        1 => b" \t ".repeat(1 + r.below(21)),
+        _ => r.pick(&sources::TAB_INDENTS).into(),
+    };
+    (call.width_set, call.width) = (1, r.below(60) as u64);
+    call.ruler_tab = match r.below(24) {
+        0 => 17,
+        1 => 16 + r.number() / 2,
+        _ => r.below(17) as u64,
+    };
+    call.output = sources::room(r);
+    call
 }
 
 /// A lone marker, and behind it every text over an alphabet up to a length.
@@ -558,6 +604,15 @@ fn limits() -> Vec<Check> {
         checks.push(format_check("a\r\n", |c| c.width_set = number));
         checks.push(format_check("a\r\n", |c| c.line_ending = number));
         checks.push(format_check("a", |c| c.final_newline = number));
+        checks.push(format_check("a\t+ b", |c| {
+            (c.width, c.ruler_tab) = (6, number);
+        }));
+        checks.push(format_check("a", |c| {
+            (c.line_ending, c.ruler_tab) = (3, number);
+        }));
+        checks.push(format_check("a", |c| {
+            (c.scratch, c.ruler_tab) = (Size::Needed(-1), number);
+        }));
         checks.push(format_check("a + b", |c| c.width = number));
         checks.push(format_check("a + b", |c| {
             (c.width_set, c.width) = (0, number);

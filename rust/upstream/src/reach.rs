@@ -223,7 +223,7 @@ pub(super) fn import_of(f: &Formatter, raw: &str) -> Option<(Vec<String>, usize)
     let chars: Vec<char> = line.chars().collect();
     let (class, _) = super::classify(&chars, RustCarry::Code);
     let level = f.stack.iter().filter(|adds| **adds).count();
-    if split::width(&f.indent(level)) + split::width(&line) <= max
+    if split::width(&format!("{}{line}", f.indent(level))) <= max
         || !class
             .iter()
             .all(|k| matches!(k, RustClass::Code | RustClass::Str))

@@ -35,7 +35,7 @@ pub use options::{
     EditorConfig, EndOfLine, FinalNewline, IndentSize, IndentStyle, LineEnding, MaxLineLength,
     Options,
 };
-pub use refusal::{MAX_INDENT, MAX_SOURCE, Refusal};
+pub use refusal::{MAX_INDENT, MAX_RULER, MAX_SOURCE, Refusal};
 
 /// A formatted text, what splitting did, and the brackets that are never closed.
 #[derive(Clone, Copy, Debug, PartialEq, Eq)]

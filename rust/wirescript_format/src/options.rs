@@ -22,14 +22,15 @@ pub enum FinalNewline {
     Never,
 }
 
-/// What a host chooses. The defaults: two spaces, width 100, ending kept, final newline, the built-in
-/// strengths of operators.
+/// What a host chooses. The defaults: two spaces, width 100, ending kept, final newline, ruler tab 0, the
+/// built-in strengths of operators.
 #[derive(Clone, Debug, PartialEq, Eq)]
 pub struct Options {
     pub(crate) indent: String,
     pub(crate) width: Option<u64>,
     pub(crate) line_ending: LineEnding,
     pub(crate) final_newline: FinalNewline,
+    pub(crate) ruler_tab: u64,
     pub(crate) strengths: Vec<u8>,
 }
 
@@ -40,6 +41,7 @@ impl Default for Options {
             width: Some(Self::DEFAULT_WIDTH),
             line_ending: LineEnding::Kept,
             final_newline: FinalNewline::Always,
+            ruler_tab: 0,
             strengths: Self::BUILT_IN_STRENGTHS.into(),
         }
     }
@@ -91,6 +93,27 @@ impl Options {
     #[must_use]
     pub fn final_newline(mut self, final_newline: FinalNewline) -> Self {
         self.final_newline = final_newline;
+        self
+    }
+
+    /// How far apart the tab stops of the editor's ruler are, up to 16 columns: in the width of a
+    /// line a tab goes to the next one. At 0, the default, a tab is one column. A larger ruler is
+    /// refused by the call. The setting steps leave it as it is.
+    ///
+    /// ```
+    /// use wirescript_format::{Options, Refusal, format};
+    ///
+    /// let text = |ruler| {
+    ///     let options = Options::new().width(Some(10)).ruler_tab(ruler);
+    ///     format("abcd\t+ e", &options).map(|f| f.text)
+    /// };
+    /// assert_eq!(text(0).as_deref(), Ok("abcd\t+ e\n"));
+    /// assert_eq!(text(4).as_deref(), Ok("abcd\n  + e\n"));
+    /// assert_eq!(text(17), Err(Refusal::RulerTooWide));
+    /// ```
+    #[must_use]
+    pub fn ruler_tab(mut self, ruler_tab: u64) -> Self {
+        self.ruler_tab = ruler_tab;
         self
     }
 
@@ -174,11 +197,12 @@ impl Options {
                 FinalNewline::Always => 1,
                 FinalNewline::Never => 2,
             },
+            ruler_tab: self.ruler_tab,
             strengths: &self.strengths,
         }
     }
 
-    /// The options that a setting step on these gave.
+    /// The options that a setting step on these gave; their ruler tab and table stay.
     fn of(&self, set: Settings, indent: &[u8]) -> Result<Self, Refusal> {
         if let Some(refusal) = Refusal::of(set.refusal, set.place) {
             return Err(refusal);
@@ -197,6 +221,7 @@ impl Options {
                 1 => FinalNewline::Always,
                 _ => FinalNewline::Never,
             },
+            ruler_tab: self.ruler_tab,
             strengths: self.strengths.clone(),
         })
     }
@@ -290,6 +315,7 @@ mod tests {
             width: 100,
             line_ending: 0,
             final_newline: 1,
+            ruler_tab: 0,
             strengths: &[
                 0x11, 0x23, 0x45, 0x66, 0x77, 0x77, 0x88, 0x9a, 0xab, 0xbb, 0xc0,
             ],
@@ -300,6 +326,7 @@ mod tests {
             .width(None)
             .line_ending(LineEnding::Crlf)
             .final_newline(FinalNewline::AsSource)
+            .ruler_tab(16)
             .strengths([1, 2, 3]);
         let choices = Choices {
             indent: b"\t",
@@ -307,6 +334,7 @@ mod tests {
             width: 0,
             line_ending: 2,
             final_newline: 0,
+            ruler_tab: 16,
             strengths: &[1, 2, 3],
         };
         assert_eq!(other.choices(), choices);
@@ -324,9 +352,10 @@ mod tests {
             .width(None)
             .line_ending(LineEnding::Lf)
             .final_newline(FinalNewline::AsSource)
+            .ruler_tab(4)
             .strengths([7; 11]);
-        // the table is the one that the options had
-        let old = Options::new().strengths([7; 11]);
+        // the ruler tab and the table are those that the options had
+        let old = Options::new().ruler_tab(4).strengths([7; 11]);
         assert_eq!(old.of(set, b"\t\0"), Ok(wanted));
         set.refusal = 2;
         assert_eq!(old.of(set, b"\t\0"), Err(Refusal::BadOption));

@@ -64,8 +64,10 @@ pub struct Kinds {
 }
 
 /// Options as numbers. `width_set`: 0 no width, 1 the width. `line_ending`: 0 kept, 1 LF,
-/// 2 CRLF. `final_newline`: 0 as the source, 1 always, 2 never. Other numbers name no choice. `strengths`: a
-/// table as [`Options::strengths`](crate::Options::strengths) says; the setting steps leave it as it is.
+/// 2 CRLF. `final_newline`: 0 as the source, 1 always, 2 never. Other numbers name no choice.
+/// `ruler_tab`: 0 a tab is one column, else how far apart the ruler's tab stops are, up to 16.
+/// `strengths`: a table as [`Options::strengths`](crate::Options::strengths) says. The setting steps
+/// leave the ruler tab and the table as they are.
 #[derive(Clone, Copy, Debug, PartialEq, Eq)]
 pub struct Choices<'a> {
     pub indent: &'a [u8],
@@ -73,6 +75,7 @@ pub struct Choices<'a> {
     pub width: u64,
     pub line_ending: u64,
     pub final_newline: u64,
+    pub ruler_tab: u64,
     pub strengths: &'a [u8],
 }
 
@@ -113,7 +116,7 @@ mod linked {
     unsafe extern "C" {
         pub fn wirescript_format(
             source: *const u8, source_length: usize, indent: *const u8, indent_length: usize,
-            width_set: u64, width: u64, line_ending: u64, final_newline: u64,
+            width_set: u64, width: u64, line_ending: u64, final_newline: u64, ruler_tab: u64,
             strengths: *const u8, strengths_length: usize,
             output: *mut u8, output_length: usize, opened: *mut u64, opened_length: usize,
             scratch: *mut u8, scratch_length: usize,
@@ -190,7 +193,7 @@ pub fn format(
             wirescript_format,
             (source.as_ptr(), source.len()),
             s,
-            (table, fields, text, room, list, lines, work, left)
+            (s.ruler_tab, table, fields, text, room, list, lines, work, left)
         )
     }
 }

@@ -12,6 +12,9 @@ const SOURCE_END: u64 = MAX_SOURCE as u64;
 /// The longest indent, in bytes.
 pub const MAX_INDENT: usize = 64;
 
+/// The largest ruler tab, in columns.
+pub const MAX_RULER: u64 = 16;
+
 /// Why a call was turned away.
 #[derive(Clone, Copy, Debug, PartialEq, Eq)]
 #[non_exhaustive]
@@ -38,6 +41,8 @@ pub enum Refusal {
     PlacesUnordered,
     /// There are fewer answer bytes than places.
     KindsShort,
+    /// The ruler tab is over [`MAX_RULER`] columns.
+    RulerTooWide,
     /// The table of strengths has another length than 11 bytes.
     StrengthsLength,
     /// The last four bits of the table of strengths are not zero.
@@ -76,6 +81,7 @@ impl Refusal {
             (8, 0) => Self::NameTooLong,
             (9, 0) => Self::PlacesUnordered,
             (10, 0) => Self::KindsShort,
+            (11, 0) => Self::RulerTooWide,
             (12, 0) => Self::StrengthsLength,
             (13, 0) => Self::StrengthsBits,
             (14, place) => Self::NotExpression { place },
@@ -99,6 +105,7 @@ impl Refusal {
             Self::NameTooLong => 8,
             Self::PlacesUnordered => 9,
             Self::KindsShort => 10,
+            Self::RulerTooWide => 11,
             Self::StrengthsLength => 12,
             Self::StrengthsBits => 13,
             Self::NotExpression { .. } => 14,
@@ -119,6 +126,7 @@ impl Refusal {
             | Self::NameTooLong
             | Self::PlacesUnordered
             | Self::KindsShort
+            | Self::RulerTooWide
             | Self::StrengthsLength
             | Self::StrengthsBits => 0,
             Self::ScratchShort { needed }
@@ -162,6 +170,7 @@ impl fmt::Display for Refusal {
             }
             Self::PlacesUnordered => write!(f, "the places are not in ascending order"),
             Self::KindsShort => write!(f, "there are fewer answer bytes than places"),
+            Self::RulerTooWide => write!(f, "the ruler tab is over {MAX_RULER} columns"),
             Self::StrengthsLength => write!(f, "the table of strengths has not 11 bytes"),
             Self::StrengthsBits => {
                 write!(f, "the last bits of the table of strengths are not zero")
@@ -207,6 +216,7 @@ mod tests {
             (8, 0, Refusal::NameTooLong),
             (9, 0, Refusal::PlacesUnordered),
             (10, 0, Refusal::KindsShort),
+            (11, 0, Refusal::RulerTooWide),
             (12, 0, Refusal::StrengthsLength),
             (13, 0, Refusal::StrengthsBits),
             (14, 7, Refusal::NotExpression { place: 7 }),

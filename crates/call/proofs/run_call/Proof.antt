@@ -1,5 +1,5 @@
 -- `call::run_call` meets its contract. In each answer, a are the arguments.
-use Rattle.call.proofs.CallLaws.{ran-refused, passed, ran-formatted}
+use Rattle.call.proofs.CallLaws.{ran-refused, passed, ruler-small, ran-formatted}
 use borrow.Author.Needs.{needs}
 use Rattle.call.proofs.run_call.Statement.{statement}
 use Rattle.call.proofs.run_call.Tie as tie

@@ -1,6 +1,6 @@
 -- `call::test` meets its contract: a law for each way out (proofs/CallLaws.antt).
 use borrow.Author.Needs.{needs}
-use Rattle.call.proofs.CallLaws.{test-long, length-passed, test-option, test-rest}
+use Rattle.call.proofs.CallLaws.{test-long, length-passed, test-option, test-ruler, test-rest}
 use Rattle.call.proofs.test.Statement.{statement}
 use Rattle.call.proofs.test.Tie as tie
 
@@ -20,10 +20,13 @@ test-bytes-requires : tie.Need-test-bytes-requires
 test-bytes-requires c κs = (search (needs, length-passed), search needs)
 
 returns-2 : tie.Need-returns-2
-returns-2 c = search (needs, test-long)
+returns-2 c = search (needs, test-ruler)
 
 returns-3 : tie.Need-returns-3
-returns-3 c = search (needs, test-rest)
+returns-3 c = search (needs, test-long)
+
+returns-4 : tie.Need-returns-4
+returns-4 c = search (needs, test-rest)
 
 pub test-spec : {M : Type 1} → statement M
 test-spec =
@@ -33,6 +36,7 @@ test-spec =
     enum-known-why
     enum-told
     returns
-    test-bytes-requires
     returns-2
-    returns-3)
+    test-bytes-requires
+    returns-3
+    returns-4)

@@ -77,7 +77,7 @@ returns-2 c =
     let i = o .before .before .before .before .before .before in
     let t = i .before .before .before .before .before in
     let s = t .before .before .before .before .before .before in
-    several-breaks _ _ _ _ _ _ _ _ _ _ _ (s .pre .0) (s .pre .1 .0) (s .pre .1 .1 .0) refl (t .continue-text .ensures) _ _ _ (i .before .before .ends-in-brace .ensures) _ _ (i .split-import .ensures)
+    several-breaks _ _ _ _ _ _ _ _ _ _ _ (s .pre .0) (s .pre .1 .0) (s .pre .1 .1 .0) refl (t .continue-text .ensures) _ _ _ _ (i .before .before .ends-in-brace .ensures) _ _ (i .split-import .ensures)
     (o .before .before .enum-told .given .1) _ _ (o .split-operation .ensures) _ _ _
     (c .before .before .before .o .given .1) (c .before .after-lines2 .ensures) (c .alone .ensures)
 
@@ -93,7 +93,7 @@ returns-3 c =
     let i = o .before .before .before .before .before .before in
     let t = i .before .before .before .before .before in
     let s = t .before .before .before .before .before .before in
-    alone-breaks _ _ _ _ _ _ _ _ _ _ _ (s .pre .0) (s .pre .1 .0) (s .pre .1 .1 .0) refl (t .continue-text .ensures) _ _ _ (i .before .before .ends-in-brace .ensures) _ _ (i .split-import .ensures)
+    alone-breaks _ _ _ _ _ _ _ _ _ _ _ (s .pre .0) (s .pre .1 .0) (s .pre .1 .1 .0) refl (t .continue-text .ensures) _ _ _ _ (i .before .before .ends-in-brace .ensures) _ _ (i .split-import .ensures)
     (o .before .before .enum-told .given .1) _ _ (o .split-operation .ensures) _ _ _ _
     (c .before .before .trimmed-takes-else .ensures) (c .before .before .before .before .o2 .given .1) (c .before .after-lines3 .ensures) (c .alone2 .ensures)
 

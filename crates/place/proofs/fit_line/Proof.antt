@@ -47,7 +47,7 @@ returns c =
     let g = e .before in
     let h = g .before .before in
     let s = h .before .before .before .before .before .before .before in
-    fit-broken _ _ _ _ _ _ _ _ _ _ _ _ _ _ _ (s .pre .1 .1 .0) (h .width .given .1) (g .over-wide .ensures) (e .if1 .taken)
+    fit-broken _ _ _ _ _ _ _ _ _ _ _ _ _ _ _ _ (s .pre .1 .1 .0) (h .width .given .1) (g .over-wide .ensures) (e .if1 .taken)
     (d .all-code-or-str .ensures) (b .if2 .taken) (a .break-line .ensures)
 
 push-one-requires-2 : tie.Need-push-one-requires-2
@@ -65,7 +65,7 @@ returns-2 c =
     let b = a .before .before in
     let d = b .before in
     let s = d .before .before .before .before .before .before .before .before .before .before .before in
-    fit-mixed _ _ _ _ _ _ _ _ _ _ (s .pre .0) (s .pre .1 .0) (s .pre .1 .1 .0) (a .push-one2 .ensures) _ (c .alone2 .ensures)
+    fit-mixed _ _ _ _ _ _ _ _ _ _ _ (s .pre .0) (s .pre .1 .0) (s .pre .1 .1 .0) (a .push-one2 .ensures) _ (c .alone2 .ensures)
     _ _ _ (d .all-code-or-str .ensures) (b .if2 .left)
 
 push-one-requires-3 : tie.Need-push-one-requires-3
@@ -82,7 +82,7 @@ returns-3 c =
     let a = c .before .before .before in
     let b = a .before .before in
     let s = b .before .before .before .before .before .before .before in
-    fit-off _ _ _ _ _ _ _ _ _ _ (s .pre .0) (s .pre .1 .0) (s .pre .1 .1 .0) (a .push-one .ensures) _ (c .alone .ensures) _ _ (b .enum-told .given .1)
+    fit-off _ _ _ _ _ _ _ _ _ _ _ (s .pre .0) (s .pre .1 .0) (s .pre .1 .1 .0) (a .push-one .ensures) _ (c .alone .ensures) _ _ (b .enum-told .given .1)
 
 same-length-4 : tie.Need-same-length-4
 same-length-4 c = search needs
@@ -94,7 +94,7 @@ returns-4 c =
     let d = b .before in
     let e = d .before .before in
     let s = e .before .before .before .before .before .before .before in
-    fit-narrow _ _ _ _ _ _ _ _ _ _ (s .pre .0) (s .pre .1 .0) (s .pre .1 .1 .0) (a .push-one3 .ensures) _ (c .alone3 .ensures)
+    fit-narrow _ _ _ _ _ _ _ _ _ _ _ (s .pre .0) (s .pre .1 .0) (s .pre .1 .1 .0) (a .push-one3 .ensures) _ (c .alone3 .ensures)
     _ _ _ _ (e .width .given .1) (d .over-wide .ensures) (b .if1 .left)
 
 pub fit-line-spec : {M : Type 1} → statement M

@@ -51,7 +51,7 @@ write-line-requires : tie.Need-write-line-requires
 write-line-requires c κs =
     let n = c .before .before .before .before in
     let h = n .before .before .before .before .before .before in
-    tail-room (h .before .before .before .before .before .before .before .before .before .before .pre) (h .write-head .ensures) _ (n .write-names .ensures)
+    tail-room (h .before .before .before .before .before .before .before .before .before .before .pre) (h .write-head .ensures) _ _ (n .write-names .ensures)
 
 same-length : tie.Need-same-length
 same-length c = search needs

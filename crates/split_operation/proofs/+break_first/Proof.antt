@@ -92,7 +92,7 @@ break-first-returns : (t : ℕ) → break-first-lts.Need-returns (
 ) (break-first-at t) break-first.Post
 break-first-returns t c =
     let b = c .before .before .before .before .before .before in
-    first-whole _ _ _ _ _ _ _ _ _ (b .before .before .before .before .before .pre .1) _ _ _ _ (b .round-break .ensures) (c .before .before .before .before .if1 .taken) (c .before .before .append-indented .ensures)
+    first-whole _ _ _ _ _ _ _ _ _ _ (b .before .before .before .before .before .pre .1) _ _ _ _ (b .round-break .ensures) (c .before .before .before .before .if1 .taken) (c .before .before .append-indented .ensures)
 
 break-first-trim-part-requires : (t : ℕ) → break-first-lts.Need-trim-part-requires (
   round-break-reads.Asked,
@@ -110,7 +110,7 @@ break-first-trim-part-requires : (t : ℕ) → break-first-lts.Need-trim-part-re
 ) (break-first-at t) break-first.Post
 break-first-trim-part-requires t c κs =
     let b = c .before .before .before in
-    first-within _ _ _ _ _ _ _ _ _ (b .before .before .before .before .before .pre .1) _ (b .round-break .ensures) (c .before .if1 .left)
+    first-within _ _ _ _ _ _ _ _ _ _ (b .before .before .before .before .before .pre .1) _ (b .round-break .ensures) (c .before .if1 .left)
 
 break-first-sub-l : (t : ℕ) → break-first-lts.Need-sub-l (
   round-break-reads.Asked,
@@ -234,7 +234,7 @@ break-first-sub-t : (t : ℕ) → break-first-lts.Need-sub-t (
   write-rest-reads.Asked,
   write-rest-reads.Learnt,
 ) (break-first-at t) break-first.Post
-break-first-sub-t t c = some-rounds _ (rounds-left _ _ _ _ _ _ _ _ (c .before .before .before .before .before .before .before .round-break .ensures) (c .before .before .before .before .before .if1 .left))
+break-first-sub-t t c = some-rounds _ (rounds-left _ _ _ _ _ _ _ _ _ (c .before .before .before .before .before .before .before .round-break .ensures) (c .before .before .before .before .before .if1 .left))
 
 break-first-break-first-requires : (t : ℕ) → break-first-lts.Need-break-first-requires (
   round-break-reads.Asked,
@@ -254,8 +254,8 @@ break-first-break-first-requires t c κs =
     let i = c .before .before .before .before .before .before in
     let b = i .before .before in
     let s = b .before .before .before .before .before in (
-      fewer-rounds (s .pre .0) (rounds-left _ _ _ _ _ _ _ _ (b .round-break .ensures) (i .if1 .left)),
-      first-fits _ _ _ _ _ _ _ _ _ (s .pre .1) _ (b .round-break .ensures) (i .if1 .left) _ (c .before .before .before .before .trim-part .ensures),
+      fewer-rounds (s .pre .0) (rounds-left _ _ _ _ _ _ _ _ _ (b .round-break .ensures) (i .if1 .left)),
+      first-fits _ _ _ _ _ _ _ _ _ _ (s .pre .1) _ (b .round-break .ensures) (i .if1 .left) _ (c .before .before .before .before .trim-part .ensures),
     )
 
 break-first-line-of-requires : (t : ℕ) → break-first-lts.Need-line-of-requires (
@@ -292,7 +292,7 @@ break-first-write-rest-requires t c κs =
     let p = c .before .before .before .before .before .before .before .before .before in
     let i = p .before .before in
     let b = i .before .before in
-    rest-fits _ _ _ _ _ _ _ _ _ (b .before .before .before .before .before .pre .1) _ (b .round-break .ensures) (i .if1 .left) _ (p .trim-part .ensures) _ _ _
+    rest-fits _ _ _ _ _ _ _ _ _ _ (b .before .before .before .before .before .pre .1) _ (b .round-break .ensures) (i .if1 .left) _ (p .trim-part .ensures) _ _ _
     (c .before .before .before .before .break-first .ensures) _ (c .before .line-of .ensures)
 
 break-first-same-length-2 : (t : ℕ) → break-first-lts.Need-same-length-2 (
@@ -329,7 +329,7 @@ break-first-returns-2 t c =
     let p = c .before .before .before .before .before .before .before .before .before .before .before .before in
     let i = p .before .before in
     let b = i .before .before in
-    first-broken _ _ _ _ _ _ _ _ _ (b .before .before .before .before .before .pre .1) _ (b .round-break .ensures) (i .if1 .left) _ (p .trim-part .ensures) _ _ _
+    first-broken _ _ _ _ _ _ _ _ _ _ (b .before .before .before .before .before .pre .1) _ (b .round-break .ensures) (i .if1 .left) _ (p .trim-part .ensures) _ _ _
     (c .before .before .before .before .before .before .before .break-first .ensures) _ (c .before .before .before .before .line-of .ensures) _ _ (c .before .before .write-rest .ensures)
 
 pub +break-first-spec : {M : Type 1} → statement M

@@ -94,13 +94,14 @@ fn show(check: &Check) -> String {
     };
     match check {
         Check::Format(c) => format!(
-            "source {}\nindent {}, width_set {}, width {}, line_ending {}, final_newline {}, strengths {:02x?}, output {:?}, scratch {:?}",
+            "source {}\nindent {}, width_set {}, width {}, line_ending {}, final_newline {}, ruler_tab {}, strengths {:02x?}, output {:?}, scratch {:?}",
             text(&c.source),
             text(&c.indent),
             c.width_set,
             c.width,
             c.line_ending,
             c.final_newline,
+            c.ruler_tab,
             c.strengths,
             c.output,
             c.scratch

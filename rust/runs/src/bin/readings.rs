@@ -9,7 +9,7 @@ use runs::library::Linked;
 use std::process::ExitCode;
 use upstream::FormatOptions;
 
-const LISTS: [&str; 2] = ["Examples.antt", "Readings.antt"];
+const LISTS: [&str; 3] = ["Examples.antt", "Readings.antt", "RulerExamples.antt"];
 
 /// The string literal that starts after the first quote of `rest`, and what follows it.
 fn literal(rest: &str) -> Option<(String, &str)> {
@@ -47,9 +47,25 @@ fn options_of(word: &str) -> Option<Chosen> {
         None if word == "never" => return Some(Chosen::from(options).never()),
         None if word == "noFinalNewline" => options.insert_final_newline = false,
         Some(("atWidth", width)) => options.print_width = Some(width.parse().ok()?),
+        Some(("ruled", rest)) => return ruled(rest),
         _ => return None,
     }
     Some(options.into())
+}
+
+/// A ruler, a print width and an indent.
+fn ruled(words: &str) -> Option<Chosen> {
+    let (ruler, rest) = words.split_once(' ')?;
+    let (width, rest) = rest.split_once(' ')?;
+    let options = FormatOptions {
+        indent: literal(rest)?.0,
+        print_width: Some(width.parse().ok()?),
+        ..FormatOptions::default()
+    };
+    Some(Chosen {
+        ruler: ruler.parse().ok()?,
+        ..options.into()
+    })
 }
 
 /// A line of a list: options, source, text, imports split, blank names.

@@ -23,7 +23,8 @@ use Prim.Native.Nat.{ℕ}
 use Prim.Native.String.{String}
 use mathlib.Core.List.{List, [], _∷_, map}
 use Rattle.rules.specs.Basics.{codes}
-use Rattle.rules.specs.Options.{Options, SettingStep, indentWith}
+use Rattle.rules.specs.Options.{Options, SettingStep, defaults, indentWith}
+use Rattle.rules.specs.Strengths.{builtIn}
 use Rattle.rules.specs.EditorConfig.{withEditorConfig}
 use Rattle.rules.specs.TextKind.{textKindAt, kindNumber}
 use Rattle.rules.specs.Assembly.{Formatted, formatWith}
@@ -45,7 +46,7 @@ use Rattle.rules.specs.declared.Resolved.{Resolved}
 use Rattle.rules.proofs.Computing.{computing}
 
 abbrev opts : String → PrintWidth → EndOfLine → FinalNewline → Options
-opts i w e n = record { indent = codes i; printWidth = w; endOfLine = e; insertFinalNewline = n }
+opts i w e n = record { indent = codes i; printWidth = w; endOfLine = e; insertFinalNewline = n; rulerTab = 0; strengths = defaults .strengths }
 
 ";
 
@@ -153,7 +154,7 @@ Case = Call × Answer × List ℕ
 
 abbrev call : List ℕ → List ℕ → ℕ → ℕ → ℕ → ℕ → ℕ → ℕ → Call
 call s i ws w e n o c =
-    record { source = s; choices = record { indent = i; numbers = record { «width_set» = ws; width = w; «line_ending» = e; «final_newline» = n } }; output = o; opened = 0; scratch = c }
+    record { source = s; choices = record { indent = i; numbers = record { «width_set» = ws; width = w; «line_ending» = e; «final_newline» = n; «ruler_tab» = 0 }; strengths = builtIn }; output = o; opened = 0; scratch = c }
 
 abbrev ans : ℕ → ℕ → ℕ → ℕ → ℕ → ℕ → Answer
 ans r p l i b k = record { refusal = r; place = p; length = l; «imports_split» = i; «blank_names» = b; «open_brackets» = k }

@@ -68,11 +68,7 @@ impl Chosen {
 
     pub fn choices(&self) -> Choices<'_> {
         let choices = choices_of(&self.rust);
-        let final_newline = if self.never {
-            2
-        } else {
-            choices.final_newline
-        };
+        let final_newline = if self.never { 2 } else { choices.final_newline };
         Choices {
             final_newline,
             ruler_tab: self.ruler,

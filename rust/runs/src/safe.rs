@@ -6,8 +6,8 @@ use crate::model;
 use ec4rs::Properties;
 use ec4rs::property;
 use wirescript_format::{
-    EditorConfig, EndOfLine, FinalNewline, Formatted, Formatter, IndentSize, IndentStyle, LineEnding,
-    MaxLineLength, Options, TextKind,
+    EditorConfig, EndOfLine, FinalNewline, Formatted, Formatter, IndentSize, IndentStyle,
+    LineEnding, MaxLineLength, Options, TextKind,
 };
 
 /// What a safe function is given. Options and values are the Rust's, which can name what the host

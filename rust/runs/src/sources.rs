@@ -376,8 +376,6 @@ pub fn call(random: &mut Random) -> Call {
         5 => call.final_newline = 3,
         6 => call.indent = b"\xc2\xa0".into(),
         7 => call.width_set = u64::MAX,
-        8 => call.ruler_tab = random.below(19) as u64,
-        9 => call.ruler_tab = u64::MAX,
         _ => {}
     }
     call

@@ -27,7 +27,8 @@ mod refusal;
 pub use group::group;
 pub use kinds::text_kinds;
 pub use options::{
-    EditorConfig, EndOfLine, FinalNewline, IndentSize, IndentStyle, LineEnding, MaxLineLength, Options,
+    EditorConfig, EndOfLine, FinalNewline, IndentSize, IndentStyle, LineEnding, MaxLineLength,
+    Options,
 };
 pub use refusal::{MAX_INDENT, MAX_RULER, MAX_SOURCE, Refusal};
 

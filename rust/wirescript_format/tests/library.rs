@@ -1,8 +1,8 @@
 //! The crate over the linked library.
 
 use wirescript_format::{
-    EditorConfig, EndOfLine, FinalNewline, Formatter, IndentSize, IndentStyle, LineEnding, MAX_SOURCE,
-    MaxLineLength, Options, Refusal, TextKind, format, text_kind_at,
+    EditorConfig, EndOfLine, FinalNewline, Formatter, IndentSize, IndentStyle, LineEnding,
+    MAX_SOURCE, MaxLineLength, Options, Refusal, TextKind, format, text_kind_at,
 };
 
 fn text(source: &str, options: &Options) -> String {

@@ -64,7 +64,10 @@ fn cases(seed: u64, count: usize, out: &mut impl Write) -> io::Result<()> {
     let stages = stages::all(seed);
     let mut seen = HashSet::new();
     for round in 0.. {
-        for stage in stages.iter().filter(|stage| stage.name != stages::LONG) {
+        let formats = |stage: &&Stage| {
+            stage.name != stages::LONG && !stages::RULED.contains(&stage.name.as_str())
+        };
+        for stage in stages.iter().filter(formats) {
             for number in share(stage) * round..share(stage) * (round + 1) {
                 if seen.len() == count {
                     return Ok(());

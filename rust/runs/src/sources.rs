@@ -412,11 +412,9 @@ pub fn call(random: &mut Random) -> Call {
         5 => call.final_newline = 3,
         6 => call.indent = b"\xc2\xa0".into(),
         7 => call.width_set = u64::MAX,
-        8 => call.ruler_tab = random.below(19) as u64,
-        9 => call.ruler_tab = u64::MAX,
-        10 => call.strengths.truncate(random.below(11)),
-        11 => call.strengths.push(0),
-        12 => call.strengths[10] |= 1 << random.below(4),
+        8 => call.strengths.truncate(random.below(11)),
+        9 => call.strengths.push(0),
+        10 => call.strengths[10] |= 1 << random.below(4),
         _ => {}
     }
     call

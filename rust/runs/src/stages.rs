@@ -59,6 +59,9 @@ impl Stage {
 /// The stages whose sources have protected blocks, which the Rust doesn't have.
 pub const BLOCKS: [&str; 2] = ["short blocks", "blocks"];
 
+/// The stages whose calls have a ruler, which the Rust lacks.
+pub const RULED: [&str; 3] = ["rulers", "ruled short sources", "ruled"];
+
 /// The stage that takes longest for each check.
 pub const LONG: &str = "long sources";
 
@@ -78,6 +81,7 @@ pub fn all(seed: u64) -> Vec<Stage> {
         stages.push(every(name, alphabet, 5, &WIDTHS));
     }
     stages.push(every_kind(4));
+    stages.push(Stage::list(RULED[0], rulers()));
     stages.push(every_ruled(5, 25));
     let random = move |salt: u64, n: u64| {
         let mut random = Random::new(seed.wrapping_mul(1000).wrapping_add(salt));
@@ -94,7 +98,7 @@ pub fn all(seed: u64) -> Vec<Stage> {
     stages.push(Stage::new("refusals", None, move |n| {
         Check::Format(sources::call(&mut random(2, n)))
     }));
-    stages.push(Stage::new("ruled", None, move |n| {
+    stages.push(Stage::new(RULED[2], None, move |n| {
         Check::Format(ruled(&mut random(7, n)))
     }));
     stages.push(Stage::new("grammar", None, move |n| {
@@ -271,6 +275,40 @@ fn every(
     })
 }
 
+/// Every ruler and some beyond the last, alone and with other refusals.
+fn rulers() -> Vec<Check> {
+    let mut checks = Vec::new();
+    for ruler in (0..=17).chain([255, 256, 272, 1 << 32, (1 << 32) + 4, u64::MAX]) {
+        for width in 0..=24 {
+            for source in [
+                "abcd\t+ e",
+                "{\nabc\t+ d\n}",
+                "import {a\tb, c, d}",
+                "\"\t\" + b",
+            ] {
+                for indent in sources::TAB_INDENTS {
+                    checks.push(format_check(source, |c| {
+                        (c.indent, c.width, c.ruler_tab) = (indent.into(), width, ruler);
+                    }));
+                }
+            }
+        }
+        let at = |change: fn(&mut Call)| {
+            format_check(&b"a\t+ b\xff"[..], move |c| {
+                c.ruler_tab = ruler;
+                change(c);
+            })
+        };
+        checks.push(at(|_| {}));
+        checks.push(at(|c| c.line_ending = 3));
+        checks.push(at(|c| c.indent = b"q".into()));
+        checks.push(at(|c| c.scratch = Size::Needed(-1)));
+        checks.push(at(|c| c.output = Size::Fixed(0)));
+        checks.push(at(|c| c.source = vec![b'\t'; MIB + 1]));
+    }
+    checks
+}
+
 /// Every source over the letters that matter to tabs, at every ruler from 1 to 16 and every small
 /// width.
 fn every_ruled(most: u32, widths: u64) -> Stage {
@@ -278,7 +316,7 @@ fn every_ruled(most: u32, widths: u64) -> Stage {
         .map(|length| sources::count(&sources::TABS, length))
         .sum();
     let count = sources * 16 * widths;
-    Stage::new("ruled short sources", Some(count), move |n| {
+    Stage::new(RULED[1], Some(count), move |n| {
         let n = scatter(n, count);
         let mut r = Random::new(n);
         let source = numbered(&sources::TABS, n / (16 * widths));
@@ -310,6 +348,9 @@ fn ruled(r: &mut Random) -> Call {
         _ => r.below(17) as u64,
     };
     call.output = sources::room(r);
+    if r.one_in(16) {
+        call.scratch = Size::Needed(-1);
+    }
     call
 }
 
@@ -604,15 +645,6 @@ fn limits() -> Vec<Check> {
         checks.push(format_check("a\r\n", |c| c.width_set = number));
         checks.push(format_check("a\r\n", |c| c.line_ending = number));
         checks.push(format_check("a", |c| c.final_newline = number));
-        checks.push(format_check("a\t+ b", |c| {
-            (c.width, c.ruler_tab) = (6, number);
-        }));
-        checks.push(format_check("a", |c| {
-            (c.line_ending, c.ruler_tab) = (3, number);
-        }));
-        checks.push(format_check("a", |c| {
-            (c.scratch, c.ruler_tab) = (Size::Needed(-1), number);
-        }));
         checks.push(format_check("a + b", |c| c.width = number));
         checks.push(format_check("a + b", |c| {
             (c.width_set, c.width) = (0, number);

@@ -56,7 +56,7 @@ fn case(call: &Call) -> Option<Vec<u8>> {
 
 /// The stages that a case is taken from.
 fn has_cases(name: &str) -> bool {
-    name != stages::LONG && !stages::BLOCKS.contains(&name)
+    name != stages::LONG && !stages::BLOCKS.contains(&name) && !stages::RULED.contains(&name)
 }
 
 /// How many cases of a stage stand in a row: the random stages have more.

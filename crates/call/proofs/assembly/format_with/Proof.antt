@@ -7,11 +7,14 @@ use Rattle.call.proofs.assembly.format_with.Tie as tie
 ending-of-requires : tie.Need-ending-of-requires
 ending-of-requires c κs = search needs
 
+cast-t15 : tie.Need-cast-t15
+cast-t15 c = search needs
+
 format-lines-requires : tie.Need-format-lines-requires
 format-lines-requires c κs = search needs
 
 has-last-ending-requires : tie.Need-has-last-ending-requires
-has-last-ending-requires c κs = search needs
+has-last-ending-requires c κs = c .before .before .before .before .before .before .before .before .before .before .before .before .before .before .before .before .before .before .pre .0 .well
 
 finish-text-requires : tie.Need-finish-text-requires
 finish-text-requires c κs = search needs
@@ -70,6 +73,7 @@ format-with-spec =
     tie.close
     (tie.spec
     ending-of-requires
+    cast-t15
     format-lines-requires
     has-last-ending-requires
     finish-text-requires

@@ -26,4 +26,4 @@ returns-3 c = search (needs, last-never)
 
 pub has-last-ending-spec : {M : Type 1} → statement M
 has-last-ending-spec =
-    tie.close (tie.spec enum-told ends-in-lf-requires enum-told-2 enum-told-3 returns returns-2 returns-3)
+    tie.close (tie.spec ends-in-lf-requires enum-told enum-told-2 enum-told-3 returns returns-2 returns-3)

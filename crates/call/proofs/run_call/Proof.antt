@@ -4,6 +4,9 @@ use borrow.Author.Needs.{needs}
 use Rattle.call.proofs.run_call.Statement.{statement}
 use Rattle.call.proofs.run_call.Tie as tie
 
+read-requires : tie.Need-read-requires
+read-requires c κs = search needs
+
 from-numbers-requires : tie.Need-from-numbers-requires
 from-numbers-requires c κs = search needs
 
@@ -21,8 +24,8 @@ enum-told c = search needs
 
 format-with-requires : tie.Need-format-with-requires
 format-with-requires c κs =
-    let a = c .before .before .before .before .before .before .before .before .before .before .before .before .before .args in
-    passed _ _ _ (a .output .now) (a .opened .now) (a .scratch .now) _ _
+    let a = c .before .before .before .before .before .before .before .before .before .before .before .before .before .before .before .args in
+    passed _ _ _ (a .strengths .now) (a .output .now) (a .opened .now) (a .scratch .now) _ _ _ (c .before .before .before .before .before .before .before .before .read .ensures)
     (c .before .before .before .before .before .before .before .from-numbers .ensures)
     (c .before .before .before .before .before .test .ensures)
     (c .before .before .before .enum-told .given .1)
@@ -38,8 +41,8 @@ same-length-3 c = search needs
 
 returns : tie.Need-returns
 returns c =
-    let a = c .before .before .before .before .before .before .before .before .before .before .before .before .before .before .before .before .before .before .before .before .before .args in
-    ran-refused _ _ _ (a .output .now) (a .opened .now) (a .scratch .now) _ _
+    let a = c .before .before .before .before .before .before .before .before .before .before .before .before .before .before .before .before .before .before .before .before .before .before .before .args in
+    ran-refused _ _ _ (a .strengths .now) (a .output .now) (a .opened .now) (a .scratch .now) _ _ _ (c .before .before .before .before .before .before .before .before .before .before .before .before .before .before .before .before .read .ensures)
     (c .before .before .before .before .before .before .before .before .before .before .before .before .before .before .before .from-numbers .ensures)
     (c .before .before .before .before .before .before .before .before .before .before .before .before .before .test .ensures)
     _ _ _ _ _
@@ -57,8 +60,8 @@ same-length-6 c = search needs
 
 returns-2 : tie.Need-returns-2
 returns-2 c =
-    let a = c .before .before .before .before .before .before .before .before .before .before .before .before .before .before .before .before .before .before .before .before .args in
-    ran-formatted _ _ _ (a .output .now) (a .opened .now) (a .scratch .now) _ _
+    let a = c .before .before .before .before .before .before .before .before .before .before .before .before .before .before .before .before .before .before .before .before .before .before .args in
+    ran-formatted _ _ _ (a .strengths .now) (a .output .now) (a .opened .now) (a .scratch .now) _ _ _ (c .before .before .before .before .before .before .before .before .before .before .before .before .before .before .before .read .ensures)
     (c .before .before .before .before .before .before .before .before .before .before .before .before .before .before .from-numbers .ensures)
     (c .before .before .before .before .before .before .before .before .before .before .before .before .test .ensures)
     (c .before .before .before .before .before .before .before .before .before .before .enum-told .given .1) _ _ _ _
@@ -68,6 +71,7 @@ pub run-call-spec : {M : Type 1} → statement M
 run-call-spec =
     tie.close
     (tie.spec
+    read-requires
     from-numbers-requires
     test-requires
     enum-known-why

@@ -30,7 +30,7 @@ same-length-3 c = search needs
 
 returns : tie.Need-returns
 returns c =
-    let s = c .before .before .before .before .before .before .before .before .before .before .before .before .before .before .before .before .before .before .before .before .before .before .before .before .before .before .before in
+    let s = c .before .before .before .before .before .before .before .before .before .before .before .before .before .before .before .before .before .before .before .before .before .before .before .before .before .before .before .before in
     text-short _ _ (s .args .chosen) _ _ _ (s .args .output .now) (s .args .opened .now) (s .args .scratch .now) _ _ _ _ _ _ _
     (c .before .before .before .before .before .before .before .before .before .before .before .before .before .before .before .before .before .before .before .before .before .ending-of .ensures)
     (c .before .before .before .before .before .before .before .before .before .before .before .before .before .before .before .before .before .before .format-lines .ensures)
@@ -40,7 +40,7 @@ returns c =
     (c .before .before .before .before .before .before .before .if1 .taken) (c .before .before .before .before .list-open .ensures)
 
 mul-base : tie.Need-mul-base
-mul-base c = record { fits = omega (arith, c .before .before .before .before .before .before .before .before .before .before .before .before .before .before .before .before .before .before .before .before .before .pre .limit) }
+mul-base c = record { fits = omega (arith, c .before .before .before .before .before .before .before .before .before .before .before .before .before .before .before .before .before .before .before .before .before .before .pre .limit) }
 
 list-open-requires-2 : tie.Need-list-open-requires-2
 list-open-requires-2 c κs = search needs
@@ -56,7 +56,7 @@ same-length-6 c = search needs
 
 returns-2 : tie.Need-returns-2
 returns-2 c =
-    let s = c .before .before .before .before .before .before .before .before .before .before .before .before .before .before .before .before .before .before .before .before .before .before .before .before .before .before .before .before in
+    let s = c .before .before .before .before .before .before .before .before .before .before .before .before .before .before .before .before .before .before .before .before .before .before .before .before .before .before .before .before .before in
     text-fits _ _ (s .args .chosen) _ _ _ (s .args .output .now) (s .args .opened .now) (s .args .scratch .now) _ _ _ _ _ _ _
     (c .before .before .before .before .before .before .before .before .before .before .before .before .before .before .before .before .before .before .before .before .before .before .ending-of .ensures)
     (c .before .before .before .before .before .before .before .before .before .before .before .before .before .before .before .before .before .before .before .format-lines .ensures)

@@ -11,7 +11,7 @@ use Rattle.rules.specs.declared.Refusal.{Refusal}
 use Rattle.rules.specs.declared.Verdict.{Verdict}
 use Rattle.rules.specs.declared.Answer.{Answer}
 use Rattle.rules.proofs.RefusalLaws.{numbered, test-on, test-off}
-use Rattle.call.specs.FormatAnswered.{FormatAnswered}
+use Rattle.edits.specs.Text.{TextAnswered}
 use Rattle.caret.specs.Caret.{isPlace, movedTo, lineOf, columnOf}
 use Rattle.caret.specs.Moving.{LineColumnOf, CaretMoved}
 use Rattle.caret.proofs.AnswerLaws.{follows-at}
@@ -36,14 +36,14 @@ refused-by c line column why number place r out work v en ep er eo ew =
       follows = λ e. absurd (z e);
     }
 
-module _ (c : Call) (a : Answer) (out work : List ℕ) (q : FormatAnswered c a out work) (line column : ℕ) where
+module _ (c : Call) (a : Answer) (out work : List ℕ) (q : TextAnswered c a out work) (line column : ℕ) where
   pub caret-stopped : (r : CaretAnswer) → (a .refusal ≡ 0 → ⊥) → r ≡ refusedCaret (a .refusal) (a .place)
       → CaretAnswered c line column r out work
   unfolding caretVerdict
   caret-stopped r h e =
       let s : Stopped c (a .refusal) (a .place) out = stopped c a out work q h in
       refused-by c line column (s .why) (a .refusal) (a .place) r out work (s .verdict _) (s .number-is)
-      (s .place-is) e (s .zeros) (q .scratch)
+      (s .place-is) e (s .zeros) (q .is .scratch)
 
   module _ (z : a .refusal ≡ 0) (f : Bool) (l k : ℕ)
       (m : CaretMoved (c .source) (take (a .length) out) line column f l k) where
@@ -56,7 +56,7 @@ module _ (c : Call) (a : Answer) (out work : List ℕ) (q : FormatAnswered c a o
         let v : caretVerdict c line column ≡ Verdict.Refused Refusal.NoPlace =
         passed-by c a out work q z _ ∙ test-on _ _ (ap not (sym (m .found) ∙ y)) in
         refused-by c line column Refusal.NoPlace number place r zeros work v en ep e
-        (o ∙ ap (λ (n : ℕ). replicate n 0) (text-room c a out work q z)) (q .scratch)
+        (o ∙ ap (λ (n : ℕ). replicate n 0) (text-room c a out work q z)) (q .is .scratch)
 
     pub caret-goes : f ≡ true
         → CaretAnswered c line column
@@ -80,11 +80,11 @@ module _ (c : Call) (a : Answer) (out work : List ℕ) (q : FormatAnswered c a o
         let w : movedTo line column (decode (c .source)) (decode (take (a .length) out)) ≡ caretIn c line column =
         ap (movedTo line column (decode (c .source))) (text-chars c a out work q z) in
         record {
-          answer = rw (v, ← q .answer, ← w, ← to .isLine, ← to .isColumn);
-          output = q .output ∙ rw v;
-          scratch = q .scratch;
-          well = λ e. q .well z;
-          kept = λ e. q .kept z;
+          answer = rw (v, ← q .is .answer, ← w, ← to .isLine, ← to .isColumn);
+          output = q .is .output ∙ rw v;
+          scratch = q .is .scratch;
+          well = λ e. q .is .well z;
+          kept = λ e. q .is .kept z;
           follows = λ e.
-              follows-at line column (decode (c .source)) (decode (take (a .length) out)) l k (q .kept z .struck) to;
+              follows-at line column (decode (c .source)) (decode (take (a .length) out)) l k (q .is .kept z .struck) to;
         }

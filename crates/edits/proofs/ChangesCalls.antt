@@ -14,7 +14,7 @@ use Rattle.rules.specs.declared.Refusal.{Refusal}
 use Rattle.rules.specs.declared.Verdict.{Verdict}
 use Rattle.rules.specs.declared.Answer.{Answer}
 use Rattle.rules.proofs.RefusalLaws.{numbered, test-on, test-off}
-use Rattle.call.specs.FormatAnswered.{FormatAnswered}
+use Rattle.edits.specs.Text.{TextAnswered}
 use Rattle.changes.specs.Changes.{changes, numbers, changesIn, Faithful}
 use Rattle.changes.specs.Writing.{Written}
 use Rattle.changes.specs.declared.Change.{Change}
@@ -43,14 +43,14 @@ refused-by c room why number place r out list work v en ep er eo el ew =
       faithful = λ e. absurd (z e);
     }
 
-module _ (c : Call) (a : Answer) (out work : List ℕ) (q : FormatAnswered c a out work) (room : ℕ) where
+module _ (c : Call) (a : Answer) (out work : List ℕ) (q : TextAnswered c a out work) (room : ℕ) where
   pub changes-stopped : (r : ChangesAnswer) (list : List ℕ) → (a .refusal ≡ 0 → ⊥) → list ≡ replicate room 0
       → r ≡ refusedChanges (a .refusal) (a .place) → ChangesAnswered c room r out list work
   unfolding changesVerdict
   changes-stopped r list h o e =
       let s : Stopped c (a .refusal) (a .place) out = stopped c a out work q h in
       refused-by c room (s .why) (a .refusal) (a .place) r out list work (s .verdict _) (s .number-is) (s .place-is) e
-      (s .zeros) o (q .scratch)
+      (s .zeros) o (q .is .scratch)
 
   module _ (z : a .refusal ≡ 0) (x x′ : List ℕ) (n : ℕ) (k : length x ≡ room)
       (w : Written (c .source) (take (a .length) out) x x′ n) where
@@ -74,7 +74,7 @@ module _ (c : Call) (a : Answer) (out work : List ℕ) (q : FormatAnswered c a o
         ∙ ap (λ (m : ℕ). Verdict.Refused (Refusal.ListShort m)) (sym count-is) in
         refused-by c room (Refusal.ListShort n) number place r zeros list work v en ep e
         (o ∙ ap (λ (m : ℕ). replicate m 0) (text-room c a out work q z))
-        (ol ∙ ap (λ (m : ℕ). replicate m 0) (w .long ∙ k)) (q .scratch)
+        (ol ∙ ap (λ (m : ℕ). replicate m 0) (w .long ∙ k)) (q .is .scratch)
 
     pub changes-given : (list : List ℕ) → n ≤ length x′ / 4 → Finishes x′ list (n * 4)
         → ChangesAnswered c room
@@ -106,11 +106,11 @@ module _ (c : Call) (a : Answer) (out work : List ℕ) (q : FormatAnswered c a o
         ∙ ap (λ (m : ℕ). changesIn (take (m * 4) (filled room (numbers (changesOf c))))) count-is
         ∙ filled-in room (changesOf c) in
         record {
-          answer = rw (v, ← q .answer, ← count-is);
-          output = q .output ∙ rw v;
+          answer = rw (v, ← q .is .answer, ← count-is);
+          output = q .is .output ∙ rw v;
           changes = l ∙ rw v;
-          scratch = q .scratch;
-          well = λ e. q .well z;
-          kept = λ e. q .kept z;
+          scratch = q .is .scratch;
+          well = λ e. q .is .well z;
+          kept = λ e. q .is .kept z;
           faithful = λ e. subst (Faithful (c .source) t) (sym back) g;
         }

@@ -4,6 +4,7 @@ use mathlib.Core.List.{List, [], _∷_}
 use mathlib.Core.Path.{_≡_, refl}
 use Rattle.rules.specs.Basics.{codes}
 use Rattle.rules.specs.Options.{defaults}
+use Rattle.rules.specs.Strengths.{builtIn}
 use Rattle.rules.specs.Choices.{defaultNumbers}
 use Rattle.rules.specs.Call.{Call, formatCall}
 use Rattle.rules.specs.declared.Refusal.{Refusal}
@@ -22,8 +23,9 @@ abbrev spaced : Call
 spaced = record {
   source = codes " a  b ";
   choices =
-      record { indent = defaults .indent; numbers = defaultNumbers };
+      record { indent = defaults .indent; numbers = defaultNumbers; strengths = builtIn };
   output = 5;
+  opened = 0;
   scratch = 400;
 }
 

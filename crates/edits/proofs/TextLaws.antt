@@ -15,7 +15,7 @@ use Rattle.rules.specs.declared.Verdict.{Verdict}
 use Rattle.rules.specs.declared.Answer.{Answer}
 use Rattle.rules.proofs.RefusalLaws.{numbered, pass, stop, one-test}
 use Rattle.rules.proofs.CallLaws.{Accepted, accepted, Delivered, delivered}
-use Rattle.call.specs.FormatAnswered.{FormatAnswered}
+use Rattle.edits.specs.Text.{TextAnswered}
 use Rattle.gaps.specs.Gaps.{Alike}
 
 -- the formatting call is refused, and so is the whole, whatever is tested after it
@@ -26,25 +26,25 @@ pub record Stopped (c : Call) (number place : ℕ) (out : List ℕ) : Type 0 whe
   pub zeros : out ≡ replicate (c .output) 0
   pub verdict : (v : Verdict) → tested (verdictOf c ∷ v ∷ []) ≡ Verdict.Refused why
 
-module _ (c : Call) (a : Answer) (out work : List ℕ) (q : FormatAnswered c a out work) where
+module _ (c : Call) (a : Answer) (out work : List ℕ) (q : TextAnswered c a out work) where
   pub stopped : (a .refusal ≡ 0 → ⊥) → Stopped c (a .refusal) (a .place) out
   unfolding outcomeOf outputOf
   stopped h = go (verdictOf c) refl
     where
       go : (v : Verdict) → verdictOf c ≡ v → Stopped c (a .refusal) (a .place) out
-      go Verdict.Accepted e = absurd (h (ap (λ (b : Answer). b .refusal) (q .answer) ∙ rw e))
+      go Verdict.Accepted e = absurd (h (ap (λ (b : Answer). b .refusal) (q .is .answer) ∙ rw e))
       go (Verdict.Refused r) e =
           record {
             why = r;
-            number-is = ap (λ (b : Answer). b .refusal) (q .answer) ∙ rw e;
-            place-is = ap (λ (b : Answer). b .place) (q .answer) ∙ rw e;
-            zeros = q .output ∙ rw e;
+            number-is = ap (λ (b : Answer). b .refusal) (q .is .answer) ∙ rw e;
+            place-is = ap (λ (b : Answer). b .place) (q .is .answer) ∙ rw e;
+            zeros = q .is .output ∙ rw e;
             verdict = λ v. stop (verdictOf c) r (v ∷ []) e;
           }
 
   module _ (z : a .refusal ≡ 0) where
     no-refusal : answerOf (outcomeOf c) .refusal ≡ 0
-    no-refusal = sym (ap (λ (b : Answer). b .refusal) (q .answer)) ∙ z
+    no-refusal = sym (ap (λ (b : Answer). b .refusal) (q .is .answer)) ∙ z
 
     -- what is tested after it decides
     pub passed-by : (v : Verdict) → tested (verdictOf c ∷ v ∷ []) ≡ v
@@ -60,19 +60,19 @@ module _ (c : Call) (a : Answer) (out work : List ℕ) (q : FormatAnswered c a o
     given = delivered c (outcomeOf c) refl no-refusal
 
     pub text-chars : decode (take (a .length) out) ≡ formatted c .text
-    text-chars = rw (q .output, q .answer) (given .chars)
+    text-chars = rw (q .is .output, q .is .answer) (given .chars)
 
     pub text-fits : a .length ≤ length out
     text-fits =
-        let n : a .length ≡ length (textOf c) = ap (λ (b : Answer). b .length) (q .answer) ∙ given .long in
-        let t : take (a .length) out ≡ textOf c = rw (q .output, q .answer) (given .bytes) in
+        let n : a .length ≡ length (textOf c) = ap (λ (b : Answer). b .length) (q .is .answer) ∙ given .long in
+        let t : take (a .length) out ≡ textOf c = rw (q .is .output, q .is .answer) (given .bytes) in
         omega (arith, ap length t, length-take (a .length) out, n)
 
     pub text-room : length out ≡ c .output
     unfolding outputOf filled
     text-room =
         let r = accepted c no-refusal in
-        let e : out ≡ textOf c ++ replicate (c .output - length (textOf c)) 0 = q .output ∙ rw (r .outcome) in
+        let e : out ≡ textOf c ++ replicate (c .output - length (textOf c)) 0 = q .is .output ∙ rw (r .outcome) in
         omega (
           arith,
           ap length e,
@@ -87,6 +87,6 @@ module _ (c : Call) (a : Answer) (out work : List ℕ) (q : FormatAnswered c a o
         record {
           long = omega (arith, r .short);
           wellSource = test-wf (c .source) (r .well);
-          wellText = q .well z;
-          struck = q .kept z .struck;
+          wellText = q .is .well z;
+          struck = q .is .kept z .struck;
         }

@@ -7,6 +7,12 @@ ghost use Rattle.edits.specs.CaretAnswered.{CaretAnswered};
 use rules::OptionNumbers;
 use rules::Refusal;
 
+// Where the caret stands in the source: a line and a character column, both from 0.
+pub struct Caret {
+    pub line: u64,
+    pub column: u64,
+}
+
 // The answer of a formatting call, with the caret's line and column in the text.
 #[repr(C)]
 pub struct CaretAnswer {
@@ -38,19 +44,18 @@ pub fn format_caret(
     source: &[u8],
     indent: &[u8],
     numbers: OptionNumbers,
-    line: u64,
-    column: u64,
+    strengths: &[u8],
+    at: Caret,
     output: &mut [u8],
     scratch: &mut [u8],
 ) -> CaretAnswer
-    ensures { λ r. ⌜ CaretAnswered (callOf (now (source .entry)) (now (indent .entry)) numbers
-        (length (now (output .entry))) (length (now (scratch .entry)))) line column
-        r (now (output .exit)) (now (scratch .exit)) ⌝ }
+    ensures { λ r. ⌜ CaretAnswered (callOf (now (source .entry)) (now (indent .entry)) numbers (now (strengths .entry)) (length (now (output .entry))) 0
+        (length (now (scratch .entry)))) (at .line) (at .column) r (now (output .exit)) (now (scratch .exit)) ⌝ }
 {
-    let a = call::format_call(source, indent, numbers, output, scratch);
+    let a = crate::format_text(source, indent, numbers, strengths, output, scratch);
     if a.refusal == 0 {
         let n = a.length as usize;
-        let to = caret::caret_in_text(source, &output[..n], line as usize, column as usize);
+        let to = caret::caret_in_text(source, &output[..n], at.line as usize, at.column as usize);
         if to.found {
             return CaretAnswer {
                 refusal: 0,

@@ -36,15 +36,15 @@ pub fn format_changes(
     source: &[u8],
     indent: &[u8],
     numbers: OptionNumbers,
+    strengths: &[u8],
     output: &mut [u8],
     list: &mut [u64],
     scratch: &mut [u8],
 ) -> ChangesAnswer
-    ensures { λ r. ⌜ ChangesAnswered (callOf (now (source .entry)) (now (indent .entry)) numbers
-        (length (now (output .entry))) (length (now (scratch .entry)))) (length (now (list .entry)))
-        r (now (output .exit)) (now (list .exit)) (now (scratch .exit)) ⌝ }
+    ensures { λ r. ⌜ ChangesAnswered (callOf (now (source .entry)) (now (indent .entry)) numbers (now (strengths .entry)) (length (now (output .entry))) 0
+        (length (now (scratch .entry)))) (length (now (list .entry))) r (now (output .exit)) (now (list .exit)) (now (scratch .exit)) ⌝ }
 {
-    let a = call::format_call(source, indent, numbers, output, scratch);
+    let a = crate::format_text(source, indent, numbers, strengths, output, scratch);
     if a.refusal == 0 {
         let length = a.length as usize;
         let n = changes::write_changes(source, &output[..length], list);

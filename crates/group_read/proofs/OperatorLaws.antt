@@ -9,6 +9,8 @@ use lib.ListN.{length, take, getD, set, length-set}
 use lib.Seq.{take-suc-set}
 use Rattle.rules.specs.Basics.{choose, same, oneOf}
 use Rattle.rules.specs.Operators.{operators, strengths, indexIn}
+use Rattle.rules.specs.Strengths.{strengthsIn, builtIn}
+use Rattle.rules.proofs.OperatorReadings.{built-in-read}
 use Rattle.rules.specs.SplitOperation.{precedence}
 use Rattle.rules.proofs.Choose.{choose-true, choose-false, choose-case}
 use Rattle.group_rules.specs.Expression.{maxDepth, Token, word, sign, operator, opener, closer, due, inOperator, state, Step, next, refused, dueStep, stageStep}
@@ -27,8 +29,8 @@ pub strength-of : (w : List ℕ) (k s : ℕ) → k ≡ indexIn operators w → s
 unfolding precedence
 strength-of w k s e h = h ∙ ap (λ n. getD strengths n 0) e
 
-pub built-read : (of : List ℕ) (k r : ℕ) → r ≡ getD of k 0 → of ≡ strengths → r ≡ getD strengths k 0
-built-read of k r e h = e ∙ ap (λ l. getD l k 0) h
+pub built-read : (k r : ℕ) → r ≡ getD (strengthsIn builtIn) k 0 → r ≡ getD strengths k 0
+built-read k r e = e ∙ ap (λ l. getD l k 0) built-in-read
 
 pub past-table : (k : ℕ) → 21 ≤ k → 0 ≡ getD strengths k 0
 past-table k h = sym (past strengths k h)

@@ -2,6 +2,7 @@
 ghost use lib.ListN.{length};
 ghost use Rattle.call.specs.Ran.{callOf, numbersOf};
 ghost use Rattle.edits.specs.CaretAnswered.{CaretAnswered};
+use edits::with_caret::Caret;
 use edits::with_caret::CaretAnswer;
 use rules::OptionNumbers;
 
@@ -15,14 +16,15 @@ pub extern "C" fn wirescript_format_caret(
     width: u64,
     line_ending: u64,
     final_newline: u64,
+    strengths: &[u8],
     line: u64,
     column: u64,
     output: &mut [u8],
     scratch: &mut [u8],
 ) -> CaretAnswer
     ensures { λ r. ⌜ CaretAnswered (callOf (now (source .entry)) (now (indent .entry))
-        (numbersOf «width_set» width «line_ending» «final_newline»)
-        (length (now (output .entry))) (length (now (scratch .entry)))) line column
+        (numbersOf «width_set» width «line_ending» «final_newline») (now (strengths .entry))
+        (length (now (output .entry))) 0 (length (now (scratch .entry)))) line column
         r (now (output .exit)) (now (scratch .exit)) ⌝ }
 {
     let numbers = OptionNumbers {
@@ -31,5 +33,6 @@ pub extern "C" fn wirescript_format_caret(
         line_ending,
         final_newline,
     };
-    edits::with_caret::format_caret(source, indent, numbers, line, column, output, scratch)
+    let at = Caret { line, column };
+    edits::with_caret::format_caret(source, indent, numbers, strengths, at, output, scratch)
 }

@@ -15,13 +15,14 @@ pub extern "C" fn wirescript_format_changes(
     width: u64,
     line_ending: u64,
     final_newline: u64,
+    strengths: &[u8],
     output: &mut [u8],
     changes: &mut [u64],
     scratch: &mut [u8],
 ) -> ChangesAnswer
     ensures { λ r. ⌜ ChangesAnswered (callOf (now (source .entry)) (now (indent .entry))
-        (numbersOf «width_set» width «line_ending» «final_newline»)
-        (length (now (output .entry))) (length (now (scratch .entry)))) (length (now (changes .entry)))
+        (numbersOf «width_set» width «line_ending» «final_newline») (now (strengths .entry))
+        (length (now (output .entry))) 0 (length (now (scratch .entry)))) (length (now (changes .entry)))
         r (now (output .exit)) (now (changes .exit)) (now (scratch .exit)) ⌝ }
 {
     let numbers = OptionNumbers {
@@ -30,5 +31,5 @@ pub extern "C" fn wirescript_format_changes(
         line_ending,
         final_newline,
     };
-    edits::with_changes::format_changes(source, indent, numbers, output, changes, scratch)
+    edits::with_changes::format_changes(source, indent, numbers, strengths, output, changes, scratch)
 }

@@ -124,12 +124,13 @@ mod linked {
         pub fn wirescript_format_caret(
             source: *const u8, source_length: usize, indent: *const u8, indent_length: usize,
             width_set: u64, width: u64, line_ending: u64, final_newline: u64,
-            line: u64, column: u64,
+            strengths: *const u8, strengths_length: usize, line: u64, column: u64,
             output: *mut u8, output_length: usize, scratch: *mut u8, scratch_length: usize,
         ) -> CaretAnswer;
         pub fn wirescript_format_changes(
             source: *const u8, source_length: usize, indent: *const u8, indent_length: usize,
             width_set: u64, width: u64, line_ending: u64, final_newline: u64,
+            strengths: *const u8, strengths_length: usize,
             output: *mut u8, output_length: usize, changes: *mut u64, changes_length: usize,
             scratch: *mut u8, scratch_length: usize,
         ) -> ChangesAnswer;
@@ -209,6 +210,7 @@ pub fn format_caret(
     output: &mut [u8],
     scratch: &mut [u8],
 ) -> CaretAnswer {
+    let (table, fields) = (s.strengths.as_ptr(), s.strengths.len());
     let (text, room) = (output.as_mut_ptr(), output.len());
     let (work, left) = (scratch.as_mut_ptr(), scratch.len());
     // SAFETY: as for `format`.
@@ -217,7 +219,7 @@ pub fn format_caret(
             wirescript_format_caret,
             (source.as_ptr(), source.len()),
             s,
-            (line, column, text, room, work, left)
+            (table, fields, line, column, text, room, work, left)
         )
     }
 }
@@ -232,6 +234,7 @@ pub fn format_changes(
     changes: &mut [u64],
     scratch: &mut [u8],
 ) -> ChangesAnswer {
+    let (table, fields) = (s.strengths.as_ptr(), s.strengths.len());
     let (text, room) = (output.as_mut_ptr(), output.len());
     let (list, numbers) = (changes.as_mut_ptr(), changes.len());
     let (work, left) = (scratch.as_mut_ptr(), scratch.len());
@@ -241,7 +244,7 @@ pub fn format_changes(
             wirescript_format_changes,
             (source.as_ptr(), source.len()),
             s,
-            (text, room, list, numbers, work, left)
+            (table, fields, text, room, list, numbers, work, left)
         )
     }
 }

@@ -4,6 +4,9 @@ use borrow.Author.Needs.{needs}
 use Rattle.call.proofs.run_call.Statement.{statement}
 use Rattle.call.proofs.run_call.Tie as tie
 
+read-requires : tie.Need-read-requires
+read-requires c κs = search needs
+
 from-numbers-requires : tie.Need-from-numbers-requires
 from-numbers-requires c κs = search needs
 
@@ -21,11 +24,14 @@ enum-told c = search needs
 
 format-with-requires : tie.Need-format-with-requires
 format-with-requires c κs =
-    let a = c .before .before .before .before .before .before .before .before .before .before .before .before .before .args in
-    passed _ _ _ (a .output .now) (a .opened .now) (a .scratch .now) _ _
-    (c .before .before .before .before .before .before .before .from-numbers .ensures)
-    (c .before .before .before .before .before .test .ensures)
-    (c .before .before .before .enum-told .given .1)
+    let t = c .before .before .before .before .before in
+    let n = t .before .before in
+    let r = n .before .read .ensures in
+    let a = n .before .before .before .before .before .before .before .before .args in
+    let e = c .before .before .before .enum-told .given .1 in (
+      passed _ _ _ (a .strengths .now) (a .output .now) (a .opened .now) (a .scratch .now) _ _ _ r (n .from-numbers .ensures) (t .test .ensures) e,
+      ruler-small _ _ _ (a .strengths .now) (a .output .now) (a .opened .now) (a .scratch .now) _ _ _ r (n .from-numbers .ensures) (t .test .ensures) e,
+    )
 
 same-length : tie.Need-same-length
 same-length c = search needs
@@ -38,8 +44,8 @@ same-length-3 c = search needs
 
 returns : tie.Need-returns
 returns c =
-    let a = c .before .before .before .before .before .before .before .before .before .before .before .before .before .before .before .before .before .before .before .before .before .args in
-    ran-refused _ _ _ (a .output .now) (a .opened .now) (a .scratch .now) _ _
+    let a = c .before .before .before .before .before .before .before .before .before .before .before .before .before .before .before .before .before .before .before .before .before .before .before .args in
+    ran-refused _ _ _ (a .strengths .now) (a .output .now) (a .opened .now) (a .scratch .now) _ _ _ (c .before .before .before .before .before .before .before .before .before .before .before .before .before .before .before .before .read .ensures)
     (c .before .before .before .before .before .before .before .before .before .before .before .before .before .before .before .from-numbers .ensures)
     (c .before .before .before .before .before .before .before .before .before .before .before .before .before .test .ensures)
     _ _ _ _ _
@@ -57,8 +63,8 @@ same-length-6 c = search needs
 
 returns-2 : tie.Need-returns-2
 returns-2 c =
-    let a = c .before .before .before .before .before .before .before .before .before .before .before .before .before .before .before .before .before .before .before .before .args in
-    ran-formatted _ _ _ (a .output .now) (a .opened .now) (a .scratch .now) _ _
+    let a = c .before .before .before .before .before .before .before .before .before .before .before .before .before .before .before .before .before .before .before .before .before .before .args in
+    ran-formatted _ _ _ (a .strengths .now) (a .output .now) (a .opened .now) (a .scratch .now) _ _ _ (c .before .before .before .before .before .before .before .before .before .before .before .before .before .before .before .read .ensures)
     (c .before .before .before .before .before .before .before .before .before .before .before .before .before .before .from-numbers .ensures)
     (c .before .before .before .before .before .before .before .before .before .before .before .before .test .ensures)
     (c .before .before .before .before .before .before .before .before .before .before .enum-told .given .1) _ _ _ _
@@ -68,6 +74,7 @@ pub run-call-spec : {M : Type 1} → statement M
 run-call-spec =
     tie.close
     (tie.spec
+    read-requires
     from-numbers-requires
     test-requires
     enum-known-why

@@ -14,7 +14,7 @@ format-lines-requires : tie.Need-format-lines-requires
 format-lines-requires c κs = search needs
 
 has-last-ending-requires : tie.Need-has-last-ending-requires
-has-last-ending-requires c κs = c .before .before .before .before .before .before .before .before .before .before .before .before .before .before .before .before .before .before .pre .0 .well
+has-last-ending-requires c κs = c .before .before .before .before .before .before .before .before .before .before .before .before .before .before .before .before .pre .0 .well
 
 finish-text-requires : tie.Need-finish-text-requires
 finish-text-requires c κs = search needs
@@ -33,9 +33,9 @@ same-length-3 c = search needs
 
 returns : tie.Need-returns
 returns c =
-    let s = c .before .before .before .before .before .before .before .before .before .before .before .before .before .before .before .before .before .before .before .before .before .before .before .before .before .before .before in
+    let s = c .before .before .before .before .before .before .before .before .before .before .before .before .before .before .before .before .before .before .before .before .before .before .before .before .before .before .before .before .before in
     text-short _ _ (s .args .chosen) _ _ _ (s .args .output .now) (s .args .opened .now) (s .args .scratch .now) _ _ _ _ _ _ _
-    (c .before .before .before .before .before .before .before .before .before .before .before .before .before .before .before .before .before .before .before .before .before .ending-of .ensures)
+    (c .before .before .before .before .before .before .before .before .before .before .before .before .before .before .before .before .before .before .before .before .before .before .ending-of .ensures)
     (c .before .before .before .before .before .before .before .before .before .before .before .before .before .before .before .before .before .before .format-lines .ensures)
     (c .before .before .before .before .before .before .before .before .before .before .before .before .has-last-ending .ensures)
     (c .before .before .before .before .before .before .before .before .before .before .finish-text .ensures)
@@ -43,7 +43,7 @@ returns c =
     (c .before .before .before .before .before .before .before .if1 .taken) (c .before .before .before .before .list-open .ensures)
 
 mul-base : tie.Need-mul-base
-mul-base c = record { fits = omega (arith, c .before .before .before .before .before .before .before .before .before .before .before .before .before .before .before .before .before .before .before .before .before .pre .limit) }
+mul-base c = record { fits = omega (arith, c .before .before .before .before .before .before .before .before .before .before .before .before .before .before .before .before .before .before .before .before .before .before .before .pre .0 .limit) }
 
 list-open-requires-2 : tie.Need-list-open-requires-2
 list-open-requires-2 c κs = search needs
@@ -59,9 +59,9 @@ same-length-6 c = search needs
 
 returns-2 : tie.Need-returns-2
 returns-2 c =
-    let s = c .before .before .before .before .before .before .before .before .before .before .before .before .before .before .before .before .before .before .before .before .before .before .before .before .before .before .before .before in
+    let s = c .before .before .before .before .before .before .before .before .before .before .before .before .before .before .before .before .before .before .before .before .before .before .before .before .before .before .before .before .before .before in
     text-fits _ _ (s .args .chosen) _ _ _ (s .args .output .now) (s .args .opened .now) (s .args .scratch .now) _ _ _ _ _ _ _
-    (c .before .before .before .before .before .before .before .before .before .before .before .before .before .before .before .before .before .before .before .before .before .before .ending-of .ensures)
+    (c .before .before .before .before .before .before .before .before .before .before .before .before .before .before .before .before .before .before .before .before .before .before .before .ending-of .ensures)
     (c .before .before .before .before .before .before .before .before .before .before .before .before .before .before .before .before .before .before .before .format-lines .ensures)
     (c .before .before .before .before .before .before .before .before .before .before .before .before .before .has-last-ending .ensures)
     (c .before .before .before .before .before .before .before .before .before .before .before .finish-text .ensures)

@@ -7,22 +7,22 @@ use lib.Seq.{length-take-le}
 use Rattle.edits.proofs.TextLaws.{text-fits, alike}
 use Rattle.edits.proofs.CaretCalls.{caret-stopped, caret-none, caret-goes}
 
-format-call-requires : tie.Need-format-call-requires
-format-call-requires c κs = search needs
+format-text-requires : tie.Need-format-text-requires
+format-text-requires c κs = search needs
 
 slice-reshare-prefix-caret-in-text : tie.Need-slice-reshare-prefix-caret-in-text
 slice-reshare-prefix-caret-in-text c =
-    text-fits _ _ _ _ (c .before .before .before .before .before .before .format-call .ensures) (c .if1 .taken)
+    text-fits _ _ _ _ (c .before .before .before .before .before .before .format-text .ensures) (c .if1 .taken)
 
 slice-aggregate-caret-in-text : tie.Need-slice-aggregate-caret-in-text
 slice-aggregate-caret-in-text c =
     sym (length-take-le _ _
-    (text-fits _ _ _ _ (c .before .before .before .before .before .before .before .format-call .ensures)
+    (text-fits _ _ _ _ (c .before .before .before .before .before .before .before .format-text .ensures)
     (c .before .if1 .taken)))
 
 caret-in-text-requires : tie.Need-caret-in-text-requires
 caret-in-text-requires c κs =
-    alike _ _ _ _ (c .before .before .before .before .before .before .before .format-call .ensures)
+    alike _ _ _ _ (c .before .before .before .before .before .before .before .format-text .ensures)
     (c .before .if1 .taken)
 
 same-length : tie.Need-same-length
@@ -34,7 +34,7 @@ same-length-2 c = search needs
 returns : tie.Need-returns
 returns c =
     let s = c .before .before .before in
-    caret-goes _ _ _ _ (s .before .before .before .before .before .before .format-call .ensures) _ _
+    caret-goes _ _ _ _ (s .before .before .before .before .before .before .format-text .ensures) _ _
     (s .if1 .taken) _ _ _ (c .before .caret-in-text .ensures) (c .if2 .taken)
 
 zero-requires : tie.Need-zero-requires
@@ -58,7 +58,7 @@ same-length-4 c = search needs
 returns-2 : tie.Need-returns-2
 returns-2 c =
     let s = c .before .before .before .before .before .before .before .before .before .before in
-    caret-none _ _ _ _ (s .before .before .before .before .before .before .format-call .ensures) _ _
+    caret-none _ _ _ _ (s .before .before .before .before .before .before .format-text .ensures) _ _
     (s .if1 .taken) _ _ _
     (c .before .before .before .before .before .before .before .before .caret-in-text .ensures) _ _ _ _
     (c .before .before .before .before .before .before .before .if2 .left)
@@ -79,14 +79,14 @@ same-length-6 c = search needs
 returns-3 : tie.Need-returns-3
 returns-3 c =
     let s = c .before in
-    caret-stopped _ _ _ _ (s .before .before .before .before .before .before .format-call .ensures) _ _ _
+    caret-stopped _ _ _ _ (s .before .before .before .before .before .before .format-text .ensures) _ _ _
     (s .if1 .left) (c .refused2 .ensures)
 
 pub format-caret-spec : {M : Type 1} → statement M
 format-caret-spec =
     tie.close
     (tie.spec
-    format-call-requires
+    format-text-requires
     slice-reshare-prefix-caret-in-text
     slice-aggregate-caret-in-text
     caret-in-text-requires

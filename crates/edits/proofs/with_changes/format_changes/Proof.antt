@@ -7,22 +7,22 @@ use lib.Seq.{length-take-le}
 use Rattle.edits.proofs.TextLaws.{text-fits, alike}
 use Rattle.edits.proofs.ChangesCalls.{changes-stopped, changes-short, changes-given}
 
-format-call-requires : tie.Need-format-call-requires
-format-call-requires c κs = search needs
+format-text-requires : tie.Need-format-text-requires
+format-text-requires c κs = search needs
 
 slice-reshare-prefix-write-changes : tie.Need-slice-reshare-prefix-write-changes
 slice-reshare-prefix-write-changes c =
-    text-fits _ _ _ _ (c .before .before .before .before .before .before .format-call .ensures) (c .if1 .taken)
+    text-fits _ _ _ _ (c .before .before .before .before .before .before .format-text .ensures) (c .if1 .taken)
 
 slice-aggregate-write-changes : tie.Need-slice-aggregate-write-changes
 slice-aggregate-write-changes c =
     sym (length-take-le _ _
-    (text-fits _ _ _ _ (c .before .before .before .before .before .before .before .format-call .ensures)
+    (text-fits _ _ _ _ (c .before .before .before .before .before .before .before .format-text .ensures)
     (c .before .if1 .taken)))
 
 write-changes-requires : tie.Need-write-changes-requires
 write-changes-requires c κs =
-    alike _ _ _ _ (c .before .before .before .before .before .before .before .before .format-call .ensures)
+    alike _ _ _ _ (c .before .before .before .before .before .before .before .before .format-text .ensures)
     (c .before .before .if1 .taken)
 
 mul-finish : tie.Need-mul-finish
@@ -43,7 +43,7 @@ same-length-3 c = search needs
 returns : tie.Need-returns
 returns c =
     let s = c .before .before .before .before .before .before .before .before .before .before in
-    changes-given _ _ _ _ (s .before .before .before .before .before .before .format-call .ensures) _
+    changes-given _ _ _ _ (s .before .before .before .before .before .before .format-text .ensures) _
     (s .if1 .taken) _ _ _ refl (c .before .before .before .before .before .before .before .write-changes .ensures) _
     (c .before .before .before .before .if2 .taken)
     (c .before .before .finish .ensures)
@@ -76,7 +76,7 @@ returns-2 : tie.Need-returns-2
 returns-2 c =
     let w = c .before .before .before .before .before .before .before .before .before .before .before .before .before .before in
     let s = w .before .before .before in
-    changes-short _ _ _ _ (s .before .before .before .before .before .before .format-call .ensures) _
+    changes-short _ _ _ _ (s .before .before .before .before .before .before .format-text .ensures) _
     (s .if1 .taken) _ _ _ refl (w .write-changes .ensures) _ _ _ _ _
     (c .before .before .before .before .before .before .before .before .before .before .before .if2 .left)
     (c .before .before .before .before .before .before .before .before .before .zero .ensures)
@@ -103,7 +103,7 @@ same-length-9 c = search needs
 returns-3 : tie.Need-returns-3
 returns-3 c =
     let s = c .before .before .before .before .before in
-    changes-stopped _ _ _ _ (s .before .before .before .before .before .before .format-call .ensures) _ _ _
+    changes-stopped _ _ _ _ (s .before .before .before .before .before .before .format-text .ensures) _ _ _
     (s .if1 .left) (c .before .before .before .zero3 .ensures)
     (c .refused2 .ensures)
 
@@ -111,7 +111,7 @@ pub format-changes-spec : {M : Type 1} → statement M
 format-changes-spec =
     tie.close
     (tie.spec
-    format-call-requires
+    format-text-requires
     slice-reshare-prefix-write-changes
     slice-aggregate-write-changes
     write-changes-requires

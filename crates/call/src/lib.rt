@@ -72,7 +72,13 @@ fn run_call(
     let table = options::strengths::read(strengths);
     let named = FormatOptions::from_numbers(indent, numbers, table);
     let chosen = named.options;
-    match test(strengths, source, named.refused, numbers.ruler_tab, scratch.len()) {
+    match test(
+        strengths,
+        source,
+        named.refused,
+        numbers.ruler_tab,
+        scratch.len(),
+    ) {
         Verdict::Refused(why) => refuse(output, opened, scratch, why),
         Verdict::Accepted => {
             assembly::format_with(source, indent, chosen, output, opened, scratch)

@@ -21,5 +21,13 @@ pub fn format_text(
         (length (now (scratch .entry)))) r (now (output .exit)) (now (scratch .exit)) ⌝ }
 {
     let mut opened = [0u64; 0];
-    call::format_call(source, indent, numbers, strengths, output, &mut opened, scratch)
+    call::format_call(
+        source,
+        indent,
+        numbers,
+        strengths,
+        output,
+        &mut opened,
+        scratch,
+    )
 }

@@ -16,6 +16,7 @@ pub extern "C" fn wirescript_format_caret(
     width: u64,
     line_ending: u64,
     final_newline: u64,
+    ruler_tab: u64,
     strengths: &[u8],
     line: u64,
     column: u64,
@@ -23,7 +24,7 @@ pub extern "C" fn wirescript_format_caret(
     scratch: &mut [u8],
 ) -> CaretAnswer
     ensures { λ r. ⌜ CaretAnswered (callOf (now (source .entry)) (now (indent .entry))
-        (numbersOf «width_set» width «line_ending» «final_newline») (now (strengths .entry))
+        (numbersOf «width_set» width «line_ending» «final_newline» «ruler_tab») (now (strengths .entry))
         (length (now (output .entry))) 0 (length (now (scratch .entry)))) line column
         r (now (output .exit)) (now (scratch .exit)) ⌝ }
 {
@@ -32,6 +33,7 @@ pub extern "C" fn wirescript_format_caret(
         width,
         line_ending,
         final_newline,
+        ruler_tab,
     };
     let at = Caret { line, column };
     edits::with_caret::format_caret(source, indent, numbers, strengths, at, output, scratch)

@@ -15,13 +15,14 @@ pub extern "C" fn wirescript_format_changes(
     width: u64,
     line_ending: u64,
     final_newline: u64,
+    ruler_tab: u64,
     strengths: &[u8],
     output: &mut [u8],
     changes: &mut [u64],
     scratch: &mut [u8],
 ) -> ChangesAnswer
     ensures { λ r. ⌜ ChangesAnswered (callOf (now (source .entry)) (now (indent .entry))
-        (numbersOf «width_set» width «line_ending» «final_newline») (now (strengths .entry))
+        (numbersOf «width_set» width «line_ending» «final_newline» «ruler_tab») (now (strengths .entry))
         (length (now (output .entry))) 0 (length (now (scratch .entry)))) (length (now (changes .entry)))
         r (now (output .exit)) (now (changes .exit)) (now (scratch .exit)) ⌝ }
 {
@@ -30,6 +31,15 @@ pub extern "C" fn wirescript_format_changes(
         width,
         line_ending,
         final_newline,
+        ruler_tab,
     };
-    edits::with_changes::format_changes(source, indent, numbers, strengths, output, changes, scratch)
+    edits::with_changes::format_changes(
+        source,
+        indent,
+        numbers,
+        strengths,
+        output,
+        changes,
+        scratch,
+    )
 }

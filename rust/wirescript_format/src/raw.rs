@@ -123,13 +123,13 @@ mod linked {
         ) -> Answer;
         pub fn wirescript_format_caret(
             source: *const u8, source_length: usize, indent: *const u8, indent_length: usize,
-            width_set: u64, width: u64, line_ending: u64, final_newline: u64,
+            width_set: u64, width: u64, line_ending: u64, final_newline: u64, ruler_tab: u64,
             strengths: *const u8, strengths_length: usize, line: u64, column: u64,
             output: *mut u8, output_length: usize, scratch: *mut u8, scratch_length: usize,
         ) -> CaretAnswer;
         pub fn wirescript_format_changes(
             source: *const u8, source_length: usize, indent: *const u8, indent_length: usize,
-            width_set: u64, width: u64, line_ending: u64, final_newline: u64,
+            width_set: u64, width: u64, line_ending: u64, final_newline: u64, ruler_tab: u64,
             strengths: *const u8, strengths_length: usize,
             output: *mut u8, output_length: usize, changes: *mut u64, changes_length: usize,
             scratch: *mut u8, scratch_length: usize,
@@ -219,7 +219,7 @@ pub fn format_caret(
             wirescript_format_caret,
             (source.as_ptr(), source.len()),
             s,
-            (table, fields, line, column, text, room, work, left)
+            (s.ruler_tab, table, fields, line, column, text, room, work, left)
         )
     }
 }
@@ -244,7 +244,7 @@ pub fn format_changes(
             wirescript_format_changes,
             (source.as_ptr(), source.len()),
             s,
-            (table, fields, text, room, list, numbers, work, left)
+            (s.ruler_tab, table, fields, text, room, list, numbers, work, left)
         )
     }
 }

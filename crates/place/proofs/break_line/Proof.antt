@@ -62,7 +62,7 @@ returns c =
     let i = c .before .before .before .before .before .before in
     let t = i .before .before .before .before .before in
     let s = t .before .before .before .before .before .before in
-    import-breaks _ _ _ _ _ _ _ _ _ _ _ (s .pre .0) (s .pre .1 .0) (s .pre .1 .1 .0) refl (t .continue-text .ensures) _ _ _ (i .before .before .ends-in-brace .ensures) _ _ (i .split-import .ensures) _ (c .before .before .i .given .1)
+    import-breaks _ _ _ _ _ _ _ _ _ _ _ (s .pre .0) (s .pre .1 .0) (s .pre .1 .1 .0) refl (t .continue-text .ensures) _ _ _ _ (i .before .before .ends-in-brace .ensures) _ _ (i .split-import .ensures) _ (c .before .before .i .given .1)
     _ (c .after-lines .ensures)
 
 same-length-2 : tie.Need-same-length-2

@@ -42,6 +42,7 @@ const DEFAULTS: Choices = Choices {
     width: 100,
     line_ending: 0,
     final_newline: 1,
+    ruler_tab: 0,
     strengths: &Options::BUILT_IN_STRENGTHS,
 };
 

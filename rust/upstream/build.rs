@@ -51,8 +51,9 @@ fn asking(split: &str) -> String {
     assert_eq!(split.matches(body).count(), 1, "the body of `width`");
     let head = "fn precedence(op: &str) -> Option<u8> {\n";
     assert_eq!(split.matches(head).count(), 1, "where strengths are found");
-    let asks =
-        format!("{head}    crate::choices::strength(op, own)\n}}\n\nfn own(op: &str) -> Option<u8> {{\n");
+    let asks = format!(
+        "{head}    crate::choices::strength(op, own)\n}}\n\nfn own(op: &str) -> Option<u8> {{\n"
+    );
     split
         .replace(body, "crate::choices::column(s)")
         .replace(head, &asks)

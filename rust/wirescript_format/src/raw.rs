@@ -194,7 +194,17 @@ pub fn format(
             wirescript_format,
             (source.as_ptr(), source.len()),
             s,
-            (s.ruler_tab, table, fields, text, room, list, lines, work, left)
+            (
+                s.ruler_tab,
+                table,
+                fields,
+                text,
+                room,
+                list,
+                lines,
+                work,
+                left
+            )
         )
     }
 }
@@ -219,7 +229,17 @@ pub fn format_caret(
             wirescript_format_caret,
             (source.as_ptr(), source.len()),
             s,
-            (s.ruler_tab, table, fields, line, column, text, room, work, left)
+            (
+                s.ruler_tab,
+                table,
+                fields,
+                line,
+                column,
+                text,
+                room,
+                work,
+                left
+            )
         )
     }
 }
@@ -244,7 +264,17 @@ pub fn format_changes(
             wirescript_format_changes,
             (source.as_ptr(), source.len()),
             s,
-            (s.ruler_tab, table, fields, text, room, list, numbers, work, left)
+            (
+                s.ruler_tab,
+                table,
+                fields,
+                text,
+                room,
+                list,
+                numbers,
+                work,
+                left
+            )
         )
     }
 }

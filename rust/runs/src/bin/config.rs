@@ -5,7 +5,7 @@
 //!
 //! --short takes shorter names; N are random files, and random names for the core (0: without it).
 
-use std::collections::BTreeMap;
+use std::collections::{BTreeMap, BTreeSet};
 use std::fs;
 use std::io::Write;
 use std::path::PathBuf;
@@ -115,6 +115,11 @@ fn exhaustive(less: usize) -> u64 {
 const PIECES: [&str; 25] = [
     "*", "**", "/**/", "**/", "/", "?", "[a-c]", "[!b]", "[", "]", "{", "}", ",", "\\", "a", "b",
     "é", "{1..30}", "{-7..12}", "{9..4}", "0", "12", "-", "{a,b}", "*.ws",
+];
+/// What names for the core are made of, where it follows the same text of the specification.
+const PLAIN: [&str; 16] = [
+    "*", "**", "/**/", "**/", "/", "?", "[ac]", "[!b]", "{a,b}", "{,a}", "{1..30}", "{-7..12}",
+    "a", "b", ".ws", "1",
 ];
 const STEPS: [&str; 16] = [
     "/", "/", "a", "b", "c", "é", "1", "0", "12", "-", ",", "{", "}", "[", "*", ".ws",
@@ -307,7 +312,8 @@ impl Core {
         let output = child.wait_with_output().expect("the core ends");
         let said = String::from_utf8_lossy(&output.stdout).into_owned();
         let mut found = vec![false; paths.len()];
-        let mut at = None;
+        // the core names a path only where it is asked for several
+        let mut at = (paths.len() == 1).then_some(0);
         for line in said.lines() {
             if let Some(path) = line.strip_prefix('[').and_then(|l| l.strip_suffix(']')) {
                 let path = path.strip_prefix(&format!("{}/", self.folder.display()));
@@ -317,6 +323,23 @@ impl Core {
             }
         }
         found
+    }
+
+    /// The values that two texts set for a path: the file's own directory `d`, and the one above it.
+    fn values(&self, near: &str, far: &str, file: &str) -> ConfigAnswer {
+        let own = self.folder.join("d");
+        fs::create_dir_all(&own).expect("a folder");
+        fs::write(own.join(".editorconfig"), near).expect("a file");
+        fs::write(self.folder.join(".editorconfig"), far).expect("a file");
+        let output = Command::new("editorconfig").arg(own.join(file)).output();
+        let said = output.expect("the core runs").stdout;
+        let mut answer = ConfigAnswer::default();
+        for line in String::from_utf8_lossy(&said).lines() {
+            if let Some((key, value)) = line.split_once('=') {
+                config::supersede(&mut answer, key, &value.to_ascii_lowercase());
+            }
+        }
+        answer
     }
 }
 
@@ -328,6 +351,9 @@ impl Drop for Core {
 
 /// Why the core may differ on a name, as docs/DIFFERENCES.md lists it; None where it must not.
 fn cause(name: &str) -> Option<&'static str> {
+    if name.contains("..") {
+        return Some("a range");
+    }
     let (mut bracket, mut opened, mut closed, mut escaped) = (None, 0, 0, false);
     for (i, c) in name.char_indices() {
         if escaped {
@@ -359,25 +385,26 @@ fn cause(name: &str) -> Option<&'static str> {
     None
 }
 
-fn beside_core(random: &mut Random, count: usize) {
+/// Whether every difference has a cause.
+fn beside_core(random: &mut Random, count: usize) -> bool {
     let Some(core) = Core::new() else {
         println!("the core (editorconfig) is not at hand: nothing was compared with it");
-        return;
+        return true;
     };
-    let pieces = [
-        "*", "**", "/**/", "**/", "/", "?", "[ac]", "[!b]", "{a,b}", "{,a}", "{1..30}", "a", "b",
-        ".ws", "1",
+    let steps = [
+        "/", "a", "b", "c", "1", "12", ".ws", "-3", "{", "}", ",", "]", "[", "0",
     ];
-    let steps = ["/", "a", "b", "c", "1", "12", ".ws", "-3"];
     let (mut same, mut differ) = (0, BTreeMap::new());
-    for _ in 0..count {
-        let name = word(random, &pieces, 5);
-        let paths: Vec<String> = (0..24)
+    for k in 0..count {
+        // plain names, and names of every kind
+        let name = word(random, if k % 2 == 0 { &PLAIN } else { &PIECES }, 5);
+        let paths: BTreeSet<String> = (0..24)
             .map(|_| word(random, &steps, 5))
             .filter(|p| {
                 !p.is_empty() && !p.contains("//") && !p.starts_with('/') && !p.ends_with('/')
             })
             .collect();
+        let paths: Vec<String> = paths.into_iter().collect();
         for (path, theirs) in paths.iter().zip(core.matches(&name, &paths)) {
             if ours(&name, path) == theirs {
                 same += 1;
@@ -397,12 +424,62 @@ fn beside_core(random: &mut Random, count: usize) {
             list.len(),
             list[0]
         );
-        if why.is_none() {
-            for line in list.iter().take(20) {
-                println!("    {line}");
-            }
+    }
+    files_beside_core(&core, random, count) == 0 && !differ.contains_key(&None)
+}
+
+/// A text of sections and pairs that the core reads as the page does: no fallbacks between the keys, no white space
+/// but ASCII, no comments behind values, no line that is none of the kinds (the core gives up at one).
+fn plain_text(random: &mut Random) -> String {
+    let keys = [
+        "tab_width",
+        "TAB_WIDTH",
+        "max_line_length",
+        "end_of_line",
+        "insert_final_newline",
+    ];
+    let values = [
+        "4", "8", "0", "007", "off", "Off", "lf", "crlf", "CR", "true", "False", "unset", "-1",
+    ];
+    let names = [
+        "*", "*.ws", "a.ws", "d/*", "/d/**.ws", "{a,b}.ws", "[!b].ws", "b*", "**/a.*", "?.ws",
+    ];
+    // of several `root` in a preamble the core takes any that is true, and the page the last
+    let mut text = word(random, &["", "", "root = TRUE\n", "root = no\n"], 1);
+    for _ in 0..random.below(9) {
+        let line = match random.below(5) {
+            0 => random.pick(&["; c", "# c", ""]).to_owned(),
+            1 => format!("[{}]", random.pick(&names)),
+            _ => format!("{} = {}", random.pick(&keys), random.pick(&values)),
+        };
+        text.push_str(&line);
+        text.push_str(random.pick(&["\n", "\r\n"]));
+    }
+    text
+}
+
+/// Files of two directories; how many differ.
+fn files_beside_core(core: &Core, random: &mut Random, count: usize) -> usize {
+    let mut differ = 0;
+    for _ in 0..count {
+        let (near, far) = (
+            plain_text(random),
+            format!("root=true\n{}", plain_text(random)),
+        );
+        let far = format!("{far}\n[*]\nx=y\n");
+        let file = random.pick(&["a.ws", "b.ws", "c.x"]);
+        let theirs = core.values(&near, &far, file);
+        let ours = read(
+            format!("d/{file}").as_bytes(),
+            &[near.as_bytes(), far.as_bytes()],
+        );
+        if ours != theirs {
+            differ += 1;
+            println!("files {near:?} {far:?}, {file}: ours {ours:?}, the core's {theirs:?}");
         }
     }
+    println!("beside the core: {count} pairs of files, {differ} differ");
+    differ
 }
 
 struct Asked {
@@ -442,8 +519,8 @@ fn main() -> ExitCode {
     all += random_names(&mut random, 2 * asked.random);
     all += random_files(&mut random, asked.random);
     println!("all: {all} calls beside the model, no difference");
-    if asked.core > 0 {
-        beside_core(&mut random, asked.core);
+    if asked.core > 0 && !beside_core(&mut random, asked.core) {
+        return ExitCode::FAILURE;
     }
     ExitCode::SUCCESS
 }

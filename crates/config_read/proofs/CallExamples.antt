@@ -36,7 +36,7 @@ eight : answer "1/2/3/4/5/6/7/8/9" ([] ∷ [] ∷ [] ∷ [] ∷ [] ∷ [] ∷ []
 unfolding configuring
 eight = refl
 
--- style 1 tab, 2 space; size_kind 1 `tab`, 2 a number; tab_set 1; max_kind 1 off, 2 a number; ending 1 lf, 2 crlf, 3 cr; newline 1 false, 2 true
+-- the numbers that the EditorConfig step takes; where a kind is unset, `tab` or `off`, its number is 0
 in-numbers :
     (answer "a" (codes "[a]\nindent_style=tab\nindent_size=3\ntab_width=8\nmax_line_length=90\nend_of_line=crlf\ninsert_final_newline=false" ∷ [])
     ≡ numbers 1 2 3 1 8 2 90 2 1)

@@ -1,5 +1,6 @@
-//! `wirescript_read_editorconfig` beside a model that is written from the page on EditorConfig alone: every short
-//! name with every short path, random files; and beside Debian's EditorConfig core, where it is at hand.
+//! `wirescript_read_editorconfig` beside a model that is written from the page on `EditorConfig` alone: every short
+//! name with every short path, random files; names that are hard to match; and beside Debian's `EditorConfig` core,
+//! where it is at hand.
 //!
 //!     config [--short] [--random N] [--core N] [--seed N]
 //!
@@ -10,6 +11,7 @@ use std::fs;
 use std::io::Write;
 use std::path::PathBuf;
 use std::process::{Command, ExitCode, Stdio};
+use std::time::Instant;
 
 use runs::random::Random;
 use runs::{config, globs};
@@ -72,35 +74,53 @@ fn ranges(length: usize) -> Vec<String> {
     ranges
 }
 
+/// The characters that names and paths are made of, and how long they are.
+struct Set {
+    what: &'static str,
+    name: &'static [char],
+    name_length: usize,
+    path: &'static [char],
+    path_length: usize,
+}
+
+const SETS: [Set; 4] = [
+    Set {
+        what: "braces",
+        name: &['{', '}', ',', 'a', '\\'],
+        name_length: 6,
+        path: &['a', ',', '{', '}'],
+        path_length: 4,
+    },
+    Set {
+        what: "brackets",
+        name: &['[', ']', '!', '-', 'a', 'c', '\\'],
+        name_length: 5,
+        path: &['a', 'b', '-', ']', '/'],
+        path_length: 2,
+    },
+    Set {
+        what: "slashes",
+        name: &['/', '*', 'a', '?'],
+        name_length: 6,
+        path: &['a', '/'],
+        path_length: 5,
+    },
+    Set {
+        what: "mixed",
+        name: &['*', '{', ',', '}', '/', 'a', '['],
+        name_length: 5,
+        path: &['a', '/', '['],
+        path_length: 3,
+    },
+];
+
 /// Every name and path up to a length, over a few characters each.
 fn exhaustive(less: usize) -> u64 {
-    let sets: [(&str, &[char], usize, &[char], usize); 4] = [
-        (
-            "braces",
-            &['{', '}', ',', 'a', '\\'],
-            6,
-            &['a', ',', '{', '}'],
-            4,
-        ),
-        (
-            "brackets",
-            &['[', ']', '!', '-', 'a', 'c', '\\'],
-            5,
-            &['a', 'b', '-', ']', '/'],
-            2,
-        ),
-        ("slashes", &['/', '*', 'a', '?'], 6, &['a', '/'], 5),
-        (
-            "mixed",
-            &['*', '{', ',', '}', '/', 'a', '['],
-            5,
-            &['a', '/', '['],
-            3,
-        ),
-    ];
     let mut all = 0;
-    for (what, names, n, paths, m) in sets {
-        let checks = compare(&words(names, n - less), &words(paths, m));
+    for set in SETS {
+        let names = words(set.name, set.name_length - less);
+        let checks = compare(&names, &words(set.path, set.path_length));
+        let what = set.what;
         println!("{what}: {checks} names with paths, no difference");
         all += checks;
     }
@@ -269,6 +289,34 @@ fn random_files(random: &mut Random, count: usize) -> u64 {
     count as u64
 }
 
+/// Names that make a matcher explode which tries one way after the other: each must answer in seconds.
+fn hard_names() {
+    let digits = "1".repeat(65_536);
+    let hard = [
+        ("{a,a}".repeat(204), "a".repeat(204), true),
+        ("{a,a}".repeat(204), "a".repeat(4000), false),
+        (format!("{}b", "*a".repeat(511)), "a".repeat(4000), false),
+        (format!("{}b", "**".repeat(511)), "a".repeat(4000), false),
+        (
+            "{".repeat(512) + &"a,b}".repeat(128),
+            "a".repeat(512),
+            false,
+        ),
+        ("{1..99999}".repeat(102), digits, false),
+    ];
+    for (name, path, wanted) in hard {
+        let start = Instant::now();
+        assert_eq!(ours(&name, &path), wanted, "name {name:?}");
+        let seconds = start.elapsed().as_secs_f64();
+        let (shown, length) = (&name[..10], path.len());
+        println!(
+            "{shown}.. of {} characters, a path of {length}: {seconds:.3} s",
+            name.len()
+        );
+        assert!(seconds < 30.0, "too slow");
+    }
+}
+
 // ---- Debian's core
 
 /// What the core says of files: the last value of each key for each path.
@@ -299,10 +347,10 @@ impl Core {
             .stderr(Stdio::null())
             .spawn()
             .expect("the core runs");
-        let mut asked = String::new();
-        for path in paths {
-            asked.push_str(&format!("{}/{path}\n", self.folder.display()));
-        }
+        let asked: String = paths
+            .iter()
+            .map(|path| format!("{}/{path}\n", self.folder.display()))
+            .collect();
         child
             .stdin
             .take()
@@ -356,6 +404,9 @@ fn cause(name: &str) -> Option<&'static str> {
     }
     let (mut bracket, mut opened, mut closed, mut escaped) = (None, 0, 0, false);
     for (i, c) in name.char_indices() {
+        if escaped && c.is_ascii_alphanumeric() {
+            return Some("an escaped letter or digit");
+        }
         if escaped {
             escaped = false;
             continue;
@@ -519,6 +570,7 @@ fn main() -> ExitCode {
     all += random_names(&mut random, 2 * asked.random);
     all += random_files(&mut random, asked.random);
     println!("all: {all} calls beside the model, no difference");
+    hard_names();
     if asked.core > 0 && !beside_core(&mut random, asked.core) {
         return ExitCode::FAILURE;
     }

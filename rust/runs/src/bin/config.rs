@@ -317,6 +317,19 @@ fn hard_names() {
     }
 }
 
+/// What a call takes with two texts as projects have them.
+fn usual_texts() {
+    let near = "[*.ws]\nindent_size = 4\n\n[{gates,wires}/**.ws]\nmax_line_length = off\n";
+    let far = "root = true\n\n[*]\nend_of_line = lf\ninsert_final_newline = true\n[*.{md,txt}]\nindent_size = 2\n";
+    let texts = [near.as_bytes(), far.as_bytes()];
+    let start = Instant::now();
+    for _ in 0..10_000 {
+        assert_eq!(read(b"src/adder.ws", &texts).size, 4);
+    }
+    let each = start.elapsed().as_secs_f64() * 100.0;
+    println!("two usual texts, four sections: {each:.1} microseconds");
+}
+
 // ---- Debian's core
 
 /// What the core says of files: the last value of each key for each path.
@@ -571,6 +584,7 @@ fn main() -> ExitCode {
     all += random_files(&mut random, asked.random);
     println!("all: {all} calls beside the model, no difference");
     hard_names();
+    usual_texts();
     if asked.core > 0 && !beside_core(&mut random, asked.core) {
         return ExitCode::FAILURE;
     }

@@ -1,3 +1,4 @@
 -- Laws.
 pub mod LevelLaws
 pub mod RefusalLaws
+pub mod CallExamples

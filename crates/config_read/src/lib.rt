@@ -26,7 +26,8 @@ use rules::MaxLineLen;
 use rules::Resolved;
 use rules::TabWidth;
 
-// The values for a path without a leading slash: from the nearest text outward to the first root, then back, the nearest last.
+// The values for a path without a leading slash: from the nearest text outward to the first root, then back, so that
+// the nearest comes last.
 fn resolve(
     p: &[u8],
     t1: &[u8],
@@ -38,8 +39,11 @@ fn resolve(
     t7: &[u8],
     t8: &[u8],
 ) -> Resolved
-    requires { ⌜ WellFormed (now p) × AllAccepted (now t1 ∷ now t2 ∷ now t3 ∷ now t4 ∷ now t5 ∷ now t6 ∷ now t7 ∷ now t8 ∷ []) ⌝ }
-    ensures { λ r. ⌜ Resolves (now (p .entry)) (now (t1 .entry) ∷ now (t2 .entry) ∷ now (t3 .entry) ∷ now (t4 .entry) ∷ now (t5 .entry) ∷ now (t6 .entry) ∷ now (t7 .entry) ∷ now (t8 .entry) ∷ []) r ⌝ }
+    requires { ⌜ WellFormed (now p) × AllAccepted (now t1 ∷ now t2 ∷ now t3 ∷ now t4 ∷ now t5 ∷ now t6
+        ∷ now t7 ∷ now t8 ∷ []) ⌝ }
+    ensures { λ r. ⌜ Resolves (now (p .entry)) (now (t1 .entry) ∷ now (t2 .entry)
+        ∷ now (t3 .entry) ∷ now (t4 .entry) ∷ now (t5 .entry) ∷ now (t6 .entry)
+        ∷ now (t7 .entry) ∷ now (t8 .entry) ∷ []) r ⌝ }
 {
     let l1 = levels::nearest(p);
     let l2 = above(p, l1, t1);
@@ -79,7 +83,9 @@ fn read(
     t7: &[u8],
     t8: &[u8],
 ) -> ConfigOutcome
-    ensures { λ r. ⌜ r ≡ readEditorConfig (now (path .entry)) (now (t1 .entry) ∷ now (t2 .entry) ∷ now (t3 .entry) ∷ now (t4 .entry) ∷ now (t5 .entry) ∷ now (t6 .entry) ∷ now (t7 .entry) ∷ now (t8 .entry) ∷ []) ⌝ }
+    ensures { λ r. ⌜ r ≡ readEditorConfig (now (path .entry)) (now (t1 .entry) ∷ now (t2 .entry)
+        ∷ now (t3 .entry) ∷ now (t4 .entry) ∷ now (t5 .entry) ∷ now (t6 .entry)
+        ∷ now (t7 .entry) ∷ now (t8 .entry) ∷ []) ⌝ }
 {
     let near = refusals::worst_of(t1, t2, t3, t4);
     let far = refusals::worst_of(t5, t6, t7, t8);
@@ -109,7 +115,9 @@ pub fn answer(
     t7: &[u8],
     t8: &[u8],
 ) -> ConfigAnswer
-    ensures { λ r. ⌜ ConfigAnswered (now (path .entry)) (now (t1 .entry) ∷ now (t2 .entry) ∷ now (t3 .entry) ∷ now (t4 .entry) ∷ now (t5 .entry) ∷ now (t6 .entry) ∷ now (t7 .entry) ∷ now (t8 .entry) ∷ []) r ⌝ }
+    ensures { λ r. ⌜ ConfigAnswered (now (path .entry)) (now (t1 .entry) ∷ now (t2 .entry)
+        ∷ now (t3 .entry) ∷ now (t4 .entry) ∷ now (t5 .entry) ∷ now (t6 .entry)
+        ∷ now (t7 .entry) ∷ now (t8 .entry) ∷ []) r ⌝ }
 {
     numbers::answer_of(read(path, t1, t2, t3, t4, t5, t6, t7, t8))
 }

@@ -1,6 +1,7 @@
 // What reading comes to, in the numbers that `wirescript_editorconfig` takes.
 ghost use mathlib.Core.Path.{_≡_};
-ghost use Rattle.config_rules.specs.Call.{styleNumber, sizeKind, sizeNumber, tabSet, tabNumber, maxKind, maxNumber, endingNumber, newlineNumber, answerOf};
+ghost use Rattle.config_rules.specs.Call.{styleNumber, sizeKind, sizeNumber, tabSet, tabNumber};
+ghost use Rattle.config_rules.specs.Call.{maxKind, maxNumber, endingNumber, newlineNumber, answerOf};
 ghost use Rattle.config_rules.specs.declared.ConfigOutcome.{ConfigOutcome};
 use config_rules::ConfigAnswer;
 use config_rules::ConfigOutcome;

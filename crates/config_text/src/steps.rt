@@ -54,7 +54,8 @@ pub fn starts_section(kind: LineKind) -> bool
 // A pair with its `=` at i: `root` is set if that is its key.
 fn root_pair(root: bool, line: &[u8], i: usize) -> bool
     requires { ⌜ (i < length (now line)) × WellFormed (take i (now line)) × WellFormed (drop (i + 1) (now line)) ⌝ }
-    ensures { λ r. ⌜ r ≡ choose (same (lower (trim (decode (take i (now (line .entry)))))) (codes "root")) (same (lower (trim (decode (drop (i + 1) (now (line .entry)))))) (codes "true")) root ⌝ }
+    ensures { λ r. ⌜ r ≡ choose (same (lower (trim (decode (take i (now (line .entry)))))) (codes "root"))
+        (same (lower (trim (decode (drop (i + 1) (now (line .entry)))))) (codes "true")) root ⌝ }
 {
     let k = trimmed(&line[..i]);
     if is_word(k, b"root") {
@@ -90,7 +91,8 @@ pub fn applies_after(applies: bool, kind: LineKind, line: &[u8], rel: &[u8]) -> 
 // A pair with its `=` at i supersedes a value.
 fn values_pair(old: Resolved, line: &[u8], i: usize) -> Resolved
     requires { ⌜ (i < length (now line)) × WellFormed (take i (now line)) × WellFormed (drop (i + 1) (now line)) ⌝ }
-    ensures { λ r. ⌜ r ≡ superseded old (lower (trim (decode (take i (now (line .entry)))))) (lower (trim (decode (drop (i + 1) (now (line .entry)))))) ⌝ }
+    ensures { λ r. ⌜ r ≡ superseded old (lower (trim (decode (take i (now (line .entry))))))
+        (lower (trim (decode (drop (i + 1) (now (line .entry)))))) ⌝ }
 {
     let k = trimmed(&line[..i]);
     let v = trimmed(&line[i + 1..]);

@@ -3,7 +3,7 @@ ghost use mathlib.Core.List.{[], _∷_};
 ghost use Rattle.config_read.specs.ConfigAnswered.{ConfigAnswered};
 use config_rules::ConfigAnswer;
 
-// The values that eight texts set for a path: the first from the file's own directory, each next from one directory up.
+// The values that eight texts set for a path: the first from the file's own directory, each next from one up.
 #[no_mangle]
 pub extern "C" fn wirescript_read_editorconfig(
     path: &[u8],
@@ -16,7 +16,9 @@ pub extern "C" fn wirescript_read_editorconfig(
     text_7: &[u8],
     text_8: &[u8],
 ) -> ConfigAnswer
-    ensures { λ r. ⌜ ConfigAnswered (now (path .entry)) (now («text_1» .entry) ∷ now («text_2» .entry) ∷ now («text_3» .entry) ∷ now («text_4» .entry) ∷ now («text_5» .entry) ∷ now («text_6» .entry) ∷ now («text_7» .entry) ∷ now («text_8» .entry) ∷ []) r ⌝ }
+    ensures { λ r. ⌜ ConfigAnswered (now (path .entry)) (now («text_1» .entry) ∷ now («text_2» .entry)
+        ∷ now («text_3» .entry) ∷ now («text_4» .entry) ∷ now («text_5» .entry) ∷ now («text_6» .entry)
+        ∷ now («text_7» .entry) ∷ now («text_8» .entry) ∷ []) r ⌝ }
 {
     config_read::answer(
         path,

@@ -1,4 +1,4 @@
-//! What .editorconfig texts set for a path, from the page on EditorConfig and not from our code.
+//! What .editorconfig texts set for a path, from the page on `EditorConfig` and not from our code.
 
 use wirescript_format::editorconfig::ConfigAnswer;
 
@@ -66,7 +66,7 @@ fn whole(value: &str) -> Option<u64> {
     if number.is_empty() {
         return Some(0);
     }
-    number.parse().ok().filter(|n| *n <= u64::from(u32::MAX))
+    number.parse::<u32>().ok().map(u64::from)
 }
 
 /// A pair supersedes the value of its key.

@@ -1,4 +1,4 @@
-//! Which paths a section's name matches, from the page on EditorConfig and not from our code: a syntax tree, and
+//! Which paths a section's name matches, from the page on `EditorConfig` and not from our code: a syntax tree, and
 //! the sets of places that a match may end at.
 
 use std::collections::BTreeSet;

@@ -52,13 +52,13 @@ mod linked {
 #[must_use]
 #[rustfmt::skip]
 pub fn raw(path: &[u8], texts: [&[u8]; TEXTS]) -> ConfigAnswer {
-    let [a, b, c, d, e, f, g, h] = texts;
+    let [t1, t2, t3, t4, t5, t6, t7, t8] = texts;
     // SAFETY: each pointer and length is one slice, and the function only reads them.
     unsafe {
         linked::wirescript_read_editorconfig(
             path.as_ptr(), path.len(),
-            a.as_ptr(), a.len(), b.as_ptr(), b.len(), c.as_ptr(), c.len(), d.as_ptr(), d.len(),
-            e.as_ptr(), e.len(), f.as_ptr(), f.len(), g.as_ptr(), g.len(), h.as_ptr(), h.len(),
+            t1.as_ptr(), t1.len(), t2.as_ptr(), t2.len(), t3.as_ptr(), t3.len(), t4.as_ptr(), t4.len(),
+            t5.as_ptr(), t5.len(), t6.as_ptr(), t6.len(), t7.as_ptr(), t7.len(), t8.as_ptr(), t8.len(),
         )
     }
 }
@@ -274,9 +274,9 @@ mod tests {
         assert_eq!(EditorConfig::read("", &[&long]), Err(Refusal::NameTooLong));
         let ill = Err(Refusal::NotUtf8 { prefix: 0 });
         assert_eq!(EditorConfig::read([0x80], &[&long]), ill);
-        let huge = [b'#'; MAX_TEXT + 1];
+        let huge = vec![b'#'; MAX_TEXT + 1];
         assert_eq!(
-            EditorConfig::read([0x80], &[&huge[1..], &huge]),
+            EditorConfig::read([0x80], &[&huge[1..], &huge[..]]),
             Err(Refusal::ConfigTooLong)
         );
         assert_eq!(EditorConfig::read([0x80], &[&huge[1..]]), ill);

@@ -3,6 +3,9 @@ use Rattle.config_read.proofs.LevelLaws.{level-step, beyond-last, beyon
 use Rattle.config_read.proofs.resolve.Statement.{statement}
 use Rattle.config_read.proofs.resolve.Tie as tie
 
+returns : tie.Need-returns
+returns c = resolves-all _ _ _ _ (c .before .before .before .before .before .before .before .before .before .before .before .before .before .before .before .nearest .ensures) (level-step _ _ _ _ _ _ (beyond-above _ _ _ _ _ _ (c .before .before .before .before .before .before .before .before .before .before .before .before .before .before .above .ensures) (level-step _ _ _ _ _ _ (beyond-above _ _ _ _ _ _ (c .before .before .before .before .before .before .before .before .before .before .before .before .before .above2 .ensures) (level-step _ _ _ _ _ _ (beyond-above _ _ _ _ _ _ (c .before .before .before .before .before .before .before .before .before .before .before .before .above3 .ensures) (level-step _ _ _ _ _ _ (beyond-above _ _ _ _ _ _ (c .before .before .before .before .before .before .before .before .before .before .before .above4 .ensures) (level-step _ _ _ _ _ _ (beyond-above _ _ _ _ _ _ (c .before .before .before .before .before .before .before .before .before .before .above5 .ensures) (level-step _ _ _ _ _ _ (beyond-above _ _ _ _ _ _ (c .before .before .before .before .before .before .before .before .before .above6 .ensures) (level-step _ _ _ _ _ _ (beyond-above _ _ _ _ _ _ (c .before .before .before .before .before .before .before .before .above7 .ensures) (level-step _ _ _ _ _ _ (beyond-last _ _ _) (c .before .before .before .before .before .before .before .apply .ensures))) (c .before .before .before .before .before .before .apply2 .ensures))) (c .before .before .before .before .before .apply3 .ensures))) (c .before .before .before .before .apply4 .ensures))) (c .before .before .before .apply5 .ensures))) (c .before .before .apply6 .ensures))) (c .before .apply7 .ensures))) (c .apply8 .ensures))
+
 nearest-requires : tie.Need-nearest-requires
 nearest-requires c κs = search needs
 
@@ -50,9 +53,6 @@ apply-requires-7 c κs = (c .before .before .before .before .before .before .bef
 
 apply-requires-8 : tie.Need-apply-requires-8
 apply-requires-8 c κs = (c .before .before .before .before .before .before .before .before .before .before .before .before .before .before .nearest .ensures .at, c .before .before .before .before .before .before .before .before .before .before .before .before .before .before .before .before .before .before .before .before .before .before .before .before .pre .1 .0)
-
-returns : tie.Need-returns
-returns c = resolves-all _ _ _ _ (c .before .before .before .before .before .before .before .before .before .before .before .before .before .before .before .nearest .ensures) (level-step _ _ _ _ _ _ (beyond-above _ _ _ _ _ _ (c .before .before .before .before .before .before .before .before .before .before .before .before .before .before .above .ensures) (level-step _ _ _ _ _ _ (beyond-above _ _ _ _ _ _ (c .before .before .before .before .before .before .before .before .before .before .before .before .before .above2 .ensures) (level-step _ _ _ _ _ _ (beyond-above _ _ _ _ _ _ (c .before .before .before .before .before .before .before .before .before .before .before .before .above3 .ensures) (level-step _ _ _ _ _ _ (beyond-above _ _ _ _ _ _ (c .before .before .before .before .before .before .before .before .before .before .before .above4 .ensures) (level-step _ _ _ _ _ _ (beyond-above _ _ _ _ _ _ (c .before .before .before .before .before .before .before .before .before .before .above5 .ensures) (level-step _ _ _ _ _ _ (beyond-above _ _ _ _ _ _ (c .before .before .before .before .before .before .before .before .before .above6 .ensures) (level-step _ _ _ _ _ _ (beyond-above _ _ _ _ _ _ (c .before .before .before .before .before .before .before .before .above7 .ensures) (level-step _ _ _ _ _ _ (beyond-last _ _ _) (c .before .before .before .before .before .before .before .apply .ensures))) (c .before .before .before .before .before .before .apply2 .ensures))) (c .before .before .before .before .before .apply3 .ensures))) (c .before .before .before .before .apply4 .ensures))) (c .before .before .before .apply5 .ensures))) (c .before .before .apply6 .ensures))) (c .before .apply7 .ensures))) (c .apply8 .ensures))
 
 pub resolve-spec : {M : Type 1} → statement M
 resolve-spec =

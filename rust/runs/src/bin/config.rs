@@ -1,15 +1,17 @@
-//! `wirescript_read_editorconfig` beside a model that is written from the page on EditorConfig alone: every short
-//! name with every short path, random files; and beside Debian's EditorConfig core, where it is at hand.
+//! `wirescript_read_editorconfig` beside a model that is written from the page on `EditorConfig` alone: every short
+//! name with every short path, random files; names that are hard to match; and beside Debian's `EditorConfig` core,
+//! where it is at hand.
 //!
 //!     config [--short] [--random N] [--core N] [--seed N]
 //!
 //! --short takes shorter names; N are random files, and random names for the core (0: without it).
 
-use std::collections::BTreeMap;
+use std::collections::{BTreeMap, BTreeSet};
 use std::fs;
 use std::io::Write;
 use std::path::PathBuf;
 use std::process::{Command, ExitCode, Stdio};
+use std::time::Instant;
 
 use runs::random::Random;
 use runs::{config, globs};
@@ -72,35 +74,53 @@ fn ranges(length: usize) -> Vec<String> {
     ranges
 }
 
+/// The characters that names and paths are made of, and how long they are.
+struct Set {
+    what: &'static str,
+    name: &'static [char],
+    name_length: usize,
+    path: &'static [char],
+    path_length: usize,
+}
+
+const SETS: [Set; 4] = [
+    Set {
+        what: "braces",
+        name: &['{', '}', ',', 'a', '\\'],
+        name_length: 6,
+        path: &['a', ',', '{', '}'],
+        path_length: 4,
+    },
+    Set {
+        what: "brackets",
+        name: &['[', ']', '!', '-', 'a', 'c', '\\'],
+        name_length: 5,
+        path: &['a', 'b', '-', ']', '/'],
+        path_length: 2,
+    },
+    Set {
+        what: "slashes",
+        name: &['/', '*', 'a', '?'],
+        name_length: 6,
+        path: &['a', '/'],
+        path_length: 5,
+    },
+    Set {
+        what: "mixed",
+        name: &['*', '{', ',', '}', '/', 'a', '['],
+        name_length: 5,
+        path: &['a', '/', '['],
+        path_length: 3,
+    },
+];
+
 /// Every name and path up to a length, over a few characters each.
 fn exhaustive(less: usize) -> u64 {
-    let sets: [(&str, &[char], usize, &[char], usize); 4] = [
-        (
-            "braces",
-            &['{', '}', ',', 'a', '\\'],
-            6,
-            &['a', ',', '{', '}'],
-            4,
-        ),
-        (
-            "brackets",
-            &['[', ']', '!', '-', 'a', 'c', '\\'],
-            5,
-            &['a', 'b', '-', ']', '/'],
-            2,
-        ),
-        ("slashes", &['/', '*', 'a', '?'], 6, &['a', '/'], 5),
-        (
-            "mixed",
-            &['*', '{', ',', '}', '/', 'a', '['],
-            5,
-            &['a', '/', '['],
-            3,
-        ),
-    ];
     let mut all = 0;
-    for (what, names, n, paths, m) in sets {
-        let checks = compare(&words(names, n - less), &words(paths, m));
+    for set in SETS {
+        let names = words(set.name, set.name_length - less);
+        let checks = compare(&names, &words(set.path, set.path_length));
+        let what = set.what;
         println!("{what}: {checks} names with paths, no difference");
         all += checks;
     }
@@ -115,6 +135,11 @@ fn exhaustive(less: usize) -> u64 {
 const PIECES: [&str; 25] = [
     "*", "**", "/**/", "**/", "/", "?", "[a-c]", "[!b]", "[", "]", "{", "}", ",", "\\", "a", "b",
     "é", "{1..30}", "{-7..12}", "{9..4}", "0", "12", "-", "{a,b}", "*.ws",
+];
+/// What names for the core are made of, where it follows the same text of the specification.
+const PLAIN: [&str; 16] = [
+    "*", "**", "/**/", "**/", "/", "?", "[ac]", "[!b]", "{a,b}", "{,a}", "{1..30}", "{-7..12}",
+    "a", "b", ".ws", "1",
 ];
 const STEPS: [&str; 16] = [
     "/", "/", "a", "b", "c", "é", "1", "0", "12", "-", ",", "{", "}", "[", "*", ".ws",
@@ -264,6 +289,47 @@ fn random_files(random: &mut Random, count: usize) -> u64 {
     count as u64
 }
 
+/// Names that make a matcher explode which tries one way after the other: each must answer in seconds.
+fn hard_names() {
+    let digits = "1".repeat(65_536);
+    let hard = [
+        ("{a,a}".repeat(204), "a".repeat(204), true),
+        ("{a,a}".repeat(204), "a".repeat(4000), false),
+        (format!("{}b", "*a".repeat(511)), "a".repeat(4000), false),
+        (format!("{}b", "**".repeat(511)), "a".repeat(4000), false),
+        (
+            "{".repeat(512) + &"a,b}".repeat(128),
+            "a".repeat(512),
+            false,
+        ),
+        ("{1..99999}".repeat(102), digits, false),
+    ];
+    for (name, path, wanted) in hard {
+        let start = Instant::now();
+        assert_eq!(ours(&name, &path), wanted, "name {name:?}");
+        let seconds = start.elapsed().as_secs_f64();
+        let (shown, length) = (&name[..10], path.len());
+        println!(
+            "{shown}.. of {} characters, a path of {length}: {seconds:.3} s",
+            name.len()
+        );
+        assert!(seconds < 30.0, "too slow");
+    }
+}
+
+/// What a call takes with two texts as projects have them.
+fn usual_texts() {
+    let near = "[*.ws]\nindent_size = 4\n\n[{gates,wires}/**.ws]\nmax_line_length = off\n";
+    let far = "root = true\n\n[*]\nend_of_line = lf\ninsert_final_newline = true\n[*.{md,txt}]\nindent_size = 2\n";
+    let texts = [near.as_bytes(), far.as_bytes()];
+    let start = Instant::now();
+    for _ in 0..10_000 {
+        assert_eq!(read(b"src/adder.ws", &texts).size, 4);
+    }
+    let each = start.elapsed().as_secs_f64() * 100.0;
+    println!("two usual texts, four sections: {each:.1} microseconds");
+}
+
 // ---- Debian's core
 
 /// What the core says of files: the last value of each key for each path.
@@ -294,10 +360,10 @@ impl Core {
             .stderr(Stdio::null())
             .spawn()
             .expect("the core runs");
-        let mut asked = String::new();
-        for path in paths {
-            asked.push_str(&format!("{}/{path}\n", self.folder.display()));
-        }
+        let asked: String = paths
+            .iter()
+            .map(|path| format!("{}/{path}\n", self.folder.display()))
+            .collect();
         child
             .stdin
             .take()
@@ -307,7 +373,8 @@ impl Core {
         let output = child.wait_with_output().expect("the core ends");
         let said = String::from_utf8_lossy(&output.stdout).into_owned();
         let mut found = vec![false; paths.len()];
-        let mut at = None;
+        // the core names a path only where it is asked for several
+        let mut at = (paths.len() == 1).then_some(0);
         for line in said.lines() {
             if let Some(path) = line.strip_prefix('[').and_then(|l| l.strip_suffix(']')) {
                 let path = path.strip_prefix(&format!("{}/", self.folder.display()));
@@ -317,6 +384,23 @@ impl Core {
             }
         }
         found
+    }
+
+    /// The values that two texts set for a path: the file's own directory `d`, and the one above it.
+    fn values(&self, near: &str, far: &str, file: &str) -> ConfigAnswer {
+        let own = self.folder.join("d");
+        fs::create_dir_all(&own).expect("a folder");
+        fs::write(own.join(".editorconfig"), near).expect("a file");
+        fs::write(self.folder.join(".editorconfig"), far).expect("a file");
+        let output = Command::new("editorconfig").arg(own.join(file)).output();
+        let said = output.expect("the core runs").stdout;
+        let mut answer = ConfigAnswer::default();
+        for line in String::from_utf8_lossy(&said).lines() {
+            if let Some((key, value)) = line.split_once('=') {
+                config::supersede(&mut answer, key, &value.to_ascii_lowercase());
+            }
+        }
+        answer
     }
 }
 
@@ -328,8 +412,14 @@ impl Drop for Core {
 
 /// Why the core may differ on a name, as docs/DIFFERENCES.md lists it; None where it must not.
 fn cause(name: &str) -> Option<&'static str> {
+    if name.contains("..") {
+        return Some("a range");
+    }
     let (mut bracket, mut opened, mut closed, mut escaped) = (None, 0, 0, false);
     for (i, c) in name.char_indices() {
+        if escaped && c.is_ascii_alphanumeric() {
+            return Some("an escaped letter or digit");
+        }
         if escaped {
             escaped = false;
             continue;
@@ -359,25 +449,26 @@ fn cause(name: &str) -> Option<&'static str> {
     None
 }
 
-fn beside_core(random: &mut Random, count: usize) {
+/// Whether every difference has a cause.
+fn beside_core(random: &mut Random, count: usize) -> bool {
     let Some(core) = Core::new() else {
         println!("the core (editorconfig) is not at hand: nothing was compared with it");
-        return;
+        return true;
     };
-    let pieces = [
-        "*", "**", "/**/", "**/", "/", "?", "[ac]", "[!b]", "{a,b}", "{,a}", "{1..30}", "a", "b",
-        ".ws", "1",
+    let steps = [
+        "/", "a", "b", "c", "1", "12", ".ws", "-3", "{", "}", ",", "]", "[", "0",
     ];
-    let steps = ["/", "a", "b", "c", "1", "12", ".ws", "-3"];
     let (mut same, mut differ) = (0, BTreeMap::new());
-    for _ in 0..count {
-        let name = word(random, &pieces, 5);
-        let paths: Vec<String> = (0..24)
+    for k in 0..count {
+        // plain names, and names of every kind
+        let name = word(random, if k % 2 == 0 { &PLAIN } else { &PIECES }, 5);
+        let paths: BTreeSet<String> = (0..24)
             .map(|_| word(random, &steps, 5))
             .filter(|p| {
                 !p.is_empty() && !p.contains("//") && !p.starts_with('/') && !p.ends_with('/')
             })
             .collect();
+        let paths: Vec<String> = paths.into_iter().collect();
         for (path, theirs) in paths.iter().zip(core.matches(&name, &paths)) {
             if ours(&name, path) == theirs {
                 same += 1;
@@ -397,12 +488,62 @@ fn beside_core(random: &mut Random, count: usize) {
             list.len(),
             list[0]
         );
-        if why.is_none() {
-            for line in list.iter().take(20) {
-                println!("    {line}");
-            }
+    }
+    files_beside_core(&core, random, count) == 0 && !differ.contains_key(&None)
+}
+
+/// A text of sections and pairs that the core reads as the page does: no fallbacks between the keys, no white space
+/// but ASCII, no comments behind values, no line that is none of the kinds (the core gives up at one).
+fn plain_text(random: &mut Random) -> String {
+    let keys = [
+        "tab_width",
+        "TAB_WIDTH",
+        "max_line_length",
+        "end_of_line",
+        "insert_final_newline",
+    ];
+    let values = [
+        "4", "8", "0", "007", "off", "Off", "lf", "crlf", "CR", "true", "False", "unset", "-1",
+    ];
+    let names = [
+        "*", "*.ws", "a.ws", "d/*", "/d/**.ws", "{a,b}.ws", "[!b].ws", "b*", "**/a.*", "?.ws",
+    ];
+    // of several `root` in a preamble the core takes any that is true, and the page the last
+    let mut text = word(random, &["", "", "root = TRUE\n", "root = no\n"], 1);
+    for _ in 0..random.below(9) {
+        let line = match random.below(5) {
+            0 => random.pick(&["; c", "# c", ""]).to_owned(),
+            1 => format!("[{}]", random.pick(&names)),
+            _ => format!("{} = {}", random.pick(&keys), random.pick(&values)),
+        };
+        text.push_str(&line);
+        text.push_str(random.pick(&["\n", "\r\n"]));
+    }
+    text
+}
+
+/// Files of two directories; how many differ.
+fn files_beside_core(core: &Core, random: &mut Random, count: usize) -> usize {
+    let mut differ = 0;
+    for _ in 0..count {
+        let (near, far) = (
+            plain_text(random),
+            format!("root=true\n{}", plain_text(random)),
+        );
+        let far = format!("{far}\n[*]\nx=y\n");
+        let file = random.pick(&["a.ws", "b.ws", "c.x"]);
+        let theirs = core.values(&near, &far, file);
+        let ours = read(
+            format!("d/{file}").as_bytes(),
+            &[near.as_bytes(), far.as_bytes()],
+        );
+        if ours != theirs {
+            differ += 1;
+            println!("files {near:?} {far:?}, {file}: ours {ours:?}, the core's {theirs:?}");
         }
     }
+    println!("beside the core: {count} pairs of files, {differ} differ");
+    differ
 }
 
 struct Asked {
@@ -442,8 +583,10 @@ fn main() -> ExitCode {
     all += random_names(&mut random, 2 * asked.random);
     all += random_files(&mut random, asked.random);
     println!("all: {all} calls beside the model, no difference");
-    if asked.core > 0 {
-        beside_core(&mut random, asked.core);
+    hard_names();
+    usual_texts();
+    if asked.core > 0 && !beside_core(&mut random, asked.core) {
+        return ExitCode::FAILURE;
     }
     ExitCode::SUCCESS
 }

@@ -62,6 +62,9 @@ pub const BLOCKS: [&str; 2] = ["short blocks", "blocks"];
 /// The stages whose calls have a ruler, which the Rust lacks.
 pub const RULED: [&str; 3] = ["rulers", "ruled short sources", "ruled"];
 
+/// The stages whose calls have strengths of their own, which the Rust lacks.
+pub const TABLED: [&str; 2] = ["strengths", "pairs of strengths"];
+
 /// The stage that takes longest for each check.
 pub const LONG: &str = "long sources";
 
@@ -140,7 +143,7 @@ pub fn all(seed: u64) -> Vec<Stage> {
             }
         }
     }));
-    stages.push(Stage::new("strengths", None, move |n| {
+    stages.push(Stage::new(TABLED[0], None, move |n| {
         let mut r = random(7, n);
         let source = match r.below(3) {
             0 => sources::short(&mut r),
@@ -381,7 +384,7 @@ fn unmarked(source: &str) -> String {
 fn strength_pairs() -> Stage {
     let operators = &sources::OPERATORS;
     let each = operators.len() as u64;
-    Stage::new("pairs of strengths", Some(each * each * 256), move |n| {
+    Stage::new(TABLED[1], Some(each * each * 256), move |n| {
         let n = scatter(n, each * each * 256);
         let (first, second) = ((n / 256 / each) as usize, (n / 256 % each) as usize);
         let mut fields = [1; 21];

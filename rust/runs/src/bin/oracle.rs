@@ -56,7 +56,10 @@ fn case(call: &Call) -> Option<Vec<u8>> {
 
 /// The stages that a case is taken from.
 fn has_cases(name: &str) -> bool {
-    name != stages::LONG && !stages::BLOCKS.contains(&name) && !stages::RULED.contains(&name)
+    name != stages::LONG
+        && ![&stages::BLOCKS[..], &stages::RULED, &stages::TABLED]
+            .concat()
+            .contains(&name)
 }
 
 /// How many cases of a stage stand in a row: the random stages have more.

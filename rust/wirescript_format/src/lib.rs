@@ -108,7 +108,7 @@ impl Default for Formatter {
             output: Vec::new(),
             scratch: Vec::new(),
             places: Vec::new(),
-            opened: vec![0; 64],
+            opened: Vec::new(),
             most: Self::MOST,
             last: 0,
         }
@@ -140,7 +140,7 @@ impl Formatter {
     ) -> Result<Formatted<&str, &[u64]>, Refusal> {
         let source = source.as_ref();
         let room = source.len().max(self.last);
-        let mut answer = match self.call(source, options, room + room / 4 + 256) {
+        let answer = match self.call(source, options, room + room / 4 + 256) {
             // the place is the text's length, so the second call has room
             Err(Refusal::OutputShort { needed }) if needed <= self.most as u64 => {
                 self.call(source, options, needed as usize)
@@ -148,17 +148,12 @@ impl Formatter {
             other => other,
         }?;
         self.last = answer.length as usize;
-        let brackets = answer.open_brackets as usize;
-        if self.opened.len() < brackets {
-            self.opened.resize(brackets, 0);
-            answer = self.call(source, options, self.last)?;
-        }
         let text = &self.output[..self.last];
         Ok(Formatted {
             text: std::str::from_utf8(text).expect("the text is proved to be UTF-8"),
             imports_split: answer.imports_split,
             blank_names: answer.blank_names,
-            open_brackets: &self.opened[..brackets],
+            open_brackets: &self.opened[..answer.open_brackets as usize],
         })
     }
 
@@ -186,7 +181,8 @@ impl Formatter {
     ) -> Result<raw::Answer, Refusal> {
         let output = part(&mut self.output, room.min(self.most));
         let scratch = part(&mut self.scratch, FORMAT_SCRATCH * short(source) + 256);
-        let answer = raw::format(source, options.choices(), output, &mut self.opened, scratch);
+        let opened = part(&mut self.opened, openers(source));
+        let answer = raw::format(source, options.choices(), output, opened, scratch);
         Refusal::of(answer.refusal, answer.place).map_or(Ok(answer), Err)
     }
 }
@@ -204,10 +200,15 @@ fn scratch_for(source: &[u8]) -> usize {
     8 * short(source) + 256
 }
 
-/// The first `length` bytes of a buffer, which grows where it is shorter.
-fn part(buffer: &mut Vec<u8>, length: usize) -> &mut [u8] {
+/// How many brackets a source opens, in strings and comments too: at the end no more are open.
+fn openers(source: &[u8]) -> usize {
+    source.iter().filter(|b| b"([{".contains(b)).count()
+}
+
+/// The first `length` elements of a buffer, which grows where it is shorter.
+fn part<T: Clone + Default>(buffer: &mut Vec<T>, length: usize) -> &mut [T] {
     if buffer.len() < length {
-        buffer.resize(length, 0);
+        buffer.resize(length, T::default());
     }
     &mut buffer[..length]
 }

@@ -48,6 +48,23 @@ fn counts_imports_and_blank_names() {
     assert_eq!(counted(&three), (broken.repeat(3), 3, 1));
 }
 
+/// Many open brackets between a few, in the same list.
+#[test]
+fn lists_open_brackets() {
+    let options = Options::new();
+    let mut formatter = Formatter::new();
+    let mut lines = |source: &str| {
+        let kept = format(source, &options).expect("accepted").open_brackets;
+        let lent = formatter.format(source, &options).expect("accepted");
+        assert_eq!(lent.open_brackets, kept);
+        kept
+    };
+    assert_eq!(lines("((\n["), [0, 0, 1]);
+    assert_eq!(lines(&"(\n".repeat(300)), (0..300).collect::<Vec<u64>>());
+    assert_eq!(lines("{\nif a {\n}\nelse {"), [0, 3]);
+    assert_eq!(lines("(\n]"), []);
+}
+
 #[test]
 fn refuses() {
     let options = Options::new();

@@ -83,6 +83,12 @@ impl SafeCall {
     }
 }
 
+/// The lines that a formatter lists by default.
+fn listed(mut lines: Vec<u64>) -> Vec<u64> {
+    lines.truncate(Formatter::LISTED);
+    lines
+}
+
 fn must_format(call: &Call, most: Option<Size>) -> Must {
     let found = model::text_of(call);
     let most = most.map(|size| size.of(model::length(&found)));
@@ -95,7 +101,8 @@ fn must_format(call: &Call, most: Option<Size>) -> Must {
             text: counted.text,
             imports_split: counted.imports_split as u64,
             blank_names: counted.blank_names as u64,
-            open_brackets: counted.open_lines,
+            open_brackets: counted.open_lines.len() as u64,
+            opened: listed(counted.open_lines),
         }),
     };
     Must { told, most }
@@ -172,7 +179,8 @@ pub fn told(call: &SafeCall, most: Option<usize>, formatter: &mut Formatter) -> 
                             text: formatted.text.into(),
                             imports_split: formatted.imports_split,
                             blank_names: formatted.blank_names,
-                            open_brackets: formatted.open_brackets.to_vec(),
+                            open_brackets: formatted.open_brackets,
+                            opened: formatted.opened.to_vec(),
                         })
                     })
                 }

@@ -39,8 +39,10 @@ pub struct Formatted<Text = String, Lines = Vec<u64>> {
     pub imports_split: u64,
     /// Blank names dropped in them.
     pub blank_names: u64,
-    /// The source lines, from 0, of the brackets that are still open at the end, the oldest first.
-    pub open_brackets: Lines,
+    /// Brackets that are still open at the end.
+    pub open_brackets: u64,
+    /// Their source lines, from 0, the oldest first: all, or as many as [`Formatter::listed`] says.
+    pub opened: Lines,
 }
 
 /// What an editor is told of a place.
@@ -69,7 +71,7 @@ impl TextKind {
 /// use wirescript_format::{Options, format};
 ///
 /// let formatted = format("f(a,\n  [b,\n", &Options::new())?;
-/// assert_eq!(formatted.open_brackets, [0, 1]);
+/// assert_eq!(formatted.opened, [0, 1]);
 /// # Ok::<(), wirescript_format::Refusal>(())
 /// ```
 pub fn format(source: impl AsRef<[u8]>, options: &Options) -> Result<Formatted, Refusal> {
@@ -79,7 +81,8 @@ pub fn format(source: impl AsRef<[u8]>, options: &Options) -> Result<Formatted, 
         text: formatted.text.to_owned(),
         imports_split: formatted.imports_split,
         blank_names: formatted.blank_names,
-        open_brackets: formatted.open_brackets.to_vec(),
+        open_brackets: formatted.open_brackets,
+        opened: formatted.opened.to_vec(),
     })
 }
 
@@ -95,7 +98,7 @@ pub struct Formatter {
     scratch: Vec<u8>,
     /// A list of places, as numbers.
     places: Vec<u64>,
-    /// The lines of the open brackets.
+    /// The lines of the open brackets; its length is how many are listed.
     opened: Vec<u64>,
     most: usize,
     /// The length of the last text: the next may well be of the same file.
@@ -108,7 +111,7 @@ impl Default for Formatter {
             output: Vec::new(),
             scratch: Vec::new(),
             places: Vec::new(),
-            opened: Vec::new(),
+            opened: vec![0; Self::LISTED],
             most: Self::MOST,
             last: 0,
         }
@@ -120,6 +123,9 @@ impl Formatter {
     /// source, so there must be an end.
     pub const MOST: usize = 64 << 20;
 
+    /// How many open brackets are listed by default.
+    pub const LISTED: usize = 1000;
+
     #[must_use]
     pub fn new() -> Self {
         Self::default()
@@ -129,6 +135,13 @@ impl Formatter {
     #[must_use]
     pub fn most(mut self, bytes: usize) -> Self {
         self.most = bytes;
+        self
+    }
+
+    /// List the lines of this many open brackets, the oldest; all are counted whatever it is.
+    #[must_use]
+    pub fn listed(mut self, brackets: usize) -> Self {
+        self.opened = vec![0; brackets];
         self
     }
 
@@ -149,11 +162,13 @@ impl Formatter {
         }?;
         self.last = answer.length as usize;
         let text = &self.output[..self.last];
+        let listed = self.opened.len().min(answer.open_brackets as usize);
         Ok(Formatted {
             text: std::str::from_utf8(text).expect("the text is proved to be UTF-8"),
             imports_split: answer.imports_split,
             blank_names: answer.blank_names,
-            open_brackets: &self.opened[..answer.open_brackets as usize],
+            open_brackets: answer.open_brackets,
+            opened: &self.opened[..listed],
         })
     }
 
@@ -181,7 +196,7 @@ impl Formatter {
     ) -> Result<raw::Answer, Refusal> {
         let output = part(&mut self.output, room.min(self.most));
         let scratch = part(&mut self.scratch, FORMAT_SCRATCH * short(source) + 256);
-        let opened = part(&mut self.opened, openers(source));
+        let opened = &mut self.opened;
         let answer = raw::format(source, options.choices(), output, opened, scratch);
         Refusal::of(answer.refusal, answer.place).map_or(Ok(answer), Err)
     }
@@ -200,15 +215,10 @@ fn scratch_for(source: &[u8]) -> usize {
     8 * short(source) + 256
 }
 
-/// How many brackets a source opens, in strings and comments too: at the end no more are open.
-fn openers(source: &[u8]) -> usize {
-    source.iter().filter(|b| b"([{".contains(b)).count()
-}
-
-/// The first `length` elements of a buffer, which grows where it is shorter.
-fn part<T: Clone + Default>(buffer: &mut Vec<T>, length: usize) -> &mut [T] {
+/// The first `length` bytes of a buffer, which grows where it is shorter.
+fn part(buffer: &mut Vec<u8>, length: usize) -> &mut [u8] {
     if buffer.len() < length {
-        buffer.resize(length, T::default());
+        buffer.resize(length, 0);
     }
     &mut buffer[..length]
 }

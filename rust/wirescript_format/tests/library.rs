@@ -48,16 +48,18 @@ fn counts_imports_and_blank_names() {
     assert_eq!(counted(&three), (broken.repeat(3), 3, 1));
 }
 
-/// Many open brackets between a few, in the same list.
+/// Many open brackets between a few, in lists with room for all and for two.
 #[test]
 fn lists_open_brackets() {
     let options = Options::new();
-    let mut formatter = Formatter::new();
+    let mut formatter = Formatter::new().listed(2);
     let mut lines = |source: &str| {
-        let kept = format(source, &options).expect("accepted").open_brackets;
-        let lent = formatter.format(source, &options).expect("accepted");
-        assert_eq!(lent.open_brackets, kept);
-        kept
+        let all = format(source, &options).expect("accepted");
+        let two = formatter.format(source, &options).expect("accepted");
+        assert_eq!(all.open_brackets, all.opened.len() as u64);
+        assert_eq!(two.open_brackets, all.open_brackets);
+        assert_eq!(two.opened, &all.opened[..all.opened.len().min(2)]);
+        all.opened
     };
     assert_eq!(lines("((\n["), [0, 0, 1]);
     assert_eq!(lines(&"(\n".repeat(300)), (0..300).collect::<Vec<u64>>());

@@ -10,6 +10,12 @@ slice-aggregate-format-call c = search needs
 slice-aggregate-format-call-2 : tie.Need-slice-aggregate-format-call-2
 slice-aggregate-format-call-2 c = search needs
 
+slice-aggregate-format-call-3 : tie.Need-slice-aggregate-format-call-3
+slice-aggregate-format-call-3 c = search needs
+
+slice-aggregate-format-call-4 : tie.Need-slice-aggregate-format-call-4
+slice-aggregate-format-call-4 c = search needs
+
 format-call-requires : tie.Need-format-call-requires
 format-call-requires c κs = search needs
 
@@ -25,6 +31,8 @@ format-short-spec =
     (tie.spec
     slice-aggregate-format-call
     slice-aggregate-format-call-2
+    slice-aggregate-format-call-3
+    slice-aggregate-format-call-4
     format-call-requires
     same-length
     returns)

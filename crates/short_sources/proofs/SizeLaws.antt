@@ -22,12 +22,11 @@ use Rattle.rules.specs.Options.{defaults, indentOf, measure, overWide}
 use Rattle.rules.specs.Spacing.{respaced}
 use Rattle.rules.specs.Brackets.{Entry, levels, leadingClosers, countBrackets}
 use Rattle.rules.specs.Else.{joinElse}
-use Rattle.rules.specs.Line.{Formatter, start, keptLine, asWritten, insideLine, blankLine, protectedLine, elseLine, dropBlank}
+use Rattle.rules.specs.Line.{Formatter, start, scannedPart, closersIn, keptStack, keptLine, asWritten, insideLine, blankLine, protectedLine, elseLine, dropBlank}
 use Rattle.rules.specs.Line.{linesBefore, continues, levelOf, oneLine, splitWide, laid, placedLine, spacedLine, codeLine, anyLine}
 use Rattle.rules.specs.Line.{formatLine}
 use Rattle.rules.specs.Assembly.{endingOf, dropEmpty, joined, lastEnding, finish, formatLines, formatWith}
 use Rattle.rules.specs.declared.Carry.{Carry}
-use Rattle.rules.specs.declared.Ignore.{Ignore}
 use Rattle.rules.specs.declared.LineEnding.{LineEnding}
 use Rattle.rules.specs.declared.PrintWidth.{PrintWidth}
 use Rattle.rules.proofs.Choose.{choose-case, choose-false}
@@ -231,11 +230,12 @@ module _ (f : Formatter) (height long : ℕ) (w : Within height long f) where
         high = omega (arith, r .high, length-trim raw);
         fits = omega (arith, r .fits, length-trim raw);
       } in
-      choose-case P
+      choose-case P (λ g. protected-within raw)
+      (λ g. choose-case P
       (λ h. choose-case P (λ i. blank-line-within (length raw))
       (λ i. choose-case P (λ j. protected-within raw)
       (λ j. more _ (spaced-within (trim raw) _ (omega (arith, length-trim raw))))))
-      (λ h. inside-within raw)
+      (λ h. inside-within raw))
 
   line-within : (raw : List ℕ) → height + length raw ≤ 6
       → Grown (length raw) height long (formatLine defaults f raw)

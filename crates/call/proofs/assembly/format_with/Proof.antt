@@ -7,8 +7,8 @@ use Rattle.call.proofs.assembly.format_with.Tie as tie
 ending-of-requires : tie.Need-ending-of-requires
 ending-of-requires c κs = search needs
 
-cast-t15 : tie.Need-cast-t15
-cast-t15 c = search needs
+cast-t20 : tie.Need-cast-t20
+cast-t20 c = search needs
 
 format-lines-requires : tie.Need-format-lines-requires
 format-lines-requires c κs = search needs
@@ -73,7 +73,7 @@ format-with-spec =
     tie.close
     (tie.spec
     ending-of-requires
-    cast-t15
+    cast-t20
     format-lines-requires
     has-last-ending-requires
     finish-text-requires

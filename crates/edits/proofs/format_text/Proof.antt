@@ -15,7 +15,7 @@ same-length-2 : tie.Need-same-length-2
 same-length-2 c = search needs
 
 returns : tie.Need-returns
-returns c = record { list = _; is = c .before .before .format-call .ensures }
+returns c = record { list = _; is = c .before .before .before .before .before .format-call .ensures }
 
 pub format-text-spec : {M : Type 1} → statement M
 format-text-spec = tie.close (tie.spec slice-aggregate-format-call format-call-requires same-length same-length-2 returns)

@@ -213,10 +213,10 @@ module _ (f : Formatter) (height long : ℕ) (w : Within height long f) where
     spaced-within marker few =
         choose-case (Grown (length l) height long) (λ h. else-line-within) (λ h. placed-within marker few)
 
-  line-within : (raw : List ℕ) → height + length raw ≤ 6
-      → Grown (length raw) height long (formatLine defaults f raw)
-  unfolding formatLine anyLine codeLine
-  line-within raw few =
+  any-within : (raw : List ℕ) → height + length raw ≤ 6
+      → Grown (length raw) height long (anyLine defaults f raw)
+  unfolding anyLine codeLine
+  any-within raw few =
       let P : Formatter → Type 0 = Grown (length raw) height long in
       let more : (g : Formatter) → Grown (length (trim raw)) height long g → P g =
       λ g r. record {
@@ -228,6 +228,11 @@ module _ (f : Formatter) (height long : ℕ) (w : Within height long f) where
       (λ i. choose-case P (λ j. protected-within raw)
       (λ j. more _ (spaced-within (trim raw) _ (omega (arith, length-trim raw))))))
       (λ h. inside-within raw)
+
+  line-within : (raw : List ℕ) → height + length raw ≤ 6
+      → Grown (length raw) height long (formatLine defaults f raw)
+  unfolding formatLine
+  line-within raw few = let w = any-within raw few in record { high = w .high; fits = w .fits }
 
 -- ---- all lines
 

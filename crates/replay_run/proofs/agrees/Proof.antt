@@ -32,6 +32,9 @@ part-format-call-start-2 c = search needs
 part-format-call-end-2 : tie.Need-part-format-call-end-2
 part-format-call-end-2 c = search needs
 
+slice-aggregate-format-call : tie.Need-slice-aggregate-format-call
+slice-aggregate-format-call c = search needs
+
 format-call-requires : tie.Need-format-call-requires
 format-call-requires c κs = search needs
 
@@ -42,13 +45,13 @@ same-length-2 : tie.Need-same-length-2
 same-length-2 c = search needs
 
 returns : tie.Need-returns
-returns c = refused _ _ _ _ _ _ _ _ (c .before .before .before .before .before .before .format-call .ensures) (c .if1 .taken)
+returns c = refused _ _ _ _ _ _ _ _ (c .before .before .before .before .before .before .before .format-call .ensures) (c .if1 .taken)
 
 slice-reshare-prefix-same : tie.Need-slice-reshare-prefix-same
-slice-reshare-prefix-same c = text-fits _ _ _ _ _ (c .before .before .before .before .before .before .format-call .ensures) (c .if1 .left)
+slice-reshare-prefix-same c = text-fits _ _ _ _ _ (c .before .before .before .before .before .before .before .format-call .ensures) (c .if1 .left)
 
 slice-aggregate-same : tie.Need-slice-aggregate-same
-slice-aggregate-same c = sym (length-take-le _ _ (text-fits _ _ _ _ _ (c .before .before .before .before .before .before .before .format-call .ensures) (c .before .if1 .left)))
+slice-aggregate-same c = sym (length-take-le _ _ (text-fits _ _ _ _ _ (c .before .before .before .before .before .before .before .before .format-call .ensures) (c .before .if1 .left)))
 
 sub-same : tie.Need-sub-same
 sub-same c = search needs
@@ -69,7 +72,7 @@ same-length-4 : tie.Need-same-length-4
 same-length-4 c = search needs
 
 returns-2 : tie.Need-returns-2
-returns-2 c = told _ _ _ _ _ _ _ _ (c .before .before .before .before .before .before .before .before .before .format-call .ensures) _ (c .before .before .before .if1 .left) (c .same .ensures)
+returns-2 c = told _ _ _ _ _ _ _ _ (c .before .before .before .before .before .before .before .before .before .before .format-call .ensures) _ (c .before .before .before .if1 .left) (c .same .ensures)
 
 pub agrees-spec : {M : Type 1} → statement M
 agrees-spec =
@@ -84,6 +87,7 @@ agrees-spec =
     sub-format-call-2
     part-format-call-start-2
     part-format-call-end-2
+    slice-aggregate-format-call
     format-call-requires
     same-length
     same-length-2

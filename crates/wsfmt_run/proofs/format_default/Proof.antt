@@ -10,11 +10,14 @@ slice-aggregate-format-call c = search needs
 slice-aggregate-format-call-2 : tie.Need-slice-aggregate-format-call-2
 slice-aggregate-format-call-2 c = search needs
 
+slice-aggregate-format-call-3 : tie.Need-slice-aggregate-format-call-3
+slice-aggregate-format-call-3 c = search needs
+
 format-call-requires : tie.Need-format-call-requires
 format-call-requires c κs = search needs
 
 returns : tie.Need-returns
-returns c = called _ _ _ _ _ (c .before .format-call .ensures) defaults-named defaults-valid (search needs) (search needs) (search needs)
+returns c = called _ _ _ _ _ (c .before .before .format-call .ensures) defaults-named defaults-valid (search needs) (search needs) (search needs)
 
 pub format-default-spec : {M : Type 1} → statement M
 format-default-spec =
@@ -22,5 +25,6 @@ format-default-spec =
     (tie.spec
     slice-aggregate-format-call
     slice-aggregate-format-call-2
+    slice-aggregate-format-call-3
     format-call-requires
     returns)

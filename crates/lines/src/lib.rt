@@ -23,8 +23,9 @@ pub fn format_lines(
     while at <= unit {
         let end = line_end(source, at);
         let raw = without_cr(&source[at..end]);
-        let read = line_step(raw, indent, style, out, scratch, unit, st);
-        st = read.next_line();
+        st = line_step(raw, indent, style, out, scratch, unit, st);
+        let next = st.nesting.line + 1;
+        st.nesting.line = next;
         at = end + 1;
     }
     st

@@ -1,3 +1,4 @@
+use mathlib.Core.Path.{refl}
 use native.Mathlib.Omega.{arith}
 use Prim.Native.Nat.{_-_, _+_}
 use lib.ListN.{length}
@@ -44,35 +45,24 @@ line-step-requires c κs =
     let i = d .loop .inv in
     (reached-ready i (s .pre) (omega arith) (b .line-end .ensures) (a .without-cr .ensures), (reached-well i (s .pre) (omega arith) (b .line-end .ensures) (a .without-cr .ensures), s .pre .indents))
 
-next-line-requires : tie.Need-next-line-requires Inv-loop μ-loop
-next-line-requires c κs =
-    let a = c .before .before .before .before in
-    let b = a .before .before .before in
-    let d = b .before .before in
-    let e = d .before .before in
-    let s = e .before .before .before .before .before .before in
-    number-fits (e .loop .inv) (s .pre) (omega arith) (d .line-end .ensures) (b .without-cr .ensures) (a .line-step .ensures)
+add-next : tie.Need-add-next Inv-loop μ-loop
+add-next c =
+    omega (
+      arith,
+      number-fits (c .before .before .before .before .before .before .before .before .before .before .before .before .loop .inv) (c .before .before .before .before .before .before .before .before .before .before .before .before .before .before .before .before .before .before .pre) (omega arith) (c .before .before .before .before .before .before .before .before .before .before .line-end .ensures) (c .before .before .before .before .before .before .before .before .without-cr .ensures)
+          (c .before .before .before .before .before .line-step .ensures),
+    )
 
 add-at : tie.Need-add-at Inv-loop μ-loop
-add-at c =
-    let a = c .before .before .before .before .before .before .before .before .before .before in
-    let s = a .before .before .before .before .before .before .before .before in
-    omega (arith, a .line-end .ensures .fits, s .pre .limit)
+add-at c = omega (arith, c .before .before .before .before .before .before .before .before .before .before .before .line-end .ensures .fits, c .before .before .before .before .before .before .before .before .before .before .before .before .before .before .before .before .before .before .before .pre .limit)
 
 loop-less : tie.Need-loop-less Inv-loop μ-loop
-loop-less c =
-    let a = c .before .before .before .before .before .before .before .before .before .before in
-    omega (arith, a .line-end .ensures .from, a .before .loop-test .taken)
+loop-less c = omega (arith, c .before .before .before .before .before .before .before .before .before .before .before .line-end .ensures .from, c .before .before .before .before .before .before .before .before .before .before .before .before .loop-test .taken)
 
 loop-again : tie.Need-loop-again Inv-loop μ-loop
 loop-again c =
-    let a = c .before .before .before .before .before in
-    let b = a .before .before .before in
-    let d = b .before .before in
-    let e = d .before .before in
-    let s = e .before .before .before .before .before .before in
-    reached-more (e .loop .inv) (s .pre) (omega arith) (d .line-end .ensures) (b .without-cr .ensures) (a .line-step .ensures) _ (c .next-line .ensures)
-    (c .before .before .before .before .out .given) (c .before .before .scratch .given)
+    reached-more (c .before .before .before .before .before .before .before .before .before .before .before .before .before .loop .inv) (c .before .before .before .before .before .before .before .before .before .before .before .before .before .before .before .before .before .before .before .pre) (omega arith) (c .before .before .before .before .before .before .before .before .before .before .before .line-end .ensures) (c .before .before .before .before .before .before .before .before .before .without-cr .ensures)
+    (c .before .before .before .before .before .before .line-step .ensures) _ refl (c .before .before .before .before .before .out .given) (c .before .before .before .scratch .given)
 
 same-length : tie.Need-same-length Inv-loop μ-loop
 same-length c = search needs
@@ -100,7 +90,7 @@ format-lines-spec =
     part-without-cr-end
     without-cr-requires
     line-step-requires
-    next-line-requires
+    add-next
     add-at
     loop-less
     loop-again

@@ -242,11 +242,6 @@ module _ (f : Formatter) (height long : ℕ) (w : Within height long f) where
   unfolding formatLine
   line-within raw few = let w = any-within raw few in record { high = w .high; fits = w .fits }
 
-  line-within : (raw : List ℕ) → height + length raw ≤ 6
-      → Grown (length raw) height long (formatLine defaults f raw)
-  unfolding formatLine
-  line-within raw few = let w = any-within raw few in record { high = w .high; fits = w .fits }
-
 -- ---- all lines
 
 charsIn : List (List ℕ) → ℕ

@@ -80,6 +80,7 @@ impl From<FormatOptions> for Chosen {
 
 impl Chosen {
     /// The same with no ending after the last line.
+    #[must_use]
     pub fn never(mut self) -> Self {
         (self.rust.insert_final_newline, self.never) = (true, true);
         self

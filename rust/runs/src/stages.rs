@@ -144,36 +144,44 @@ pub fn all(seed: u64) -> Vec<Stage> {
         }
     }));
     stages.push(Stage::new(TABLED[0], None, move |n| {
-        let mut r = random(7, n);
-        let source = match r.below(3) {
-            0 => sources::short(&mut r),
-            1 => written(&mut r),
-            _ => sources::expression(&mut r),
-        };
-        Check::Format(Call {
-            strengths: sources::strengths(&mut r),
-            output: sources::room(&mut r),
-            ..Call::new(unmarked(&source), &wide(&mut r))
-        })
+        Check::Format(tabled(&mut random(8, n)))
     }));
     stages.push(Stage::new("safe", None, move |n| {
         Check::Safe(safe(&mut random(6, n)))
     }));
     stages.push(short_blocks(5));
     stages.push(Stage::new(BLOCKS[1], None, move |n| {
-        let mut r = random(7, n);
-        let mut source = sources::tokens(&mut r, 6);
-        for _ in 0..=r.below(3) {
-            source.push_str("\n// fmt-ignore\n");
-            source.push_str(["(", "{\n", " [a", "{ {"][r.below(4)]);
-            source.push_str(&sources::tokens(&mut r, 12));
-        }
-        Check::Format(Call {
-            output: sources::room(&mut r),
-            ..Call::new(source, &sources::options(&mut r))
-        })
+        Check::Format(blocks(&mut random(9, n)))
     }));
     stages
+}
+
+/// A call with strengths of its own.
+fn tabled(r: &mut Random) -> Call {
+    let source = match r.below(3) {
+        0 => sources::short(r),
+        1 => written(r),
+        _ => sources::expression(r),
+    };
+    Call {
+        strengths: sources::strengths(r),
+        output: sources::room(r),
+        ..Call::new(unmarked(&source), &wide(r))
+    }
+}
+
+/// A call whose source has lone markers before lines that open brackets.
+fn blocks(r: &mut Random) -> Call {
+    let mut source = sources::tokens(r, 6);
+    for _ in 0..=r.below(3) {
+        source.push_str("\n// fmt-ignore\n");
+        source.push_str(["(", "{\n", " [a", "{ {"][r.below(4)]);
+        source.push_str(&sources::tokens(r, 12));
+    }
+    Call {
+        output: sources::room(r),
+        ..Call::new(source, &sources::options(r))
+    }
 }
 
 /// A call of a safe function; most of them format.

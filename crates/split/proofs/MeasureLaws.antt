@@ -20,7 +20,7 @@ use Rattle.unicode.proofs.Tests.{by-test}
 use Rattle.unicode.proofs.Table.{High, also, Bytes, single, several}
 use Rattle.unicode.proofs.Table.{bytes as bytes-of}
 use Rattle.unicode.proofs.Bytewise.{total, width-bytes, width-nil, width-cons}
-use Rattle.unicode.proofs.Decode.{Ascii, ascii-append, encode-nil, encode-cons, decode-ascii, decode-encode, decode-scalars, wf-ascii, wf-encode}
+use Rattle.unicode.proofs.Decode.{Ascii, ascii-append, encode-nil, encode-cons, encode-ascii, size-append, decode-ascii, decode-encode, decode-scalars, wf-ascii, wf-encode}
 use Rattle.rules.proofs.Choose.{choose-true, choose-false}
 use Rattle.rules.proofs.Columns.{stop-left-over, after-tab, after-other, measure-append, measure-zero, measure-short, measure-grows, indent-levels}
 use Rattle.rules.proofs.SplitSizes.{blank-ascii}
@@ -214,18 +214,28 @@ module _ {indent : List ℕ} {level : ℕ} (p : Indent indent level) where
 
 -- ---- an indented line
 
--- a line's bytes, a column for each and the ruler for a tab
-pub most-small : (n r : ℕ) → n < 2 ^ 31 → r < 256 → n * (r + 1) ≤ 2147483648 * 256
-most-small n r h k = mul-le-mul {n₂ = 2147483648} {m₂ = 256} (omega arith) (omega arith)
+module _ {indent : List ℕ} {level : ℕ} (line : List ℕ) (p : Indent indent level) where
+  -- its bytes, a column for each and the ruler for a tab
+  pub bytes-room : length line < 2 ^ 31 → level * length indent + length line < 2 ^ 64
+  bytes-room h = omega (arith, indent-small p)
+
+  pub columns-small : (r : ℕ) → length line < 2 ^ 31 → r < 256 → (level * length indent + length line) * (r + 1) ≤ 4294967296 * 256
+  columns-small r h k = mul-le-mul {n₂ = 4294967296} {m₂ = 256} (omega (arith, indent-small p)) (omega arith)
+
+  indented-size : WellFormed line → size (times level indent ++ decode line) ≡ level * length indent + length line
+  indented-size w =
+      let i : size (times level indent) ≡ level * length indent = ap length (encode-ascii (times level indent) (ascii-times level indent (indent-ascii p))) ∙ length-times level indent in
+      omega (arith, size-append (times level indent) (decode line), i, ap length w)
+
+  pub wide-not : (r max : ℕ) → WellFormed line → (level * length indent + length line) * (r + 1) ≤ max → Wide r indent level line max false
+  wide-not r max w h =
+      record {
+        is = sym (le-ltb max _ (omega (arith, measure-short r 0 (times level indent ++ decode line), ap (λ (n : ℕ). n * (r + 1)) (indented-size w))));
+      }
 
 module _ {ruler : ℕ} {indent : List ℕ} {level : ℕ} (line : List ℕ) (max : ℕ) {pad : ℕ} (p : IndentMeasured ruler indent level pad) where
   whole : measure ruler 0 (times level indent ++ decode line) ≡ measure ruler pad (decode line)
   whole = measure-append ruler 0 (times level indent) (decode line) ∙ ap (λ (k : ℕ). measure ruler k (decode line)) (sym (p .is))
-
-  pub wide-not : WellFormed line → pad + length line * (ruler + 1) ≤ max → Wide ruler indent level line max false
-  wide-not w h =
-      let k : size (decode line) ≡ length line = ap length w in
-      record { is = sym (ap (ltb max) whole ∙ le-ltb max _ (omega (arith, measure-short ruler pad (decode line), ap (λ (n : ℕ). n * (ruler + 1)) k))) }
 
   pub wide-measured : (end : ℕ) → Measured ruler pad line end → Wide ruler indent level line max (ltb max end)
   wide-measured end m = record { is = ap (ltb max) (m .is ∙ sym whole) }

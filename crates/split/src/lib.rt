@@ -81,20 +81,28 @@ pub fn indent_column(ruler: u8, indent: &[u8], levels: usize) -> Utf16Column
     indent_tabs(ruler, indent, levels)
 }
 
-// Whether the line, with its indent, is wider than the width. A character takes no more columns than bytes, a tab the ruler more, so that most
-// lines are not measured.
-pub fn over_wide(s: Layout, indent: &[u8], line: &[u8]) -> bool
+// Whether the line, with its indent, is measured wider than the width.
+fn measured_wide(s: Layout, indent: &[u8], line: &[u8]) -> bool
     requires { ⌜ Indent (now indent) (s .level) ⌝ }
     requires { ⌜ WellFormed (now line) × (length (now line) < 2 ^ 31) ⌝ }
     ensures { λ r. ⌜ Wide (s .ruler) (now (indent .entry)) (s .level) (now (line .entry)) (s .max .0) r ⌝ }
 {
     let pad = indent_column(s.ruler, indent, s.level);
-    let most = line.len() * (s.ruler as usize + 1);
-    if pad.0 + most <= s.max.0 {
-        return false;
-    }
     let end = measure_from(s.ruler, pad, line);
     s.max.0 < end.0
+}
+
+// The same. A character takes no more columns than bytes, a tab at most the ruler more, so that most lines are not measured.
+pub fn over_wide(s: Layout, indent: &[u8], line: &[u8]) -> bool
+    requires { ⌜ Indent (now indent) (s .level) ⌝ }
+    requires { ⌜ WellFormed (now line) × (length (now line) < 2 ^ 31) ⌝ }
+    ensures { λ r. ⌜ Wide (s .ruler) (now (indent .entry)) (s .level) (now (line .entry)) (s .max .0) r ⌝ }
+{
+    let bytes = s.level * indent.len() + line.len();
+    if bytes * (s.ruler as usize + 1) <= s.max.0 {
+        return false;
+    }
+    measured_wide(s, indent, line)
 }
 
 // A part of a slice: where it starts and ends.

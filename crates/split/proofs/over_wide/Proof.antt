@@ -1,47 +1,44 @@
 use borrow.Author.Needs.{needs}
 use native.Mathlib.Omega.{arith}
-use Rattle.split.proofs.MeasureLaws.{most-small, wide-not, wide-measured}
+use Rattle.split.proofs.MeasureLaws.{indent-room, bytes-room, columns-small, wide-not}
 use Rattle.split.proofs.over_wide.Statement.{statement}
 use Rattle.split.proofs.over_wide.Tie as tie
 
-indent-column-requires : tie.Need-indent-column-requires
-indent-column-requires c κs = search needs
+mul-bytes : tie.Need-mul-bytes
+mul-bytes c = record { fits = indent-room (c .before .before .pre .0) }
 
-cast-most : tie.Need-cast-most
-cast-most c = search needs
+add-bytes : tie.Need-add-bytes
+add-bytes c = let s = c .before .before in record { fits = bytes-room _ (s .pre .0) (s .pre .1 .1) }
 
-add-most : tie.Need-add-most
-add-most c = search needs
-
-mul-most : tie.Need-mul-most
-mul-most c =
-    let s = c .before .before .before .before in
-    record { fits = omega (arith, most-small _ (s .args .s .ruler) (s .pre .1 .1) (omega arith)) }
+cast-if1 : tie.Need-cast-if1
+cast-if1 c = search needs
 
 add-if1 : tie.Need-add-if1
-add-if1 c =
-    let i = c .before .before in
-    let s = i .before .before .before in
-    record { fits = omega (arith, most-small _ (s .args .s .ruler) (s .pre .1 .1) (omega arith), i .indent-column .ensures .small) }
+add-if1 c = search needs
+
+mul-if1 : tie.Need-mul-if1
+mul-if1 c =
+    let s = c .before .before in
+    record { fits = omega (arith, columns-small _ (s .pre .0) (s .args .s .ruler) (s .pre .1 .1) (omega arith)) }
 
 returns : tie.Need-returns
 returns c = search (needs, wide-not)
 
-measure-from-requires : tie.Need-measure-from-requires
-measure-from-requires c κs = search needs
+measured-wide-requires : tie.Need-measured-wide-requires
+measured-wide-requires c κs = search needs
 
 returns-2 : tie.Need-returns-2
-returns-2 c = search (needs, wide-measured)
+returns-2 c = search needs
 
 pub over-wide-spec : {M : Type 1} → statement M
 over-wide-spec =
     tie.close
     (tie.spec
-    indent-column-requires
-    cast-most
-    add-most
-    mul-most
+    mul-bytes
+    add-bytes
+    cast-if1
     add-if1
+    mul-if1
     returns
-    measure-from-requires
+    measured-wide-requires
     returns-2)

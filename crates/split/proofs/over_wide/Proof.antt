@@ -5,10 +5,10 @@ use Rattle.split.proofs.over_wide.Statement.{statement}
 use Rattle.split.proofs.over_wide.Tie as tie
 
 mul-bytes : tie.Need-mul-bytes
-mul-bytes c = record { fits = indent-room (c .before .before .pre .0) }
+mul-bytes c = record { fits = indent-room (c .before .before .before .pre .0) }
 
 add-bytes : tie.Need-add-bytes
-add-bytes c = let s = c .before .before in record { fits = bytes-room _ (s .pre .0) (s .pre .1 .1) }
+add-bytes c = let s = c .before .before .before in record { fits = bytes-room (s .args .line .now) (s .pre .0) (s .pre .1 .1) }
 
 cast-if1 : tie.Need-cast-if1
 cast-if1 c = search needs
@@ -18,8 +18,8 @@ add-if1 c = search needs
 
 mul-if1 : tie.Need-mul-if1
 mul-if1 c =
-    let s = c .before .before in
-    record { fits = omega (arith, columns-small _ (s .pre .0) (s .args .s .ruler) (s .pre .1 .1) (omega arith)) }
+    let s = c .before .before .before .before in
+    record { fits = omega (arith, columns-small (s .args .line .now) (s .pre .0) (s .args .s .ruler) (s .pre .1 .1) (omega arith)) }
 
 returns : tie.Need-returns
 returns c = search (needs, wide-not)

@@ -346,7 +346,7 @@ fn ruled(r: &mut Random) -> Call {
         0 => written(r),
         _ => sources::tabbed(r),
     };
-    let mut call = Call::new(source, &sources::options(r));
+    let mut call = Call::new(unmarked(&source), &sources::options(r));
     call.indent = match r.below(12) {
         0 => b"\t".repeat(1 + r.below(64)),
         1 => b" \t ".repeat(1 + r.below(21)),

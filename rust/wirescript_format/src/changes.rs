@@ -1,6 +1,6 @@
 //! What formatting changes, in place of a whole text.
 
-use crate::{Formatter, MAX_SOURCE, Options, Refusal, part, raw, scratch_for, utf8};
+use crate::{Formatter, MAX_SOURCE, Options, Refusal, format_scratch, part, raw, utf8};
 use std::ops::Range;
 
 /// The bytes of the source in `range` give way to `text`. Only white space and commas do, and only
@@ -100,7 +100,7 @@ impl Formatter {
         }
         let mut call = |buffers: &mut Self, room: usize| {
             let output = part(&mut buffers.output, room.min(buffers.most));
-            let scratch = part(&mut buffers.scratch, scratch_for(source));
+            let scratch = part(&mut buffers.scratch, format_scratch(source));
             let list = &mut buffers.changes;
             let answer = raw::format_changes(source, options.choices(), output, list, scratch);
             Refusal::of(answer.refusal, answer.place).map_or(Ok(answer), Err)

@@ -7,9 +7,10 @@
 //! (of a source with many, of the lengths around their count), and refused in four ways. The text is
 //! the Rust's whatever the list, and the words beside the list stay as they were.
 
+use runs::call::Chosen;
 use runs::random::Random;
 use runs::{grammar, sources};
-use upstream::{Counted, FormatOptions, format_counted};
+use upstream::{Counted, FormatOptions};
 use wirescript_format::Options;
 use wirescript_format::raw::{self, Answer, Choices};
 
@@ -102,7 +103,7 @@ fn refused(source: &[u8], s: Choices, output: usize, scratch: usize, must: (u64,
 /// Gives how many calls there were.
 fn check(text: &str) -> u64 {
     let source = text.as_bytes();
-    let counted = format_counted(text, &FormatOptions::default());
+    let counted = Chosen::from(FormatOptions::default()).format(text);
     let count = counted.open_lines.len();
     let from = if count < 8 { 0 } else { count - 3 };
     for room in from..=count + 2 {

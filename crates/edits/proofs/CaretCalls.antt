@@ -33,6 +33,7 @@ refused-by c line column why number place r out work v en ep er eo ew =
       scratch = ew;
       well = λ e. absurd (z e);
       kept = λ e. absurd (z e);
+      quoted = λ e. absurd (z e);
       follows = λ e. absurd (z e);
     }
 
@@ -85,6 +86,7 @@ module _ (c : Call) (a : Answer) (out work : List ℕ) (q : TextAnswered c a out
           scratch = q .is .scratch;
           well = λ e. q .is .well z;
           kept = λ e. q .is .kept z;
+          quoted = λ e. q .is .quoted z;
           follows = λ e.
               follows-at line column (decode (c .source)) (decode (take (a .length) out)) l k (q .is .kept z .struck) to;
         }

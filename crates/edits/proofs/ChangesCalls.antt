@@ -40,6 +40,7 @@ refused-by c room why number place r out list work v en ep er eo el ew =
       scratch = ew;
       well = λ e. absurd (z e);
       kept = λ e. absurd (z e);
+      quoted = λ e. absurd (z e);
       faithful = λ e. absurd (z e);
     }
 
@@ -112,5 +113,6 @@ module _ (c : Call) (a : Answer) (out work : List ℕ) (q : TextAnswered c a out
           scratch = q .is .scratch;
           well = λ e. q .is .well z;
           kept = λ e. q .is .kept z;
+          quoted = λ e. q .is .quoted z;
           faithful = λ e. subst (Faithful (c .source) t) (sym back) g;
         }

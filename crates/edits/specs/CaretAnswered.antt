@@ -7,6 +7,7 @@ use Rattle.unicode.specs.Unicode.{decode, WellFormed}
 use Rattle.rules.specs.Choices.{optionsOf}
 use Rattle.rules.specs.Call.{Call, formatCall}
 use Rattle.rules.specs.Demand3.{Kept}
+use Rattle.rules.specs.Quoted.{QuotedKept}
 use Rattle.caret.specs.Caret.{before, behind, Follows}
 use Rattle.edits.specs.Text.{textLeft}
 use Rattle.edits.specs.CaretCall.{caretVerdict, caretIn, caretAnswer}
@@ -22,6 +23,8 @@ pub record CaretAnswered (c : Call) (line column : ℕ) (r : CaretAnswer) (out w
   pub kept : r .refusal ≡ 0
       → Kept (optionsOf (c .choices) .printWidth) (decode (c .source)) (decode (take (r .length) out))
       (r .«imports_split») (r .«blank_names»)
+  pub quoted : r .refusal ≡ 0 → c .choices .numbers .«width_set» ≡ 0
+      → QuotedKept (optionsOf (c .choices) .endOfLine) (decode (c .source)) (decode (take (r .length) out))
   -- and its line and column are a place of the text with the same count before it, and the same letter next
   pub follows : r .refusal ≡ 0
       → Follows (before line column (decode (c .source))) (behind line column (decode (c .source)))

@@ -7,6 +7,7 @@ use Rattle.unicode.specs.Unicode.{decode, WellFormed}
 use Rattle.rules.specs.Choices.{optionsOf}
 use Rattle.rules.specs.Call.{Call, formatCall}
 use Rattle.rules.specs.Demand3.{Kept}
+use Rattle.rules.specs.Quoted.{QuotedKept}
 use Rattle.changes.specs.Changes.{changesIn, Faithful}
 use Rattle.edits.specs.Text.{textLeft}
 use Rattle.edits.specs.ChangesCall.{changesOf, changesVerdict, changesAnswer, listLeft}
@@ -23,6 +24,8 @@ pub record ChangesAnswered (c : Call) (room : ℕ) (r : ChangesAnswer) (out list
   pub kept : r .refusal ≡ 0
       → Kept (optionsOf (c .choices) .printWidth) (decode (c .source)) (decode (take (r .length) out))
       (r .«imports_split») (r .«blank_names»)
+  pub quoted : r .refusal ≡ 0 → c .choices .numbers .«width_set» ≡ 0
+      → QuotedKept (optionsOf (c .choices) .endOfLine) (decode (c .source)) (decode (take (r .length) out))
   -- and the changes that the list holds turn the source's bytes into the text's; they ascend, spare what is kept, and
   -- are none where the text is the source
   pub faithful : r .refusal ≡ 0 → Faithful (c .source) (take (r .length) out) (changesIn (take (r .changes * 4) list))

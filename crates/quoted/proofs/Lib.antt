@@ -18,3 +18,5 @@ pub mod Prefabs
 pub mod Source
 pub mod Order
 pub mod C22
+-- computed
+pub mod BlockExamples

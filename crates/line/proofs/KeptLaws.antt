@@ -1,7 +1,7 @@
 -- Lines that go out as they are: what each makes of the formatter's record.
 use Prim.Native.Nat.{ℕ, _+_, _-_, _*_, _≤_}
 use native.Mathlib.Omega.{arith}
-use mathlib.Core.Bool.{Bool, true, false, _||_}
+use mathlib.Core.Bool.{Bool, true, false, not, _||_}
 use mathlib.Core.List.{List, [], _++_}
 use mathlib.Core.Path.{_≡_, refl, sym, ap, _∙_, subst}
 use lib.ListN.{length, take, drop}
@@ -15,7 +15,7 @@ use Rattle.rules.specs.Basics.{choose, isEmpty}
 use Rattle.rules.specs.Scan.{classify, carryAfter}
 use Rattle.rules.specs.ClassBytes.{cellsOf}
 use Rattle.rules.specs.Brackets.{Entry, scanBrackets, countBrackets, levels}
-use Rattle.rules.specs.Line.{Formatter, scannedPart, closersIn, keptStack, blockAfter, protectedAfter, keptLine, asWritten, blankLine}
+use Rattle.rules.specs.Line.{Formatter, inCodeNow, scannedPart, closersIn, keptStack, blockAfter, protectedAfter, keptLine, asWritten, blankLine}
 use Rattle.rules.specs.declared.Carry.{Carry}
 use Rattle.rules.specs.declared.Ignore.{Ignore}
 use Rattle.rules.proofs.Choose.{choose-true}
@@ -94,6 +94,20 @@ module _ (eol : List ℕ) (st : Record) (out : List ℕ) (r : Bool) (s : Small s
           blanks = omega arith;
         };
       }
+
+-- ---- a line that is not looked at
+
+pub raw-code : (g : Bool) (y : Carry) → y ≡ Carry.Code → g ≡ (g || not (inCodeNow y))
+raw-code true y e = refl
+raw-code false y e = rw e
+
+pub raw-block : (g : Bool) (y : Carry) (d : ℕ) → y ≡ Carry.Block d → true ≡ (g || not (inCodeNow y))
+raw-block true y d e = refl
+raw-block false y d e = rw e
+
+pub raw-prefab : (g : Bool) (y : Carry) → y ≡ Carry.Prefab → true ≡ (g || not (inCodeNow y))
+raw-prefab true y e = refl
+raw-prefab false y e = rw e
 
 -- ---- what is protected after a line
 

@@ -1,10 +1,10 @@
 // Lines that go out as they are: inside a comment or a prefab, blank, protected.
 ghost use mathlib.Core.Path.{_≡_};
-ghost use mathlib.Core.Bool.{not, _&&_};
+ghost use mathlib.Core.Bool.{not, _&&_, _||_};
 ghost use lib.ListN.{length, take};
 ghost use Rattle.unicode.specs.Unicode.{decode, WellFormed};
 ghost use Rattle.rules.specs.Lines.{asStr};
-ghost use Rattle.rules.specs.Line.{inBlock, blockAfter, protectedAfter};
+ghost use Rattle.rules.specs.Line.{inBlock, inCodeNow, blockAfter, protectedAfter};
 ghost use Rattle.line.specs.Holds.{Small, Ready, Stepped, Blanked, TrimmedLine, Classes, shownLen, partOf, ClosersOf, ShownPart, keptBy, rawBy};
 use crate::formatter::Formatter;
 use crate::formatter::prev_of;
@@ -68,6 +68,17 @@ pub fn in_block(ignore: Ignore) -> bool
         Ignore::Nothing => false,
         Ignore::NextLine => false,
         Ignore::Block(_) => true,
+    }
+}
+
+// Whether a line goes out without being looked at: it is one of a protected block, or starts inside a comment or a prefab.
+pub fn is_raw(guarded: bool, carry: Carry) -> bool
+    ensures { λ r. ⌜ r ≡ (guarded || not (inCodeNow carry)) ⌝ }
+{
+    match carry {
+        Carry::Code => guarded,
+        Carry::Block(_) => true,
+        Carry::Prefab => true,
     }
 }
 

@@ -1,7 +1,7 @@
 -- The step of a line in code, and of any line.
 use Prim.Native.Nat.{ℕ, _+_, _-_, _*_, _≤_}
 use native.Mathlib.Omega.{arith}
-use mathlib.Core.Bool.{Bool, true, false, _&&_, _||_, or-true, true≢false, false≢true}
+use mathlib.Core.Bool.{Bool, true, false, not, _&&_, _||_, or-true, true≢false, false≢true}
 use mathlib.Core.List.{List, _++_}
 use mathlib.Core.Path.{_≡_, refl, sym, ap, _∙_, subst}
 use lib.ListN.{length, take, drop, length-drop}
@@ -208,47 +208,67 @@ marks-of line m a d k = record { other = λ h. go m d (sym k ∙ h) }
 
 -- ---- any line
 
--- a line starts in code
-pub code-carry : (y : Carry) (b : Bool) → b ≡ inCodeNow y → b ≡ true → y ≡ Carry.Code
-code-carry Carry.Code b e q = refl
-code-carry (Carry.Block d) b e q = absurd (true≢false (sym q ∙ e))
-code-carry Carry.Prefab b e q = absurd (true≢false (sym q ∙ e))
+-- b tells whether a line is one of a protected block, which p tells, or starts inside a comment or a prefab
+record Looked (p b : Bool) (y : Carry) : Type 0 where
+  free : p ≡ false
+  code : inCodeNow y ≡ true
 
-module _ {st : Record} {s₀ out eol : List ℕ} {unit : ℕ} (p : Bool) (ep : p ≡ inBlock (st .ignore)) where
+looked : (p b : Bool) (y : Carry) → b ≡ (p || not (inCodeNow y)) → b ≡ false → Looked p b y
+looked true b y e q = absurd (true≢false (sym e ∙ q))
+looked false b Carry.Code e q = record { free = refl; code = refl }
+looked false b (Carry.Block d) e q = absurd (true≢false (sym e ∙ q))
+looked false b Carry.Prefab e q = absurd (true≢false (sym e ∙ q))
+
+pub code-carry : (p b : Bool) (y : Carry) → b ≡ (p || not (inCodeNow y)) → b ≡ false → y ≡ Carry.Code
+code-carry p b y e q = go y (looked p b y e q .code)
+  where
+    go : (y : Carry) → inCodeNow y ≡ true → y ≡ Carry.Code
+    go Carry.Code h = refl
+    go (Carry.Block d) h = absurd (false≢true h)
+    go Carry.Prefab h = absurd (false≢true h)
+
+raw-same : (o : Options) (f : Formatter) (raw : List ℕ) (p b : Bool) → inBlock (f .ignore) ≡ p → b ≡ (p || not (inCodeNow (f .carry))) → b ≡ true
+    → rawBy p raw f ≡ anyLine o f raw
+unfolding anyLine choose
+raw-same o f raw true b i e q = sym (choose-true _ _ _ i)
+raw-same o f raw false b i e q = sym (choose-false _ _ _ i ∙ choose-false _ _ _ (outside (inCodeNow (f .carry)) (sym e ∙ q)))
+  where
+    outside : (c : Bool) → (false || not c) ≡ true → c ≡ false
+    outside true h = absurd (false≢true h)
+    outside false h = refl
+
+module _ {st : Record} {s₀ out eol : List ℕ} {unit : ℕ} (p b : Bool) (ep : p ≡ inBlock (st .ignore)) (e : b ≡ (p || not (inCodeNow (st .carry)))) where
   in-block : {f : Formatter} → Holds eol unit f st out s₀ → inBlock (f .ignore) ≡ p
   in-block h = ap inBlock (sym (h .ignore)) ∙ sym ep
 
-  in-now : (b : Bool) → b ≡ inCodeNow (st .carry) → {f : Formatter} → Holds eol unit f st out s₀ → inCodeNow (f .carry) ≡ b
-  in-now b e h = ap inCodeNow (sym (h .carry)) ∙ sym e
+  in-now : b ≡ false → {f : Formatter} → Holds eol unit f st out s₀ → inCodeNow (f .carry) ≡ true
+  in-now q h = ap inCodeNow (sym (h .carry)) ∙ looked p b (st .carry) e q .code
+
+  free : b ≡ false → {f : Formatter} → Holds eol unit f st out s₀ → inBlock (f .ignore) ≡ false
+  free q h = in-block h ∙ looked p b (st .carry) e q .free
 
   module _ {r : Record} {out′ s₂ : List ℕ} (raw : List ℕ) (o : Options) where
-    -- a line of a protected block
-    pub format-block : p ≡ true → Stepped (rawBy true (decode raw)) (length raw) unit eol st out s₀ r out′ s₂
+    -- a line of a protected block, or inside a comment or a prefab
+    pub format-raw : b ≡ true → Stepped (rawBy p (decode raw)) (length raw) unit eol st out s₀ r out′ s₂
         → Stepped (anyLineBy o (decode raw)) (length raw) unit eol st out s₀ r out′ s₂
-    unfolding anyLine choose
-    format-block q v = stepped-as _ _ s₀ (only-same s₀ 0 0) (omega arith) (omega arith) (λ f h. sym (choose-true _ _ _ (in-block h ∙ q))) v
+    format-raw q v =
+        stepped-as _ _ s₀ (only-same s₀ 0 0) (omega arith) (omega arith)
+        (λ f h. raw-same o f (decode raw) p b (in-block h) (e ∙ ap (λ (y : Carry). p || not (inCodeNow y)) (h .carry)) q) v
 
-    module _ (free : p ≡ false) (b : Bool) (e : b ≡ inCodeNow (st .carry)) where
-      pub format-inside : b ≡ false → Stepped (rawBy false (decode raw)) (length raw) unit eol st out s₀ r out′ s₂
-          → Stepped (anyLineBy o (decode raw)) (length raw) unit eol st out s₀ r out′ s₂
-      unfolding anyLine choose
-      format-inside q v =
-          stepped-as _ _ s₀ (only-same s₀ 0 0) (omega arith) (omega arith)
-          (λ f h. sym (choose-false _ _ _ (in-block h ∙ free) ∙ choose-false _ _ _ (in-now b e h ∙ q))) v
-
-      pub format-code : b ≡ true → isEmpty (trim (decode raw)) ≡ false → Stepped (codeLineBy o (decode raw)) (length raw) unit eol st out s₀ r out′ s₂
+    module _ (q : b ≡ false) where
+      pub format-code : isEmpty (trim (decode raw)) ≡ false → Stepped (codeLineBy o (decode raw)) (length raw) unit eol st out s₀ r out′ s₂
           → Stepped (anyLineBy o (decode raw)) (length raw) unit eol st out s₀ r out′ s₂
       unfolding anyLine
-      format-code q z v =
+      format-code z v =
           stepped-as _ _ s₀ (only-same s₀ 0 0) (omega arith) (omega arith)
-          (λ f h. sym (choose-false _ _ _ (in-block h ∙ free) ∙ choose-true _ _ _ (in-now b e h ∙ q) ∙ choose-false _ _ _ z)) v
+          (λ f h. sym (choose-false _ _ _ (free q h) ∙ choose-true _ _ _ (in-now q h) ∙ choose-false _ _ _ z)) v
 
-      pub format-blank : b ≡ true → isEmpty (trim (decode raw)) ≡ true → Stepped blankLine 0 unit eol st out s₀ r out′ s₂
+      pub format-blank : isEmpty (trim (decode raw)) ≡ true → Stepped blankLine 0 unit eol st out s₀ r out′ s₂
           → Stepped (anyLineBy o (decode raw)) (length raw) unit eol st out s₀ r out′ s₂
       unfolding anyLine
-      format-blank q z v =
+      format-blank z v =
           stepped-as _ _ s₀ (only-same s₀ 0 0) (omega arith) (omega arith)
-          (λ f h. sym (choose-false _ _ _ (in-block h ∙ free) ∙ choose-true _ _ _ (in-now b e h ∙ q) ∙ choose-true _ _ _ z)) v
+          (λ f h. sym (choose-false _ _ _ (free q h) ∙ choose-true _ _ _ (in-now q h) ∙ choose-true _ _ _ z)) v
 
 -- a trimmed line, blank or not
 module _ (raw : List ℕ) (tail start : ℕ) (e : TrimmedEnd raw tail) (s : TrimmedStart (take tail raw) start) where

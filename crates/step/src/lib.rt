@@ -6,7 +6,7 @@ ghost use lib.ListN.{length};
 ghost use Rattle.unicode.specs.Unicode.{encode, decode, WellFormed};
 ghost use Rattle.rules.specs.Basics.{isEmpty};
 ghost use Rattle.rules.specs.Lines.{asStr};
-ghost use Rattle.rules.specs.Line.{protects, inCodeNow};
+ghost use Rattle.rules.specs.Line.{protects};
 ghost use Rattle.rules.specs.Options.{Options};
 ghost use Rattle.rules.specs.Scan.{classify};
 ghost use Rattle.rules.specs.Spacing.{respaced};
@@ -314,17 +314,6 @@ fn code_line<'a>(
     spaced_line(line, scratch, unit, after, alone, indent, style, out, st)
 }
 
-// Whether nothing is open.
-fn in_code(carry: Carry) -> bool
-    ensures { λ r. ⌜ r ≡ inCodeNow carry ⌝ }
-{
-    match carry {
-        Carry::Code => true,
-        Carry::Block(_) => false,
-        Carry::Prefab => false,
-    }
-}
-
 // One line, of any kind.
 pub fn line_step(
     raw: &[u8],
@@ -341,19 +330,17 @@ pub fn line_step(
     ensures { λ r. ⌜ ((o : Options) → Uses o (now (indent .entry)) style → Stepped (anyLineBy o (decode (now (raw .entry)))) (length (now (raw .entry))) unit (asStr (style .ending)) st (now (out .entry)) (now (scratch .entry)) r (now (out .exit)) (now (scratch .exit))) ⌝ }
 {
     let pending = st.ignore;
-    let ending = style.ending;
-    if line::kept::in_block(pending) {
-        return line::kept::raw_line(raw, true, ending, out, scratch, unit, st);
-    }
     let carry = st.carry;
-    if in_code(carry) {
-        let tail = unicode::trim_end(raw);
-        let start = unicode::trim_start(&raw[..tail]);
-        if start == tail {
-            return line::kept::blank_line(out, ending, st);
-        }
-        let line = &raw[start..tail];
-        return code_line(raw, line, scratch, unit, indent, style, out, st);
+    let ending = style.ending;
+    let guarded = line::kept::in_block(pending);
+    if line::kept::is_raw(guarded, carry) {
+        return line::kept::raw_line(raw, guarded, ending, out, scratch, unit, st);
     }
-    line::kept::raw_line(raw, false, ending, out, scratch, unit, st)
+    let tail = unicode::trim_end(raw);
+    let start = unicode::trim_start(&raw[..tail]);
+    if start == tail {
+        return line::kept::blank_line(out, ending, st);
+    }
+    let line = &raw[start..tail];
+    code_line(raw, line, scratch, unit, indent, style, out, st)
 }

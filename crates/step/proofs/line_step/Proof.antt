@@ -2,13 +2,16 @@ use native.Mathlib.Omega.{arith}
 use mathlib.Core.Path.{sym}
 use lib.Seq.{length-take-le}
 use Rattle.line.proofs.HoldsLaws.{start-within, trimmed-line}
-use Rattle.step.proofs.StepLaws.{code-carry, format-block, format-inside, format-code, format-blank, blank-trim, some-line, some-trim}
+use Rattle.step.proofs.StepLaws.{code-carry, format-raw, format-code, format-blank, blank-trim, some-line, some-trim}
 use borrow.Author.Needs.{needs}
 use Rattle.step.proofs.line_step.Statement.{statement}
 use Rattle.step.proofs.line_step.Tie as tie
 
 in-block-requires : tie.Need-in-block-requires
 in-block-requires c κs = search needs
+
+is-raw-requires : tie.Need-is-raw-requires
+is-raw-requires c κs = search needs
 
 raw-line-requires : tie.Need-raw-line-requires
 raw-line-requires c κs = search needs
@@ -20,10 +23,7 @@ same-length-2 : tie.Need-same-length-2
 same-length-2 c = search needs
 
 returns : tie.Need-returns
-returns c = λ o u. format-block _ ((c .before .before .before .before .before .before .before .before) .in-block .ensures) _ o ((c .before .before .before .before .before .before .before) .if1 .taken) ((c .before .before .before .before) .raw-line .ensures)
-
-in-code-requires : tie.Need-in-code-requires
-in-code-requires c κs = search needs
+returns c = λ o u. format-raw _ _ ((c .before .before .before .before .before .before .before .before .before) .in-block .ensures) ((c .before .before .before .before .before .before .before .before) .is-raw .ensures) _ o ((c .before .before .before .before .before .before .before) .if1 .taken) ((c .before .before .before .before) .raw-line .ensures)
 
 trim-end-requires : tie.Need-trim-end-requires
 trim-end-requires c κs = search needs
@@ -47,8 +47,7 @@ returns-2 c =
     let e = d .before .before in
     let h = e .before in
     let i = h .before in
-    let j = i .before in
-    λ o u. format-blank _ (j .before .in-block .ensures) _ o (j .if1 .left) _ (i .in-code .ensures) (h .if2 .taken) (blank-trim _ _ _ (e .trim-end .ensures) (d .trim-start .ensures) (g .if3 .taken)) ((c .before .before) .blank-line .ensures .step _ _)
+    λ o u. format-blank _ _ (i .before .in-block .ensures) (i .is-raw .ensures) _ o (h .if1 .left) (blank-trim _ _ _ (e .trim-end .ensures) (d .trim-start .ensures) (g .if2 .taken)) ((c .before .before) .blank-line .ensures .step _ _)
 
 sub-line : tie.Need-sub-line
 sub-line c = start-within _ _ _ ((c .before .before .before) .trim-end .ensures) ((c .before) .trim-start .ensures)
@@ -66,10 +65,10 @@ code-line-requires c κs =
     let e = d .before .before in
     let h = e .before in
     let i = h .before in
-    let s = i .before .before .before .before .before .before .before in
+    let s = i .before .before .before .before .before .before in
     let te = e .trim-end .ensures in
     let ts = d .trim-start .ensures in
-    (s .pre .0, (code-carry _ _ (i .in-code .ensures) (h .if2 .taken), (s .pre .1 .0, (trimmed-line _ _ _ te ts, (some-line _ _ _ te ts (g .if3 .left), s .pre .1 .1)))))
+    (s .pre .0, (code-carry (i .before .in-block .result) (i .is-raw .result) _ (i .is-raw .ensures) (h .if1 .left), (s .pre .1 .0, (trimmed-line _ _ _ te ts, (some-line _ _ _ te ts (g .if2 .left), s .pre .1 .1)))))
 
 same-length-4 : tie.Need-same-length-4
 same-length-4 c = search needs
@@ -84,35 +83,18 @@ returns-3 c =
     let e = d .before .before in
     let h = e .before in
     let i = h .before in
-    let j = i .before in
-    λ o u. format-code _ (j .before .in-block .ensures) _ o (j .if1 .left) _ (i .in-code .ensures) (h .if2 .taken) (some-trim _ _ _ (e .trim-end .ensures) (d .trim-start .ensures) (g .if3 .left)) ((c .before .before .before .before) .code-line .ensures o u)
-
-raw-line-requires-2 : tie.Need-raw-line-requires-2
-raw-line-requires-2 c κs = search needs
-
-same-length-6 : tie.Need-same-length-6
-same-length-6 c = search needs
-
-same-length-7 : tie.Need-same-length-7
-same-length-7 c = search needs
-
-returns-4 : tie.Need-returns-4
-returns-4 c =
-    let h = (c .before .before .before .before .before .before .before) in
-    let i = h .before in
-    let j = i .before in
-    λ o u. format-inside _ (j .before .in-block .ensures) _ o (j .if1 .left) _ (i .in-code .ensures) (h .if2 .left) ((c .before .before .before .before) .raw-line2 .ensures)
+    λ o u. format-code _ _ (i .before .in-block .ensures) (i .is-raw .ensures) _ o (h .if1 .left) (some-trim _ _ _ (e .trim-end .ensures) (d .trim-start .ensures) (g .if2 .left)) ((c .before .before .before .before) .code-line .ensures o u)
 
 pub line-step-spec : {M : Type 1} → statement M
 line-step-spec =
     tie.close
     (tie.spec
     in-block-requires
+    is-raw-requires
     raw-line-requires
     same-length
     same-length-2
     returns
-    in-code-requires
     trim-end-requires
     slice-aggregate-trim-start
     trim-start-requires
@@ -125,8 +107,4 @@ line-step-spec =
     code-line-requires
     same-length-4
     same-length-5
-    returns-3
-    raw-line-requires-2
-    same-length-6
-    same-length-7
-    returns-4)
+    returns-3)

@@ -1,0 +1,47 @@
+-- How long a beginning of a text agrees with a model, and where a text goes.
+use Prim.Native.Nat.{ℕ, suc, _+_, _*_, _≤_, _<_, _^_, min}
+use mathlib.Core.Bool.{Bool, true, false}
+use mathlib.Core.List.{List, [], _∷_, _++_}
+use mathlib.Core.Path.{_≡_}
+use lib.Dec.{eqb}
+use lib.ListN.{length, take, getD}
+use Rattle.buffer.specs.Buffer.{Agree}
+use Rattle.rules.specs.Basics.{choose, startsWith}
+
+-- how many of the first elements of t are those of the model
+unfoldable pub common : List ℕ → List ℕ → ℕ
+common [] t = 0
+common (m ∷ ms) [] = 0
+common (m ∷ ms) (c ∷ t) = choose (eqb m c) (suc (common ms t)) 0
+
+-- a number below 2 ^ 24 in three bytes
+abbrev pub cellSize : ℕ
+cellSize = 3
+
+unfoldable pub cellOf : List ℕ → ℕ
+cellOf x = getD x 0 0 + getD x 1 0 * 256 + getD x 2 0 * 65536
+
+pub record CellPut (x : List ℕ) (n : ℕ) (x′ : List ℕ) : Type 0 where
+  pub size : length x′ ≡ length x
+  pub is : n < 2 ^ 24 → cellOf x′ ≡ n
+
+-- As far as the text goes, the number kept tells how long it agrees: so this holds of a text that is cut back, too.
+pub record Tracks (model x text : List ℕ) : Type 0 where
+  pub room : cellSize ≤ length x
+  pub small : length model < 2 ^ 24
+  pub same : min (cellOf x) (length text) ≡ common model text
+
+-- x keeps the text: with no model as much of it as fits, with a model how long it agrees
+unfoldable pub Keeps : List ℕ → List ℕ → List ℕ → Type 0
+Keeps [] x text = Agree x text
+Keeps (m ∷ ms) x text = Tracks (m ∷ ms) x text
+
+-- l goes behind a text that reaches up to at; r is the next place
+pub record Compared (model x x′ : List ℕ) (at : ℕ) (l : List ℕ) (r : ℕ) : Type 0 where
+  pub next : r ≡ at + length l
+  pub size : length x′ ≡ length x
+  pub holds : (text : List ℕ) → length text ≡ at → Keeps model x text → Keeps model x′ (text ++ l)
+
+-- r tells whether the first k elements of the text are a beginning of the model
+pub record Tells (model x : List ℕ) (k : ℕ) (r : Bool) : Type 0 where
+  pub is : (text : List ℕ) → Keeps model x text → k ≤ length text → r ≡ startsWith model (take k text)

@@ -1,0 +1,151 @@
+// Where a text goes. With no model, to an output that may be too short. With a model, it is compared with that as it comes, and nothing of it is
+// written: three bytes keep how many of its first bytes are the model's. A text is cut back by going on from a smaller place.
+ghost use mathlib.Core.Path.{_≡_};
+ghost use mathlib.Core.List.{_++_};
+ghost use Prim.Native.Nat.{_+_, _<_, _≤_, _^_};
+ghost use lib.ListN.{length};
+ghost use Rattle.buffer.specs.Repeat.{times};
+ghost use Rattle.compare.specs.Common.{common, cellSize, cellOf, CellPut, Compared, Tells};
+
+// The bytes that keep how far the text agrees.
+pub const CELL: usize = 3;
+
+// How many of the first bytes of line are the model's.
+fn agree(model: &[u8], line: &[u8]) -> usize
+    ensures { λ r. ⌜ r ≡ common (now (model .entry)) (now (line .entry)) ⌝ }
+{
+    let n = buffer::place(line.len(), model.len());
+    let mut i = 0;
+    while i < n {
+        if model[i] != line[i] {
+            return i;
+        }
+        i += 1;
+    }
+    n
+}
+
+// The same of the indent, levels times over; no more turns than the model has bytes.
+fn agree_levels(model: &[u8], indent: &[u8], levels: usize) -> usize
+    ensures { λ r. ⌜ r ≡ common (now (model .entry)) (times levels (now (indent .entry))) ⌝ }
+{
+    let n = indent.len();
+    if n == 0 {
+        return 0;
+    }
+    let mut at = 0;
+    let mut level = 0;
+    while level < levels {
+        let k = agree(&model[at..], indent);
+        if k < n {
+            return at + k;
+        }
+        at += n;
+        level += 1;
+    }
+    at
+}
+
+fn wide(b: u8) -> usize
+    ensures { λ r. ⌜ (r ≡ b) × (r < 256) ⌝ }
+{
+    b as usize
+}
+
+fn read_cell(cell: &[u8]) -> usize
+    requires { ⌜ cellSize ≤ length (now cell) ⌝ }
+    ensures { λ r. ⌜ r ≡ cellOf (now (cell .entry)) ⌝ }
+{
+    wide(cell[0]) + wide(cell[1]) * 256 + wide(cell[2]) * 65536
+}
+
+fn put_cell(cell: &mut [u8], n: usize)
+    requires { ⌜ cellSize ≤ length (now cell) ⌝ }
+    ensures { λ _. ⌜ CellPut (now (cell .entry)) n (now (cell .exit)) ⌝ }
+{
+    let q = n / 256;
+    cell[0] = (n % 256) as u8;
+    cell[1] = (q % 256) as u8;
+    cell[2] = (q / 256 % 256) as u8;
+}
+
+// Compares line, where all of the text before it agrees.
+fn track(model: &[u8], cell: &mut [u8], at: usize, line: &[u8]) -> usize
+    requires { ⌜ at + length (now line) < 2 ^ 64 ⌝ }
+    requires { ⌜ 0 < length (now model) ⌝ }
+    ensures { λ r. ⌜ Compared (now (model .entry)) (now (cell .entry)) (now (cell .exit)) at (now (line .entry)) r ⌝ }
+{
+    let next = at + line.len();
+    if cell.len() < CELL {
+        return next;
+    }
+    if read_cell(cell) < at {
+        return next;
+    }
+    let p = buffer::place(at, model.len());
+    let n = agree(&model[p..], line);
+    put_cell(cell, at + n);
+    next
+}
+
+// Compares the indent, levels times over, in the same way.
+fn track_levels(model: &[u8], cell: &mut [u8], at: usize, indent: &[u8], levels: usize) -> usize
+    requires { ⌜ at + length (times levels (now indent)) < 2 ^ 64 ⌝ }
+    requires { ⌜ 0 < length (now model) ⌝ }
+    ensures { λ r. ⌜ Compared (now (model .entry)) (now (cell .entry)) (now (cell .exit)) at (times levels (now (indent .entry))) r ⌝ }
+{
+    let next = at + levels * indent.len();
+    if cell.len() < CELL {
+        return next;
+    }
+    if read_cell(cell) < at {
+        return next;
+    }
+    let p = buffer::place(at, model.len());
+    let n = agree_levels(&model[p..], indent, levels);
+    put_cell(cell, at + n);
+    next
+}
+
+// The line goes behind a text that reaches up to at. Gives the next place.
+pub fn append(model: &[u8], out: &mut [u8], at: usize, line: &[u8]) -> usize
+    requires { ⌜ at + length (now line) < 2 ^ 64 ⌝ }
+    ensures { λ r. ⌜ Compared (now (model .entry)) (now (out .entry)) (now (out .exit)) at (now (line .entry)) r ⌝ }
+{
+    if model.len() == 0 {
+        return buffer::append(out, at, line);
+    }
+    track(model, out, at, line)
+}
+
+// The indent, levels times over, and the line go behind a text that reaches up to at. Gives the next place.
+pub fn append_indented(
+    model: &[u8],
+    out: &mut [u8],
+    at: usize,
+    indent: &[u8],
+    levels: usize,
+    line: &[u8],
+) -> usize
+    requires { ⌜ at + (length (times levels (now indent)) + length (now line)) < 2 ^ 64 ⌝ }
+    ensures { λ r. ⌜ Compared (now (model .entry)) (now (out .entry)) (now (out .exit)) at (times levels (now (indent .entry)) ++ now (line .entry)) r ⌝ }
+{
+    if model.len() == 0 {
+        return buffer::append_indented(out, at, indent, levels, line);
+    }
+    let n = track_levels(model, out, at, indent, levels);
+    track(model, out, n, line)
+}
+
+// Whether the first k bytes of a compared text are a beginning of the model.
+pub fn begins(model: &[u8], out: &[u8], k: usize) -> bool
+    ensures { λ r. ⌜ Tells (now (model .entry)) (now (out .entry)) k r ⌝ }
+{
+    if model.len() == 0 {
+        return k == 0;
+    }
+    if out.len() < CELL {
+        return false;
+    }
+    k <= read_cell(out)
+}

@@ -81,9 +81,9 @@ pub settled-pushes : (new ls : List (List ℕ)) → Extends (settledLines ls) (s
 settled-pushes [] ls = extends-refl (settledLines ls)
 settled-pushes (l ∷ new) ls = extends-trans _ _ _ (settled-push l ls) (settled-pushes new (l ∷ ls))
 
-settled-empty : (ls : List (List ℕ)) → settledLines ([] ∷ ls) ≡ settledLines ls
+pub settled-white : (l : List ℕ) (ls : List (List ℕ)) → White l → settledLines (l ∷ ls) ≡ settledLines ls
 unfolding settledLines
-settled-empty ls = choose-true _ _ _ (ap isEmpty (trim-none [] tt))
+settled-white l ls w = choose-true _ _ _ (ap isEmpty (trim-none l w))
 
 pub settled-solid : (l : List ℕ) (ls : List (List ℕ)) → (White l → ⊥) → settledLines (l ∷ ls) ≡ ls
 unfolding settledLines
@@ -92,13 +92,13 @@ settled-solid l ls n = choose-case (λ (a : List (List ℕ)). a ≡ ls) (λ h. a
 pub settled-drop : (ls : List (List ℕ)) → settledLines (dropBlank ls) ≡ settledLines ls
 unfolding dropBlank
 settled-drop [] = refl
-settled-drop ([] ∷ ls) = sym (settled-empty ls)
+settled-drop ([] ∷ ls) = sym (settled-white [] ls tt)
 settled-drop ((c ∷ cs) ∷ ls) = refl
 
 pub settled-dropEmpty : (ls : List (List ℕ)) → settledLines (dropEmpty ls) ≡ settledLines ls
 unfolding dropEmpty
 settled-dropEmpty [] = refl
-settled-dropEmpty ([] ∷ ls) = settled-dropEmpty ls ∙ sym (settled-empty ls)
+settled-dropEmpty ([] ∷ ls) = settled-dropEmpty ls ∙ sym (settled-white [] ls tt)
 settled-dropEmpty ((c ∷ cs) ∷ ls) = refl
 
 -- an else lengthens a line that is not settled

@@ -1,19 +1,23 @@
 -- What a written line, a joined else, several lines and the end make of the text.
 use Prim.Native.Nat.{ℕ, _+_, _-_, _^_, _≤_, _<_}
-use mathlib.Core.Bool.{Bool, true, false, not}
+use mathlib.Core.Bool.{Bool, true, false, not, true≢false}
 use mathlib.Core.Path.{_≡_, refl, sym, ap, _∙_}
 use mathlib.Core.List.{List, [], _∷_, _++_, append-assoc}
 use native.Mathlib.Omega.{arith}
 use lib.Dec.{eqb}
-use lib.ListN.{length, take, drop, replicate, length-append, take-append-drop}
+use lib.ListN.{length, take, replicate, length-append}
 use lib.Seq.{length-take-le}
 use Rattle.unicode.specs.Unicode.{encode, decode, size, trimEnd}
+use Rattle.unicode.proofs.Trim.{White, white-append, end-none, end-split}
+use borrow.Author.Tests.{eq-eqb, eqb-true}
 use Rattle.unicode.proofs.Decode.{encode-nil, encode-append, encode-ascii, size-append}
-use Rattle.buffer.specs.Buffer.{over, Agree, Appended, Finishes}
+use Rattle.buffer.specs.Buffer.{Agree, Finishes}
 use Rattle.buffer.specs.Repeat.{times}
-use Rattle.buffer.proofs.OverLaws.{length-over}
-use Rattle.buffer.proofs.WriteLaws.{appended-nil}
-use Rattle.buffer.proofs.AgreeLaws.{agree-nil, agree-cut, appended-agree, finishes-text}
+use Rattle.buffer.proofs.AgreeLaws.{finishes-text}
+use Rattle.compare.specs.Common.{Keeps, Compared}
+use Rattle.compare.proofs.WriterLaws.{compared-nil, keeps-cut}
+use Rattle.check_rules.specs.Check.{settledLines, closed}
+use Rattle.check_rules.proofs.SettledLaws.{settled-drop, settled-join, settled-solid, settled-white, joined-closed}
 use Rattle.rules.specs.declared.LineEnding.{LineEnding}
 use Rattle.rules.specs.Basics.{choose}
 use Rattle.rules.specs.Lines.{asStr}
@@ -25,7 +29,7 @@ use Rattle.rules.specs.Call.{filled}
 use Rattle.rules.proofs.Choose.{choose-case, choose-true, choose-false}
 use Rattle.text.specs.declared.Last.{Last}
 use Rattle.text.specs.declared.Written.{Written}
-use Rattle.text.specs.Text.{trimNewest, newestBy, newestOf, isFirst, sepBy, sepOf, keptLines, aloneAfter, tailOf, fullOf, nothing, afterLines, Line, ElseLine, Text, Grown, Ordered, From, Adds, Joins, Continued, Finished}
+use Rattle.text.specs.Text.{trimNewest, newestBy, newestOf, isFirst, sepBy, sepOf, keptLines, aloneAfter, tailOf, fullOf, nothing, afterLines, Line, ElseLine, Text, Grown, Ordered, From, Adds, Joins, Continued, Ended, Finished}
 use Rattle.text.proofs.LinesLaws.{not-alone, joined-cons, joined-grow, size-joined, encode-append-lines, full-cut, full-empty, full-line, below-cut, below-full, below-empty, below-line, newest-cut}
 use Rattle.text.proofs.PadLaws.{Blanks, indent-blanks, blanks-encode, some-size, some-chars, none-test, some-test, tail-pad, join-pad, else-trimmed, else-joinable}
 
@@ -48,19 +52,19 @@ sep-bytes eol false e = e .bytes
 pub sep-le : (ending : LineEnding) (first : Bool) → length (sepBy (asStr ending) first) ≤ 2
 sep-le e first = choose-case (λ (l : List ℕ). length l ≤ 2) (λ _. omega arith) (λ _. ending e .small)
 
-pub ending-lf : (e : LineEnding) (x y : List ℕ) (at r : ℕ) → e ≡ LineEnding.Lf → Appended x y at (10 ∷ []) r → Appended x y at (asStr e) r
+pub ending-lf : (e : LineEnding) (m x y : List ℕ) (at r : ℕ) → e ≡ LineEnding.Lf → Compared m x y at (10 ∷ []) r → Compared m x y at (asStr e) r
 unfolding asStr
-ending-lf e x y at r k w = rw k w
+ending-lf e m x y at r k w = rw k w
 
-pub ending-crlf : (e : LineEnding) (x y : List ℕ) (at r : ℕ) → e ≡ LineEnding.Crlf → Appended x y at (13 ∷ 10 ∷ []) r → Appended x y at (asStr e) r
+pub ending-crlf : (e : LineEnding) (m x y : List ℕ) (at r : ℕ) → e ≡ LineEnding.Crlf → Compared m x y at (13 ∷ 10 ∷ []) r → Compared m x y at (asStr e) r
 unfolding asStr
-ending-crlf e x y at r k w = rw k w
+ending-crlf e m x y at r k w = rw k w
 
-pub sep-none : (eol x : List ℕ) (at : ℕ) (first : Bool) → first ≡ true → Appended x x at (sepBy eol first) at
-sep-none eol x at first k = rw (choose-true first [] eol k) (appended-nil x at)
+pub sep-none : (eol m x : List ℕ) (at : ℕ) (first : Bool) → first ≡ true → Compared m x x at (sepBy eol first) at
+sep-none eol m x at first k = rw (choose-true first [] eol k) (compared-nil m x at)
 
-pub sep-eol : (eol x y : List ℕ) (at r : ℕ) (first : Bool) → first ≡ false → Appended x y at eol r → Appended x y at (sepBy eol first) r
-sep-eol eol x y at r first k w = rw (choose-false first [] eol k) w
+pub sep-eol : (eol m x y : List ℕ) (at r : ℕ) (first : Bool) → first ≡ false → Compared m x y at eol r → Compared m x y at (sepBy eol first) r
+sep-eol eol m x y at r first k w = rw (choose-false first [] eol k) w
 
 -- ---- the parts of the record
 
@@ -78,14 +82,34 @@ full-mono false x y at h = omega arith
 kind-some : (l : List ℕ) (b : Bool) → 1 ≤ size l → newestBy 1 b ≡ newestBy (size l) b
 kind-some l b h = rw (some-test l h) refl
 
+-- ---- lines of white space
+
+end-white-all : (l : List ℕ) → trimEnd l ≡ [] → White l
+end-white-all l e = let s = end-split l in rw (s .2 ∙ ap (λ (x : List ℕ). x ++ s .0) e) (s .1)
+
+white-right : (a b : List ℕ) → White (a ++ b) → White b
+white-right [] b w = w
+white-right (c ∷ a) b w = white-right a b (w .1)
+
+none-size : (l : List ℕ) → size l ≡ 0 → l ≡ []
+none-size [] e = refl
+none-size (c ∷ cs) e = absurd (let h = some-size c cs in omega arith)
+
 -- what the text is written after: its lines, the place, the place without its last empty lines, and whether there is no line
-record Stem (eol : List ℕ) (ls : List (List ℕ)) (from full : ℕ) (first : Bool) (out : List ℕ) : Type 0 where
+record Stem (model eol : List ℕ) (ls : List (List ℕ)) (from full settled : ℕ) (first : Bool) (out : List ℕ) : Type 0 where
   pub place : from ≡ size (joined eol ls)
-  pub holds : Agree out (encode (joined eol ls))
+  pub holds : Keeps model out (encode (joined eol ls))
   pub whole : full ≡ size (joined eol (dropEmpty ls))
   pub starts : first ≡ isFirst (newestOf ls)
+  pub settles : settled ≡ size (closed eol (settledLines ls))
 
-module _ (eol : List ℕ) where
+-- lines with their endings are the lines joined, and the separator before a next one
+closed-joined : (eol : List ℕ) (ls : List (List ℕ)) → closed eol ls ≡ joined eol ls ++ sepOf eol (newestOf ls)
+unfolding closed
+closed-joined eol [] = unfold joined in unfold newestOf in unfold choose in refl
+closed-joined eol (l ∷ ls) = sym (rw (joined-closed eol l ls, choose-false (isFirst (newestOf (l ∷ ls))) [] eol (not-alone l ls), append-assoc))
+
+module _ (model eol : List ℕ) where
   full-at : (l : List ℕ) (ls : List (List ℕ)) (full at : ℕ) → full ≡ size (joined eol (dropEmpty ls)) → at ≡ size (joined eol (l ∷ ls))
       → fullOf (size l) full at ≡ size (joined eol (dropEmpty (l ∷ ls)))
   full-at [] ls full at e f = choose-true (eqb (size []) 0) full at none-test ∙ e ∙ ap (λ (x : List (List ℕ)). size (joined eol x)) (sym (full-empty ls))
@@ -106,36 +130,46 @@ module _ (eol : List ℕ) where
       choose-false (eqb (size (c ∷ cs)) 0) first false (some-test (c ∷ cs) (some-size c cs)) ∙ sym (not-alone (c ∷ cs) ls)
       ∙ ap (λ (x : List (List ℕ)). isFirst (newestOf x)) (sym (below-line (c ∷ cs) ls (some-size c cs)))
 
-  stem : (drops : Bool) (ls : List (List ℕ)) (t : Written) (out : List ℕ) → Text eol ls t out
-      → Stem eol (keptLines drops ls) (choose drops (t .below) (t .at .0)) (t .full) (choose drops (t .alone) (isFirst (t .last))) out
+  -- what is settled is before the newest line, if that holds more than white space, and else what was settled before it
+  settled-at : (l : List ℕ) (ls : List (List ℕ)) (tail settled start : ℕ) → (eqb tail 0 ≡ true → White l) → (eqb tail 0 ≡ false → White l → ⊥)
+      → settled ≡ size (closed eol (settledLines ls)) → start ≡ size (joined eol ls ++ sepOf eol (newestOf ls))
+      → fullOf tail settled start ≡ size (closed eol (settledLines (l ∷ ls)))
+  settled-at l ls tail settled start w s e f =
+      choose-case (λ (n : ℕ). n ≡ size (closed eol (settledLines (l ∷ ls))))
+      (λ h. e ∙ ap (λ (x : List (List ℕ)). size (closed eol x)) (sym (settled-white l ls (w h))))
+      (λ h. f ∙ ap size (sym (closed-joined eol ls)) ∙ ap (λ (x : List (List ℕ)). size (closed eol x)) (sym (settled-solid l ls (s h))))
+
+  stem : (drops : Bool) (ls : List (List ℕ)) (t : Written) (out : List ℕ) → Text model eol ls t out
+      → Stem model eol (keptLines drops ls) (choose drops (t .below) (t .at .0)) (t .full) (t .settled) (choose drops (t .alone) (isFirst (t .last))) out
   unfolding choose
   stem true ls t out r =
       record {
         place = r .below;
-        holds = rw (below-cut eol ls) at (agree-cut out (encode (joined eol ls)) (size (joined eol (dropBlank ls))) (r .holds));
+        holds = rw (below-cut eol ls) at (keeps-cut model out (encode (joined eol ls)) (size (joined eol (dropBlank ls))) (r .holds));
         whole = r .full ∙ rw (below-full ls) refl;
         starts = r .alone;
+        settles = r .settles ∙ ap (λ (x : List (List ℕ)). size (closed eol x)) (sym (settled-drop ls));
       }
-  stem false ls t out r = record { place = r .at; holds = r .holds; whole = r .full; starts = ap isFirst (r .last) }
+  stem false ls t out r = record { place = r .at; holds = r .holds; whole = r .full; starts = ap isFirst (r .last); settles = r .settles }
 
   -- the separator is written
-  after-sep : (ls : List (List ℕ)) (from full : ℕ) (f : Bool) (out o1 : List ℕ) (start : ℕ) → Ending eol → Stem eol ls from full f out
-      → Appended out o1 from (sepBy eol f) start
-      → (start ≡ size (joined eol ls ++ sepOf eol (newestOf ls))) × Agree o1 (encode (joined eol ls ++ sepOf eol (newestOf ls)))
-  after-sep ls from full f out o1 start ends r w =
+  after-sep : (ls : List (List ℕ)) (from full settled : ℕ) (f : Bool) (out o1 : List ℕ) (start : ℕ) → Ending eol → Stem model eol ls from full settled f out
+      → Compared model out o1 from (sepBy eol f) start
+      → (start ≡ size (joined eol ls ++ sepOf eol (newestOf ls))) × Keeps model o1 (encode (joined eol ls ++ sepOf eol (newestOf ls)))
+  after-sep ls from full settled f out o1 start ends r w =
       let s : encode (sepOf eol (newestOf ls)) ≡ sepBy eol f = ap (λ (b : Bool). encode (sepBy eol b)) (sym (r .starts)) ∙ sep-bytes eol f ends in
       let e : encode (joined eol ls ++ sepOf eol (newestOf ls)) ≡ encode (joined eol ls) ++ sepBy eol f =
       encode-append (joined eol ls) (sepOf eol (newestOf ls)) ∙ ap (λ (x : List ℕ). encode (joined eol ls) ++ x) s in (
         omega (arith, ap length e, length-append (encode (joined eol ls)) (sepBy eol f), w .next, r .place),
-        rw e (appended-agree w (encode (joined eol ls)) (sym (r .place)) (r .holds)),
+        rw e (w .holds (encode (joined eol ls)) (sym (r .place)) (r .holds)),
       )
 
 -- ---- a line is added
 
 module _
-    (eol out o1 o2 p line : List ℕ) (from full : ℕ) (f : Bool) (start next tail : ℕ) (joins : Bool)
+    (model eol out o1 o2 p line : List ℕ) (from full settled : ℕ) (f : Bool) (start next tail : ℕ) (joins : Bool)
     (ends : Ending eol) (b : Blanks p) (told : Line line tail joins)
-    (first : Appended out o1 from (sepBy eol f) start) (second : Appended o1 o2 start (p ++ line) next)
+    (first : Compared model out o1 from (sepBy eol f) start) (second : Compared model o1 o2 start (p ++ line) next)
   where
     bytes : encode (p ++ decode line) ≡ p ++ line
     bytes = blanks-encode p (decode line) b ∙ ap (λ (x : List ℕ). p ++ x) (told .well)
@@ -158,53 +192,61 @@ module _
           below = fullOf (next - start) from next;
           alone = aloneAfter (next - start) f;
           last = newestBy (next - start) joins;
+          settled = fullOf tail settled start;
         }
 
-    push-text : (ls : List (List ℕ)) → Stem eol ls from full f out → Text eol ((p ++ decode line) ∷ ls) pushed o2
+    white-tail : eqb tail 0 ≡ true → White (p ++ decode line)
+    white-tail h = white-append p (decode line) (b .white) (end-white-all (decode line) (none-size (trimEnd (decode line)) (sym kept ∙ eqb-true tail 0 h)))
+
+    solid-tail : eqb tail 0 ≡ false → White (p ++ decode line) → ⊥
+    solid-tail h w = true≢false (sym (eq-eqb tail 0 (kept ∙ ap size (end-none (decode line) (white-right p (decode line) w)) ∙ ap length encode-nil)) ∙ h)
+
+    push-text : (ls : List (List ℕ)) → Stem model eol ls from full settled f out → Text model eol ((p ++ decode line) ∷ ls) pushed o2
     unfolding newestOf trimNewest
     push-text ls r =
         let l = p ++ decode line in
-        let s = after-sep eol ls from full f out o1 start ends r first in
+        let s = after-sep model eol ls from full settled f out o1 start ends r first in
         let e : encode (joined eol (l ∷ ls)) ≡ encode (joined eol ls ++ sepOf eol (newestOf ls)) ++ (p ++ line) =
         ap encode (joined-cons eol l ls ∙ sym (append-assoc (joined eol ls) (sepOf eol (newestOf ls)) l))
         ∙ encode-append (joined eol ls ++ sepOf eol (newestOf ls)) l ∙ ap (λ (x : List ℕ). encode (joined eol ls ++ sepOf eol (newestOf ls)) ++ x) bytes in
         let n : next ≡ size (joined eol (l ∷ ls)) = omega (arith, ap length e, length-append (encode (joined eol ls ++ sepOf eol (newestOf ls))) (p ++ line), second .next, s .0) in
         record {
           at = n;
-          holds = rw e (appended-agree second (encode (joined eol ls ++ sepOf eol (newestOf ls))) (sym (s .0)) (s .1));
+          holds = rw e (second .holds (encode (joined eol ls ++ sepOf eol (newestOf ls))) (sym (s .0)) (s .1));
           cut = rw (pad, kept) (omega (arith, size-joined eol (trimEnd l) ls, tail-pad p (decode line) b, s .0, size-append (joined eol ls) (sepOf eol (newestOf ls))));
-          full = rw long (full-at eol l ls full next (r .whole) n);
+          full = rw long (full-at model eol l ls full next (r .whole) n);
           last = rw (long, told .takes, ← join-pad p (decode line) b) refl;
-          below = rw long (below-at eol l ls from next (r .place) n);
-          alone = rw long (alone-at eol l ls f (r .starts));
+          below = rw long (below-at model eol l ls from next (r .place) n);
+          alone = rw long (alone-at model eol l ls f (r .starts));
+          settles = settled-at model eol l ls tail settled start white-tail solid-tail (r .settles) (s .0);
         }
 
 -- in the terms of the calls in `push_line`
-pub start-room : (e : LineEnding) (drops : Bool) (t : Written) (from : ℕ) (f : Bool) (x y : List ℕ) (start n : ℕ) → From drops t from → Appended x y from (sepBy (asStr e) f) start
+pub start-room : (e : LineEnding) (drops : Bool) (t : Written) (from : ℕ) (f : Bool) (m x y : List ℕ) (start n : ℕ) → From drops t from → Compared m x y from (sepBy (asStr e) f) start
     → t .at .0 + 2 + n < 2 ^ 64 → start + n < 2 ^ 64
-start-room e drops t from f x y start n wf w h = omega (arith, wf .small, w .next, sep-le e f)
+start-room e drops t from f m x y start n wf w h = omega (arith, wf .small, w .next, sep-le e f)
 
-module _ (p line : List ℕ) {x y : List ℕ} {start next : ℕ} (w : Appended x y start (p ++ line) next) where
+module _ (p line : List ℕ) {m x y : List ℕ} {start next : ℕ} (w : Compared m x y start (p ++ line) next) where
   pub pad-room : length line ≤ next - start
   pad-room = omega (arith, w .next, length-append p line)
 
   pub kept-room : {tail kept : ℕ} {joins : Bool} → Line line tail joins → kept ≡ tailOf (next - start - length line) tail → start + kept ≤ next
   kept-room {tail} told e = omega (arith, w .next, length-append p line, tail-le (next - start - length line) tail, told .trims .fits)
 
-pub push-done : (e : LineEnding) (drops : Bool) (out o1 o2 : List ℕ) (t : Written) (indent : List ℕ) (levels : ℕ) (line : List ℕ) (from : ℕ) (f : Bool) (start next tail : ℕ) (joins : Bool) (kept full below : ℕ) (alone : Bool) (last : Last)
+pub push-done : (e : LineEnding) (drops : Bool) (model out o1 o2 : List ℕ) (t : Written) (indent : List ℕ) (levels : ℕ) (line : List ℕ) (from : ℕ) (f : Bool) (start next tail : ℕ) (joins : Bool) (kept full below : ℕ) (alone : Bool) (last : Last) (settled : ℕ)
     → allBlank indent ≡ true → Line line tail joins → Ordered t → From drops t from → f ≡ choose drops (t .alone) (isFirst (t .last))
-    → Appended out o1 from (sepBy (asStr e) f) start → Appended o1 o2 start (times levels indent ++ line) next
+    → Compared model out o1 from (sepBy (asStr e) f) start → Compared model o1 o2 start (times levels indent ++ line) next
     → kept ≡ tailOf (next - start - length line) tail → full ≡ fullOf (next - start) (t .full) next
-    → below ≡ fullOf (next - start) from next → alone ≡ aloneAfter (next - start) f → last ≡ newestBy (next - start) joins
-    → Adds (asStr e) drops (times levels indent ++ decode line) out t o2
-    (record { at = record { 0 = next }; cut = start + kept; full = full; below = below; alone = alone; last = last })
-push-done e drops out o1 o2 t indent levels line from f start next tail joins kept full below alone last blank told order wf ef first second ek efull eb ea el =
+    → below ≡ fullOf (next - start) from next → alone ≡ aloneAfter (next - start) f → last ≡ newestBy (next - start) joins → settled ≡ fullOf tail (t .settled) start
+    → Adds (asStr e) drops (times levels indent ++ decode line) model out t o2
+    (record { at = record { 0 = next }; cut = start + kept; full = full; below = below; alone = alone; last = last; settled = settled })
+push-done e drops model out o1 o2 t indent levels line from f start next tail joins kept full below alone last settled blank told order wf ef first second ek efull eb ea el es =
     let p = times levels indent in
     let b = indent-blanks levels indent blank in
     let over : t .full ≤ from = rw (wf .is) (choose-case (λ (n : ℕ). t .full ≤ n) (λ _. order .full) (λ _. omega (arith, order .full, order .below))) in
-    rw (ek, efull, eb, ea, el)
+    rw (ek, efull, eb, ea, el, es)
     (record {
-      text = λ ls r. push-text (asStr e) out o1 o2 p line from (t .full) f start next tail joins (ending e) b told first second (keptLines drops ls) (rw (wf .is, ef) (stem (asStr e) drops ls t out r));
+      text = λ ls r. push-text model (asStr e) out o1 o2 p line from (t .full) (t .settled) f start next tail joins (ending e) b told first second (keptLines drops ls) (rw (wf .is, ef) (stem model (asStr e) drops ls t out r));
       grown = record {
         at = omega (arith, second .next, first .next, sep-le e f, wf .small, ap length (blanks-encode p (decode line) b), ap length (told .well), length-append p line, length-append p (encode (decode line)));
         cut = kept-room p line second told refl;
@@ -215,18 +257,18 @@ push-done e drops out o1 o2 t indent levels line from f start next tail joins ke
 
 -- ---- an else is joined
 
-pub join-done : (out o1 o2 : List ℕ) (t : Written) (line : List ℕ) (start next : ℕ) (joins : Bool) (last : Last)
-    → ElseLine line joins → t .cut ≤ t .at .0 → Appended out o1 (t .cut) (32 ∷ []) start → Appended o1 o2 start line next → last ≡ newestBy 1 joins
-    → Joins (decode line) out t o2 (record { at = record { 0 = next }; cut = next; full = next; below = next; alone = false; last = last })
+pub join-done : (model out o1 o2 : List ℕ) (t : Written) (line : List ℕ) (start next : ℕ) (joins : Bool) (last : Last)
+    → ElseLine line joins → t .cut ≤ t .at .0 → Compared model out o1 (t .cut) (32 ∷ []) start → Compared model o1 o2 start line next → last ≡ newestBy 1 joins
+    → Joins (decode line) model out t o2 (record { at = record { 0 = next }; cut = next; full = next; below = next; alone = false; last = last; settled = t .settled })
 unfolding canJoin joinElse trimNewest newestOf
-join-done out o1 o2 t line start next joins last told small first second el =
+join-done model out o1 o2 t line start next joins last told small first second el =
     record {
       text = go;
       grown = record { at = omega (arith, first .next, second .next, ap length (told .well)); cut = omega arith; full = omega arith; below = omega arith };
     }
   where
-    go : (eol : List ℕ) (ls : List (List ℕ)) → Text eol ls t out → canJoin ls ≡ true
-        → Text eol (joinElse (decode line) ls) (record { at = record { 0 = next }; cut = next; full = next; below = next; alone = false; last = last }) o2
+    go : (eol : List ℕ) (ls : List (List ℕ)) → Text model eol ls t out → canJoin ls ≡ true
+        → Text model eol (joinElse (decode line) ls) (record { at = record { 0 = next }; cut = next; full = next; below = next; alone = false; last = last; settled = t .settled }) o2
     go eol [] r j = absurd (let o : _≡_ {A = ℕ} 0 1 = cc in omega arith)
     go eol (l ∷ ls) r j =
         let x = trimEnd l in
@@ -238,10 +280,10 @@ join-done out o1 o2 t line start next joins last told small first second el =
         ap encode (joined-grow eol x add ls) ∙ encode-append (joined eol (x ∷ ls)) add ∙ ap (λ (y : List ℕ). encode (joined eol (x ∷ ls)) ++ y) bytes in
         let n : next ≡ size (joined eol (new ∷ ls)) = omega (arith, ap length g, length-append (encode (joined eol (x ∷ ls))) (32 ∷ line), r .cut, first .next, second .next) in
         let k : 1 ≤ size new = omega (arith, size-append x add, ap length bytes) in
-        let back : Agree out (encode (joined eol (x ∷ ls))) = rw (newest-cut eol l ls) at (agree-cut out (encode (joined eol (l ∷ ls))) (size (joined eol (x ∷ ls))) (r .holds)) in
-        let one : Agree o1 (encode (joined eol (x ∷ ls)) ++ (32 ∷ [])) = appended-agree first (encode (joined eol (x ∷ ls))) (sym (r .cut)) back in
-        let two : Agree o2 ((encode (joined eol (x ∷ ls)) ++ (32 ∷ [])) ++ line) =
-        appended-agree second (encode (joined eol (x ∷ ls)) ++ (32 ∷ [])) (omega (arith, length-append (encode (joined eol (x ∷ ls))) (32 ∷ []), r .cut, first .next)) one in
+        let back : Keeps model out (encode (joined eol (x ∷ ls))) = rw (newest-cut eol l ls) at (keeps-cut model out (encode (joined eol (l ∷ ls))) (size (joined eol (x ∷ ls))) (r .holds)) in
+        let one : Keeps model o1 (encode (joined eol (x ∷ ls)) ++ (32 ∷ [])) = first .holds (encode (joined eol (x ∷ ls))) (sym (r .cut)) back in
+        let two : Keeps model o2 ((encode (joined eol (x ∷ ls)) ++ (32 ∷ [])) ++ line) =
+        second .holds (encode (joined eol (x ∷ ls)) ++ (32 ∷ [])) (omega (arith, length-append (encode (joined eol (x ∷ ls))) (32 ∷ []), r .cut, first .next)) one in
         record {
           at = n;
           holds = rw g (rw append-assoc at two);
@@ -250,56 +292,64 @@ join-done out o1 o2 t line start next joins last told small first second el =
           below = n ∙ rw (below-line new ls k) refl;
           alone = rw (below-line new ls k) (sym (not-alone new ls));
           last = el ∙ ap (newestBy 1) (told .takes ∙ sym (else-joinable l (decode line) (told .trimmed) h j)) ∙ kind-some new (joinable new) k;
+          settles = r .settles ∙ ap (λ (a : List (List ℕ)). size (closed eol a)) (sym (settled-join (decode line) (l ∷ ls) j));
         }
 
 -- ---- several lines
 
-pub continue-done : (e : LineEnding) (drops : Bool) (out o1 : List ℕ) (t : Written) (from : ℕ) (f : Bool) (r : ℕ) → From drops t from → f ≡ choose drops (t .alone) (isFirst (t .last))
-    → Appended out o1 from (sepBy (asStr e) f) r → Continued (asStr e) drops out t o1 r
-continue-done e drops out o1 t from f r wf ef w =
-    let s : (ls : List (List ℕ)) → Text (asStr e) ls t out → Stem (asStr e) (keptLines drops ls) from (t .full) f out = λ ls x. rw (wf .is, ef) (stem (asStr e) drops ls t out x) in
+pub continue-done : (e : LineEnding) (drops : Bool) (model out o1 : List ℕ) (t : Written) (from : ℕ) (f : Bool) (r : ℕ) → From drops t from → f ≡ choose drops (t .alone) (isFirst (t .last))
+    → Compared model out o1 from (sepBy (asStr e) f) r → Continued (asStr e) drops model out t o1 r
+continue-done e drops model out o1 t from f r wf ef w =
+    let s : (ls : List (List ℕ)) → Text model (asStr e) ls t out → Stem model (asStr e) (keptLines drops ls) from (t .full) (t .settled) f out = λ ls x. rw (wf .is, ef) (stem model (asStr e) drops ls t out x) in
     record {
-      place = λ ls x. after-sep (asStr e) (keptLines drops ls) from (t .full) f out o1 r (ending e) (s ls x) w .0;
-      holds = λ ls x. after-sep (asStr e) (keptLines drops ls) from (t .full) f out o1 r (ending e) (s ls x) w .1;
+      place = λ ls x. after-sep model (asStr e) (keptLines drops ls) from (t .full) (t .settled) f out o1 r (ending e) (s ls x) w .0;
+      holds = λ ls x. after-sep model (asStr e) (keptLines drops ls) from (t .full) (t .settled) f out o1 r (ending e) (s ls x) w .1;
       small = omega (arith, w .next, wf .small, sep-le e f);
     }
 
-pub lines-record : (next : ℕ) (joins : Bool) (last : Last) → last ≡ newestBy 1 joins
-    → _≡_ {A = Written} (record { at = record { 0 = next }; cut = next; full = next; below = next; alone = false; last = last }) (afterLines next joins)
-lines-record next joins last e =
-    ap {B = Written} (λ (k : Last). record { at = record { 0 = next }; cut = next; full = next; below = next; alone = false; last = k }) e
+pub lines-record : (start next : ℕ) (joins : Bool) (last : Last) → last ≡ newestBy 1 joins
+    → _≡_ {A = Written} (record { at = record { 0 = next }; cut = next; full = next; below = next; alone = false; last = last; settled = start }) (afterLines start next joins)
+lines-record start next joins last e =
+    ap {B = Written} (λ (k : Last). record { at = record { 0 = next }; cut = next; full = next; below = next; alone = false; last = k; settled = start }) e
 
 module _
-    {eol out out′ after : List ℕ} {drops : Bool} {t : Written} {r next : ℕ} (m : List ℕ) (ms : List (List ℕ))
-    (go-on : Continued eol drops out t out′ r) (written : Appended out′ after r (encode (joined eol (m ∷ ms))) next)
+    {model eol out out′ after : List ℕ} {drops : Bool} {t : Written} {r next : ℕ} (m : List ℕ) (ms : List (List ℕ))
+    (go-on : Continued eol drops model out t out′ r) (written : Compared model out′ after r (encode (joined eol (m ∷ ms))) next)
   where
     -- lines written after `continue_text`, the newest of which is trimmed and not empty
-    pub lines-done : {joins : Bool} → 1 ≤ size m → trimEnd m ≡ m → joinable m ≡ joins
-        → (ls : List (List ℕ)) → Text eol ls t out → Text eol ((m ∷ ms) ++ keptLines drops ls) (afterLines next joins) after
+    pub lines-done : {joins : Bool} {last : ℕ} → 1 ≤ size m → trimEnd m ≡ m → joinable m ≡ joins → last + size m ≡ next
+        → (ls : List (List ℕ)) → Text model eol ls t out → Text model eol ((m ∷ ms) ++ keptLines drops ls) (afterLines last next joins) after
     unfolding trimNewest newestOf
-    lines-done {joins} some trims takes ls x =
+    lines-done {joins} {last} some trims takes ends ls x =
         let before = keptLines drops ls in
         let e : encode (joined eol ((m ∷ ms) ++ before)) ≡ encode (joined eol before ++ sepOf eol (newestOf before)) ++ encode (joined eol (m ∷ ms)) = encode-append-lines eol m ms before in
         let n : next ≡ size (joined eol ((m ∷ ms) ++ before)) =
         omega (arith, ap length e, length-append (encode (joined eol before ++ sepOf eol (newestOf before))) (encode (joined eol (m ∷ ms))), written .next, go-on .place ls x) in
         record {
           at = n;
-          holds = rw e (appended-agree written (encode (joined eol before ++ sepOf eol (newestOf before))) (sym (go-on .place ls x)) (go-on .holds ls x));
+          holds = rw e (written .holds (encode (joined eol before ++ sepOf eol (newestOf before))) (sym (go-on .place ls x)) (go-on .holds ls x));
           cut = n ∙ ap (λ (l : List ℕ). size (joined eol (l ∷ (ms ++ before)))) (sym trims);
           full = n ∙ rw (full-line m (ms ++ before) some) refl;
           below = n ∙ rw (below-line m (ms ++ before) some) refl;
           alone = rw (below-line m (ms ++ before) some) (sym (not-alone m (ms ++ before)));
           last = ap (newestBy 1) (sym takes) ∙ kind-some m (joinable m) some;
+          settles =
+              omega (arith, n, ends, ap size (joined-closed eol m (ms ++ before)), size-append (closed eol (ms ++ before)) m)
+              ∙ ap (λ (a : List (List ℕ)). size (closed eol a)) (sym (settled-solid m (ms ++ before) (λ w. solid (sym trims ∙ end-none m w))));
         }
 
-    pub lines-grown : (joins : Bool) → Grown t (size (joined eol (m ∷ ms)) + 2) (afterLines next joins)
-    lines-grown joins = record { at = omega (arith, written .next, go-on .small); cut = omega arith; full = omega arith; below = omega arith }
+      where
+        solid : m ≡ [] → ⊥
+        solid e = let h : 1 ≤ size m = some in omega (arith, ap size e, ap length encode-nil)
+
+    pub lines-grown : (last : ℕ) (joins : Bool) → Grown t (size (joined eol (m ∷ ms)) + 2) (afterLines last next joins)
+    lines-grown last joins = record { at = omega (arith, written .next, go-on .small); cut = omega arith; full = omega arith; below = omega arith }
 
 -- ---- the start and the end
 
-pub text-nothing : (eol out : List ℕ) → Text eol [] nothing out
-unfolding joined encode trimNewest dropEmpty dropBlank newestOf
-text-nothing eol out = record { at = refl; holds = agree-nil out; cut = refl; full = refl; last = refl; below = refl; alone = refl }
+pub text-nothing : (model eol out : List ℕ) → Keeps model out [] → Text model eol [] nothing out
+unfolding joined encode trimNewest dropEmpty dropBlank newestOf closed settledLines
+text-nothing model eol out k = record { at = refl; holds = k; cut = refl; full = refl; last = refl; below = refl; alone = refl; settles = refl }
 
 pub nothing-ordered : Ordered nothing
 nothing-ordered = record { cut = omega arith; full = omega arith; below = omega arith }
@@ -307,18 +357,14 @@ nothing-ordered = record { cut = omega arith; full = omega arith; below = omega 
 pub grown-ordered : {t u : Written} {n : ℕ} → Grown t n u → Ordered u
 grown-ordered g = record { cut = g .cut; full = g .full; below = g .below }
 
-appended-length : {x x′ l : List ℕ} {at r : ℕ} → Appended x x′ at l r → length x′ ≡ length x
-appended-length {x} {x′} {l} {at} w =
-    omega (arith, ap length (w .is), length-append (take at x) (over (drop at x) l), length-over (drop at x) l, length-append (take at x) (drop at x), ap length (take-append-drop at x))
-
 last-sep : (eol : List ℕ) (newline : Bool) → sepBy eol (not newline) ≡ choose newline eol []
 unfolding choose
 last-sep eol true = refl
 last-sep eol false = refl
 
 module _
-    (e : LineEnding) (newline : Bool) (out o1 : List ℕ) (t : Written) (r : ℕ)
-    (w : Appended out o1 (t .full) (sepBy (asStr e) (not newline)) r)
+    (e : LineEnding) (newline : Bool) (model out o1 : List ℕ) (t : Written) (r : ℕ)
+    (w : Compared model out o1 (t .full) (sepBy (asStr e) (not newline)) r)
   where
     rest : encode (choose newline (asStr e) []) ≡ sepBy (asStr e) (not newline)
     rest = ap encode (sym (last-sep (asStr e) newline)) ∙ sep-bytes (asStr e) (not newline) (ending e)
@@ -327,21 +373,25 @@ module _
     done ls =
         encode-append (joined (asStr e) (dropEmpty ls)) (choose newline (asStr e) []) ∙ ap (λ (x : List ℕ). encode (joined (asStr e) (dropEmpty ls)) ++ x) rest
 
-    finish-long : (ls : List (List ℕ)) → Text (asStr e) ls t out → r ≡ size (joined (asStr e) (dropEmpty ls) ++ choose newline (asStr e) [])
-    finish-long ls x = omega (arith, ap length (done ls), length-append (encode (joined (asStr e) (dropEmpty ls))) (sepBy (asStr e) (not newline)), w .next, x .full)
-
-    pub finish-short : (o2 : List ℕ) → length o1 < r → o2 ≡ replicate (length o1) 0 → Finished (asStr e) (choose newline (asStr e) []) out t o2 r
-    finish-short o2 h z =
-        record { long = finish-long; text = λ ls x k. absurd (omega (arith, appended-length w)); zeros = λ k. z ∙ rw (appended-length w) refl }
-
-    pub finish-whole : (o2 : List ℕ) → r ≤ length o1 → Finishes o1 o2 r → Finished (asStr e) (choose newline (asStr e) []) out t o2 r
-    unfolding filled
-    finish-whole o2 h z =
+    pub end-done : Ended (asStr e) (choose newline (asStr e) []) model out t o1 r
+    end-done =
         record {
-          long = finish-long;
-          text = λ ls x k. let full = joined (asStr e) (dropEmpty ls) in
-              let cut : Agree out (encode full) = rw (full-cut (asStr e) ls) at (agree-cut out (encode (joined (asStr e) ls)) (size full) (x .holds)) in
-              let all : Agree o1 (encode (full ++ choose newline (asStr e) [])) = rw (done ls) (appended-agree w (encode full) (sym (x .full)) cut) in
-              finishes-text z h (encode (full ++ choose newline (asStr e) [])) (sym (finish-long ls x)) all ∙ rw (appended-length w, ← finish-long ls x) refl;
-          zeros = λ k. absurd (omega (arith, appended-length w));
+          long = λ ls x. omega (arith, ap length (done ls), length-append (encode (joined (asStr e) (dropEmpty ls))) (sepBy (asStr e) (not newline)), w .next, x .full);
+          text = λ ls x. let full = joined (asStr e) (dropEmpty ls) in
+              let cut : Keeps model out (encode full) = rw (full-cut (asStr e) ls) at (keeps-cut model out (encode (joined (asStr e) ls)) (size full) (x .holds)) in
+              rw (done ls) (w .holds (encode full) (sym (x .full)) cut);
+          room = w .size;
         }
+
+module _ (eol rest out o1 : List ℕ) (t : Written) (r : ℕ) (w : Ended eol rest [] out t o1 r) where
+  pub finish-short : (o2 : List ℕ) → length o1 < r → o2 ≡ replicate (length o1) 0 → Finished eol rest out t o2 r
+  finish-short o2 h z = record { long = w .long; text = λ ls x k. absurd (omega (arith, w .room)); zeros = λ k. z ∙ rw (w .room) refl }
+
+  pub finish-whole : (o2 : List ℕ) → r ≤ length o1 → Finishes o1 o2 r → Finished eol rest out t o2 r
+  unfolding filled Keeps
+  finish-whole o2 h z =
+      record {
+        long = w .long;
+        text = λ ls x k. finishes-text z h (encode (joined eol (dropEmpty ls) ++ rest)) (sym (w .long ls x)) (w .text ls x) ∙ rw (w .room, ← w .long ls x) refl;
+        zeros = λ k. absurd (omega (arith, w .room));
+      }

@@ -7,7 +7,8 @@ use lib.Dec.{eqb}
 use lib.ListN.{length, replicate}
 use Rattle.unicode.specs.Unicode.{encode, decode, size, trimEnd, WellFormed}
 use Rattle.unicode.specs.Places.{TrimmedEnd}
-use Rattle.buffer.specs.Buffer.{Agree}
+use Rattle.compare.specs.Common.{Keeps}
+use Rattle.check_rules.specs.Check.{settledLines, closed}
 use Rattle.rules.specs.Basics.{choose, is, lastIs}
 use Rattle.rules.specs.Assembly.{joined, dropEmpty}
 use Rattle.rules.specs.Line.{dropBlank}
@@ -67,12 +68,12 @@ fullOf long full at = choose (eqb long 0) full at
 
 -- before anything is written
 abbrev pub nothing : Written
-nothing = record { at = record { 0 = 0 }; cut = 0; full = 0; below = 0; alone = true; last = Nothing }
+nothing = record { at = record { 0 = 0 }; cut = 0; full = 0; below = 0; alone = true; last = Nothing; settled = 0 }
 
--- after several lines that reach up to next, of which the newest is trimmed and not empty
-abbrev pub afterLines : ℕ → Bool → Written
-afterLines next joins =
-    record { at = record { 0 = next }; cut = next; full = next; below = next; alone = false; last = newestBy 1 joins }
+-- after several lines that reach up to next, of which the newest, from `last` on, is trimmed and not empty
+abbrev pub afterLines : ℕ → ℕ → Bool → Written
+afterLines last next joins =
+    record { at = record { 0 = next }; cut = next; full = next; below = next; alone = false; last = newestBy 1 joins; settled = last }
 
 -- what the caller tells of a line: its length trimmed at its end, and whether it can take an else
 pub record Line (line : List ℕ) (tail : ℕ) (joins : Bool) : Type 0 where
@@ -87,15 +88,16 @@ pub record ElseLine (line : List ℕ) (joins : Bool) : Type 0 where
   pub some : 1 ≤ length line
   pub takes : joins ≡ lastIs (is "}") (decode line)
 
--- The code's record t and the output `out` hold the text whose lines are ls: lengths are in bytes.
-pub record Text (eol : List ℕ) (ls : List (List ℕ)) (t : Written) (out : List ℕ) : Type 0 where
+-- The code's record t and `out`, an output or what a comparison with the model keeps, hold the text whose lines are ls: lengths are in bytes.
+pub record Text (model eol : List ℕ) (ls : List (List ℕ)) (t : Written) (out : List ℕ) : Type 0 where
   pub at : t .at .0 ≡ size (joined eol ls)
-  pub holds : Agree out (encode (joined eol ls))
+  pub holds : Keeps model out (encode (joined eol ls))
   pub cut : t .cut ≡ size (joined eol (trimNewest ls))
   pub full : t .full ≡ size (joined eol (dropEmpty ls))
   pub last : t .last ≡ newestOf ls
   pub below : t .below ≡ size (joined eol (dropBlank ls))
   pub alone : t .alone ≡ isFirst (newestOf (dropBlank ls))
+  pub settles : t .settled ≡ size (closed eol (settledLines ls))
 
 -- the lengths after a step that adds at most n bytes
 pub record Grown (t : Written) (n : ℕ) (u : Written) : Type 0 where
@@ -116,24 +118,30 @@ pub record From (drops : Bool) (t : Written) (r : ℕ) : Type 0 where
   pub small : r ≤ t .at .0
 
 -- a line l of characters is added, after an empty newest line is dropped if `drops` says so
-pub record Adds (eol : List ℕ) (drops : Bool) (l out : List ℕ) (t : Written) (out′ : List ℕ) (u : Written) : Type 0 where
-  pub text : (ls : List (List ℕ)) → Text eol ls t out → Text eol (l ∷ keptLines drops ls) u out′
+pub record Adds (eol : List ℕ) (drops : Bool) (l model out : List ℕ) (t : Written) (out′ : List ℕ) (u : Written) : Type 0 where
+  pub text : (ls : List (List ℕ)) → Text model eol ls t out → Text model eol (l ∷ keptLines drops ls) u out′
   pub grown : Grown t (size l + 2) u
 
 -- an else, trimmed, is joined to the newest line
-pub record Joins (line out : List ℕ) (t : Written) (out′ : List ℕ) (u : Written) : Type 0 where
-  pub text : (eol : List ℕ) (ls : List (List ℕ)) → Text eol ls t out → canJoin ls ≡ true → Text eol (joinElse line ls) u out′
+pub record Joins (line model out : List ℕ) (t : Written) (out′ : List ℕ) (u : Written) : Type 0 where
+  pub text : (eol : List ℕ) (ls : List (List ℕ)) → Text model eol ls t out → canJoin ls ≡ true → Text model eol (joinElse line ls) u out′
   pub grown : Grown t (size line + 1) u
 
 -- the separator before new lines was written; the first of them starts at r
-pub record Continued (eol : List ℕ) (drops : Bool) (out : List ℕ) (t : Written) (out′ : List ℕ) (r : ℕ) : Type 0 where
-  pub place : (ls : List (List ℕ)) → Text eol ls t out → r ≡ size (joined eol (keptLines drops ls) ++ sepOf eol (newestOf (keptLines drops ls)))
-  pub holds : (ls : List (List ℕ)) → Text eol ls t out
-      → Agree out′ (encode (joined eol (keptLines drops ls) ++ sepOf eol (newestOf (keptLines drops ls))))
+pub record Continued (eol : List ℕ) (drops : Bool) (model out : List ℕ) (t : Written) (out′ : List ℕ) (r : ℕ) : Type 0 where
+  pub place : (ls : List (List ℕ)) → Text model eol ls t out → r ≡ size (joined eol (keptLines drops ls) ++ sepOf eol (newestOf (keptLines drops ls)))
+  pub holds : (ls : List (List ℕ)) → Text model eol ls t out
+      → Keeps model out′ (encode (joined eol (keptLines drops ls) ++ sepOf eol (newestOf (keptLines drops ls))))
   pub small : r ≤ t .at .0 + 2
+
+-- the last ending was written: the text's length, and the text
+pub record Ended (eol rest model out : List ℕ) (t : Written) (out′ : List ℕ) (r : ℕ) : Type 0 where
+  pub long : (ls : List (List ℕ)) → Text model eol ls t out → r ≡ size (joined eol (dropEmpty ls) ++ rest)
+  pub text : (ls : List (List ℕ)) → Text model eol ls t out → Keeps model out′ (encode (joined eol (dropEmpty ls) ++ rest))
+  pub room : length out′ ≡ length out
 
 -- the text is finished: its length, and the output, which is the text and then zeros, or all zeros where it does not fit
 pub record Finished (eol rest out : List ℕ) (t : Written) (out′ : List ℕ) (r : ℕ) : Type 0 where
-  pub long : (ls : List (List ℕ)) → Text eol ls t out → r ≡ size (joined eol (dropEmpty ls) ++ rest)
-  pub text : (ls : List (List ℕ)) → Text eol ls t out → r ≤ length out → out′ ≡ filled (length out) (encode (joined eol (dropEmpty ls) ++ rest))
+  pub long : (ls : List (List ℕ)) → Text [] eol ls t out → r ≡ size (joined eol (dropEmpty ls) ++ rest)
+  pub text : (ls : List (List ℕ)) → Text [] eol ls t out → r ≤ length out → out′ ≡ filled (length out) (encode (joined eol (dropEmpty ls) ++ rest))
   pub zeros : length out + 1 ≤ r → out′ ≡ replicate (length out) 0

@@ -1,16 +1,17 @@
-// The text so far in an output that may be too short: lines are added at its end, and the newest can be cut back.
+// The text so far, in an output that may be too short or compared with a model (crate compare): lines are added at its end, and the newest can be
+// cut back.
 ghost use mathlib.Core.Path.{_≡_};
 ghost use mathlib.Core.Bool.{true};
 ghost use mathlib.Core.List.{[], _++_};
 ghost use Prim.Native.Nat.{_+_, _<_, _≤_, _^_};
 ghost use lib.ListN.{length};
 ghost use Rattle.unicode.specs.Unicode.{decode};
-ghost use Rattle.buffer.specs.Buffer.{Appended};
 ghost use Rattle.buffer.specs.Repeat.{times};
+ghost use Rattle.compare.specs.Common.{Compared};
 ghost use Rattle.rules.specs.Basics.{choose};
 ghost use Rattle.rules.specs.Lines.{asStr};
 ghost use Rattle.rules.specs.Options.{allBlank};
-ghost use Rattle.text.specs.Text.{nothing, sepBy, aloneAfter, tailOf, newestBy, fullOf, isFirst, isJoinable, afterLines, Ordered, Line, ElseLine, From, Adds, Joins, Continued, Finished};
+ghost use Rattle.text.specs.Text.{nothing, sepBy, aloneAfter, tailOf, newestBy, fullOf, isFirst, isJoinable, afterLines, Ordered, Line, ElseLine, From, Adds, Joins, Continued, Ended, Finished};
 use rules::LineEnding;
 use unicode::ByteOffset;
 
@@ -23,7 +24,7 @@ pub enum Last {
 }
 
 // Lengths of the text: as it is (the place reached), with its newest line trimmed at its end, without its last empty lines, and without its newest
-// line if that is empty; whether no line is left then.
+// line if that is empty; whether no line is left then; and the length of what is settled: no later line changes it.
 pub struct Written {
     pub at: ByteOffset,
     pub cut: usize,
@@ -31,6 +32,7 @@ pub struct Written {
     pub below: usize,
     pub alone: bool,
     pub last: Last,
+    pub settled: usize,
 }
 
 impl Written {
@@ -45,6 +47,7 @@ impl Written {
             below: 0,
             alone: true,
             last: Last::Nothing,
+            settled: 0,
         }
     }
 }
@@ -72,25 +75,31 @@ pub fn is_joinable(last: Last) -> bool
 }
 
 // The line ending, from the place at on.
-pub fn append_ending(out: &mut [u8], at: usize, ending: LineEnding) -> usize
+pub fn append_ending(model: &[u8], out: &mut [u8], at: usize, ending: LineEnding) -> usize
     requires { ⌜ at + 2 < 2 ^ 64 ⌝ }
-    ensures { λ r. ⌜ Appended (now (out .entry)) (now (out .exit)) at (asStr ending) r ⌝ }
+    ensures { λ r. ⌜ Compared (now (model .entry)) (now (out .entry)) (now (out .exit)) at (asStr ending) r ⌝ }
 {
     match ending {
-        LineEnding::Lf => buffer::append(out, at, b"\n"),
-        LineEnding::Crlf => buffer::append(out, at, b"\r\n"),
+        LineEnding::Lf => compare::append(model, out, at, b"\n"),
+        LineEnding::Crlf => compare::append(model, out, at, b"\r\n"),
     }
 }
 
 // The line ending before a line, but not before the first.
-fn separate(out: &mut [u8], at: usize, ending: LineEnding, first: bool) -> usize
+fn separate(
+    model: &[u8],
+    out: &mut [u8],
+    at: usize,
+    ending: LineEnding,
+    first: bool,
+) -> usize
     requires { ⌜ at + 2 < 2 ^ 64 ⌝ }
-    ensures { λ r. ⌜ Appended (now (out .entry)) (now (out .exit)) at (sepBy (asStr ending) first) r ⌝ }
+    ensures { λ r. ⌜ Compared (now (model .entry)) (now (out .entry)) (now (out .exit)) at (sepBy (asStr ending) first) r ⌝ }
 {
     if first {
         return at;
     }
-    append_ending(out, at, ending)
+    append_ending(model, out, at, ending)
 }
 
 fn stem_at(t: Written, drops: bool) -> usize
@@ -154,30 +163,42 @@ fn full_of(long: usize, full: usize, at: usize) -> usize
     at
 }
 
-// One line more: the indent, levels times over, and line, whose length trimmed at its end is tail. If drops, an empty newest line goes first.
-// joins tells whether the line can take an else.
+// How a line is added: the ending before it; whether an empty newest line goes first; the levels of its indent; its length trimmed at its end, without
+// the indent; whether it can take an else.
+pub struct Adding {
+    pub ending: LineEnding,
+    pub drops: bool,
+    pub levels: usize,
+    pub tail: usize,
+    pub joins: bool,
+}
+
+// One line more: the indent, levels times over, and line.
 pub fn push_line(
+    model: &[u8],
     out: &mut [u8],
     t: Written,
-    ending: LineEnding,
-    drops: bool,
     indent: &[u8],
-    levels: usize,
     line: &[u8],
-    tail: usize,
-    joins: bool,
+    how: Adding,
 ) -> Written
     requires { ⌜ allBlank (now indent) ≡ true ⌝ }
-    requires { ⌜ Line (now line) tail joins ⌝ }
+    requires { ⌜ Line (now line) (how .tail) (how .joins) ⌝ }
     requires { ⌜ Ordered t ⌝ }
-    requires { ⌜ t .at .0 + 2 + (length (times levels (now indent)) + length (now line)) < 2 ^ 64 ⌝ }
-    ensures { λ r. ⌜ Adds (asStr ending) drops (times levels (now (indent .entry)) ++ decode (now (line .entry))) (now (out .entry)) t (now (out .exit)) r ⌝ }
+    requires { ⌜ t .at .0 + 2 + (length (times (how .levels) (now indent)) + length (now line)) < 2 ^ 64 ⌝ }
+    ensures { λ r. ⌜ Adds (asStr (how .ending)) (how .drops) (times (how .levels) (now (indent .entry)) ++ decode (now (line .entry))) (now (model .entry)) (now (out .entry)) t (now (out .exit)) r ⌝ }
 {
     let full = t.full;
+    let settled = t.settled;
+    let ending = how.ending;
+    let drops = how.drops;
+    let levels = how.levels;
+    let tail = how.tail;
+    let joins = how.joins;
     let from = stem_at(t, drops);
     let first = stem_first(t, drops);
-    let start = separate(out, from, ending, first);
-    let next = buffer::append_indented(out, start, indent, levels, line);
+    let start = separate(model, out, from, ending, first);
+    let next = compare::append_indented(model, out, start, indent, levels, line);
     let long = next - start;
     let pad = long - line.len();
     let kept = tail_of(pad, tail);
@@ -188,19 +209,27 @@ pub fn push_line(
         below: full_of(long, from, next),
         alone: alone_of(long, first),
         last: kind_of(long, joins),
+        settled: full_of(tail, settled, start),
     }
 }
 
 // A space and line, a trimmed else, after the newest line trimmed at its end. joins tells whether line ends in `}`.
-pub fn join_else(out: &mut [u8], t: Written, line: &[u8], joins: bool) -> Written
+pub fn join_else(
+    model: &[u8],
+    out: &mut [u8],
+    t: Written,
+    line: &[u8],
+    joins: bool,
+) -> Written
     requires { ⌜ ElseLine (now line) joins ⌝ }
     requires { ⌜ t .cut ≤ t .at .0 ⌝ }
     requires { ⌜ t .at .0 + 1 + length (now line) < 2 ^ 64 ⌝ }
-    ensures { λ r. ⌜ Joins (decode (now (line .entry))) (now (out .entry)) t (now (out .exit)) r ⌝ }
+    ensures { λ r. ⌜ Joins (decode (now (line .entry))) (now (model .entry)) (now (out .entry)) t (now (out .exit)) r ⌝ }
 {
     let cut = t.cut;
-    let start = buffer::append(out, cut, b" ");
-    let next = buffer::append(out, start, line);
+    let settled = t.settled;
+    let start = compare::append(model, out, cut, b" ");
+    let next = compare::append(model, out, start, line);
     Written {
         at: ByteOffset(next),
         cut: next,
@@ -208,23 +237,30 @@ pub fn join_else(out: &mut [u8], t: Written, line: &[u8], joins: bool) -> Writte
         below: next,
         alone: false,
         last: kind_of(1, joins),
+        settled,
     }
 }
 
 // The line ending before several new lines. Gives the place where the first of them starts.
-pub fn continue_text(out: &mut [u8], t: Written, ending: LineEnding, drops: bool) -> usize
+pub fn continue_text(
+    model: &[u8],
+    out: &mut [u8],
+    t: Written,
+    ending: LineEnding,
+    drops: bool,
+) -> usize
     requires { ⌜ Ordered t ⌝ }
     requires { ⌜ t .at .0 + 2 < 2 ^ 64 ⌝ }
-    ensures { λ r. ⌜ Continued (asStr ending) drops (now (out .entry)) t (now (out .exit)) r ⌝ }
+    ensures { λ r. ⌜ Continued (asStr ending) drops (now (model .entry)) (now (out .entry)) t (now (out .exit)) r ⌝ }
 {
     let from = stem_at(t, drops);
     let first = stem_first(t, drops);
-    separate(out, from, ending, first)
+    separate(model, out, from, ending, first)
 }
 
-// The record after several lines that reach up to next. The newest is trimmed and not empty; joins tells whether it can take an else.
-pub fn after_lines(next: usize, joins: bool) -> Written
-    ensures { λ r. ⌜ r ≡ afterLines next joins ⌝ }
+// The record after several lines that reach up to next, the newest from last on. That is trimmed and not empty; joins tells whether it can take an else.
+pub fn after_lines(last: usize, next: usize, joins: bool) -> Written
+    ensures { λ r. ⌜ r ≡ afterLines last next joins ⌝ }
 {
     Written {
         at: ByteOffset(next),
@@ -233,16 +269,31 @@ pub fn after_lines(next: usize, joins: bool) -> Written
         below: next,
         alone: false,
         last: kind_of(1, joins),
+        settled: last,
     }
 }
 
-// The text without its last empty lines, with a last ending if asked; zeros after it, or all zeros where it does not fit. Gives its length.
+// The text without its last empty lines, with a last ending if asked. Gives its length.
+pub fn end_text(
+    model: &[u8],
+    out: &mut [u8],
+    t: Written,
+    ending: LineEnding,
+    newline: bool,
+) -> usize
+    requires { ⌜ t .full + 2 < 2 ^ 64 ⌝ }
+    ensures { λ r. ⌜ Ended (asStr ending) (choose newline (asStr ending) []) (now (model .entry)) (now (out .entry)) t (now (out .exit)) r ⌝ }
+{
+    let full = t.full;
+    separate(model, out, full, ending, !newline)
+}
+
+// The same in an output: zeros after the text, or all zeros where it does not fit.
 pub fn finish_text(out: &mut [u8], t: Written, ending: LineEnding, newline: bool) -> usize
     requires { ⌜ t .full + 2 < 2 ^ 64 ⌝ }
     ensures { λ r. ⌜ Finished (asStr ending) (choose newline (asStr ending) []) (now (out .entry)) t (now (out .exit)) r ⌝ }
 {
-    let full = t.full;
-    let n = separate(out, full, ending, !newline);
+    let n = end_text(b"", out, t, ending, newline);
     let room = out.len();
     if room < n {
         buffer::zero(out);

@@ -3,8 +3,11 @@ use Rattle.text.proofs.StepLaws.{finish-short, finish-whole}
 use Rattle.text.proofs.finish_text.Statement.{statement}
 use Rattle.text.proofs.finish_text.Tie as tie
 
-separate-requires : tie.Need-separate-requires
-separate-requires c κs = search needs
+slice-aggregate-end-text : tie.Need-slice-aggregate-end-text
+slice-aggregate-end-text c = search needs
+
+end-text-requires : tie.Need-end-text-requires
+end-text-requires c κs = search needs
 
 zero-requires : tie.Need-zero-requires
 zero-requires c κs = search needs
@@ -28,7 +31,8 @@ pub finish-text-spec : {M : Type 1} → statement M
 finish-text-spec =
     tie.close
     (tie.spec
-    separate-requires
+    slice-aggregate-end-text
+    end-text-requires
     zero-requires
     same-length
     returns

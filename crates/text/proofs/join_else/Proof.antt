@@ -19,11 +19,11 @@ same-length : tie.Need-same-length
 same-length c = search needs
 
 returns : tie.Need-returns
-returns c =
+returns c = 
     let d = c .before .before .before in
     let w = d .before .before .before .before in
-    let s = w .before .before .before .before .before in
-    join-done _ _ _ _ (s .args .line .now) _ _ _ _ (s .pre .0) (s .pre .1 .0) (w .append .ensures) (d .append2 .ensures) (c .kind-of .ensures)
+    let s = w .before .before .before .before .before .before in
+    join-done _ _ _ _ _ (s .args .line .now) _ _ _ _ (s .pre .0) (s .pre .1 .0) (w .append .ensures) (d .append2 .ensures) (c .kind-of .ensures)
 
 pub join-else-spec : {M : Type 1} → statement M
 join-else-spec =

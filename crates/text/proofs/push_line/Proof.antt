@@ -22,17 +22,17 @@ sub-long c = search needs
 
 sub-pad : tie.Need-sub-pad
 sub-pad c = let d = c .before .before in
-    let a = d .before .before .before .before .before .before .before .before .before .before .before .args in
-    pad-room (times (a .levels) (a .indent .now)) (a .line .now) (d .append-indented .ensures)
+    let a = d .before .before .before .before .before .before .before .before .before .before .before .before .args in
+    pad-room (times (a .how .levels) (a .indent .now)) (a .line .now) (d .append-indented .ensures)
 
 tail-of-requires : tie.Need-tail-of-requires
 tail-of-requires c κs = search needs
 
-add-t22 : tie.Need-add-t22
-add-t22 c = let d = c .before .before .before in
-    let s = d .before .before .before .before .before .before .before .before .before .before .before in
+add-t25 : tie.Need-add-t25
+add-t25 c = let d = c .before .before .before in
+    let s = d .before .before .before .before .before .before .before .before .before .before .before .before in
     let a = s .args in
-    omega (arith, kept-room (times (a .levels) (a .indent .now)) (a .line .now) (d .append-indented .ensures) (s .pre .1 .0) (c .tail-of .ensures))
+    omega (arith, kept-room (times (a .how .levels) (a .indent .now)) (a .line .now) (d .append-indented .ensures) (s .pre .1 .0) (c .tail-of .ensures))
 
 full-of-requires : tie.Need-full-of-requires
 full-of-requires c κs = search needs
@@ -46,19 +46,22 @@ alone-of-requires c κs = search needs
 kind-of-requires : tie.Need-kind-of-requires
 kind-of-requires c κs = search needs
 
+full-of-requires-3 : tie.Need-full-of-requires-3
+full-of-requires-3 c κs = search needs
+
 same-length : tie.Need-same-length
 same-length c = search needs
 
 returns : tie.Need-returns
-returns c =
-    let d = c .before .before .before .before .before .before .before in
+returns c = 
+    let d = c .before .before .before .before .before .before .before .before in
     let w = d .before .before .before .before in
-    let s = w .before .before .before .before .before .before .before in
+    let s = w .before .before .before .before .before .before .before .before in
     let a = s .args in
-    push-done (a .ending) _ _ _ _ _ (a .indent .now) (a .levels) (a .line .now) _ _ _ _ _ _ _ _ _ _ _ (s .pre .0) (s .pre .1 .0) (s .pre .1 .1 .0)
+    push-done (a .how .ending) _ _ _ _ _ _ (a .indent .now) (a .how .levels) (a .line .now) _ _ _ _ _ _ _ _ _ _ _ _ (s .pre .0) (s .pre .1 .0) (s .pre .1 .1 .0)
     (w .before .before .before .stem-at .ensures) (w .before .before .stem-first .ensures) (w .separate .ensures) (d .append-indented .ensures)
-    (c .before .before .before .before .tail-of .ensures) (c .before .before .before .full-of .ensures) (c .before .before .full-of2 .ensures)
-    (c .before .alone-of .ensures) (c .kind-of .ensures)
+    (c .before .before .before .before .before .tail-of .ensures) (c .before .before .before .before .full-of .ensures) (c .before .before .before .full-of2 .ensures)
+    (c .before .before .alone-of .ensures) (c .before .kind-of .ensures) (c .full-of3 .ensures)
 
 pub push-line-spec : {M : Type 1} → statement M
 push-line-spec =
@@ -71,10 +74,11 @@ push-line-spec =
     sub-long
     sub-pad
     tail-of-requires
-    add-t22
+    add-t25
     full-of-requires
     full-of-requires-2
     alone-of-requires
     kind-of-requires
+    full-of-requires-3
     same-length
     returns)

@@ -5,10 +5,10 @@ use mathlib.Core.Path.{_≡_, refl, sym, ap, _∙_}
 use native.Mathlib.Nat.{mul-le-mul}
 use native.Mathlib.Omega.{arith}
 use lib.ListN.{length}
-use Rattle.buffer.specs.Buffer.{Appended}
+use Rattle.compare.specs.Common.{Compared}
 use Rattle.buffer.specs.Repeat.{times}
 use Rattle.buffer.proofs.RepeatLaws.{length-times}
-use Rattle.buffer.proofs.WriteLaws.{appended-append}
+use Rattle.compare.proofs.WriterLaws.{compared-append}
 use Rattle.unicode.specs.Unicode.{encode, decode, Scalars}
 use Rattle.unicode.proofs.Decode.{encode-nil, encode-append, encode-ascii, decode-encode, wf-encode}
 use Rattle.rules.specs.Options.{Options, indentOf}
@@ -78,9 +78,9 @@ last-encode l [] = refl
 last-encode l (m ∷ ms) = last-encode m ms
 
 -- the lines as they are written, in bytes
-pub written-lines : (eol l : List ℕ) (ls : List (List ℕ)) (k : List ℕ) (ks : List (List ℕ)) {out out′ : List ℕ} {at last next : ℕ} → encode eol ≡ eol → encode l ≡ k → map encode ls ≡ ks
-    → Appended out out′ at (k ++ following eol ks) next → last + length (lastOf k ks) ≡ next → Written eol (l ∷ ls) out out′ at last next
-written-lines eol l ls k ks {out} {out′} {at} {last} {next} e f g t h =
+pub written-lines : (eol l : List ℕ) (ls : List (List ℕ)) (k : List ℕ) (ks : List (List ℕ)) {model out out′ : List ℕ} {at last next : ℕ} → encode eol ≡ eol → encode l ≡ k → map encode ls ≡ ks
+    → Compared model out out′ at (k ++ following eol ks) next → last + length (lastOf k ks) ≡ next → Written eol (l ∷ ls) model out out′ at last next
+written-lines eol l ls k ks {model} {out} {out′} {at} {last} {next} e f g t h =
     let j : encode (joined eol (reverse (l ∷ ls))) ≡ k ++ following eol ks = ap encode (joined-lines eol l ls) ∙ encode-append l (following eol ls) ∙ rw (f, following-encode eol e ls, g) in
     let n : encode (firstOf (reverse (l ∷ ls))) ≡ lastOf k ks = ap encode (newest-lines l ls) ∙ last-encode l ls ∙ rw (f, g) in
     record { text = rw j t; ends = rw n h }
@@ -104,10 +104,10 @@ module _ {line indent : List ℕ} {level : ℕ} {eol : List ℕ} {at : ℕ} (f :
 
 -- ---- one line more
 
-pub line-room : {eol indent : List ℕ} {level : ℕ} {line : List ℕ} {at : ℕ} (q : LineRoom eol indent level line at) (out out′ : List ℕ) (start : ℕ) → Appended out out′ at eol start
+pub line-room : {eol indent : List ℕ} {level : ℕ} {line : List ℕ} {at : ℕ} (q : LineRoom eol indent level line at) (model out out′ : List ℕ) (start : ℕ) → Compared model out out′ at eol start
     → start + (length (times level indent) + length line) < 2 ^ 64
-line-room {eol} {indent} {level} q out out′ start a = omega (arith, a .next, q .end, q .room, indent-short indent level (q .indents))
+line-room {eol} {indent} {level} q model out out′ start a = omega (arith, a .next, q .end, q .room, indent-short indent level (q .indents))
 
-pub line-written : (eol l : List ℕ) {out out₁ out₂ : List ℕ} {at start next : ℕ} → Appended out out₁ at eol start → Appended out₁ out₂ start l next
-    → LineWritten eol l out out₂ at (record { start = start; next = next })
-line-written eol l a b = record { text = appended-append a b; start = sym (b .next) }
+pub line-written : (eol l : List ℕ) {model out out₁ out₂ : List ℕ} {at start next : ℕ} → Compared model out out₁ at eol start → Compared model out₁ out₂ start l next
+    → LineWritten eol l model out out₂ at (record { start = start; next = next })
+line-written eol l a b = record { text = compared-append a b; start = sym (b .next) }

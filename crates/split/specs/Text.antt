@@ -4,7 +4,7 @@ use mathlib.Core.Bool.{true}
 use mathlib.Core.List.{List, [], _∷_, _++_, reverse}
 use mathlib.Core.Path.{_≡_}
 use lib.ListN.{length}
-use Rattle.buffer.specs.Buffer.{Appended}
+use Rattle.compare.specs.Common.{Compared}
 use Rattle.buffer.specs.Repeat.{times}
 use Rattle.unicode.specs.Unicode.{encode, size, WellFormed}
 use Rattle.rules.specs.Options.{Options, defaults, allBlank}
@@ -55,13 +55,13 @@ pub record LineRoom (eol indent : List ℕ) (level : ℕ) (line : List ℕ) (at 
   pub room : at + (67108930 + length line) < 2 ^ 64
 
 -- l is written after a line ending, from the place `at` on
-pub record LineWritten (eol l out out′ : List ℕ) (at : ℕ) (r : NewLine) : Type 0 where
-  pub text : Appended out out′ at (eol ++ l) (r .next)
+pub record LineWritten (eol l model out out′ : List ℕ) (at : ℕ) (r : NewLine) : Type 0 where
+  pub text : Compared model out out′ at (eol ++ l) (r .next)
   pub start : r .start + length l ≡ r .next
 
 -- the lines stand in the text from the place `at` on, joined in order; the last of them starts at the place `last`, and `next` is the next place
-pub record Written (eol : List ℕ) (lines : List (List ℕ)) (out out′ : List ℕ) (at last next : ℕ) : Type 0 where
-  pub text : Appended out out′ at (encode (joined eol (reverse lines))) next
+pub record Written (eol : List ℕ) (lines : List (List ℕ)) (model out out′ : List ℕ) (at last next : ℕ) : Type 0 where
+  pub text : Compared model out out′ at (encode (joined eol (reverse lines))) next
   pub ends : last + size (firstOf (reverse lines)) ≡ next
 
 -- what a line's text can take, for each of its bytes and one more: an indent of 64 bytes at 1,048,577 levels and a line ending are less

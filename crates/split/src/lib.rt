@@ -132,12 +132,19 @@ pub struct NewLine {
 }
 
 // Writes a line after others: the line ending before it comes first.
-pub fn write_line(out: &mut [u8], at: usize, s: Layout, indent: &[u8], line: &[u8]) -> NewLine
+pub fn write_line(
+    model: &[u8],
+    out: &mut [u8],
+    at: usize,
+    s: Layout,
+    indent: &[u8],
+    line: &[u8],
+) -> NewLine
     requires { ⌜ LineRoom (asStr (s .ending)) (now indent) (s .level) (now line) at ⌝ }
-    ensures { λ r. ⌜ LineWritten (asStr (s .ending)) (lay (now (indent .entry)) (s .level) (now (line .entry))) (now (out .entry)) (now (out .exit)) at r ⌝ }
+    ensures { λ r. ⌜ LineWritten (asStr (s .ending)) (lay (now (indent .entry)) (s .level) (now (line .entry))) (now (model .entry)) (now (out .entry)) (now (out .exit)) at r ⌝ }
 {
     let ending = s.ending;
-    let start = text::append_ending(out, at, ending);
-    let next = buffer::append_indented(out, start, indent, s.level, line);
+    let start = text::append_ending(model, out, at, ending);
+    let next = compare::append_indented(model, out, start, indent, s.level, line);
     NewLine { start, next }
 }

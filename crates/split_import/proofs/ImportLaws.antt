@@ -11,10 +11,11 @@ use lib.Dec.{eqb, ltb}
 use lib.ListN.{length, getD, take, drop, length-append, length-drop, length-take, drop-of-length-le}
 use lib.Seq.{drop-cons, drop-drop, length-take-le}
 use borrow.Author.Tests.{eq-eqb, ne-eqb, eqb-true, le-leb, lt-leb, ltb-true}
-use Rattle.buffer.specs.Buffer.{part, Appended}
+use Rattle.buffer.specs.Buffer.{part}
+use Rattle.compare.specs.Common.{Compared}
 use Rattle.buffer.specs.Repeat.{times}
 use Rattle.buffer.proofs.RegionLaws.{part-from}
-use Rattle.buffer.proofs.WriteLaws.{appended-append}
+use Rattle.compare.proofs.WriterLaws.{compared-append}
 use Rattle.unicode.specs.Unicode.{encodeChar, encode, decode, Scalars, trimEnd}
 use Rattle.unicode.specs.Places.{TrimmedEnd}
 use Rattle.unicode.proofs.Tests.{and-right}
@@ -110,18 +111,18 @@ module _ {head indent : List ℕ} {level at : ℕ} (f : HeadFits head indent lev
   pub head-room : at + (length (times level indent) + length (take n head)) < 2 ^ 64
   head-room = omega (arith, indent-short indent level (f .indents), cut-short, f .room)
 
-  module _ {out out₁ : List ℕ} {m : ℕ} (a : Appended out out₁ at (times level indent ++ take n head) m) where
+  module _ {model out out₁ : List ℕ} {m : ℕ} (a : Compared model out out₁ at (times level indent ++ take n head) m) where
     head-at : m ≤ at + (67108928 + length head)
     head-at = omega (arith, a .next, length-append (times level indent) (take n head), indent-short indent level (f .indents), cut-short)
 
     pub brace-room : m + 2 < 2 ^ 64
     brace-room = omega (arith, head-at, f .room)
 
-    pub head-written : {out₂ : List ℕ} {r : ℕ} → Appended out₁ out₂ m (32 ∷ 123 ∷ []) r → HeadWritten head indent level out out₂ at r
+    pub head-written : {out₂ : List ℕ} {r : ℕ} → Compared model out₁ out₂ m (32 ∷ 123 ∷ []) r → HeadWritten head indent level model out out₂ at r
     head-written {out₂} {r} b =
         let e : take n head ≡ encode (trimEnd (decode head)) = sym (t .well) ∙ ap encode (t .text) in
         record {
-          text = rw (← e, ← (append-assoc (times level indent) (take n head) (32 ∷ 123 ∷ []))) (appended-append a b);
+          text = rw (← e, ← (append-assoc (times level indent) (take n head) (32 ∷ 123 ∷ []))) (compared-append a b);
           room = omega (arith, b .next, head-at);
         }
 
@@ -138,7 +139,7 @@ module _ {line : List ℕ} {start end : ℕ} {indent : List ℕ} {level : ℕ} {
   pub head-fits : HeadFits (take start line) indent level at
   head-fits = record { well = b .head; indents = level-fits (b .fits); room = omega (arith, head-long, b .order, b .within, b .fits .room) }
 
-  module _ {out out₁ : List ℕ} {n : ℕ} (a₁ : HeadWritten (take start line) indent level out out₁ at n) where
+  module _ {model out out₁ : List ℕ} {n : ℕ} (a₁ : HeadWritten (take start line) indent level model out out₁ at n) where
     pub names-fit : NamesFit (part line (start + 1) end) indent (level + 1) eol n
     names-fit =
         record {
@@ -149,7 +150,7 @@ module _ {line : List ℕ} {start end : ℕ} {indent : List ℕ} {level : ℕ} {
           room = omega (arith, a₁ .room, head-long, inside-long, b .order, b .within, b .fits .room);
         }
 
-    pub tail-room : (ruler max : ℕ) {out₂ : List ℕ} {m : ℕ} → NamesWritten ruler (part line (start + 1) end) indent (level + 1) eol max out₁ out₂ n m → LineRoom eol indent level (take (length line - end) (drop end line)) m
+    pub tail-room : (ruler max : ℕ) {out₂ : List ℕ} {m : ℕ} → NamesWritten ruler (part line (start + 1) end) indent (level + 1) eol max model out₁ out₂ n m → LineRoom eol indent level (take (length line - end) (drop end line)) m
     tail-room ruler max a₂ =
         record {
           indents = level-fits (b .fits);
@@ -160,16 +161,16 @@ module _ {line : List ℕ} {start end : ℕ} {indent : List ℕ} {level : ℕ} {
   -- ---- what is written
 
   module _ {c : Names} (q : NamesCounted (part line (start + 1) end) c) where
-    pub parts-none : (out : List ℕ) (ruler max : ℕ) → c .names < 2 → (o : Options) → InUse o indent ruler → Given (partsOf o max level line start end) eol out out at ImportSplit.Whole
+    pub parts-none : (model out : List ℕ) (ruler max : ℕ) → c .names < 2 → (o : Options) → InUse o indent ruler → Given (partsOf o max level line start end) eol model out out at ImportSplit.Whole
     unfolding importParts
-    parts-none out ruler max h o e =
-        subst (λ (x : Option Laid). Given x eol out out at ImportSplit.Whole)
+    parts-none model out ruler max h o e =
+        subst (λ (x : Option Laid). Given x eol model out out at ImportSplit.Whole)
         (sym (choose-false _ _ _ (lt-leb 2 (length (namesOf (parts (part line (start + 1) end)))) (omega (arith, q .names)))))
         (record { is = refl; same = refl })
 
-    module _ {ruler max : ℕ} {out out₁ out₂ out₃ : List ℕ} {n m : ℕ} {w : NewLine} (two : 2 ≤ c .names) (a₁ : HeadWritten (take start line) indent level out out₁ at n)
-        (a₂ : NamesWritten ruler (part line (start + 1) end) indent (level + 1) eol max out₁ out₂ n m)
-        (a₃ : LineWritten eol (lay indent level (take (length line - end) (drop end line))) out₂ out₃ m w) where
+    module _ {ruler max : ℕ} {model out out₁ out₂ out₃ : List ℕ} {n m : ℕ} {w : NewLine} (two : 2 ≤ c .names) (a₁ : HeadWritten (take start line) indent level model out out₁ at n)
+        (a₂ : NamesWritten ruler (part line (start + 1) end) indent (level + 1) eol max model out₁ out₂ n m)
+        (a₃ : LineWritten eol (lay indent level (take (length line - end) (drop end line))) model out₂ out₃ m w) where
       abbrev names : List (List ℕ)
       names = namesOf (parts (part line (start + 1) end))
 
@@ -182,15 +183,15 @@ module _ {line : List ℕ} {start end : ℕ} {indent : List ℕ} {level : ℕ} {
       abbrev bottom : List ℕ
       bottom = lay indent level (drop end line)
 
-      a₃′ : LineWritten eol bottom out₂ out₃ m w
+      a₃′ : LineWritten eol bottom model out₂ out₃ m w
       a₃′ = rw (part-from line end) at a₃
 
       -- the bytes, in order
-      text : Appended out out₃ at (top ++ following eol (map encode (reverse filled) ++ (bottom ∷ []))) (w .next)
+      text : Compared model out out₃ at (top ++ following eol (map encode (reverse filled) ++ (bottom ∷ []))) (w .next)
       unfolding following
       text =
           rw (following-append eol (map encode (reverse filled)) (bottom ∷ []), append-nil (eol ++ bottom), ← (append-assoc top (namesText eol filled) (eol ++ bottom)))
-          (appended-append (appended-append (a₁ .text) (a₂ .text)) (a₃′ .text))
+          (compared-append (compared-append (a₁ .text) (a₂ .text)) (a₃′ .text))
 
       ends : w .start + length (lastOf top (map encode (reverse filled) ++ (bottom ∷ []))) ≡ w .next
       unfolding lastOf
@@ -207,10 +208,10 @@ module _ {line : List ℕ} {start end : ℕ} {indent : List ℕ} {level : ℕ} {
             map-append encode (reverse (fillNames o max (indentOf o (suc level)) names)) ((indentOf o level ++ decode (drop end line)) ∷ [])
             ∙ rw (same-fill o indent ruler max level names e, lay-encode o indent level (decode (drop end line)) (e .indents) (level-fits (b .fits)), b .tail)
 
-      pub parts-some : (o : Options) → InUse o indent ruler → Given (partsOf o max level line start end) eol out out₃ at (ImportSplit.Split (record { next = w .next; last = w .start; blanks = c .blanks }))
+      pub parts-some : (o : Options) → InUse o indent ruler → Given (partsOf o max level line start end) eol model out out₃ at (ImportSplit.Split (record { next = w .next; last = w .start; blanks = c .blanks }))
       unfolding importParts importLines
       parts-some o e =
-          subst (λ (x : Option Laid). Given x eol out out₃ at (ImportSplit.Split (record { next = w .next; last = w .start; blanks = c .blanks })))
+          subst (λ (x : Option Laid). Given x eol model out out₃ at (ImportSplit.Split (record { next = w .next; last = w .start; blanks = c .blanks })))
           (sym (choose-true _ _ _ (le-leb 2 (length names) (omega (arith, q .names)))))
           (record {
             made = record { next = w .next; last = w .start; blanks = c .blanks };
@@ -327,23 +328,23 @@ module _ {line class indent : List ℕ} {level : ℕ} {eol : List ℕ} {at : ℕ
   starts-chars : startsImport (charsOf chars) ≡ startsImport line
   starts-chars = ap startsImport (chars-classify Carry.Code (decode line)) ∙ sym (import-encode (decode line)) ∙ ap startsImport (f .fits .well)
 
-  not-given : (out : List ℕ) (x : Option Laid) → x ≡ none → Given x eol out out at ImportSplit.Whole
-  not-given out x e = subst (λ (y : Option Laid). Given y eol out out at ImportSplit.Whole) (sym e) (record { is = refl; same = refl })
+  not-given : (model out : List ℕ) (x : Option Laid) → x ≡ none → Given x eol model out out at ImportSplit.Whole
+  not-given model out x e = subst (λ (y : Option Laid). Given y eol model out out at ImportSplit.Whole) (sym e) (record { is = refl; same = refl })
 
   module _ (r : Bool) (q : r ≡ startsImport line) where
-    pub no-import : (out : List ℕ) (ruler max : ℕ) → r ≡ false → (o : Options) → InUse o indent ruler → Given (splitImport o max level chars) eol out out at ImportSplit.Whole
+    pub no-import : (model out : List ℕ) (ruler max : ℕ) → r ≡ false → (o : Options) → InUse o indent ruler → Given (splitImport o max level chars) eol model out out at ImportSplit.Whole
     unfolding splitImport
-    no-import out ruler max e o i = not-given out _ (choose-false _ _ _ (starts-chars ∙ sym q ∙ e))
+    no-import model out ruler max e o i = not-given model out _ (choose-false _ _ _ (starts-chars ∙ sym q ∙ e))
 
     module _ (e : r ≡ true) (start : ℕ) (u : FirstAt (codeByte 123) line class start) where
       opened : (o : Options) (max : ℕ) → splitImport o max level chars ≡ openedImport o max level (charsOf (beforeCode "{" chars)) (fromCode "{" chars)
       unfolding splitImport
       opened o max = choose-true _ _ _ (starts-chars ∙ sym q ∙ e)
 
-      pub no-brace : (out : List ℕ) (ruler max : ℕ) → length line ≤ start → (o : Options) → InUse o indent ruler → Given (splitImport o max level chars) eol out out at ImportSplit.Whole
+      pub no-brace : (model out : List ℕ) (ruler max : ℕ) → length line ≤ start → (o : Options) → InUse o indent ruler → Given (splitImport o max level chars) eol model out out at ImportSplit.Whole
       unfolding openedImport
-      no-brace out ruler max h o i =
-          not-given out _ (opened o max ∙ ap (openedImport o max level (charsOf (beforeCode "{" chars))) (brace-none "{" refl chars line class cells-are class-room start u h))
+      no-brace model out ruler max h o i =
+          not-given model out _ (opened o max ∙ ap (openedImport o max level (charsOf (beforeCode "{" chars))) (brace-none "{" refl chars line class cells-are class-room start u h))
 
       module _ (h : start < length line) (n : ℕ) (v : FirstAt (codeByte 125) (take (length line - (start + 1)) (drop (start + 1) line)) (take (length class - (start + 1)) (drop (start + 1) class)) n) where
         next : Next "{" chars line class start
@@ -365,10 +366,10 @@ module _ {line class indent : List ℕ} {level : ℕ} {eol : List ℕ} {at : ℕ
         unfolding openedImport
         closed o max = opened o max ∙ ap (openedImport o max level (charsOf (beforeCode "{" chars))) (next .is)
 
-        pub no-close : (out : List ℕ) (ruler max : ℕ) → length line ≤ start + 1 + n → (o : Options) → InUse o indent ruler → Given (splitImport o max level chars) eol out out at ImportSplit.Whole
+        pub no-close : (model out : List ℕ) (ruler max : ℕ) → length line ≤ start + 1 + n → (o : Options) → InUse o indent ruler → Given (splitImport o max level chars) eol model out out at ImportSplit.Whole
         unfolding closedImport
-        no-close out ruler max k o i =
-            not-given out _ (closed o max ∙ ap (closedImport o max level (charsOf (beforeCode "{" chars)) (charsOf (beforeCode "}" inner)))
+        no-close model out ruler max k o i =
+            not-given model out _ (closed o max ∙ ap (closedImport o max level (charsOf (beforeCode "{" chars)) (charsOf (beforeCode "}" inner)))
             (brace-none "}" refl inner (drop a line) (drop a class) (next .cells) room n v′ (omega (arith, length-drop a line))))
 
         scalars-all : Scalars (charsOf chars)
@@ -410,6 +411,6 @@ module _ {line class indent : List ℕ} {level : ℕ} {eol : List ℕ} {at : ℕ
               let tl : charsOf (y .head ∷ y .rest) ≡ decode (drop (start + 1 + n) line) = ap charsOf (sym (y .is)) ∙ sym (ap decode tail-is ∙ decode-encode _ (cells-scalars "}" inner scalars-inner .1)) in
               closed o max ∙ ap (closedImport o max level (charsOf (beforeCode "{" chars)) (charsOf (beforeCode "}" inner))) (y .is) ∙ rw (hd, mid, tl)
 
-          pub given-import : (out out′ : List ℕ) (s : ImportSplit) (ruler max : ℕ) → ((o : Options) → InUse o indent ruler → Given (partsOf o max level line start (start + 1 + n)) eol out out′ at s)
-              → (o : Options) → InUse o indent ruler → Given (splitImport o max level chars) eol out out′ at s
-          given-import out out′ s ruler max g o i = subst (λ (x : Option Laid). Given x eol out out′ at s) (sym (parts-are o max)) (g o i)
+          pub given-import : (model out out′ : List ℕ) (s : ImportSplit) (ruler max : ℕ) → ((o : Options) → InUse o indent ruler → Given (partsOf o max level line start (start + 1 + n)) eol model out out′ at s)
+              → (o : Options) → InUse o indent ruler → Given (splitImport o max level chars) eol model out out′ at s
+          given-import model out out′ s ruler max g o i = subst (λ (x : Option Laid). Given x eol model out out′ at s) (sym (parts-are o max)) (g o i)

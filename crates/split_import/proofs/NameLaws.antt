@@ -9,10 +9,11 @@ use lib.Dec.{leb, ltb}
 use lib.ListN.{length, getD, take, drop, length-append, length-drop, drop-of-length-le}
 use lib.Seq.{drop-cons, drop-drop, take-suc}
 use borrow.Author.Tests.{eq-eqb, ne-eqb, le-leb, lt-leb, leb-true, leb-false, le-ltb, lt-ltb}
-use Rattle.buffer.specs.Buffer.{part, Appended}
+use Rattle.buffer.specs.Buffer.{part}
+use Rattle.compare.specs.Common.{Compared}
 use Rattle.buffer.specs.Repeat.{times}
 use Rattle.buffer.proofs.RegionLaws.{part-from}
-use Rattle.buffer.proofs.WriteLaws.{appended-nil, appended-append}
+use Rattle.compare.proofs.WriterLaws.{compared-nil, compared-append}
 use Rattle.unicode.specs.Unicode.{encode, decode, Scalars, WellFormed, trim}
 use Rattle.unicode.proofs.Tests.{by-test}
 use Rattle.unicode.proofs.Decode.{encode-nil, encode-append, encode-ascii, decode-ascii, decode-scalars, wf-ascii}
@@ -263,27 +264,27 @@ name-measured ruler from name m n p q =
       small = omega (arith, p .small, q .small);
     }
 
-pub put-name : (name : List ℕ) {x y z u : List ℕ} {at n m r : ℕ} → Appended x y at (32 ∷ []) n → Appended y z n name m → Appended z u m (44 ∷ []) r
-    → Appended x u at (32 ∷ (name ++ 44 ∷ [])) r
-put-name name a b c = appended-append (appended-append a b) c
+pub put-name : (name : List ℕ) {model x y z u : List ℕ} {at n m r : ℕ} → Compared model x y at (32 ∷ []) n → Compared model y z n name m → Compared model z u m (44 ∷ []) r
+    → Compared model x u at (32 ∷ (name ++ 44 ∷ [])) r
+put-name name a b c = compared-append (compared-append a b) c
 
-pub put-line : (eol indent : List ℕ) (level : ℕ) (name : List ℕ) {x y z u : List ℕ} {at n m r : ℕ} → Appended x y at eol n → Appended y z n (times level indent ++ name) m → Appended z u m (44 ∷ []) r
-    → Appended x u at (eol ++ lay indent level (name ++ 44 ∷ [])) r
+pub put-line : (eol indent : List ℕ) (level : ℕ) (name : List ℕ) {model x y z u : List ℕ} {at n m r : ℕ} → Compared model x y at eol n → Compared model y z n (times level indent ++ name) m → Compared model z u m (44 ∷ []) r
+    → Compared model x u at (eol ++ lay indent level (name ++ 44 ∷ [])) r
 put-line eol indent level name a b c =
-    rw (← (append-assoc (times level indent) name (44 ∷ [])), ← (append-assoc eol (times level indent ++ name) (44 ∷ []))) (appended-append (appended-append a b) c)
+    rw (← (append-assoc (times level indent) name (44 ∷ [])), ← (append-assoc eol (times level indent ++ name) (44 ∷ []))) (compared-append (compared-append a b) c)
 
-pub line-room : {eol indent : List ℕ} {level : ℕ} {name : List ℕ} {at : ℕ} (q : NamePlace eol indent level name at) {x y : List ℕ} {n : ℕ} → Appended x y at eol n
+pub line-room : {eol indent : List ℕ} {level : ℕ} {name : List ℕ} {at : ℕ} (q : NamePlace eol indent level name at) {model x y : List ℕ} {n : ℕ} → Compared model x y at eol n
     → n + (length (times level indent) + length name) < 2 ^ 64
 line-room {indent = indent} {level = level} q a = omega (arith, a .next, q .end, q .room, indent-short indent level (q .indents))
 
-pub comma-room : {eol indent : List ℕ} {level : ℕ} {name : List ℕ} {at : ℕ} (q : NamePlace eol indent level name at) {x y z : List ℕ} {n m : ℕ} → Appended x y at eol n → Appended y z n (times level indent ++ name) m
+pub comma-room : {eol indent : List ℕ} {level : ℕ} {name : List ℕ} {at : ℕ} (q : NamePlace eol indent level name at) {model x y z : List ℕ} {n m : ℕ} → Compared model x y at eol n → Compared model y z n (times level indent ++ name) m
     → m + 1 < 2 ^ 64
 comma-room {indent = indent} {level = level} {name = name} q a b =
     omega (arith, a .next, b .next, q .end, q .room, indent-short indent level (q .indents), length-append (times level indent) name)
 
-pub on-new-line : (ruler : ℕ) (indent : List ℕ) (level : ℕ) (eol name out out′ : List ℕ) (f : Filled) (c : ℕ) (col : Utf16Column) (at : ℕ) → IndentMeasured ruler indent level c → NameMeasured ruler c name (col .0)
-    → Appended out out′ (f .at) (eol ++ lay indent level (name ++ 44 ∷ [])) at → OnNewLine ruler indent level eol name out out′ f (record { at = at; column = col; some = true })
-on-new-line ruler indent level eol name out out′ f c col at p q a =
+pub on-new-line : (ruler : ℕ) (indent : List ℕ) (level : ℕ) (eol name model out out′ : List ℕ) (f : Filled) (c : ℕ) (col : Utf16Column) (at : ℕ) → IndentMeasured ruler indent level c → NameMeasured ruler c name (col .0)
+    → Compared model out out′ (f .at) (eol ++ lay indent level (name ++ 44 ∷ [])) at → OnNewLine ruler indent level eol name model out out′ f (record { at = at; column = col; some = true })
+on-new-line ruler indent level eol name model out out′ f c col at p q a =
     record {
       text = a;
       column =
@@ -319,19 +320,19 @@ if-some : (o : Options) (max : ℕ) (cont : List ℕ) (lines : List (List ℕ)) 
 if-some o max cont lines [] h = absurd (omega arith)
 if-some o max cont lines (c ∷ cs) h = refl
 
-module _ (ruler : ℕ) (indent : List ℕ) (level : ℕ) (eol : List ℕ) (max : ℕ) (name out : List ℕ) (f : Filled) where
+module _ (ruler : ℕ) (indent : List ℕ) (level : ℕ) (eol : List ℕ) (max : ℕ) (name model out : List ℕ) (f : Filled) where
   abbrev opts : Options
   opts = indented indent ruler
 
   abbrev cont : List ℕ
   cont = times level indent
 
-  pub add-none : length name ≡ 0 → Added ruler indent level eol max name out out f f
+  pub add-none : length name ≡ 0 → Added ruler indent level eol max name model out out f f
   add-none z =
       record {
         to = λ lines c.
-            subst (λ (l : List ℕ). AddedTo ruler lines (addIf opts max cont lines l) eol out out f f) (sym (none-decoded name z))
-            (record { column = c; grown = []; text = appended-nil out (f .at); grows = sym (append-nil (namesText eol lines)) });
+            subst (λ (l : List ℕ). AddedTo ruler lines (addIf opts max cont lines l) eol model out out f f) (sym (none-decoded name z))
+            (record { column = c; grown = []; text = compared-nil model out (f .at); grows = sym (append-nil (namesText eol lines)) });
         small = λ n h k. omega arith;
         room = omega arith;
       }
@@ -343,7 +344,7 @@ module _ (ruler : ℕ) (indent : List ℕ) (level : ℕ) (eol : List ℕ) (max :
     named : (lines : List (List ℕ)) → addIf opts max cont lines (decode name) ≡ addName opts max cont lines (decode name)
     named lines = if-some opts max cont lines (decode name) (some-decoded name (fits .well) (omega arith))
 
-    added-line : (lines : List (List ℕ)) (out′ : List ℕ) (r : Filled) → OnNewLine ruler indent level eol name out out′ f r → AddedTo ruler lines (newLine ∷ lines) eol out out′ f r
+    added-line : (lines : List (List ℕ)) (out′ : List ℕ) (r : Filled) → OnNewLine ruler indent level eol name model out out′ f r → AddedTo ruler lines (newLine ∷ lines) eol model out out′ f r
     added-line lines out′ r q =
         record {
           column = record { some = q .some; at = q .column };
@@ -353,26 +354,26 @@ module _ (ruler : ℕ) (indent : List ℕ) (level : ℕ) (eol : List ℕ) (max :
         }
 
     abbrev Result : List ℕ → Filled → Type 0
-    Result out′ r = Added ruler indent level eol max name out out′ f r
+    Result out′ r = Added ruler indent level eol max name model out out′ f r
 
-    line-small : (out′ : List ℕ) (r : Filled) → OnNewLine ruler indent level eol name out out′ f r → (n : ℕ) → lastIndent ≤ n → f .column .0 ≤ n → r .column .0 ≤ n + 255 * length name + 510
+    line-small : (out′ : List ℕ) (r : Filled) → OnNewLine ruler indent level eol name model out out′ f r → (n : ℕ) → lastIndent ≤ n → f .column .0 ≤ n → r .column .0 ≤ n + 255 * length name + 510
     line-small out′ r q n h k = omega (arith, q .small)
 
-    line-at : (out′ : List ℕ) (r : Filled) → OnNewLine ruler indent level eol name out out′ f r → r .at ≤ f .at + (67108931 + length name)
+    line-at : (out′ : List ℕ) (r : Filled) → OnNewLine ruler indent level eol name model out out′ f r → r .at ≤ f .at + (67108931 + length name)
     line-at out′ r q =
         omega (arith, q .text .next, length-append eol (lay indent level (name ++ 44 ∷ [])), length-append cont (name ++ 44 ∷ []), length-append name (44 ∷ []), indent-short indent level (fits .indents), fits .end)
 
     -- the first line
-    pub add-first : (out′ : List ℕ) (r : Filled) → f .some ≡ false → OnNewLine ruler indent level eol name out out′ f r → Result out′ r
+    pub add-first : (out′ : List ℕ) (r : Filled) → f .some ≡ false → OnNewLine ruler indent level eol name model out out′ f r → Result out′ r
     unfolding addName
     add-first out′ r e q =
         record {
-          to = λ lines c. subst (λ (ls : List (List ℕ)). AddedTo ruler lines ls eol out out′ f r) (sym (named lines)) (go lines c);
+          to = λ lines c. subst (λ (ls : List (List ℕ)). AddedTo ruler lines ls eol model out out′ f r) (sym (named lines)) (go lines c);
           small = line-small out′ r q;
           room = line-at out′ r q;
         }
       where
-        go : (lines : List (List ℕ)) → NewestAt ruler lines f → AddedTo ruler lines (addName opts max cont lines (decode name)) eol out out′ f r
+        go : (lines : List (List ℕ)) → NewestAt ruler lines f → AddedTo ruler lines (addName opts max cont lines (decode name)) eol model out out′ f r
         go [] c = added-line [] out′ r q
         go (cur ∷ done) c = absurd (let y : _≡_ {A = ℕ} 0 1 = cc (c .some, e) in omega arith)
 
@@ -386,31 +387,31 @@ module _ (ruler : ℕ) (indent : List ℕ) (level : ℕ) (eol : List ℕ) (max :
           q .is ∙ ap (λ (k : ℕ). measure ruler k (withComma (decode name))) (one-measured ruler (f .column .0) 32 b (omega arith) p ∙ ap (λ (k : ℕ). measure ruler k (32 ∷ [])) (c .at))
           ∙ sym (measure-append ruler 0 cur (codes " " ++ withComma (decode name)) ∙ measure-append ruler (measure ruler 0 cur) (codes " ") (withComma (decode name)))
 
-      pub add-wide : (out′ : List ℕ) (r : Filled) → max < n → OnNewLine ruler indent level eol name out out′ f r → Result out′ r
+      pub add-wide : (out′ : List ℕ) (r : Filled) → max < n → OnNewLine ruler indent level eol name model out out′ f r → Result out′ r
       unfolding addName overWide
       add-wide out′ r h l =
           record {
-            to = λ lines c. subst (λ (ls : List (List ℕ)). AddedTo ruler lines ls eol out out′ f r) (sym (named lines)) (go lines c);
+            to = λ lines c. subst (λ (ls : List (List ℕ)). AddedTo ruler lines ls eol model out out′ f r) (sym (named lines)) (go lines c);
             small = line-small out′ r l;
             room = line-at out′ r l;
           }
         where
-          go : (lines : List (List ℕ)) → NewestAt ruler lines f → AddedTo ruler lines (addName opts max cont lines (decode name)) eol out out′ f r
+          go : (lines : List (List ℕ)) → NewestAt ruler lines f → AddedTo ruler lines (addName opts max cont lines (decode name)) eol model out out′ f r
           go [] c = absurd (let y : _≡_ {A = ℕ} 0 1 = cc (c .some, e) in omega arith)
           go (cur ∷ done) c =
               rw (choose-true (ltb max (measure ruler 0 (joinedLine cur))) (newLine ∷ cur ∷ done) (joinedLine cur ∷ done) (rw (← (column-of cur done c)) (lt-ltb max n h)))
               (added-line (cur ∷ done) out′ r l)
 
-      pub add-here : (out′ : List ℕ) (col : Utf16Column) (at : ℕ) → col .0 ≡ n → n ≤ max → Appended out out′ (f .at) (32 ∷ (name ++ 44 ∷ [])) at → Result out′ (record { at = at; column = col; some = true })
+      pub add-here : (out′ : List ℕ) (col : Utf16Column) (at : ℕ) → col .0 ≡ n → n ≤ max → Compared model out out′ (f .at) (32 ∷ (name ++ 44 ∷ [])) at → Result out′ (record { at = at; column = col; some = true })
       unfolding addName overWide
       add-here out′ col at k h a =
           record {
-            to = λ lines c. subst (λ (ls : List (List ℕ)). AddedTo ruler lines ls eol out out′ f (record { at = at; column = col; some = true })) (sym (named lines)) (go lines c);
+            to = λ lines c. subst (λ (ls : List (List ℕ)). AddedTo ruler lines ls eol model out out′ f (record { at = at; column = col; some = true })) (sym (named lines)) (go lines c);
             small = λ m i j. omega (arith, q .small, p .small);
             room = omega (arith, a .next, length-append name (44 ∷ []));
           }
         where
-          go : (lines : List (List ℕ)) → NewestAt ruler lines f → AddedTo ruler lines (addName opts max cont lines (decode name)) eol out out′ f (record { at = at; column = col; some = true })
+          go : (lines : List (List ℕ)) → NewestAt ruler lines f → AddedTo ruler lines (addName opts max cont lines (decode name)) eol model out out′ f (record { at = at; column = col; some = true })
           go [] c = absurd (let y : _≡_ {A = ℕ} 0 1 = cc (c .some, e) in omega arith)
           go (cur ∷ done) c =
               rw (choose-false (ltb max (measure ruler 0 (joinedLine cur))) (newLine ∷ cur ∷ done) (joinedLine cur ∷ done) (rw (← (column-of cur done c)) (le-ltb max n h)))
@@ -423,22 +424,22 @@ module _ (ruler : ℕ) (indent : List ℕ) (level : ℕ) (eol : List ℕ) (max :
 
 -- ---- the lines of names: the pieces before a are on them
 
-pub record Filling (ruler : ℕ) (s indent : List ℕ) (level : ℕ) (eol : List ℕ) (max : ℕ) (out₀ : List ℕ) (at : ℕ) (out : List ℕ) (f : Filled) (a : ℕ) : Type 0 where
+pub record Filling (ruler : ℕ) (s indent : List ℕ) (level : ℕ) (eol : List ℕ) (max : ℕ) (model out₀ : List ℕ) (at : ℕ) (out : List ℕ) (f : Filled) (a : ℕ) : Type 0 where
   pub pre : NamesFit s indent level eol at
   pub within : a ≤ length s + 1
   pub well : AllWell (left s a)
   pub lines : List (List ℕ)
   pub fill : fillNames (indented indent ruler) max (times level indent) (namesOf (parts s)) ≡ foldl (addName (indented indent ruler) max (times level indent)) lines (namesOf (map decode (left s a)))
   pub column : NewestAt ruler lines f
-  pub text : Appended out₀ out at (namesText eol lines) (f .at)
+  pub text : Compared model out₀ out at (namesText eol lines) (f .at)
   pub narrow : f .column .0 ≤ lastIndent + 510 * a
   pub room : f .at ≤ at + a * lineRoom
   pub as-long : length out ≡ length out₀
 
-pub filling-start : (ruler : ℕ) (s indent : List ℕ) (level : ℕ) (eol : List ℕ) (max : ℕ) (out : List ℕ) (at : ℕ) (col : Utf16Column) → NamesFit s indent level eol at → col .0 ≡ 0
-    → Filling ruler s indent level eol max out at out (record { at = at; column = col; some = false }) 0
+pub filling-start : (ruler : ℕ) (s indent : List ℕ) (level : ℕ) (eol : List ℕ) (max : ℕ) (model out : List ℕ) (at : ℕ) (col : Utf16Column) → NamesFit s indent level eol at → col .0 ≡ 0
+    → Filling ruler s indent level eol max model out at out (record { at = at; column = col; some = false }) 0
 unfolding fillNames following
-filling-start ruler s indent level eol max out at col p z =
+filling-start ruler s indent level eol max model out at col p z =
     let q : AllPieces s = all-pieces s (p .well) in
     record {
       pre = p;
@@ -447,7 +448,7 @@ filling-start ruler s indent level eol max out at col p z =
       lines = [];
       fill = rw (← (q .chars));
       column = record { some = refl; at = tt };
-      text = appended-nil out at;
+      text = compared-nil model out at;
       narrow = omega arith;
       room = omega arith;
       as-long = refl;
@@ -460,7 +461,7 @@ unfolding consName
 fold-cons o max cont lines [] ns = refl
 fold-cons o max cont lines (c ∷ cs) ns = refl
 
-module _ (ruler : ℕ) (s indent : List ℕ) (level : ℕ) (eol : List ℕ) (max : ℕ) (out₀ : List ℕ) (at : ℕ) (out : List ℕ) (f : Filled) (a : ℕ) (q : Filling ruler s indent level eol max out₀ at out f a)
+module _ (ruler : ℕ) (s indent : List ℕ) (level : ℕ) (eol : List ℕ) (max : ℕ) (model out₀ : List ℕ) (at : ℕ) (out : List ℕ) (f : Filled) (a : ℕ) (q : Filling ruler s indent level eol max model out₀ at out f a)
     (n : ℕ) (h : a ≤ length s) (l : NameLen (take (length s - a) (drop a s)) n) (p : Part) (u : Trimmed s a (a + n) p) where
   abbrev name : List ℕ
   name = part s (p .start) (p .end)
@@ -479,7 +480,7 @@ module _ (ruler : ℕ) (s indent : List ℕ) (level : ℕ) (eol : List ℕ) (max
         room = omega (arith, q .room, q .pre .room, name-long, name-fits s a n h l, q .pre .short);
       }
 
-  pub filling-more : (out′ : List ℕ) (r : Filled) → Added ruler indent level eol max name out out′ f r → length out′ ≡ length out → Filling ruler s indent level eol max out₀ at out′ r (a + n + 1)
+  pub filling-more : (out′ : List ℕ) (r : Filled) → Added ruler indent level eol max name model out out′ f r → length out′ ≡ length out → Filling ruler s indent level eol max model out₀ at out′ r (a + n + 1)
   filling-more out′ r g k =
       let cons : left s a ≡ part s a (a + n) ∷ left s (a + n + 1) = left-cons s a n h l in
       let w : AllWell (part s a (a + n) ∷ left s (a + n + 1)) = subst AllWell cons (q .well) in
@@ -494,15 +495,15 @@ module _ (ruler : ℕ) (s indent : List ℕ) (level : ℕ) (eol : List ℕ) (max
             ∙ rw (names-cons (decode (part s a (a + n))) (map decode (left s (a + n + 1))), ← (u .text))
             (fold-cons (indented indent ruler) max (times level indent) (q .lines) (decode name) (namesOf (map decode (left s (a + n + 1)))));
         column = to .column;
-        text = rw (to .grows) (appended-append (q .text) (to .text));
+        text = rw (to .grows) (compared-append (q .text) (to .text));
         narrow = omega (arith, g .small (lastIndent + 510 * a) (omega arith) (q .narrow), name-long);
         room = omega (arith, g .room, q .room, name-long);
         as-long = k ∙ q .as-long;
       }
 
-pub filling-end : (ruler : ℕ) (s indent : List ℕ) (level : ℕ) (eol : List ℕ) (max : ℕ) (out₀ : List ℕ) (at : ℕ) (out : List ℕ) (f : Filled) (a : ℕ) → Filling ruler s indent level eol max out₀ at out f a → length s < a
-    → NamesWritten ruler s indent level eol max out₀ out at (f .at)
+pub filling-end : (ruler : ℕ) (s indent : List ℕ) (level : ℕ) (eol : List ℕ) (max : ℕ) (model out₀ : List ℕ) (at : ℕ) (out : List ℕ) (f : Filled) (a : ℕ) → Filling ruler s indent level eol max model out₀ at out f a → length s < a
+    → NamesWritten ruler s indent level eol max model out₀ out at (f .at)
 unfolding namesOf
-filling-end ruler s indent level eol max out₀ at out f a q h =
+filling-end ruler s indent level eol max model out₀ at out f a q h =
     let e : fillNames (indented indent ruler) max (times level indent) (namesOf (parts s)) ≡ q .lines = q .fill ∙ rw (left-none s a h) in
     record { text = rw e (q .text); room = omega (arith, q .room, q .within) }

@@ -4,7 +4,8 @@ use mathlib.Core.List.{List, [], _∷_, _++_}
 use mathlib.Core.Option.{Option, none, some}
 use mathlib.Core.Path.{_≡_}
 use lib.ListN.{length, take, drop}
-use Rattle.buffer.specs.Buffer.{part, Appended}
+use Rattle.buffer.specs.Buffer.{part}
+use Rattle.compare.specs.Common.{Compared}
 use Rattle.unicode.specs.Unicode.{encode, decode, WellFormed, trimEnd}
 use Rattle.rules.specs.declared.Carry.{Carry}
 use Rattle.rules.specs.Options.{Options}
@@ -21,16 +22,16 @@ pub record NotSplit (out out′ : List ℕ) (r : ImportSplit) : Type 0 where
   pub is : r ≡ ImportSplit.Whole
   pub same : out′ ≡ out
 
-pub record Split (laid : Laid) (eol out out′ : List ℕ) (at : ℕ) (r : ImportSplit) : Type 0 where
+pub record Split (laid : Laid) (eol model out out′ : List ℕ) (at : ℕ) (r : ImportSplit) : Type 0 where
   pub made : ImportLines
   pub is : r ≡ ImportSplit.Split made
-  pub written : Written eol (laid .lines) out out′ at (made .last) (made .next)
+  pub written : Written eol (laid .lines) model out out′ at (made .last) (made .next)
   pub blanks : made .blanks ≡ laid .blankNames
 
 -- where the line isn't split, nothing is written
-abbrev pub Given : Option Laid → List ℕ → List ℕ → List ℕ → ℕ → ImportSplit → Type 0
-Given none eol out out′ at r = NotSplit out out′ r
-Given (some laid) eol out out′ at r = Split laid eol out out′ at r
+abbrev pub Given : Option Laid → List ℕ → List ℕ → List ℕ → List ℕ → ℕ → ImportSplit → Type 0
+Given none eol model out out′ at r = NotSplit out out′ r
+Given (some laid) eol model out out′ at r = Split laid eol model out out′ at r
 
 -- the line, the class byte of each of its bytes, and the place to write from
 pub record ImportFits (line class indent : List ℕ) (level : ℕ) (eol : List ℕ) (at : ℕ) : Type 0 where
@@ -46,8 +47,8 @@ pub record HeadFits (head indent : List ℕ) (level at : ℕ) : Type 0 where
 abbrev pub headLine : List ℕ → ℕ → List ℕ → List ℕ
 headLine indent level head = lay indent level (encode (trimEnd (decode head)) ++ (32 ∷ 123 ∷ []))
 
-pub record HeadWritten (head indent : List ℕ) (level : ℕ) (out out′ : List ℕ) (at r : ℕ) : Type 0 where
-  pub text : Appended out out′ at (headLine indent level head) r
+pub record HeadWritten (head indent : List ℕ) (level : ℕ) (model out out′ : List ℕ) (at r : ℕ) : Type 0 where
+  pub text : Compared model out out′ at (headLine indent level head) r
   pub room : r ≤ at + (67108930 + length head)
 
 -- a line whose braces stand at two places

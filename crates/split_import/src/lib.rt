@@ -5,7 +5,7 @@ ghost use mathlib.Core.List.{[], _∷_, _++_};
 ghost use Prim.Native.Nat.{_+_, _≤_, _<_, _^_};
 ghost use lib.Dec.{eqb};
 ghost use lib.ListN.{length};
-ghost use Rattle.buffer.specs.Buffer.{Appended};
+ghost use Rattle.compare.specs.Common.{Compared};
 ghost use Rattle.unicode.specs.Unicode.{decode};
 ghost use Rattle.rules.specs.Options.{Options};
 ghost use Rattle.rules.specs.Lines.{asStr};
@@ -122,24 +122,31 @@ fn count_names(s: &[u8]) -> Names
 }
 
 // A name, and its comma, after others on its line.
-fn put_name(out: &mut [u8], at: usize, name: &[u8]) -> usize
+fn put_name(model: &[u8], out: &mut [u8], at: usize, name: &[u8]) -> usize
     requires { ⌜ at + (length (now name) + 2) < 2 ^ 64 ⌝ }
-    ensures { λ r. ⌜ Appended (now (out .entry)) (now (out .exit)) at (32 ∷ (now (name .entry) ++ 44 ∷ [])) r ⌝ }
+    ensures { λ r. ⌜ Compared (now (model .entry)) (now (out .entry)) (now (out .exit)) at (32 ∷ (now (name .entry) ++ 44 ∷ [])) r ⌝ }
 {
-    let n = buffer::append(out, at, b" ");
-    let m = buffer::append(out, n, name);
-    buffer::append(out, m, b",")
+    let n = compare::append(model, out, at, b" ");
+    let m = compare::append(model, out, n, name);
+    compare::append(model, out, m, b",")
 }
 
 // A name, and its comma, on a line of its own.
-fn put_line(out: &mut [u8], at: usize, s: Layout, indent: &[u8], name: &[u8]) -> usize
+fn put_line(
+    model: &[u8],
+    out: &mut [u8],
+    at: usize,
+    s: Layout,
+    indent: &[u8],
+    name: &[u8],
+) -> usize
     requires { ⌜ NamePlace (asStr (s .ending)) (now indent) (s .level) (now name) at ⌝ }
-    ensures { λ r. ⌜ Appended (now (out .entry)) (now (out .exit)) at (asStr (s .ending) ++ lay (now (indent .entry)) (s .level) (now (name .entry) ++ 44 ∷ [])) r ⌝ }
+    ensures { λ r. ⌜ Compared (now (model .entry)) (now (out .entry)) (now (out .exit)) at (asStr (s .ending) ++ lay (now (indent .entry)) (s .level) (now (name .entry) ++ 44 ∷ [])) r ⌝ }
 {
     let ending = s.ending;
-    let n = text::append_ending(out, at, ending);
-    let m = buffer::append_indented(out, n, indent, s.level, name);
-    buffer::append(out, m, b",")
+    let n = text::append_ending(model, out, at, ending);
+    let m = compare::append_indented(model, out, n, indent, s.level, name);
+    compare::append(model, out, m, b",")
 }
 
 // The column after a name and its comma.
@@ -157,22 +164,36 @@ pub struct Filled {
     pub some: bool,
 }
 
-fn new_line(out: &mut [u8], f: Filled, s: Layout, indent: &[u8], name: &[u8]) -> Filled
+fn new_line(
+    model: &[u8],
+    out: &mut [u8],
+    f: Filled,
+    s: Layout,
+    indent: &[u8],
+    name: &[u8],
+) -> Filled
     requires { ⌜ NameFits (now indent) (s .level) (asStr (s .ending)) (now name) f ⌝ }
-    ensures { λ r. ⌜ OnNewLine (s .ruler) (now (indent .entry)) (s .level) (asStr (s .ending)) (now (name .entry)) (now (out .entry)) (now (out .exit)) f r ⌝ }
+    ensures { λ r. ⌜ OnNewLine (s .ruler) (now (indent .entry)) (s .level) (asStr (s .ending)) (now (name .entry)) (now (model .entry)) (now (out .entry)) (now (out .exit)) f r ⌝ }
 {
     let column = name_column(s.ruler, indent_column(s.ruler, indent, s.level), name);
     Filled {
-        at: put_line(out, f.at, s, indent, name),
+        at: put_line(model, out, f.at, s, indent, name),
         column,
         some: true,
     }
 }
 
 // One more name: on the newest line if the width holds it, else on a line of its own. A blank one is dropped.
-fn add_name(out: &mut [u8], f: Filled, s: Layout, indent: &[u8], name: &[u8]) -> Filled
+fn add_name(
+    model: &[u8],
+    out: &mut [u8],
+    f: Filled,
+    s: Layout,
+    indent: &[u8],
+    name: &[u8],
+) -> Filled
     requires { ⌜ NameFits (now indent) (s .level) (asStr (s .ending)) (now name) f ⌝ }
-    ensures { λ r. ⌜ Added (s .ruler) (now (indent .entry)) (s .level) (asStr (s .ending)) (s .max .0) (now (name .entry)) (now (out .entry)) (now (out .exit)) f r ⌝ }
+    ensures { λ r. ⌜ Added (s .ruler) (now (indent .entry)) (s .level) (asStr (s .ending)) (s .max .0) (now (name .entry)) (now (model .entry)) (now (out .entry)) (now (out .exit)) f r ⌝ }
 {
     if name.len() == 0 {
         return f;
@@ -182,20 +203,27 @@ fn add_name(out: &mut [u8], f: Filled, s: Layout, indent: &[u8], name: &[u8]) ->
         let column = name_column(s.ruler, measure_from(s.ruler, c, b" "), name);
         if column.0 <= s.max.0 {
             return Filled {
-                at: put_name(out, f.at, name),
+                at: put_name(model, out, f.at, name),
                 column,
                 some: true,
             };
         }
-        return new_line(out, f, s, indent, name);
+        return new_line(model, out, f, s, indent, name);
     }
-    new_line(out, f, s, indent, name)
+    new_line(model, out, f, s, indent, name)
 }
 
 // The lines of the names between commas, each after a line ending.
-fn write_names(names: &[u8], s: Layout, indent: &[u8], out: &mut [u8], at: usize) -> usize
+fn write_names(
+    names: &[u8],
+    s: Layout,
+    indent: &[u8],
+    model: &[u8],
+    out: &mut [u8],
+    at: usize,
+) -> usize
     requires { ⌜ NamesFit (now names) (now indent) (s .level) (asStr (s .ending)) at ⌝ }
-    ensures { λ r. ⌜ NamesWritten (s .ruler) (now (names .entry)) (now (indent .entry)) (s .level) (asStr (s .ending)) (s .max .0) (now (out .entry)) (now (out .exit)) at r ⌝ }
+    ensures { λ r. ⌜ NamesWritten (s .ruler) (now (names .entry)) (now (indent .entry)) (s .level) (asStr (s .ending)) (s .max .0) (now (model .entry)) (now (out .entry)) (now (out .exit)) at r ⌝ }
 {
     let mut f = Filled {
         at,
@@ -208,20 +236,27 @@ fn write_names(names: &[u8], s: Layout, indent: &[u8], out: &mut [u8], at: usize
         let p = trim_part(names, a, e);
         let b = p.start;
         let d = p.end;
-        f = add_name(out, f, s, indent, &names[b..d]);
+        f = add_name(model, out, f, s, indent, &names[b..d]);
         a = e + 1;
     }
     f.at
 }
 
 // The first line: the text before the brace, trimmed at its end, a space and the brace.
-fn write_head(out: &mut [u8], at: usize, indent: &[u8], level: usize, head: &[u8]) -> usize
+fn write_head(
+    model: &[u8],
+    out: &mut [u8],
+    at: usize,
+    indent: &[u8],
+    level: usize,
+    head: &[u8],
+) -> usize
     requires { ⌜ HeadFits (now head) (now indent) level at ⌝ }
-    ensures { λ r. ⌜ HeadWritten (now (head .entry)) (now (indent .entry)) level (now (out .entry)) (now (out .exit)) at r ⌝ }
+    ensures { λ r. ⌜ HeadWritten (now (head .entry)) (now (indent .entry)) level (now (model .entry)) (now (out .entry)) (now (out .exit)) at r ⌝ }
 {
     let n = unicode::trim_end(head);
-    let m = buffer::append_indented(out, at, indent, level, &head[..n]);
-    buffer::append(out, m, b" {")
+    let m = compare::append_indented(model, out, at, indent, level, &head[..n]);
+    compare::append(model, out, m, b" {")
 }
 
 // The lines of an import whose braces stand where the part starts and ends; under two names, it isn't split.
@@ -230,12 +265,13 @@ fn write_import(
     braces: Part,
     s: Layout,
     indent: &[u8],
+    model: &[u8],
     out: &mut [u8],
     at: usize,
 ) -> ImportSplit
     requires { ⌜ Braces (now line) (braces .start) (braces .end) (now indent) (s .level) (asStr (s .ending)) at ⌝ }
     ensures { λ r. ⌜ ((o : Options) → InUse o (now (indent .entry)) (s .ruler)
-        → Given (partsOf o (s .max .0) (s .level) (now (line .entry)) (braces .start) (braces .end)) (asStr (s .ending)) (now (out .entry)) (now (out .exit)) at r) ⌝ }
+        → Given (partsOf o (s .max .0) (s .level) (now (line .entry)) (braces .start) (braces .end)) (asStr (s .ending)) (now (model .entry)) (now (out .entry)) (now (out .exit)) at r) ⌝ }
 {
     let start = braces.start;
     let end = braces.end;
@@ -245,7 +281,7 @@ fn write_import(
     if c.names < 2 {
         return ImportSplit::Whole;
     }
-    let n = write_head(out, at, indent, s.level, &line[..start]);
+    let n = write_head(model, out, at, indent, s.level, &line[..start]);
     let ending = s.ending;
     let strengths = s.strengths;
     let under = Layout {
@@ -255,8 +291,8 @@ fn write_import(
         ending,
         strengths,
     };
-    let m = write_names(names, under, indent, out, n);
-    let w = write_line(out, m, s, indent, &line[end..]);
+    let m = write_names(names, under, indent, model, out, n);
+    let w = write_line(model, out, m, s, indent, &line[end..]);
     ImportSplit::Split(ImportLines {
         next: w.next,
         last: w.start,
@@ -270,12 +306,13 @@ pub fn split_import(
     class: &[u8],
     s: Layout,
     indent: &[u8],
+    model: &[u8],
     out: &mut [u8],
     at: usize,
 ) -> ImportSplit
     requires { ⌜ ImportFits (now line) (now class) (now indent) (s .level) (asStr (s .ending)) at ⌝ }
     ensures { λ r. ⌜ ((o : Options) → InUse o (now (indent .entry)) (s .ruler)
-        → Given (splitImport o (s .max .0) (s .level) (classify Carry.Code (decode (now (line .entry))))) (asStr (s .ending)) (now (out .entry)) (now (out .exit)) at r) ⌝ }
+        → Given (splitImport o (s .max .0) (s .level) (classify Carry.Code (decode (now (line .entry))))) (asStr (s .ending)) (now (model .entry)) (now (out .entry)) (now (out .exit)) at r) ⌝ }
 {
     if starts_import(line) {
         let start = find_code(line, class, b'{');
@@ -288,7 +325,7 @@ pub fn split_import(
         if line.len() <= end {
             return ImportSplit::Whole;
         }
-        return write_import(line, Part { start, end }, s, indent, out, at);
+        return write_import(line, Part { start, end }, s, indent, model, out, at);
     }
     ImportSplit::Whole
 }

@@ -11,9 +11,10 @@ use lib.Dec.{eqb, ltb}
 use lib.ListN.{length, getD, drop, length-append}
 use lib.Seq.{drop-cons}
 use borrow.Author.Tests.{eq-eqb, ne-eqb, eqb-false, lt-ltb, le-ltb}
-use Rattle.buffer.specs.Buffer.{part, Appended}
+use Rattle.buffer.specs.Buffer.{part}
+use Rattle.compare.specs.Common.{Compared}
 use Rattle.buffer.specs.Repeat.{times}
-use Rattle.buffer.proofs.WriteLaws.{appended-nil, appended-append}
+use Rattle.compare.proofs.WriterLaws.{compared-nil, compared-append}
 use Rattle.unicode.specs.Unicode.{encode, decode, Scalars, WellFormed, trim}
 use Rattle.unicode.proofs.Tests.{split}
 use Rattle.unicode.proofs.Decode.{decode-encode, decode-scalars, wf-encode}
@@ -303,12 +304,12 @@ unfolding restFrom
 rest-none table p line class c h = choose-false _ _ _ (le-ltb (c .place) (length line) h)
 
 -- one more line
-after-more : {eol : List ℕ} {ls : List (List ℕ)} {l out₀ out out′ : List ℕ} {first r n : NewLine} → After eol ls out₀ out first r → LineWritten eol l out out′ (r .next) n
-    → After eol (ls ++ (l ∷ [])) out₀ out′ first n
+after-more : {eol : List ℕ} {ls : List (List ℕ)} {l model out₀ out out′ : List ℕ} {first r n : NewLine} → After eol ls model out₀ out first r → LineWritten eol l model out out′ (r .next) n
+    → After eol (ls ++ (l ∷ [])) model out₀ out′ first n
 unfolding following lastOf
 after-more {eol} {ls} {l} a g =
     record {
-      text = rw (following-append eol ls (l ∷ []), append-nil) (appended-append (a .text) (g .text));
+      text = rw (following-append eol ls (l ∷ []), append-nil) (compared-append (a .text) (g .text));
       last = λ k e. rw (last-append k ls (l ∷ [])) (g .start);
     }
 
@@ -326,28 +327,28 @@ rest-cons table p line class c d h q = opened ∙ rw (q .first, q .rest, part-co
     opened = rest-open table p line class c h
 
 -- what `write_rest` keeps: the pieces that are written, and those from the cut c on
-pub record Writing (table : List ℕ) (strength : ℕ) (line class : List ℕ) (cut : Cut) (indent : List ℕ) (level : ℕ) (eol out₀ : List ℕ) (first : NewLine) (out : List ℕ) (c : Cut) (r : NewLine) : Type 0 where
+pub record Writing (table : List ℕ) (strength : ℕ) (line class : List ℕ) (cut : Cut) (indent : List ℕ) (level : ℕ) (eol model out₀ : List ℕ) (first : NewLine) (out : List ℕ) (c : Cut) (r : NewLine) : Type 0 where
   pub fits : RestFits table strength line class cut indent level eol first
   pub done : List (List ℕ)
   pub all : restFrom table strength line class cut ≡ done ++ restFrom table strength line class c
   pub well : AllWell (restFrom table strength line class c)
-  pub after : After eol (restLines indent level done) out₀ out first r
+  pub after : After eol (restLines indent level done) model out₀ out first r
   pub order : cut .place ≤ c .place
   pub within : c .place ≤ length line
   pub sound : c .place < length line → Sound (c .after) (c .place + 1)
   pub room : r .next ≤ first .next + (c .place - cut .place) * lineRoom
   pub as-long : length out ≡ length out₀
 
-pub writing-start : {table : List ℕ} {strength : ℕ} {line class : List ℕ} {cut : Cut} {indent : List ℕ} {level : ℕ} {eol : List ℕ} {first : NewLine} (out : List ℕ) → RestFits table strength line class cut indent level eol first
-    → Writing table strength line class cut indent level eol out first out cut first
+pub writing-start : {table : List ℕ} {strength : ℕ} {line class : List ℕ} {cut : Cut} {indent : List ℕ} {level : ℕ} {eol : List ℕ} {first : NewLine} (model out : List ℕ) → RestFits table strength line class cut indent level eol first
+    → Writing table strength line class cut indent level eol model out first out cut first
 unfolding following lastOf
-writing-start {first = first} out f =
+writing-start {first = first} model out f =
     record {
       fits = f;
       done = [];
       all = refl;
       well = f .well;
-      after = record { text = appended-nil out (first .next); last = λ l e. e };
+      after = record { text = compared-nil model out (first .next); last = λ l e. e };
       order = omega arith;
       within = f .within;
       sound = f .sound;
@@ -355,8 +356,8 @@ writing-start {first = first} out f =
       as-long = refl;
     }
 
-module _ {table : List ℕ} {strength : ℕ} {line class : List ℕ} {cut : Cut} {indent : List ℕ} {level : ℕ} {eol out₀ : List ℕ} {first : NewLine} {out : List ℕ} {c : Cut} {r : NewLine}
-    (w : Writing table strength line class cut indent level eol out₀ first out c r) where
+module _ {table : List ℕ} {strength : ℕ} {line class : List ℕ} {cut : Cut} {indent : List ℕ} {level : ℕ} {eol model out₀ : List ℕ} {first : NewLine} {out : List ℕ} {c : Cut} {r : NewLine}
+    (w : Writing table strength line class cut indent level eol model out₀ first out c r) where
   pub writing-cut : c .place < length line → Cutting strength line class (c .place + 1) (c .after)
   writing-cut h = record { some = w .fits .some; within = omega arith; breaks = w .fits .breaks; sound = w .sound h }
 
@@ -375,8 +376,8 @@ module _ {table : List ℕ} {strength : ℕ} {line class : List ℕ} {cut : Cut}
       }
 
   pub writing-more : (d : Cut) (p : Part) (n : NewLine) (out′ : List ℕ) → c .place < length line → NextOp table strength line class (c .place + 1) (c .after) d → Trimmed line (c .place) (d .place) p
-      → LineWritten eol (lay indent level (part line (p .start) (p .end))) out out′ (r .next) n → length out′ ≡ length out
-      → Writing table strength line class cut indent level eol out₀ first out′ d n
+      → LineWritten eol (lay indent level (part line (p .start) (p .end))) model out out′ (r .next) n → length out′ ≡ length out
+      → Writing table strength line class cut indent level eol model out₀ first out′ d n
   writing-more d p n out′ h q t g k =
       let piece = part line (c .place) (d .place) in
       let cons : restFrom table strength line class c ≡ piece ∷ restFrom table strength line class d = rest-cons table strength line class c d h q in
@@ -398,19 +399,19 @@ module _ {table : List ℕ} {strength : ℕ} {line class : List ℕ} {cut : Cut}
         as-long = k ∙ w .as-long;
       }
 
-  pub writing-end : length line ≤ c .place → RestWritten table strength line class cut indent level eol out₀ out first r
+  pub writing-end : length line ≤ c .place → RestWritten table strength line class cut indent level eol model out₀ out first r
   writing-end h =
       let e : restFrom table strength line class cut ≡ w .done = w .all ∙ rw (rest-none table strength line class c h) (append-nil (w .done)) in
       record { after = rw e (w .after); room = omega (arith, w .room, w .within, w .order) }
 
 -- lines after those of pieces
-pieces-more : {indent : List ℕ} {level : ℕ} {eol : List ℕ} {p : Pieces} (others : List (List ℕ)) {out out₁ out₂ : List ℕ} {at : ℕ} {first r : NewLine}
-    → PiecesWritten indent level eol p out out₁ at first → After eol (map (λ (l : List ℕ). lay indent (suc level) (encode l)) others) out₁ out₂ first r
-    → PiecesWritten indent level eol (record { first = p .first; rest = p .rest ++ others }) out out₂ at r
-pieces-more {indent} {level} {eol} {p} others {out} {out₁} {out₂} {at} {first} {r} w a =
+pieces-more : {indent : List ℕ} {level : ℕ} {eol : List ℕ} {p : Pieces} (others : List (List ℕ)) {model out out₁ out₂ : List ℕ} {at : ℕ} {first r : NewLine}
+    → PiecesWritten indent level eol p model out out₁ at first → After eol (map (λ (l : List ℕ). lay indent (suc level) (encode l)) others) model out₁ out₂ first r
+    → PiecesWritten indent level eol (record { first = p .first; rest = p .rest ++ others }) model out out₂ at r
+pieces-more {indent} {level} {eol} {p} others {model} {out} {out₁} {out₂} {at} {first} {r} w a =
     let lines : otherLines indent level (record { first = p .first; rest = p .rest ++ others }) ≡ otherLines indent level p ++ map (λ (l : List ℕ). lay indent (suc level) (encode l)) others = map-append _ (p .rest) others in
     record {
-      text = rw (lines, following-append eol (otherLines indent level p), ← append-assoc) (appended-append (w .text) (a .text));
+      text = rw (lines, following-append eol (otherLines indent level p), ← append-assoc) (compared-append (w .text) (a .text));
       last = rw (lines, last-append) (a .last _ (w .last));
     }
 
@@ -430,15 +431,15 @@ module _ (table : List ℕ) (ruler : ℕ) (line class indent : List ℕ) (level 
   abbrev pre : Fits line indent level eol at
   pre = asks .fits
 
-  pub first-whole : (b : Break) (out out′ : List ℕ) (next : ℕ) → RoundBreak table ruler indent level max rounds line class b → b .strength ≡ 0 → Appended out out′ at (times level indent ++ line) next
-      → FirstBroken table ruler line indent level eol max rounds out out′ at (OperationSplit.Whole (record { start = at; next = next }))
+  pub first-whole : (b : Break) (model out out′ : List ℕ) (next : ℕ) → RoundBreak table ruler indent level max rounds line class b → b .strength ≡ 0 → Compared model out out′ at (times level indent ++ line) next
+      → FirstBroken table ruler line indent level eol max rounds model out out′ at (OperationSplit.Whole (record { start = at; next = next }))
   unfolding following lastOf
-  first-whole b out out′ next e z a =
+  first-whole b model out out′ next e z a =
       let b : brokenIn table ruler indent level max rounds line ≡ record { first = decode line; rest = [] } = round-whole table ruler indent level max rounds line class (pre .well) (asks .classed) (sym z ∙ e .strength) in
-      let q : PiecesWritten indent level eol (record { first = decode line; rest = [] }) out out′ at (record { start = at; next = next }) =
+      let q : PiecesWritten indent level eol (record { first = decode line; rest = [] }) model out out′ at (record { start = at; next = next }) =
       record { text = rw (append-nil, pre .well) a; last = rw (pre .well) (omega (arith, a .next)) } in
       record {
-        pieces = subst (λ (p : Pieces). PiecesWritten indent level eol p out out′ at (record { start = at; next = next })) (sym b) q;
+        pieces = subst (λ (p : Pieces). PiecesWritten indent level eol p model out out′ at (record { start = at; next = next })) (sym b) q;
         more = rw b;
         room = omega (arith, a .next, length-append (times level indent) line, indent-short indent level (level-fits pre));
       }
@@ -488,7 +489,7 @@ module _ (table : List ℕ) (ruler : ℕ) (line class indent : List ℕ) (level 
       first-text : decode piece ≡ trim (piecesAt table line p .first)
       first-text = u .text ∙ ap (λ (l : List ℕ). trim (decode l)) (cutting .first) ∙ ap trim (decode-encode _ (pieces-scalars table line p .first))
 
-      module _ (out out₁ : List ℕ) (f : OperationSplit) (g : FirstBroken table ruler piece indent level eol max (rounds - 1) out out₁ at f) (first : NewLine) (is : first ≡ lineOf f) where
+      module _ (model out out₁ : List ℕ) (f : OperationSplit) (g : FirstBroken table ruler piece indent level eol max (rounds - 1) model out out₁ at f) (first : NewLine) (is : first ≡ lineOf f) where
         pub rest-fits : RestFits table p line class c indent (level + 1) eol first
         rest-fits =
             record {
@@ -518,16 +519,16 @@ module _ (table : List ℕ) (ruler : ℕ) (line class indent : List ℕ) (level 
         several-pieces : not (isEmpty (inner .rest ++ others)) ≡ true
         several-pieces = some-append (inner .rest) others (some-map trim (piecesAt table line p .rest) (cut-some p z (topLevelOps table (classify Carry.Code (decode line))) (strength-loosest table line class (pre .well) (asks .classed) p z (round-loosest table ruler indent level max rounds line class b e z))))
 
-        pub first-broken : (out₂ : List ℕ) (r : NewLine) → RestWritten table p line class c indent (level + 1) eol out₁ out₂ first r
-            → FirstBroken table ruler line indent level eol max rounds out out₂ at (OperationSplit.Broken r)
+        pub first-broken : (out₂ : List ℕ) (r : NewLine) → RestWritten table p line class c indent (level + 1) eol model out₁ out₂ first r
+            → FirstBroken table ruler line indent level eol max rounds model out out₂ at (OperationSplit.Broken r)
         first-broken out₂ r w =
             let ls : restLines indent (level + 1) (restFrom table p line class c) ≡ map (λ (l : List ℕ). lay indent (suc level) (encode l)) others =
             ap (restLines indent (level + 1)) (cutting .rest) ∙ lines-trimmed indent (level + 1) (piecesAt table line p .rest) (pieces-scalars table line p .rest) ∙ rw (add-one level) in
-            let a : After eol (map (λ (l : List ℕ). lay indent (suc level) (encode l)) others) out₁ out₂ first r = rw ls at (w .after) in
-            let began : PiecesWritten indent level eol inner out out₁ at first = rw is (g .pieces) in
+            let a : After eol (map (λ (l : List ℕ). lay indent (suc level) (encode l)) others) model out₁ out₂ first r = rw ls at (w .after) in
+            let began : PiecesWritten indent level eol inner model out out₁ at first = rw is (g .pieces) in
             let far : first .next ≤ at + (length piece + 1) * lineRoom = rw is (g .room) in
             record {
-              pieces = subst (λ (x : Pieces). PiecesWritten indent level eol x out out₂ at r) (sym whole) (pieces-more others began a);
+              pieces = subst (λ (x : Pieces). PiecesWritten indent level eol x model out out₂ at r) (sym whole) (pieces-more others began a);
               more = sym (ap (λ (x : Pieces). not (isEmpty (x .rest))) whole ∙ several-pieces);
               room = omega (arith, far, w .room, piece-length, q .fits);
             }
@@ -559,18 +560,18 @@ several : (f : List ℕ → List ℕ) (l : List ℕ) (ls : List (List ℕ)) → 
 several f l [] = refl
 several f l (m ∷ ms) = sym (lt-ltb 1 (length (l ∷ f m ∷ map f ms)) (omega arith))
 
-pub all-broken : (table : List ℕ) {line class indent : List ℕ} {ruler level : ℕ} {eol : List ℕ} {max at : ℕ} {out out′ : List ℕ} {r : OperationSplit}
+pub all-broken : (table : List ℕ) {line class indent : List ℕ} {ruler level : ℕ} {eol : List ℕ} {max at : ℕ} {model out out′ : List ℕ} {r : OperationSplit}
     → OperationFits line class indent level eol at
-    → FirstBroken (strengthsIn table) ruler line indent level eol max maxStrength out out′ at r → (o : Options) → InUse o indent ruler
-    → Broken eol (splitOperation (strengthsIn table) o max level (decode line)) out out′ at r
+    → FirstBroken (strengthsIn table) ruler line indent level eol max maxStrength model out out′ at r → (o : Options) → InUse o indent ruler
+    → Broken eol (splitOperation (strengthsIn table) o max level (decode line)) model out out′ at r
 unfolding layPieces
-all-broken table {line} {class} {indent} {ruler} {level} {eol} {max} {at} {out} {out′} {r} ask f o e =
+all-broken table {line} {class} {indent} {ruler} {level} {eol} {max} {at} {model} {out} {out′} {r} ask f o e =
     let pre : Fits line indent level eol at = ask .fits in
     let p : Pieces = brokenIn (strengthsIn table) ruler indent level max maxStrength line in
     let k : allCodeOrStr (classify Carry.Code (decode line)) ≡ true = sym (all-encode (classify Carry.Code (decode line))) ∙ ap allCodeOrStr (sym (classify-encode Carry.Code (decode line)) ∙ ap (classify Carry.Code) (pre .well)) ∙ ask .classed .plain in
     let b : breakFirst (strengthsIn table) o max level maxStrength (record { first = decode line; rest = [] }) ≡ p = same-break (strengthsIn table) o indent ruler e max level maxStrength (record { first = decode line; rest = [] }) in
     let d : Indent indent (suc level) = rw add-one at (deeper-fits pre) in
-    subst (λ (ls : List (List ℕ)). Broken eol ls out out′ at r) (sym (fifteen-rounds table o max level (decode line) k ∙ ap (layPieces o level) b))
+    subst (λ (ls : List (List ℕ)). Broken eol ls model out out′ at r) (sym (fifteen-rounds table o max level (decode line) k ∙ ap (layPieces o level) b))
     (record {
       written = written-lines eol (indentOf o level ++ p .first) (map (λ (l : List ℕ). indentOf o (suc level) ++ l) (p .rest)) (firstLine indent level p) (otherLines indent level p)
           (pre .ascii) (lay-encode o indent level (p .first) (e .indents) (level-fits pre)) (lay-all o indent (suc level) (e .indents) d (p .rest)) (f .pieces .text) (f .pieces .last);

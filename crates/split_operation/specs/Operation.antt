@@ -5,7 +5,8 @@ use mathlib.Core.List.{List, [], _++_, map}
 use mathlib.Core.Path.{_≡_}
 use lib.Dec.{ltb, eqb}
 use lib.ListN.{length}
-use Rattle.buffer.specs.Buffer.{part, Appended}
+use Rattle.buffer.specs.Buffer.{part}
+use Rattle.compare.specs.Common.{Compared}
 use Rattle.unicode.specs.Unicode.{encode, decode, WellFormed, trim}
 use Rattle.rules.specs.declared.Carry.{Carry}
 use Rattle.rules.specs.Basics.{choose, isEmpty, Pieces}
@@ -32,8 +33,8 @@ isBroken (OperationSplit.Whole w) = false
 isBroken (OperationSplit.Broken w) = true
 
 -- the lines of an expression, written
-pub record Broken (eol : List ℕ) (lines : List (List ℕ)) (out out′ : List ℕ) (at : ℕ) (r : OperationSplit) : Type 0 where
-  pub written : Written eol lines out out′ at (lineOf r .start) (lineOf r .next)
+pub record Broken (eol : List ℕ) (lines : List (List ℕ)) (model out out′ : List ℕ) (at : ℕ) (r : OperationSplit) : Type 0 where
+  pub written : Written eol lines model out out′ at (lineOf r .start) (lineOf r .next)
   pub more : isBroken r ≡ ltb 1 (length lines)
 
 -- bytes of a piece, trimmed
@@ -55,12 +56,12 @@ pub record RestFits (table : List ℕ) (strength : ℕ) (line class : List ℕ) 
   pub room : first .next + (length line - cut .place) * lineRoom < 2 ^ 64
 
 -- lines ls written after the first ones, of which the last is any l that ends at their next place
-pub record After (eol : List ℕ) (ls : List (List ℕ)) (out out′ : List ℕ) (first r : NewLine) : Type 0 where
-  pub text : Appended out out′ (first .next) (following eol ls) (r .next)
+pub record After (eol : List ℕ) (ls : List (List ℕ)) (model out out′ : List ℕ) (first r : NewLine) : Type 0 where
+  pub text : Compared model out out′ (first .next) (following eol ls) (r .next)
   pub last : (l : List ℕ) → first .start + length l ≡ first .next → r .start + length (lastOf l ls) ≡ r .next
 
-pub record RestWritten (table : List ℕ) (strength : ℕ) (line class : List ℕ) (cut : Cut) (indent : List ℕ) (level : ℕ) (eol out out′ : List ℕ) (first r : NewLine) : Type 0 where
-  pub after : After eol (restLines indent level (restFrom table strength line class cut)) out out′ first r
+pub record RestWritten (table : List ℕ) (strength : ℕ) (line class : List ℕ) (cut : Cut) (indent : List ℕ) (level : ℕ) (eol model out out′ : List ℕ) (first r : NewLine) : Type 0 where
+  pub after : After eol (restLines indent level (restFrom table strength line class cut)) model out out′ first r
   pub room : r .next ≤ first .next + (length line - cut .place) * lineRoom
 
 -- a line of code and strings, with its class bytes
@@ -95,15 +96,15 @@ firstLine indent level p = lay indent level (encode (p .first))
 abbrev pub otherLines : List ℕ → ℕ → Pieces → List (List ℕ)
 otherLines indent level p = map (λ (l : List ℕ). lay indent (suc level) (encode l)) (p .rest)
 
-pub record PiecesWritten (indent : List ℕ) (level : ℕ) (eol : List ℕ) (p : Pieces) (out out′ : List ℕ) (at : ℕ) (r : NewLine) : Type 0 where
-  pub text : Appended out out′ at (firstLine indent level p ++ following eol (otherLines indent level p)) (r .next)
+pub record PiecesWritten (indent : List ℕ) (level : ℕ) (eol : List ℕ) (p : Pieces) (model out out′ : List ℕ) (at : ℕ) (r : NewLine) : Type 0 where
+  pub text : Compared model out out′ at (firstLine indent level p ++ following eol (otherLines indent level p)) (r .next)
   pub last : r .start + length (lastOf (firstLine indent level p) (otherLines indent level p)) ≡ r .next
 
 -- the pieces that a line alone becomes in so many rounds
 abbrev pub brokenIn : List ℕ → ℕ → List ℕ → ℕ → ℕ → ℕ → List ℕ → Pieces
 brokenIn table ruler indent level max rounds line = breakFirst table (indented indent ruler) max level rounds (record { first = decode line; rest = [] })
 
-pub record FirstBroken (table : List ℕ) (ruler : ℕ) (line indent : List ℕ) (level : ℕ) (eol : List ℕ) (max rounds : ℕ) (out out′ : List ℕ) (at : ℕ) (r : OperationSplit) : Type 0 where
-  pub pieces : PiecesWritten indent level eol (brokenIn table ruler indent level max rounds line) out out′ at (lineOf r)
+pub record FirstBroken (table : List ℕ) (ruler : ℕ) (line indent : List ℕ) (level : ℕ) (eol : List ℕ) (max rounds : ℕ) (model out out′ : List ℕ) (at : ℕ) (r : OperationSplit) : Type 0 where
+  pub pieces : PiecesWritten indent level eol (brokenIn table ruler indent level max rounds line) model out out′ at (lineOf r)
   pub more : isBroken r ≡ not (isEmpty (brokenIn table ruler indent level max rounds line .rest))
   pub room : lineOf r .next ≤ at + (length line + 1) * lineRoom

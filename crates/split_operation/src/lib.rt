@@ -57,12 +57,13 @@ fn write_rest(
     b: Break,
     s: Breaking,
     indent: &[u8],
+    model: &[u8],
     out: &mut [u8],
     first: NewLine,
 ) -> NewLine
     requires { ⌜ RestFits (strengthsIn (s .table)) (b .strength) (now line) (now class) (b .cut) (now indent) (s .level + 1) (asStr (s .ending)) first ⌝ }
     ensures { λ r. ⌜ RestWritten (strengthsIn (s .table)) (b .strength) (now (line .entry)) (now (class .entry)) (b .cut) (now (indent .entry)) (s .level + 1) (asStr (s .ending))
-        (now (out .entry)) (now (out .exit)) first r ⌝ }
+        (now (model .entry)) (now (out .entry)) (now (out .exit)) first r ⌝ }
 {
     let ending = s.ending;
     let table = s.table;
@@ -83,7 +84,7 @@ fn write_rest(
         let p = trim_part(line, from, c.place);
         let a = p.start;
         let e = p.end;
-        r = write_line(out, r.next, under, indent, &line[a..e]);
+        r = write_line(model, out, r.next, under, indent, &line[a..e]);
     }
     r
 }
@@ -120,16 +121,17 @@ fn break_first(
     class: &[u8],
     s: Breaking,
     indent: &[u8],
+    model: &[u8],
     out: &mut [u8],
     at: usize,
 ) -> OperationSplit
     requires { ⌜ OperationFits (now line) (now class) (now indent) (s .level) (asStr (s .ending)) at ⌝ }
     ensures { λ r. ⌜ FirstBroken (strengthsIn (s .table)) (s .ruler) (now (line .entry)) (now (indent .entry)) (s .level) (asStr (s .ending)) (s .max .0) (s .rounds)
-        (now (out .entry)) (now (out .exit)) at r ⌝ }
+        (now (model .entry)) (now (out .entry)) (now (out .exit)) at r ⌝ }
 {
     let b = round_break(line, class, s, indent);
     if b.strength == 0 {
-        let next = buffer::append_indented(out, at, indent, s.level, line);
+        let next = compare::append_indented(model, out, at, indent, s.level, line);
         return OperationSplit::Whole(NewLine { start: at, next });
     }
     let cut = b.cut;
@@ -140,8 +142,8 @@ fn break_first(
     let k = &class[a..e];
     let mut t = s;
     t.rounds = s.rounds - 1;
-    let first = line_of(break_first(l, k, t, indent, out, at));
-    OperationSplit::Broken(write_rest(line, class, b, s, indent, out, first))
+    let first = line_of(break_first(l, k, t, indent, model, out, at));
+    OperationSplit::Broken(write_rest(line, class, b, s, indent, model, out, first))
 }
 
 // An over-wide line of code and strings with its class bytes, broken before its loosest operators. Where there is nothing to break at, that is
@@ -151,12 +153,13 @@ pub fn split_operation(
     class: &[u8],
     s: Layout,
     indent: &[u8],
+    model: &[u8],
     out: &mut [u8],
     at: usize,
 ) -> OperationSplit
     requires { ⌜ OperationFits (now line) (now class) (now indent) (s .level) (asStr (s .ending)) at ⌝ }
     ensures { λ r. ⌜ ((o : Options) → InUse o (now (indent .entry)) (s .ruler)
-        → Broken (asStr (s .ending)) (splitOperation (strengthsIn (s .strengths .table)) o (s .max .0) (s .level) (decode (now (line .entry)))) (now (out .entry)) (now (out .exit)) at r) ⌝ }
+        → Broken (asStr (s .ending)) (splitOperation (strengthsIn (s .strengths .table)) o (s .max .0) (s .level) (decode (now (line .entry)))) (now (model .entry)) (now (out .entry)) (now (out .exit)) at r) ⌝ }
 {
     let ending = s.ending;
     let strengths = s.strengths;
@@ -169,5 +172,5 @@ pub fn split_operation(
         table,
         rounds: MAX_STRENGTH,
     };
-    break_first(line, class, b, indent, out, at)
+    break_first(line, class, b, indent, model, out, at)
 }

@@ -26,10 +26,10 @@ part-find-code-end : tie.Need-part-find-code-end
 part-find-code-end c = search needs
 
 sub-find-code-2 : tie.Need-sub-find-code-2
-sub-find-code-2 c = omega (arith, class-room (c .before .before .before .before .before .before .before .before .before .pre))
+sub-find-code-2 c = omega (arith, class-room (c .before .before .before .before .before .before .before .before .before .before .pre))
 
 part-find-code-start-2 : tie.Need-part-find-code-start-2
-part-find-code-start-2 c = let h = class-room (c .before .before .before .before .before .before .before .before .before .pre) in search needs
+part-find-code-start-2 c = let h = class-room (c .before .before .before .before .before .before .before .before .before .before .pre) in search needs
 
 part-find-code-end-2 : tie.Need-part-find-code-end-2
 part-find-code-end-2 c = search needs

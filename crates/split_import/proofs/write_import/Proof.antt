@@ -36,7 +36,7 @@ add-write-line c = search needs
 write-names-requires : tie.Need-write-names-requires
 write-names-requires c κs =
     let h = c .before .before .before .before .before in
-    names-fit (h .before .before .before .before .before .before .before .before .before .before .pre) (h .write-head .ensures)
+    names-fit (h .before .before .before .before .before .before .before .before .before .before .before .pre) (h .write-head .ensures)
 
 sub-write-line : tie.Need-sub-write-line
 sub-write-line c = search needs
@@ -51,13 +51,17 @@ write-line-requires : tie.Need-write-line-requires
 write-line-requires c κs =
     let n = c .before .before .before .before in
     let h = n .before .before .before .before .before .before in
-    tail-room (h .before .before .before .before .before .before .before .before .before .before .pre) (h .write-head .ensures) _ _ (n .write-names .ensures)
+    tail-room (h .before .before .before .before .before .before .before .before .before .before .before .pre) (h .write-head .ensures) _ _ (n .write-names .ensures)
 
 same-length : tie.Need-same-length
 same-length c = search needs
 
 returns-2 : tie.Need-returns-2
-returns-2 c = search (needs, parts-some)
+returns-2 c =
+    let n = c .before .before .before .before .before .before .before in
+    let h = n .before .before .before .before .before .before in
+    let i = h .before .before .before in
+    parts-some (i .before .before .before .before .before .before .before .before .pre) (i .before .before .count-names .ensures) (i .if1 .left) (h .write-head .ensures) (n .write-names .ensures) (c .before .before .write-line .ensures)
 
 pub write-import-spec : {M : Type 1} → statement M
 write-import-spec =

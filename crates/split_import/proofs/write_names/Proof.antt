@@ -7,10 +7,10 @@ use Rattle.split_import.proofs.write_names.Statement.{statement}
 use Rattle.split_import.proofs.write_names.Tie as tie
 
 abbrev Inv-loop : tie.InvT-loop
-Inv-loop names s indent out₀ at f₀ a₀ out f a = Filling (s .ruler) names indent (s .level) (asStr (s .ending)) (s .max .0) out₀ at out f a
+Inv-loop names s indent model out₀ at f₀ a₀ out f a = Filling (s .ruler) names indent (s .level) (asStr (s .ending)) (s .max .0) model out₀ at out f a
 
 abbrev μ-loop : tie.MeasureT-loop
-μ-loop names s indent out₀ at f₀ a₀ out f a = length names + 1 - a
+μ-loop names s indent model out₀ at f₀ a₀ out f a = length names + 1 - a
 
 loop-holds : tie.Need-loop-holds Inv-loop μ-loop
 loop-holds c = search (needs, filling-start)

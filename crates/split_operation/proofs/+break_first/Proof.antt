@@ -9,7 +9,7 @@ use borrow.Fn.PlainCycle.{Measures, is, falls, and}
 use Rattle.split_operation.proofs.break_first.Reads as break-first
 use Rattle.split_operation.proofs.break_first.Kinds as break-first-kinds
 use Rattle.split_operation.proofs.+break_first.Lts-break_first as break-first-lts
-use Rattle.buffer.proofs.append_indented.Reads as append-indented-reads
+use Rattle.compare.proofs.append_indented.Reads as append-indented-reads
 use Rattle.split.proofs.trim_part.Reads as trim-part-reads
 use Rattle.split_operation.proofs.line_of.Reads as line-of-reads
 use Rattle.split_operation.proofs.round_break.Reads as round-break-reads
@@ -17,16 +17,16 @@ use Rattle.split_operation.proofs.write_rest.Reads as write-rest-reads
 use Rattle.split_operation.proofs.+break_first.{statement}
 use Rattle.split_operation.proofs.+break_first.Tie.{close}
 
-abbrev μ-break-first : Measures 4 break-first-kinds.ps ℕ
+abbrev μ-break-first : Measures 5 break-first-kinds.ps ℕ
 μ-break-first κs a = a .1 .1 .0 .rounds
 
-abbrev break-first-at : ℕ → In 4 break-first-kinds.ps
+abbrev break-first-at : ℕ → In 5 break-first-kinds.ps
 break-first-at t =
-    and 4 break-first-kinds.ps (is 4 break-first-kinds.ps μ-break-first t) break-first.Pre
+    and 5 break-first-kinds.ps (is 5 break-first-kinds.ps μ-break-first t) break-first.Pre
 
-abbrev break-first-below : ℕ → In 4 break-first-kinds.ps
+abbrev break-first-below : ℕ → In 5 break-first-kinds.ps
 break-first-below t =
-    and 4 break-first-kinds.ps (falls 4 break-first-kinds.ps _<_ μ-break-first t) break-first.Pre
+    and 5 break-first-kinds.ps (falls 5 break-first-kinds.ps _<_ μ-break-first t) break-first.Pre
 
 break-first-round-break-requires : (t : ℕ) → break-first-lts.Need-round-break-requires (
   round-break-reads.Asked,
@@ -42,7 +42,7 @@ break-first-round-break-requires : (t : ℕ) → break-first-lts.Need-round-brea
   write-rest-reads.Asked,
   write-rest-reads.Learnt,
 ) (break-first-at t) break-first.Post
-break-first-round-break-requires t c κs = line-fits (c .before .before .before .before .pre .1)
+break-first-round-break-requires t c κs = line-fits (c .before .before .before .before .before .pre .1)
 
 break-first-append-indented-requires : (t : ℕ) → break-first-lts.Need-append-indented-requires (
   round-break-reads.Asked,
@@ -58,7 +58,7 @@ break-first-append-indented-requires : (t : ℕ) → break-first-lts.Need-append
   write-rest-reads.Asked,
   write-rest-reads.Learnt,
 ) (break-first-at t) break-first.Post
-break-first-append-indented-requires t c κs = whole-room (c .before .before .before .before .before .before .before .before .pre .1)
+break-first-append-indented-requires t c κs = whole-room (c .before .before .before .before .before .before .before .before .before .pre .1)
 
 break-first-same-length : (t : ℕ) → break-first-lts.Need-same-length (
   round-break-reads.Asked,
@@ -92,7 +92,7 @@ break-first-returns : (t : ℕ) → break-first-lts.Need-returns (
 ) (break-first-at t) break-first.Post
 break-first-returns t c =
     let b = c .before .before .before .before .before .before in
-    first-whole _ _ _ _ _ _ _ _ _ _ (b .before .before .before .before .before .pre .1) _ _ _ _ (b .round-break .ensures) (c .before .before .before .before .if1 .taken) (c .before .before .append-indented .ensures)
+    first-whole _ _ _ _ _ _ _ _ _ _ (b .before .before .before .before .before .before .pre .1) _ _ _ _ _ (b .round-break .ensures) (c .before .before .before .before .if1 .taken) (c .before .before .append-indented .ensures)
 
 break-first-trim-part-requires : (t : ℕ) → break-first-lts.Need-trim-part-requires (
   round-break-reads.Asked,
@@ -110,7 +110,7 @@ break-first-trim-part-requires : (t : ℕ) → break-first-lts.Need-trim-part-re
 ) (break-first-at t) break-first.Post
 break-first-trim-part-requires t c κs =
     let b = c .before .before .before in
-    first-within _ _ _ _ _ _ _ _ _ _ (b .before .before .before .before .before .pre .1) _ (b .round-break .ensures) (c .before .if1 .left)
+    first-within _ _ _ _ _ _ _ _ _ _ (b .before .before .before .before .before .before .pre .1) _ (b .round-break .ensures) (c .before .if1 .left)
 
 break-first-sub-l : (t : ℕ) → break-first-lts.Need-sub-l (
   round-break-reads.Asked,
@@ -213,7 +213,7 @@ break-first-part-k-end : (t : ℕ) → break-first-lts.Need-part-k-end (
 ) (break-first-at t) break-first.Post
 break-first-part-k-end t c =
     let b = c .before .before .before .before .before in
-    let k = class-length _ _ (b .before .before .before .before .before .pre .1 .classed) in
+    let k = class-length _ _ (b .before .before .before .before .before .before .pre .1 .classed) in
     let t = c .before .trim-part .ensures in
     let f = t .fits in
     let o = t .order in
@@ -253,7 +253,7 @@ break-first-break-first-requires : (t : ℕ) → break-first-lts.Need-break-firs
 break-first-break-first-requires t c κs =
     let i = c .before .before .before .before .before .before in
     let b = i .before .before in
-    let s = b .before .before .before .before .before in (
+    let s = b .before .before .before .before .before .before in (
       fewer-rounds (s .pre .0) (rounds-left _ _ _ _ _ _ _ _ _ (b .round-break .ensures) (i .if1 .left)),
       first-fits _ _ _ _ _ _ _ _ _ _ (s .pre .1) _ (b .round-break .ensures) (i .if1 .left) _ (c .before .before .before .before .trim-part .ensures),
     )
@@ -292,7 +292,7 @@ break-first-write-rest-requires t c κs =
     let p = c .before .before .before .before .before .before .before .before .before in
     let i = p .before .before in
     let b = i .before .before in
-    rest-fits _ _ _ _ _ _ _ _ _ _ (b .before .before .before .before .before .pre .1) _ (b .round-break .ensures) (i .if1 .left) _ (p .trim-part .ensures) _ _ _
+    rest-fits _ _ _ _ _ _ _ _ _ _ (b .before .before .before .before .before .before .pre .1) _ (b .round-break .ensures) (i .if1 .left) _ (p .trim-part .ensures) _ _ _ _
     (c .before .before .before .before .break-first .ensures) _ (c .before .line-of .ensures)
 
 break-first-same-length-2 : (t : ℕ) → break-first-lts.Need-same-length-2 (
@@ -329,7 +329,7 @@ break-first-returns-2 t c =
     let p = c .before .before .before .before .before .before .before .before .before .before .before .before in
     let i = p .before .before in
     let b = i .before .before in
-    first-broken _ _ _ _ _ _ _ _ _ _ (b .before .before .before .before .before .pre .1) _ (b .round-break .ensures) (i .if1 .left) _ (p .trim-part .ensures) _ _ _
+    first-broken _ _ _ _ _ _ _ _ _ _ (b .before .before .before .before .before .before .pre .1) _ (b .round-break .ensures) (i .if1 .left) _ (p .trim-part .ensures) _ _ _ _
     (c .before .before .before .before .before .before .before .break-first .ensures) _ (c .before .before .before .before .line-of .ensures) _ _ (c .before .before .write-rest .ensures)
 
 pub +break-first-spec : {M : Type 1} → statement M

@@ -10,7 +10,7 @@ same-length : tie.Need-same-length
 same-length c = search needs
 
 returns : tie.Need-returns
-returns c = all-broken _ (c .before .before .before .before .before .before .before .before .before .before .pre) (c .before .before .break-first .ensures)
+returns c = all-broken _ (c .before .before .before .before .before .before .before .before .before .before .before .pre) (c .before .before .break-first .ensures)
 
 pub split-operation-spec : {M : Type 1} → statement M
 split-operation-spec = tie.close (tie.spec break-first-requires same-length returns)

@@ -8,14 +8,14 @@ use Rattle.split_operation.proofs.write_rest.Statement.{statement}
 use Rattle.split_operation.proofs.write_rest.Tie as tie
 
 abbrev Inv-loop : tie.InvT-loop
-Inv-loop line class indent out₀ s under strength c₀ r₀ out c r =
-    Writing (strengthsIn (s .table)) strength line class c₀ indent (under .level) (asStr (under .ending)) out₀ r₀ out c r
+Inv-loop line class indent model out₀ s under strength c₀ r₀ out c r =
+    Writing (strengthsIn (s .table)) strength line class c₀ indent (under .level) (asStr (under .ending)) model out₀ r₀ out c r
 
 abbrev μ-loop : tie.MeasureT-loop
-μ-loop line class indent out₀ s under strength c₀ r₀ out c r = length line - c .place
+μ-loop line class indent model out₀ s under strength c₀ r₀ out c r = length line - c .place
 
-add-t21 : tie.Need-add-t21 Inv-loop μ-loop
-add-t21 c = search needs
+add-t22 : tie.Need-add-t22 Inv-loop μ-loop
+add-t22 c = search needs
 
 loop-holds : tie.Need-loop-holds Inv-loop μ-loop
 loop-holds c = search (needs, writing-start)
@@ -62,7 +62,7 @@ write-rest-spec =
     (tie.spec
     Inv-loop
     μ-loop
-    add-t21
+    add-t22
     loop-holds
     add-next-op
     next-op-requires

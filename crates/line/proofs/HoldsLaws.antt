@@ -47,6 +47,7 @@ use Rattle.line.specs.declared.formatter.Prev.{Prev}
 use Rattle.format.specs.Else.{Facts}
 use Rattle.format.specs.declared.else_line.LineFacts.{LineFacts}
 use Rattle.brackets.proofs.StackLaws.{stacked-drop, stacked-past}
+use Rattle.compare.specs.Common.{Keeps}
 use Rattle.text.specs.Text.{isFirst, isJoinable, Line}
 use Rattle.text.proofs.LinesLaws.{kind-first, kind-joinable}
 use Rattle.text.proofs.StepLaws.{text-nothing, nothing-ordered}
@@ -55,11 +56,11 @@ use Rattle.line.specs.Scratch.{stackAt}
 
 -- ---- before the first line
 
-pub initial-holds : (eol : List ℕ) (unit : ℕ) (out scratch : List ℕ) → Holds eol unit start initial out scratch
+pub initial-holds : (model eol : List ℕ) (unit : ℕ) (out scratch : List ℕ) → Keeps model out [] → Holds model eol unit start initial out scratch
 unfolding stacked levels declarationOf startsWith choose lastIs
-initial-holds eol unit out scratch =
+initial-holds model eol unit out scratch k =
     record {
-      text = text-nothing eol out;
+      text = text-nothing model eol out k;
       stack = refl;
       running = refl;
       number = refl;
@@ -80,7 +81,7 @@ initial-small = record { ordered = nothing-ordered; at = omega arith }
 
 -- ---- the lines, by the kind of the newest
 
-module _ {eol : List ℕ} {unit : ℕ} {f : Formatter} {st : Record} {out scratch : List ℕ} (h : Holds eol unit f st out scratch) where
+module _ {model eol : List ℕ} {unit : ℕ} {f : Formatter} {st : Record} {out scratch : List ℕ} (h : Holds model eol unit f st out scratch) where
   pub first-line : isFirst (st .text .last) ≡ isEmpty (f .lines)
   first-line = ap isFirst (h .text .last) ∙ kind-first (f .lines)
 
@@ -222,8 +223,8 @@ ready-as scratch′ m e r o k h =
 
 -- ---- a step that starts after scratch was used before the stack
 
-pub holds-past : {eol : List ℕ} {unit : ℕ} {f : Formatter} {st : Record} {out s₀ s₁ : List ℕ} {m : ℕ} → Only s₀ s₁ 0 m → m ≤ stackAt unit
-    → Holds eol unit f st out s₀ → Holds eol unit f st out s₁
+pub holds-past : {model eol : List ℕ} {unit : ℕ} {f : Formatter} {st : Record} {out s₀ s₁ : List ℕ} {m : ℕ} → Only s₀ s₁ 0 m → m ≤ stackAt unit
+    → Holds model eol unit f st out s₀ → Holds model eol unit f st out s₁
 holds-past {unit = unit} {st = st} o k h =
     record {
       text = h .text;
@@ -238,12 +239,12 @@ holds-past {unit = unit} {st = st} o k h =
       blanks = h .blanks;
     }
 
-pub stepped-as : {g : Formatter → Formatter} {n unit : ℕ} {eol : List ℕ} {st st′ : Record} {out s₁ out′ s₂ : List ℕ} (g′ : Formatter → Formatter) (n′ : ℕ) (s₀ : List ℕ) {m : ℕ}
-    → Only s₀ s₁ 0 m → m ≤ stackAt unit → n ≤ n′ → ((f : Formatter) → Holds eol unit f st out s₀ → g f ≡ g′ f)
-    → Stepped g n unit eol st out s₁ st′ out′ s₂ → Stepped g′ n′ unit eol st out s₀ st′ out′ s₂
-stepped-as {g} {n} {unit} {eol} {st} {st′} {out} {s₁} {out′} {s₂} g′ n′ s₀ o k h e w =
+pub stepped-as : {g : Formatter → Formatter} {n unit : ℕ} {model eol : List ℕ} {st st′ : Record} {out s₁ out′ s₂ : List ℕ} (g′ : Formatter → Formatter) (n′ : ℕ) (s₀ : List ℕ) {m : ℕ}
+    → Only s₀ s₁ 0 m → m ≤ stackAt unit → n ≤ n′ → ((f : Formatter) → Holds model eol unit f st out s₀ → g f ≡ g′ f)
+    → Stepped g n unit model eol st out s₁ st′ out′ s₂ → Stepped g′ n′ unit model eol st out s₀ st′ out′ s₂
+stepped-as {g} {n} {unit} {model} {eol} {st} {st′} {out} {s₁} {out′} {s₂} g′ n′ s₀ o k h e w =
     record {
-      holds = λ f x. subst (λ (y : Formatter). Holds eol unit y st′ out′ s₂) (e f x) (w .holds f (holds-past o k x));
+      holds = λ f x. subst (λ (y : Formatter). Holds model eol unit y st′ out′ s₂) (e f x) (w .holds f (holds-past o k x));
       ordered = w .ordered;
       at = omega (arith, w .at);
       runs = λ x. w .runs (runs-past o k x);

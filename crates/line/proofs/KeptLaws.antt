@@ -34,11 +34,11 @@ use Rattle.line.proofs.HoldsLaws.{first-line, prev-bytes, carry-bytes, 
 
 -- ---- a blank line
 
-blank-same : (eol : List ℕ) (st : Record) (out : List ℕ) → Small st
-    → ((unit : ℕ) (scratch : List ℕ) (f : Formatter) → Holds eol unit f st out scratch → (f .prevBlank || isEmpty (f .lines)) ≡ true)
-    → Blanked eol st out st out
+blank-same : (model eol : List ℕ) (st : Record) (out : List ℕ) → Small st
+    → ((unit : ℕ) (scratch : List ℕ) (f : Formatter) → Holds model eol unit f st out scratch → (f .prevBlank || isEmpty (f .lines)) ≡ true)
+    → Blanked model eol st out st out
 unfolding blankLine
-blank-same eol st out s e =
+blank-same model eol st out s e =
     record {
       step = λ unit scratch. record {
         holds = λ f h. rw (choose-true (f .prevBlank || isEmpty (f .lines)) f _ (e unit scratch f h)) h;
@@ -53,18 +53,18 @@ blank-same eol st out s e =
       };
     }
 
-pub blank-again : (eol : List ℕ) (st : Record) (out : List ℕ) → Small st → st .blank ≡ true → Blanked eol st out st out
-blank-again eol st out s e = blank-same eol st out s (λ unit scratch f h. ap (λ (b : Bool). b || isEmpty (f .lines)) (sym (h .blank) ∙ e))
+pub blank-again : (model eol : List ℕ) (st : Record) (out : List ℕ) → Small st → st .blank ≡ true → Blanked model eol st out st out
+blank-again model eol st out s e = blank-same model eol st out s (λ unit scratch f h. ap (λ (b : Bool). b || isEmpty (f .lines)) (sym (h .blank) ∙ e))
 
-module _ (eol : List ℕ) (st : Record) (out : List ℕ) (r : Bool) (s : Small st) (e : st .blank ≡ false) (q : r ≡ isFirst (st .text .last)) where
-  blank-test : {unit : ℕ} {scratch : List ℕ} (f : Formatter) → Holds eol unit f st out scratch → (f .prevBlank || isEmpty (f .lines)) ≡ r
+module _ (model eol : List ℕ) (st : Record) (out : List ℕ) (r : Bool) (s : Small st) (e : st .blank ≡ false) (q : r ≡ isFirst (st .text .last)) where
+  blank-test : {unit : ℕ} {scratch : List ℕ} (f : Formatter) → Holds model eol unit f st out scratch → (f .prevBlank || isEmpty (f .lines)) ≡ r
   blank-test f h = rw (← h .blank, e) (sym (first-line h) ∙ sym q)
 
-  pub blank-first : r ≡ true → Blanked eol st out st out
-  blank-first t = blank-same eol st out s (λ unit scratch f h. blank-test f h ∙ t)
+  pub blank-first : r ≡ true → Blanked model eol st out st out
+  blank-first t = blank-same model eol st out s (λ unit scratch f h. blank-test f h ∙ t)
 
-  pub blank-new : (out′ : List ℕ) (u : Written) → r ≡ false → Adds eol false (times 0 [] ++ decode []) out (st .text) out′ u
-      → Blanked eol st out
+  pub blank-new : (out′ : List ℕ) (u : Written) → r ≡ false → Adds eol false (times 0 [] ++ decode []) model out (st .text) out′ u
+      → Blanked model eol st out
       (record { text = u; nesting = st .nesting; blank = true; prev = st .prev; ignore = st .ignore; carry = st .carry; imports = st .imports; blanks = st .blanks })
       out′
   unfolding blankLine times choose chars encode
@@ -176,18 +176,18 @@ module _ {scratch scratch′ : List ℕ} {base : ℕ} {b left deep : Nesting} {s
   kept-stack (Carry.Block d) raw line w t classes k l v = stack-plain (Carry.Block d) raw w classes k l v
   kept-stack Carry.Prefab raw line w t classes k l v = stack-plain Carry.Prefab raw w classes k l v
 
-pub kept-step : (raw line part₀ out out′ scratch scratch′ eol : List ℕ) (unit shown : ℕ) (st : Record) (u : Written) (closers : ℕ) (left deep : Nesting) (prev : Prev) (after : Carry) (guards : Ignore)
+pub kept-step : (raw line part₀ out out′ scratch scratch′ model eol : List ℕ) (unit shown : ℕ) (st : Record) (u : Written) (closers : ℕ) (left deep : Nesting) (prev : Prev) (after : Carry) (guards : Ignore)
     → WellFormed raw → TrimmedLine raw line → Classes (st .carry) (partOf (st .carry) raw line) scratch 0 after → ShownPart raw shown
-    → Adds eol false (times 0 [] ++ decode (take shown raw)) out (st .text) out′ u
+    → Adds eol false (times 0 [] ++ decode (take shown raw)) model out (st .text) out′ u
     → ClosersOf (st .carry) line closers → Popped scratch (stackAt unit) (st .nesting) closers left → part₀ ≡ partOf (st .carry) raw line
     → BracketsDone scratch scratch′ (stackAt unit) left (length part₀)
     (scanBrackets (left .line) (drop closers (cellsOf part₀ (part scratch 0 (0 + length part₀)))) (stacked scratch (stackAt unit) (left .depth))) deep
     → prev ≡ prevOf line → guards ≡ protectedAfter (st .ignore) (st .nesting .depth) (deep .depth)
-    → Stepped (keptBy (decode (take shown raw)) (decode raw)) (length raw) unit eol st out scratch
+    → Stepped (keptBy (decode (take shown raw)) (decode raw)) (length raw) unit model eol st out scratch
     (record { text = u; nesting = deep; blank = false; prev = prev; ignore = guards; carry = after; imports = st .imports; blanks = st .blanks })
     out′ scratch′
 unfolding keptLine keptStack times choose
-kept-step raw line part₀ out out′ scratch scratch′ eol unit shown st u closers left deep prev after guards well t classes p w k l ip v ep eg =
+kept-step raw line part₀ out out′ scratch scratch′ model eol unit shown st u closers left deep prev after guards well t classes p w k l ip v ep eg =
     record {
       holds = λ f h. record {
         text = w .text (f .lines) (h .text);
@@ -211,15 +211,15 @@ kept-step raw line part₀ out out′ scratch scratch′ eol unit shown st u clo
       blanks = omega arith;
     }
   where
-    stack-after : (f : Formatter) → Holds eol unit f st out scratch
+    stack-after : (f : Formatter) → Holds model eol unit f st out scratch
         → stacked scratch′ (stackAt unit) (deep .depth)
         ≡ countBrackets (f .number) (closersIn (f .carry) (decode raw)) (classify (f .carry) (scannedPart (f .carry) (decode raw))) (f .stack)
     stack-after f h = rw (h .carry, h .number) at (kept-stack (h .stack) (st .carry) raw line well t classes (k .is) l (rw ip at v))
 
-    before : (f : Formatter) → Holds eol unit f st out scratch → st .nesting .depth ≡ length (f .stack)
+    before : (f : Formatter) → Holds model eol unit f st out scratch → st .nesting .depth ≡ length (f .stack)
     before f h = sym (length-stacked scratch (stackAt unit) (st .nesting .depth)) ∙ ap length (h .stack)
 
-    now : (f : Formatter) → Holds eol unit f st out scratch
+    now : (f : Formatter) → Holds model eol unit f st out scratch
         → deep .depth ≡ length (countBrackets (f .number) (closersIn (f .carry) (decode raw)) (classify (f .carry) (scannedPart (f .carry) (decode raw))) (f .stack))
     now f h = sym (length-stacked scratch′ (stackAt unit) (deep .depth)) ∙ ap length (stack-after f h)
 
@@ -253,15 +253,15 @@ shown-by false Carry.Prefab raw tail well e = shown-whole false Carry.Prefab raw
 pub shown : (guarded : Bool) (y : Carry) (raw : List ℕ) (tail n : ℕ) → WellFormed raw → TrimmedEnd raw tail → n ≡ shownLen guarded y tail (length raw) → Shown guarded y raw n
 shown guarded y raw tail n well e k = rw k (shown-by guarded y raw tail well e)
 
-pub raw-step : (guarded : Bool) (raw line part₀ out out′ scratch w scratch′ eol : List ℕ) (unit tail n : ℕ) (st r : Record) (after : Carry)
+pub raw-step : (guarded block : Bool) (raw line part₀ out out′ scratch w scratch′ model eol : List ℕ) (unit tail n : ℕ) (st r : Record) (after : Carry)
     → Ready st scratch unit (length raw) → WellFormed raw → TrimmedLine raw line → TrimmedEnd raw tail → part₀ ≡ partOf (st .carry) raw line
-    → Classified (st .carry) part₀ (take (length part₀) scratch) w after → n ≡ shownLen guarded (st .carry) tail (length raw)
-    → Stepped (keptBy (decode (take n raw)) (decode raw)) (length raw) unit eol st out (w ++ drop (length part₀) scratch) r out′ scratch′
-    → Stepped (rawBy guarded (decode raw)) (length raw) unit eol st out scratch r out′ scratch′
-raw-step guarded raw line part₀ out out′ scratch w scratch′ eol unit tail n st r after ready well t e ip c k v =
+    → Classified (st .carry) part₀ (take (length part₀) scratch) w after → guarded ≡ block → n ≡ shownLen guarded (st .carry) tail (length raw)
+    → Stepped (keptBy (decode (take n raw)) (decode raw)) (length raw) unit model eol st out (w ++ drop (length part₀) scratch) r out′ scratch′
+    → Stepped (rawBy block (decode raw)) (length raw) unit model eol st out scratch r out′ scratch′
+raw-step guarded block raw line part₀ out out′ scratch w scratch′ model eol unit tail n st r after ready well t e ip c same k v =
     let short : length part₀ ≤ length raw = omega (arith, ap length ip, part-short (st .carry) t) in
     stepped-as _ _ scratch (front-only part₀ scratch w (line-room ready part₀ short) c) (omega (arith, ready .depth)) (omega arith)
-    (λ f h. ap (λ (x : List ℕ). keptLine f x (decode raw)) (shown guarded (st .carry) raw tail n well e k .text ∙ rw (h .carry))) v
+    (λ f h. ap (λ (x : List ℕ). keptLine f x (decode raw)) (shown guarded (st .carry) raw tail n well e k .text ∙ rw (same, h .carry))) v
 
 -- what `kept_line` asks after `classify`
 pub raw-classes : (raw line part₀ scratch w : List ℕ) (unit : ℕ) (st : Record) (after : Carry)

@@ -62,9 +62,9 @@ nextLine st =
       blanks = st .blanks;
     }
 
--- The code's state st, the output and the scratch hold the definition's record f.
-pub record Holds (eol : List ℕ) (unit : ℕ) (f : Formatter) (st : Record) (out scratch : List ℕ) : Type 0 where
-  pub text : Text eol (f .lines) (st .text) out
+-- The code's state st, the output or what a comparison with the model keeps, and the scratch hold the definition's record f.
+pub record Holds (model eol : List ℕ) (unit : ℕ) (f : Formatter) (st : Record) (out scratch : List ℕ) : Type 0 where
+  pub text : Text model eol (f .lines) (st .text) out
   pub stack : stacked scratch (stackAt unit) (st .nesting .depth) ≡ f .stack
   pub running : st .nesting .levels ≡ levels (f .stack)
   pub number : st .nesting .line ≡ f .number
@@ -101,8 +101,8 @@ abbrev pub growth : ℕ
 growth = 2 ^ 29
 
 -- what a step from the record f to g f gives, for a line of n bytes
-pub record Stepped (g : Formatter → Formatter) (n unit : ℕ) (eol : List ℕ) (st : Record) (out scratch : List ℕ) (st′ : Record) (out′ scratch′ : List ℕ) : Type 0 where
-  pub holds : (f : Formatter) → Holds eol unit f st out scratch → Holds eol unit (g f) st′ out′ scratch′
+pub record Stepped (g : Formatter → Formatter) (n unit : ℕ) (model eol : List ℕ) (st : Record) (out scratch : List ℕ) (st′ : Record) (out′ scratch′ : List ℕ) : Type 0 where
+  pub holds : (f : Formatter) → Holds model eol unit f st out scratch → Holds model eol unit (g f) st′ out′ scratch′
   pub ordered : Ordered (st′ .text)
   pub at : st′ .text .at .0 ≤ st .text .at .0 + (n + 1) * growth
   pub runs : Runs unit st scratch → Runs unit st′ scratch′
@@ -113,8 +113,8 @@ pub record Stepped (g : Formatter → Formatter) (n unit : ℕ) (eol : List ℕ)
   pub blanks : st′ .blanks ≤ st .blanks + 2 * n
 
 -- a step that leaves the scratch alone
-pub record Blanked (eol : List ℕ) (st : Record) (out : List ℕ) (st′ : Record) (out′ : List ℕ) : Type 0 where
-  pub step : (unit : ℕ) (scratch : List ℕ) → Stepped blankLine 0 unit eol st out scratch st′ out′ scratch
+pub record Blanked (model eol : List ℕ) (st : Record) (out : List ℕ) (st′ : Record) (out′ : List ℕ) : Type 0 where
+  pub step : (unit : ℕ) (scratch : List ℕ) → Stepped blankLine 0 unit model eol st out scratch st′ out′ scratch
 
 -- the options in use: those that have this indent and this style
 pub record Uses (o : Options) (indent : List ℕ) (style : Style) : Type 0 where

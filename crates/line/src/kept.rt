@@ -13,6 +13,7 @@ use format::else_line::LineFacts;
 use rules::Carry;
 use rules::Ignore;
 use rules::LineEnding;
+use text::Adding;
 
 // Whether an else can be joined to a line with these facts.
 fn takes_else(facts: LineFacts) -> bool
@@ -103,11 +104,13 @@ fn protected_after(ignore: Ignore, before: usize, now: usize) -> Ignore
     }
 }
 
-// Of a line that is kept: how many of its bytes are written, what it leaves open, and the ending that the text's lines get.
+// Of a line that is kept: how many of its bytes are written, what it leaves open, the ending that the text's lines get, and the unit of the scratch's
+// regions.
 pub struct Kept {
     pub shown: usize,
     pub after: Carry,
     pub ending: LineEnding,
+    pub unit: usize,
 }
 
 // A line that is kept. line is raw trimmed; the class bytes of the part that is scanned stand at the front of scratch.
@@ -115,17 +118,17 @@ pub fn kept_line<'a>(
     raw: &'a [u8],
     line: &'a [u8],
     k: Kept,
+    model: &[u8],
     out: &mut [u8],
     scratch: &mut [u8],
-    unit: usize,
     st: Formatter,
 ) -> Formatter
-    requires { ⌜ Ready st (now scratch) unit (length (now raw)) ⌝ }
+    requires { ⌜ Ready st (now scratch) (k .unit) (length (now raw)) ⌝ }
     requires { ⌜ WellFormed (now raw) ⌝ }
     requires { ⌜ TrimmedLine (now raw) (now line) ⌝ }
     requires { ⌜ Classes (st .carry) (partOf (st .carry) (now raw) (now line)) (now scratch) 0 (k .after) ⌝ }
     requires { ⌜ ShownPart (now raw) (k .shown) ⌝ }
-    ensures { λ r. ⌜ Stepped (keptBy (decode (take (k .shown) (now (raw .entry)))) (decode (now (raw .entry)))) (length (now (raw .entry))) unit (asStr (k .ending)) st
+    ensures { λ r. ⌜ Stepped (keptBy (decode (take (k .shown) (now (raw .entry)))) (decode (now (raw .entry)))) (length (now (raw .entry))) (k .unit) (now (model .entry)) (asStr (k .ending)) st
         (now (out .entry)) (now (scratch .entry)) r (now (out .exit)) (now (scratch .exit)) ⌝ }
 {
     let t = st.text;
@@ -138,9 +141,16 @@ pub fn kept_line<'a>(
     let shown = &raw[..n];
     let facts = format::else_line::line_facts(shown);
     let joins = takes_else(facts);
-    let next = text::push_line(out, t, ending, false, b"", 0, shown, facts.trimmed, joins);
+    let how = Adding {
+        ending,
+        drops: false,
+        levels: 0,
+        tail: facts.trimmed,
+        joins,
+    };
+    let next = text::push_line(model, out, t, b"", shown, how);
     let closers = closers_of(carry, line);
-    let base = STACK * unit;
+    let base = STACK * k.unit;
     let left = brackets::pop_closers(scratch, base, nesting, closers);
     let part = scanned_part(carry, raw, line);
     let deep = brackets::scan_brackets(part, scratch, 0, base, left, closers);
@@ -161,8 +171,8 @@ pub fn kept_line<'a>(
 // A line of a protected block, or one that starts inside a comment or a prefab.
 pub fn raw_line(
     raw: &[u8],
-    guarded: bool,
     ending: LineEnding,
+    model: &[u8],
     out: &mut [u8],
     scratch: &mut [u8],
     unit: usize,
@@ -170,29 +180,32 @@ pub fn raw_line(
 ) -> Formatter
     requires { ⌜ Ready st (now scratch) unit (length (now raw)) ⌝ }
     requires { ⌜ WellFormed (now raw) ⌝ }
-    ensures { λ r. ⌜ Stepped (rawBy guarded (decode (now (raw .entry)))) (length (now (raw .entry))) unit (asStr ending) st (now (out .entry)) (now (scratch .entry)) r
+    ensures { λ r. ⌜ Stepped (rawBy (inBlock (st .ignore)) (decode (now (raw .entry)))) (length (now (raw .entry))) unit (now (model .entry)) (asStr ending) st (now (out .entry)) (now (scratch .entry)) r
         (now (out .exit)) (now (scratch .exit)) ⌝ }
 {
     let carry = st.carry;
+    let ignore = st.ignore;
     let tail = unicode::trim_end(raw);
     let start = unicode::trim_start(&raw[..tail]);
     let line = &raw[start..tail];
     let part = scanned_part(carry, raw, line);
     let n = part.len();
     let after = scan::classify(part, carry, &mut scratch[..n]);
+    let guarded = in_block(ignore);
     let shown = shown_len(guarded, carry, tail, raw.len());
     let k = Kept {
         shown,
         after,
         ending,
+        unit,
     };
-    kept_line(raw, line, k, out, scratch, unit, st)
+    kept_line(raw, line, k, model, out, scratch, st)
 }
 
 // Of blank lines in a row one is written, and none before the first line. A pending marker stays pending.
-pub fn blank_line(out: &mut [u8], ending: LineEnding, st: Formatter) -> Formatter
+pub fn blank_line(model: &[u8], out: &mut [u8], ending: LineEnding, st: Formatter) -> Formatter
     requires { ⌜ Small st ⌝ }
-    ensures { λ r. ⌜ Blanked (asStr ending) st (now (out .entry)) r (now (out .exit)) ⌝ }
+    ensures { λ r. ⌜ Blanked (now (model .entry)) (asStr ending) st (now (out .entry)) r (now (out .exit)) ⌝ }
 {
     let t = st.text;
     let last = t.last;
@@ -206,7 +219,14 @@ pub fn blank_line(out: &mut [u8], ending: LineEnding, st: Formatter) -> Formatte
     let prev = st.prev;
     let pending = st.ignore;
     let carry = st.carry;
-    let next = text::push_line(out, t, ending, false, b"", 0, b"", 0, false);
+    let how = Adding {
+        ending,
+        drops: false,
+        levels: 0,
+        tail: 0,
+        joins: false,
+    };
+    let next = text::push_line(model, out, t, b"", b"", how);
     Formatter {
         text: next,
         nesting,

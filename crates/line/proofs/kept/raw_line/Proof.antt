@@ -39,7 +39,7 @@ slice-relend-prefix-classify c =
     let b = c in
     let d = b .before .before in
     let e = d .before .before in
-    let s = e .before .before .before .before in
+    let s = e .before .before .before .before .before in
     let t = trimmed-line _ _ _ (e .trim-end .ensures) (d .trim-start .ensures) in
     line-room (s .pre .0) (b .scanned-part .result .now) (part-fits (s .args .st .carry) _ _ _ t (b .scanned-part .ensures))
 
@@ -48,7 +48,7 @@ slice-aggregate-classify c =
     let b = c .before in
     let d = b .before .before in
     let e = d .before .before in
-    let s = e .before .before .before .before in
+    let s = e .before .before .before .before .before in
     let t = trimmed-line _ _ _ (e .trim-end .ensures) (d .trim-start .ensures) in
     front-size (s .pre .0) (b .scanned-part .result .now) (part-fits (s .args .st .carry) _ _ _ t (b .scanned-part .ensures))
 
@@ -57,23 +57,26 @@ classify-requires c κs =
     let b = c .before in
     let d = b .before .before in
     let e = d .before .before in
-    let s = e .before .before .before .before in
+    let s = e .before .before .before .before .before in
     let t = trimmed-line _ _ _ (e .trim-end .ensures) (d .trim-start .ensures) in
     classify-room (s .pre .0) (s .args .st .carry) (b .scanned-part .result .now) (part-fits (s .args .st .carry) _ _ _ t (b .scanned-part .ensures)) (omega arith)
+
+in-block-requires : tie.Need-in-block-requires
+in-block-requires c κs = search needs
 
 shown-len-requires : tie.Need-shown-len-requires
 shown-len-requires c κs = search needs
 
 kept-line-requires : tie.Need-kept-line-requires
 kept-line-requires c κs =
-    let b = c .before .before .before .before .before .before .before in
+    let b = c .before .before .before .before .before .before .before .before in
     let d = b .before .before in
     let e = d .before .before in
-    let s = e .before .before .before .before in
+    let s = e .before .before .before .before .before in
     let t = trimmed-line _ _ _ (e .trim-end .ensures) (d .trim-start .ensures) in
-    let k = (c .before .before .before .before .before) .classify .ensures in
+    let k = (c .before .before .before .before .before .before) .classify .ensures in
     let p = b .scanned-part .ensures in
-    (raw-ready _ _ _ _ _ _ _ _ (s .pre .0) t p k, (s .pre .1, (t, (raw-classes _ _ _ _ _ _ _ _ (s .pre .0) t p k, shown (s .args .guarded) (s .args .st .carry) _ _ _ (s .pre .1) (e .trim-end .ensures) ((c .before .before) .shown-len .ensures) .part))))
+    (raw-ready _ _ _ _ _ _ _ _ (s .pre .0) t p k, (s .pre .1, (t, (raw-classes _ _ _ _ _ _ _ _ (s .pre .0) t p k, shown (c .before .before .before .in-block .result) (s .args .st .carry) _ _ _ (s .pre .1) (e .trim-end .ensures) ((c .before .before) .shown-len .ensures) .part))))
 
 same-length : tie.Need-same-length
 same-length c = search needs
@@ -83,13 +86,13 @@ same-length-2 c = search needs
 
 returns : tie.Need-returns
 returns c =
-    let b = c .before .before .before .before .before .before .before .before .before .before .before .before in
+    let b = c .before .before .before .before .before .before .before .before .before .before .before .before .before in
     let d = b .before .before in
     let e = d .before .before in
-    let s = e .before .before .before .before in
+    let s = e .before .before .before .before .before in
     let t = trimmed-line _ _ _ (e .trim-end .ensures) (d .trim-start .ensures) in
-    raw-step _ _ _ _ _ _ _ _ _ _ _ _ _ _ _ _ (s .pre .0) (s .pre .1) t (e .trim-end .ensures) (b .scanned-part .ensures) ((c .before .before .before .before .before .before .before .before .before .before) .classify .ensures)
-    ((c .before .before .before .before .before .before .before) .shown-len .ensures) ((c .before .before .before .before) .kept-line .ensures)
+    raw-step _ _ _ _ _ _ _ _ _ _ _ _ _ _ _ _ _ _ (s .pre .0) (s .pre .1) t (e .trim-end .ensures) (b .scanned-part .ensures) ((c .before .before .before .before .before .before .before .before .before .before .before) .classify .ensures)
+    ((c .before .before .before .before .before .before .before .before) .in-block .ensures) ((c .before .before .before .before .before .before .before) .shown-len .ensures) ((c .before .before .before .before) .kept-line .ensures)
 
 pub raw-line-spec : {M : Type 1} → statement M
 raw-line-spec =
@@ -105,6 +108,7 @@ raw-line-spec =
     slice-relend-prefix-classify
     slice-aggregate-classify
     classify-requires
+    in-block-requires
     shown-len-requires
     kept-line-requires
     same-length

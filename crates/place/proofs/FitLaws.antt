@@ -2,9 +2,9 @@
 use Prim.Native.Nat.{ℕ, _+_, _≤_}
 use mathlib.Core.Bool.{Bool, true, false}
 use mathlib.Core.List.{List, _++_, reverseAux}
-use mathlib.Core.Path.{_≡_, sym, ap, _∙_, subst}
+use mathlib.Core.Path.{_≡_, refl, sym, ap, _∙_, subst}
 use native.Mathlib.Omega.{arith}
-use lib.Dec.{ltb}
+use lib.Dec.{T, ltb}
 use lib.ListN.{length}
 use Rattle.unicode.specs.Unicode.{decode}
 use Rattle.buffer.specs.Repeat.{times}
@@ -26,10 +26,11 @@ use Rattle.text.specs.Text.{Text, Adds}
 use Rattle.text.specs.declared.Written.{Written}
 use Rattle.text.proofs.StepLaws.{grown-ordered}
 use Rattle.text.proofs.PadLaws.{indent-blanks, blanks-size}
+use Rattle.place.specs.declared.Fit.{Fit}
 use Rattle.place.specs.declared.Placed.{Placed}
 use Rattle.line.specs.Holds.{ValidIndent}
-use Rattle.split.specs.Measure.{Wide, InUse}
-use Rattle.place.specs.Placing.{GoesOn, LaidBy, Lays, Breaks, aloneIn}
+use Rattle.split.specs.Measure.{InUse}
+use Rattle.place.specs.Placing.{GoesOn, LaidBy, Lays, Breaks, aloneIn, fitBy}
 use Rattle.place.proofs.PlaceLaws.{indent-small}
 
 -- the test of the class bytes is the test of the classes, of the bytes and of the characters
@@ -40,11 +41,62 @@ code-bytes line class r g e =
     ∙ ap (λ (ks : List ℕ). allCodeOrStr (cellsOf line ks)) (g .classes)
     ∙ ap allCodeOrStr (cells-classify Carry.Code line)
 
-pub code-test : (line class : List ℕ) (r : Bool) → GoesOn line class → r ≡ onlyCodeOrStr class → r ≡ allCodeOrStr (classify Carry.Code (decode line))
-code-test line class r g e =
-    code-bytes line class r g e
-    ∙ ap allCodeOrStr (ap (classify Carry.Code) (sym (g .well)) ∙ classify-encode Carry.Code (decode line))
+code-same : (line class : List ℕ) → GoesOn line class → allCodeOrStr (classify Carry.Code line) ≡ allCodeOrStr (classify Carry.Code (decode line))
+code-same line class g =
+    ap allCodeOrStr (ap (classify Carry.Code) (sym (g .well)) ∙ classify-encode Carry.Code (decode line))
     ∙ all-encode (classify Carry.Code (decode line))
+
+-- whether a line is broken, from what is told
+abbrev isWhole : Fit → Bool
+isWhole Fit.Whole = true
+isWhole (Fit.Broken max) = false
+
+abbrev widthIn : Fit → ℕ
+widthIn Fit.Whole = 0
+widthIn (Fit.Broken max) = max
+
+-- whether a line is broken, as the code's tests find it
+told-mixed : (t : Bool) (max : ℕ) → Fit.Whole ≡ choose t (choose false (Fit.Broken max) Fit.Whole) Fit.Whole
+unfolding choose
+told-mixed true max = refl
+told-mixed false max = refl
+
+module _ (width : PrintWidth) (column : ℕ) (code : Bool) where
+  pub fit-off : width ≡ PrintWidth.Off → Fit.Whole ≡ fitBy width column code
+  unfolding fitBy
+  fit-off e = rw e
+
+  module _ (max : ℕ) (e : width ≡ PrintWidth.Columns max) (t : Bool) (over : t ≡ ltb max column) where
+    pub fit-narrow : t ≡ false → Fit.Whole ≡ fitBy width column code
+    unfolding fitBy choose
+    fit-narrow q = rw (e, ← over, q)
+
+    pub fit-mixed : (c : Bool) → c ≡ code → c ≡ false → Fit.Whole ≡ fitBy width column code
+    unfolding fitBy
+    fit-mixed c is q = rw (e, ← is, q) (told-mixed (ltb max column) max)
+
+    pub fit-wide : t ≡ true → (c : Bool) → c ≡ code → c ≡ true → Fit.Broken max ≡ fitBy width column code
+    unfolding fitBy choose
+    fit-wide q c is k = rw (e, ← over, q, ← is, k)
+
+narrow-of : (t : Bool) (max : ℕ) → choose t (choose true (Fit.Broken max) Fit.Whole) Fit.Whole ≡ Fit.Whole → t ≡ false
+unfolding choose
+narrow-of true max h = absurd (subst (λ (x : Fit). T (isWhole x)) (sym h) tt)
+narrow-of false max h = refl
+
+broken-of : (t code : Bool) (max m : ℕ) → choose t (choose code (Fit.Broken max) Fit.Whole) Fit.Whole ≡ Fit.Broken m → (max ≡ m) × ((t ≡ true) × (code ≡ true))
+unfolding choose
+broken-of true true max m h = (ap widthIn h, (refl, refl))
+broken-of true false max m h = absurd (subst (λ (x : Fit). T (isWhole x)) h tt)
+broken-of false code max m h = absurd (subst (λ (x : Fit). T (isWhole x)) h tt)
+
+pub is-broken : (width : PrintWidth) (column : ℕ) (code : Bool) (m : ℕ) → fitBy width column code ≡ Fit.Broken m
+    → (width ≡ PrintWidth.Columns m) × ((ltb m column ≡ true) × (code ≡ true))
+unfolding fitBy
+is-broken PrintWidth.Off column code m h = absurd (subst (λ (x : Fit). T (isWhole x)) h tt)
+is-broken (PrintWidth.Columns max) column code m h =
+    let b = broken-of (ltb max column) code max m h in
+    (ap PrintWidth.Columns (b .0), (ap (λ (x : ℕ). ltb x column) (sym (b .0)) ∙ b .1 .0, b .1 .1))
 
 -- what a line in use measures
 over-same : {indent : List ℕ} {ruler : ℕ} (max level : ℕ) (l : List ℕ) (o : Options) → InUse o indent ruler
@@ -87,6 +139,22 @@ unfolding choose splitWide indentOf
 narrow-same true max level indent l o e h = rw (h, e)
 narrow-same false max level indent l o e h = rw e
 
+whole-same : (width : PrintWidth) (column : ℕ) (code : Bool) (level : ℕ) (indent l : List ℕ) (o : Options) → o .indent ≡ indent
+    → ((max : ℕ) → overWide o max (indentOf o level ++ l) ≡ ltb max column) → fitBy width column code ≡ Fit.Whole
+    → splitWide (fits code width) o level l ≡ oneLine (times level indent ++ l)
+unfolding fitBy
+whole-same PrintWidth.Off column code level indent l o e over h = off-same code level indent l o e
+whole-same (PrintWidth.Columns max) column false level indent l o e over h = unfold choose splitWide indentOf in (rw e)
+whole-same (PrintWidth.Columns max) column true level indent l o e over h =
+    narrow-same true max level indent l o e (over max ∙ narrow-of (ltb max column) max h)
+
+-- the column that a line reaches with its indent
+abbrev reached : ℕ → List ℕ → ℕ → List ℕ → ℕ
+reached ruler indent level line = measure ruler 0 (times level indent ++ decode line)
+
+abbrev allCode : List ℕ → Bool
+allCode line = allCodeOrStr (classify Carry.Code line)
+
 module _
     (ruler : ℕ) (indent line class : List ℕ) (level : ℕ) (eol : List ℕ) (drops : Bool) (out out′ : List ℕ) (t u : Written) (v : ValidIndent indent)
     (flat : level ≤ maxSource) (g : GoesOn line class) (a : Adds eol drops (times level indent ++ decode line) out t out′ u) (p : Placed) (is : p ≡ aloneIn u) (st : Strengths)
@@ -94,26 +162,12 @@ module _
     abbrev here : Bool
     here = allCodeOrStr (classify Carry.Code (decode line))
 
-    pub fit-off : (width : PrintWidth) → width ≡ PrintWidth.Off → Lays ruler (choose here width PrintWidth.Off) indent st (decode line) level eol drops (length line) out t p out′
-    fit-off width e =
-        lays-one ruler (choose here width PrintWidth.Off) indent line class level eol drops out out′ t u v flat g a p is st
-        (λ o k. ap (λ (x : PrintWidth). splitWide (fits here x) o level (decode line)) e ∙ off-same here level indent (decode line) o (k .indents))
-
-    pub fit-narrow : (width : PrintWidth) (max : ℕ) (r : Bool) → width ≡ PrintWidth.Columns max → Wide ruler indent level line max r → r ≡ false
+    pub fit-whole : (width : PrintWidth) → fitBy width (reached ruler indent level line) (allCode line) ≡ Fit.Whole
         → Lays ruler (choose here width PrintWidth.Off) indent st (decode line) level eol drops (length line) out t p out′
-    fit-narrow width max r e wide q =
+    fit-whole width h =
         lays-one ruler (choose here width PrintWidth.Off) indent line class level eol drops out out′ t u v flat g a p is st
-        (λ o k. ap (λ (x : PrintWidth). splitWide (fits here x) o level (decode line)) e ∙ narrow-same here max level indent (decode line) o (k .indents) (over-same max level (decode line) o k ∙ sym (wide .is) ∙ q))
-
-    pub fit-mixed : (width : PrintWidth) (c : Bool) → c ≡ onlyCodeOrStr class → c ≡ false
-        → Lays ruler (choose here width PrintWidth.Off) indent st (decode line) level eol drops (length line) out t p out′
-    fit-mixed width c e q =
-        let k : here ≡ false = sym (code-test line class c g e) ∙ q in
-        lays-one ruler (choose here width PrintWidth.Off) indent line class level eol drops out out′ t u v flat g a p is st
-        (λ o i. ap (λ (b : Bool). splitWide (choose b width PrintWidth.Off) o level (decode line)) k ∙ off-is o (i .indents))
-      where
-        off-is : (o : Options) → o .indent ≡ indent → splitWide (choose false width PrintWidth.Off) o level (decode line) ≡ oneLine (times level indent ++ decode line)
-        off-is o i = unfold choose splitWide indentOf in (rw i)
+        (λ o k. whole-same width (reached ruler indent level line) here level indent (decode line) o (k .indents) (λ max. over-same max level (decode line) o k)
+        (ap (fitBy width (reached ruler indent level line)) (sym (code-same line class g)) ∙ h))
 
 -- a line that is split
 wide-same : (max level : ℕ) (l : List ℕ) (o : Options) → overWide o max (indentOf o level ++ l) ≡ true
@@ -121,12 +175,22 @@ wide-same : (max level : ℕ) (l : List ℕ) (o : Options) → overWide o max (i
 unfolding choose splitWide
 wide-same max level l o h = rw h
 
-pub fit-broken : (ruler : ℕ) (indent line class : List ℕ) (st : Strengths) (level : ℕ) (eol : List ℕ) (drops : Bool) (out out′ : List ℕ) (t : Written) (p : Placed) (width : PrintWidth) (max : ℕ) (r c : Bool)
-    → GoesOn line class → width ≡ PrintWidth.Columns max → Wide ruler indent level line max r → r ≡ true → c ≡ onlyCodeOrStr class → c ≡ true
+laid-broken : (ruler : ℕ) (indent line : List ℕ) (st : Strengths) (level : ℕ) (width : PrintWidth) (max : ℕ) → width ≡ PrintWidth.Columns max
+    → ltb max (reached ruler indent level line) ≡ true → allCodeOrStr (classify Carry.Code (decode line)) ≡ true → (o : Options) → LaidBy o indent ruler st
+    → splitWide (choose (allCodeOrStr (classify Carry.Code (decode line))) width PrintWidth.Off) o level (decode line) ≡ broken o max level (decode line)
+laid-broken ruler indent line st level width max e wide here o i =
+    ap (λ (x : Bool). splitWide (choose x width PrintWidth.Off) o level (decode line)) here
+    ∙ ap (λ (x : PrintWidth). splitWide (choose true x PrintWidth.Off) o level (decode line)) e
+    ∙ (unfold choose in (wide-same max level (decode line) o (over-same max level (decode line) o (i .used) ∙ wide)))
+
+pub fit-broken : (ruler : ℕ) (indent line class : List ℕ) (st : Strengths) (level : ℕ) (eol : List ℕ) (drops : Bool) (out out′ : List ℕ) (t : Written) (p : Placed) (width : PrintWidth) (max : ℕ)
+    → GoesOn line class → fitBy width (reached ruler indent level line) (allCode line) ≡ Fit.Broken max
     → Breaks ruler max indent st (decode line) level eol drops (length line) out t p out′
     → Lays ruler (choose (allCodeOrStr (classify Carry.Code (decode line))) width PrintWidth.Off) indent st (decode line) level eol drops (length line) out t p out′
-fit-broken ruler indent line class st level eol drops out out′ t p width max r c g e wide q ec tc b =
-    let here : allCodeOrStr (classify Carry.Code (decode line)) ≡ true = sym (code-test line class c g ec) ∙ tc in
+fit-broken ruler indent line class st level eol drops out out′ t p width max g h b =
+    let e = is-broken width (reached ruler indent level line) (allCode line) max h in
+    let here : allCodeOrStr (classify Carry.Code (decode line)) ≡ true = sym (code-same line class g) ∙ e .1 .1 in
+    let is = laid-broken ruler indent line st level width max (e .0) (e .1 .0) in
     record {
       text = λ o ls i h. subst (λ (x : Laid). Text eol (reverseAux (x .lines) (choose drops (dropBlank ls) ls)) (p .text) out′) (sym (is here o i)) (b .text o ls i h);
       imports = λ o i. b .imports o i ∙ sym (ap (λ (x : Laid). x .importsSplit) (is here o i));
@@ -136,10 +200,3 @@ fit-broken ruler indent line class st level eol drops out out′ t p width max r
       few = b .few;
       fewer = b .fewer;
     }
-  where
-    is : allCodeOrStr (classify Carry.Code (decode line)) ≡ true → (o : Options) → LaidBy o indent ruler st
-        → splitWide (choose (allCodeOrStr (classify Carry.Code (decode line))) width PrintWidth.Off) o level (decode line) ≡ broken o max level (decode line)
-    is here o i =
-        ap (λ (x : Bool). splitWide (choose x width PrintWidth.Off) o level (decode line)) here
-        ∙ ap (λ (x : PrintWidth). splitWide (choose true x PrintWidth.Off) o level (decode line)) e
-        ∙ (unfold choose in (wide-same max level (decode line) o (over-same max level (decode line) o (i .used) ∙ sym (wide .is) ∙ q)))

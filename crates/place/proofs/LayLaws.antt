@@ -1,6 +1,6 @@
 -- A line placed: its level, the blank before it and the width that it may be broken at, as the code finds them, are those of the rules.
 use Prim.Native.Nat.{ℕ, zero, suc, _+_, _-_}
-use mathlib.Core.Bool.{Bool, true, false, not, _&&_, and-false}
+use mathlib.Core.Bool.{Bool, true, false, not, _&&_}
 use mathlib.Core.List.{List, _++_}
 use mathlib.Core.Path.{_≡_, refl, sym, ap, _∙_, subst}
 use native.Mathlib.Omega.{arith}
@@ -17,6 +17,7 @@ use Rattle.rules.specs.Else.{isPlainElse, canJoin}
 use Rattle.rules.specs.Line.{Formatter, elseLine, dropBlank, linesBefore, continues, levelOf, oneLine, splitWide, maySplit, laid, placedLine, spacedLine}
 use Rattle.rules.specs.declared.Carry.{Carry}
 use Rattle.rules.specs.declared.PrintWidth.{PrintWidth}
+use Rattle.unicode.proofs.Tests.{and-right}
 use Rattle.rules.proofs.Choose.{choose-true, choose-false}
 use Rattle.rules.proofs.StartsBytes.{on-decode, closers-encode}
 use Rattle.basics.specs.Closers.{Closers}
@@ -120,26 +121,32 @@ module _
     lay-done =
         record { text = lay-text; imports = lay-imports; blanks = lay-blanks; ordered = w .ordered; at = w .at; few = w .few; fewer = w .fewer }
 
+-- two tests, the second only if the first is met
+pub both : (a b r s : Bool) → r ≡ a → r ≡ true → s ≡ b → s ≡ (a && b)
+both a b r s e q h = rw (← e, q) h
+
+pub not-first : (a b r : Bool) → r ≡ a → r ≡ false → false ≡ (a && b)
+not-first a b r e q = rw (← e, q)
+
 -- ---- a line that goes on: a plain else is joined where the newest line can take it
 
 module _
-    (marker : Bool) (indent : List ℕ) (style : Style) (line eol out out′ : List ℕ) (b : Before) (e : Bool) (else : e ≡ isPlainElse (decode line))
+    (marker : Bool) (indent : List ℕ) (style : Style) (line eol out out′ : List ℕ) (b : Before) (e : Bool) (joins : e ≡ (isPlainElse (decode line) && isJoinable (b .text .last)))
   where
     -- the newest line's kind says whether it can
-    takes : (j : Bool) → j ≡ isJoinable (b .text .last) → (f : Formatter) → Knows eol f b out → j ≡ canJoin (f .lines)
-    takes j q f k = q ∙ ap isJoinable (k .text .last) ∙ kind-joinable (f .lines)
+    takes : (f : Formatter) → Knows eol f b out → e ≡ (isPlainElse (decode line) && canJoin (f .lines))
+    takes f k = joins ∙ ap (λ (x : Bool). isPlainElse (decode line) && x) (ap isJoinable (k .text .last) ∙ kind-joinable (f .lines))
 
-    module _ (class : List ℕ) (u : Written) (p : Placed) (g : GoesOn line class) (w : Joins (decode line) out (b .text) out′ u) (is : p ≡ aloneIn u) (yes : e ≡ true) (j : Bool)
-        (last : j ≡ isJoinable (b .text .last)) (can : j ≡ true) where
+    module _ (class : List ℕ) (u : Written) (p : Placed) (g : GoesOn line class) (w : Joins (decode line) out (b .text) out′ u) (is : p ≡ aloneIn u) (yes : e ≡ true) where
       joined-same : (o : Options) (f : Formatter) → Knows eol f b out → spacedLine o f marker (decode line) ≡ elseLine f (decode line)
       unfolding spacedLine
-      joined-same o f k = choose-true _ _ _ (rw (← else, yes, ← takes j last f k, can) refl)
+      joined-same o f k = choose-true _ _ _ (sym (takes f k) ∙ yes)
 
       join-alone : Puts (spacedBy marker (decode line)) indent style eol (length line) b out (aloneIn u) out′
       unfolding elseLine
       join-alone =
           record {
-            text = λ o f i k. rw (joined-same o f k) (w .text eol (f .lines) (k .text) (sym (takes j last f k) ∙ can));
+            text = λ o f i k. rw (joined-same o f k) (w .text eol (f .lines) (k .text) (and-right (isPlainElse (decode line)) (canJoin (f .lines)) (sym (takes f k) ∙ yes)));
             imports = λ o f i k. rw (joined-same o f k) (omega arith);
             blanks = λ o f i k. rw (joined-same o f k) (omega arith);
             ordered = grown-ordered (w .grown);
@@ -168,8 +175,5 @@ module _
           same : (o : Options) (f : Formatter) → Knows eol f b out → spacedLine o f marker (decode line) ≡ placedLine o f marker (decode line)
           same o f k = unfold spacedLine in (choose-false _ _ _ (h f k))
 
-      pub not-else : e ≡ false → Puts (spacedBy marker (decode line)) indent style eol (length line) b out p out′
-      not-else q = placed-as (λ f k. rw (← else, q) refl)
-
-      pub not-joinable : (j : Bool) → j ≡ isJoinable (b .text .last) → j ≡ false → Puts (spacedBy marker (decode line)) indent style eol (length line) b out p out′
-      not-joinable j last q = placed-as (λ f k. rw (← takes j last f k, q) (and-false (isPlainElse (decode line))))
+      pub not-joined : e ≡ false → Puts (spacedBy marker (decode line)) indent style eol (length line) b out p out′
+      not-joined q = placed-as (λ f k. sym (takes f k) ∙ q)

@@ -3,7 +3,7 @@ use Prim.Native.Nat.{ℕ, _+_, _*_, _≤_, _<_, _^_}
 use mathlib.Core.Bool.{Bool, false}
 use mathlib.Core.List.{List, _++_, reverseAux}
 use mathlib.Core.Path.{_≡_}
-use lib.Dec.{eqb}
+use lib.Dec.{eqb, ltb}
 use lib.ListN.{length, drop}
 use Rattle.unicode.specs.Unicode.{decode, trimEnd, WellFormed}
 use Rattle.buffer.specs.Repeat.{times}
@@ -26,6 +26,7 @@ use Rattle.split.specs.Measure.{InUse}
 use Rattle.line.specs.Holds.{Uses, prevOf}
 use Rattle.line.specs.declared.style.Style.{Style}
 use Rattle.place.specs.declared.Before.{Before}
+use Rattle.place.specs.declared.Fit.{Fit}
 use Rattle.place.specs.declared.Placed.{Placed}
 
 -- a line that goes on: trimmed, not empty, with its class bytes
@@ -97,6 +98,11 @@ pub record Lays (ruler : ℕ) (w : PrintWidth) (indent : List ℕ) (st : Strengt
 abbrev pub breakWidth : PrintWidth → Bool → Bool → ℕ → PrintWidth
 breakWidth width marker continued closers =
     choose continued PrintWidth.Off (choose (eqb closers 0) (choose marker PrintWidth.Off width) PrintWidth.Off)
+
+-- whether a line is broken: at width w, if it reaches the column `reached` and all of it is code and strings
+unfoldable pub fitBy : PrintWidth → ℕ → Bool → Fit
+fitBy PrintWidth.Off reached code = Fit.Whole
+fitBy (PrintWidth.Columns max) reached code = choose (ltb max reached) (choose code (Fit.Broken max) Fit.Whole) Fit.Whole
 
 -- the line of characters l was broken at a level as `broken` says
 pub record Breaks (ruler max : ℕ) (indent : List ℕ) (st : Strengths) (l : List ℕ) (level : ℕ) (eol : List ℕ) (drops : Bool) (n : ℕ) (out : List ℕ) (t : Written) (r : Placed) (out′ : List ℕ) : Type 0 where

@@ -1,6 +1,6 @@
 // The line that goes on, put into the text: joined to the newest line, or indented, or split.
 ghost use mathlib.Core.Path.{_≡_};
-ghost use mathlib.Core.Bool.{true, false};
+ghost use mathlib.Core.Bool.{true, false, _&&_};
 ghost use Rattle.rules.specs.Basics.{choose};
 ghost use Prim.Native.Nat.{_+_, _*_, _≤_, _<_};
 ghost use lib.ListN.{length};
@@ -8,13 +8,15 @@ ghost use Rattle.unicode.specs.Unicode.{decode, trimEnd, WellFormed};
 ghost use Rattle.buffer.specs.Repeat.{times};
 ghost use Rattle.rules.specs.Lines.{asStr};
 ghost use mathlib.Core.List.{_++_};
-ghost use Rattle.text.specs.Text.{Adds, Joins, Ordered, farPlace};
+ghost use Rattle.text.specs.Text.{Adds, Joins, Ordered, farPlace, isJoinable};
+ghost use Rattle.rules.specs.Options.{measure};
+ghost use Rattle.rules.specs.Else.{isPlainElse};
 ghost use Rattle.rules.specs.Refusals.{maxSource};
 ghost use Rattle.rules.specs.Scan.{classify, allCodeOrStr};
 ghost use Rattle.rules.specs.declared.Carry.{Carry};
 ghost use Rattle.rules.specs.declared.PrintWidth.{PrintWidth};
 ghost use Rattle.line.specs.Holds.{ValidIndent};
-ghost use Rattle.place.specs.Placing.{GoesOn, Heads, Asks, Puts, spacedBy, placedBy, dropsBlank, aloneIn, breakWidth, Lays, Breaks};
+ghost use Rattle.place.specs.Placing.{GoesOn, Heads, Asks, Puts, spacedBy, placedBy, dropsBlank, aloneIn, breakWidth, fitBy, Lays, Breaks};
 use format::words::Declaration;
 use line::formatter::Prev;
 use line::style::Style;
@@ -26,6 +28,7 @@ use split_import::ImportSplit;
 use split_import::split_import;
 use split_operation::OperationSplit;
 use split_operation::split_operation;
+use text::Last;
 use text::Written;
 use unicode::Utf16Column;
 
@@ -45,6 +48,12 @@ pub struct Placed {
     pub text: Written,
     pub imports: usize,
     pub blanks: usize,
+}
+
+// How a line is laid out: whole, or broken at a width.
+pub enum Fit {
+    Whole,
+    Broken(usize),
 }
 
 // Where a line is put: the level of its indent, and whether an empty newest line goes first.
@@ -143,7 +152,39 @@ fn break_width(width: PrintWidth, marker: bool, continued: bool, closers: usize)
     PrintWidth::Off
 }
 
-// The line laid out at its level: split where it is wider than the width and all of it is code and strings.
+// Whether the line is broken: it is wider than the width, and all of it is code and strings.
+fn fit_of(line: &[u8], class: &[u8], indent: &[u8], style: Style, level: usize) -> Fit
+    requires { ⌜ ValidIndent (now indent) ⌝ }
+    requires { ⌜ level ≤ maxSource ⌝ }
+    requires { ⌜ GoesOn (now line) (now class) ⌝ }
+    ensures { λ r. ⌜ r ≡ fitBy (style .width) (measure (style .ruler) 0 (times level (now (indent .entry)) ++ decode (now (line .entry)))) (allCodeOrStr (classify Carry.Code (now (line .entry)))) ⌝ }
+{
+    let width = style.width;
+    let ending = style.ending;
+    let strengths = style.strengths;
+    match width {
+        PrintWidth::Off => Fit::Whole,
+        PrintWidth::Columns(max) => {
+            let s = Layout {
+                level,
+                max: Utf16Column(max),
+                ruler: style.ruler,
+                ending,
+                strengths,
+            };
+            if over_wide(s, indent, line) {
+                if scan::all_code_or_str(class) {
+                    return Fit::Broken(max);
+                }
+                return Fit::Whole;
+            }
+            Fit::Whole
+        }
+    }
+}
+
+// The line laid out at its level: split where it is wider than the width and all of it is code and strings. Each way has one call, so that
+// both are part of this function when it is compiled.
 fn fit_line(
     line: &[u8],
     class: &[u8],
@@ -159,12 +200,11 @@ fn fit_line(
     requires { ⌜ Ordered t × (t .at .0 ≤ farPlace) ⌝ }
     ensures { λ r. ⌜ Lays (style .ruler) (choose (allCodeOrStr (classify Carry.Code (decode (now (line .entry))))) (style .width) PrintWidth.Off) (now (indent .entry)) (style .strengths) (decode (now (line .entry))) (slot .level) (asStr (style .ending)) (slot .drops) (length (now (line .entry))) (now (out .entry)) t r (now (out .exit)) ⌝ }
 {
-    let width = style.width;
     let ending = style.ending;
     let strengths = style.strengths;
-    match width {
-        PrintWidth::Off => alone(push_one(line, indent, ending, slot, out, t)),
-        PrintWidth::Columns(max) => {
+    match fit_of(line, class, indent, style, slot.level) {
+        Fit::Whole => alone(push_one(line, indent, ending, slot, out, t)),
+        Fit::Broken(max) => {
             let s = Layout {
                 level: slot.level,
                 max: Utf16Column(max),
@@ -172,13 +212,7 @@ fn fit_line(
                 ending,
                 strengths,
             };
-            if over_wide(s, indent, line) {
-                if scan::all_code_or_str(class) {
-                    return break_line(line, class, s, indent, slot.drops, out, t);
-                }
-                return alone(push_one(line, indent, ending, slot, out, t));
-            }
-            alone(push_one(line, indent, ending, slot, out, t))
+            break_line(line, class, s, indent, slot.drops, out, t)
         }
     }
 }
@@ -223,6 +257,17 @@ fn lay_line(
     fit_line(line, class, indent, used, slot, out, t)
 }
 
+// Whether the line is a plain else that the newest line can take.
+fn joins_newest(line: &[u8], last: Last) -> bool
+    requires { ⌜ WellFormed (now line) ⌝ }
+    ensures { λ r. ⌜ r ≡ (isPlainElse (decode (now (line .entry))) && isJoinable last) ⌝ }
+{
+    if format::else_line::is_plain_else(line) {
+        return text::is_joinable(last);
+    }
+    false
+}
+
 // The line that goes on, put into the text: a plain else is joined to the newest line if that can take it.
 pub fn place_line(
     line: &[u8],
@@ -241,11 +286,8 @@ pub fn place_line(
 {
     let t = b.text;
     let last = t.last;
-    if format::else_line::is_plain_else(line) {
-        if text::is_joinable(last) {
-            return alone(join_one(line, class, out, t));
-        }
-        return lay_line(line, class, marker, indent, style, out, b);
+    if joins_newest(line, last) {
+        return alone(join_one(line, class, out, t));
     }
     lay_line(line, class, marker, indent, style, out, b)
 }

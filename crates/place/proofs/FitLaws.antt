@@ -106,14 +106,14 @@ over-same max level l o u = rw (u .indents, u .ruled)
 
 -- a line that is not split
 module _
-    (ruler : ℕ) (w : PrintWidth) (indent line class : List ℕ) (level : ℕ) (eol : List ℕ) (drops : Bool) (out out′ : List ℕ) (t u : Written)
-    (v : ValidIndent indent) (flat : level ≤ maxSource) (g : GoesOn line class) (a : Adds eol drops (times level indent ++ decode line) out t out′ u)
+    (ruler : ℕ) (w : PrintWidth) (indent line class : List ℕ) (level : ℕ) (model eol : List ℕ) (drops : Bool) (out out′ : List ℕ) (t u : Written)
+    (v : ValidIndent indent) (flat : level ≤ maxSource) (g : GoesOn line class) (a : Adds eol drops (times level indent ++ decode line) model out t out′ u)
     (p : Placed) (is : p ≡ aloneIn u) (st : Strengths) (same : (o : Options) → InUse o indent ruler → splitWide w o level (decode line) ≡ oneLine (times level indent ++ decode line))
   where
-    lays-alone : Lays ruler w indent st (decode line) level eol drops (length line) out t (aloneIn u) out′
+    lays-alone : Lays ruler w indent st (decode line) level model eol drops (length line) out t (aloneIn u) out′
     lays-alone =
         record {
-          text = λ o ls e h. subst (λ (x : Laid). Text eol (reverseAux (x .lines) (choose drops (dropBlank ls) ls)) u out′) (sym (same o (e .used))) (a .text ls h);
+          text = λ o ls e h. subst (λ (x : Laid). Text model eol (reverseAux (x .lines) (choose drops (dropBlank ls) ls)) u out′) (sym (same o (e .used))) (a .text ls h);
           imports = λ o e. sym (ap (λ (x : Laid). x .importsSplit) (same o (e .used)));
           blanks = λ o e. sym (ap (λ (x : Laid). x .blankNames) (same o (e .used)));
           ordered = grown-ordered (a .grown);
@@ -122,8 +122,8 @@ module _
           fewer = omega arith;
         }
 
-    lays-one : Lays ruler w indent st (decode line) level eol drops (length line) out t p out′
-    lays-one = subst (λ (x : Placed). Lays ruler w indent st (decode line) level eol drops (length line) out t x out′) (sym is) lays-alone
+    lays-one : Lays ruler w indent st (decode line) level model eol drops (length line) out t p out′
+    lays-one = subst (λ (x : Placed). Lays ruler w indent st (decode line) level model eol drops (length line) out t x out′) (sym is) lays-alone
 
 abbrev fits : Bool → PrintWidth → PrintWidth
 fits b width = choose b width PrintWidth.Off
@@ -156,16 +156,16 @@ abbrev allCode : List ℕ → Bool
 allCode line = allCodeOrStr (classify Carry.Code line)
 
 module _
-    (ruler : ℕ) (indent line class : List ℕ) (level : ℕ) (eol : List ℕ) (drops : Bool) (out out′ : List ℕ) (t u : Written) (v : ValidIndent indent)
-    (flat : level ≤ maxSource) (g : GoesOn line class) (a : Adds eol drops (times level indent ++ decode line) out t out′ u) (p : Placed) (is : p ≡ aloneIn u) (st : Strengths)
+    (ruler : ℕ) (indent line class : List ℕ) (level : ℕ) (model eol : List ℕ) (drops : Bool) (out out′ : List ℕ) (t u : Written) (v : ValidIndent indent)
+    (flat : level ≤ maxSource) (g : GoesOn line class) (a : Adds eol drops (times level indent ++ decode line) model out t out′ u) (p : Placed) (is : p ≡ aloneIn u) (st : Strengths)
   where
     abbrev here : Bool
     here = allCodeOrStr (classify Carry.Code (decode line))
 
     pub fit-whole : (width : PrintWidth) → fitBy width (reached ruler indent level line) (allCode line) ≡ Fit.Whole
-        → Lays ruler (choose here width PrintWidth.Off) indent st (decode line) level eol drops (length line) out t p out′
+        → Lays ruler (choose here width PrintWidth.Off) indent st (decode line) level model eol drops (length line) out t p out′
     fit-whole width h =
-        lays-one ruler (choose here width PrintWidth.Off) indent line class level eol drops out out′ t u v flat g a p is st
+        lays-one ruler (choose here width PrintWidth.Off) indent line class level model eol drops out out′ t u v flat g a p is st
         (λ o k. whole-same width (reached ruler indent level line) here level indent (decode line) o (k .indents) (λ max. over-same max level (decode line) o k)
         (ap (fitBy width (reached ruler indent level line)) (sym (code-same line class g)) ∙ h))
 
@@ -183,16 +183,16 @@ laid-broken ruler indent line st level width max e wide here o i =
     ∙ ap (λ (x : PrintWidth). splitWide (choose true x PrintWidth.Off) o level (decode line)) e
     ∙ (unfold choose in (wide-same max level (decode line) o (over-same max level (decode line) o (i .used) ∙ wide)))
 
-pub fit-broken : (ruler : ℕ) (indent line class : List ℕ) (st : Strengths) (level : ℕ) (eol : List ℕ) (drops : Bool) (out out′ : List ℕ) (t : Written) (p : Placed) (width : PrintWidth) (max : ℕ)
+pub fit-broken : (ruler : ℕ) (indent line class : List ℕ) (st : Strengths) (level : ℕ) (model eol : List ℕ) (drops : Bool) (out out′ : List ℕ) (t : Written) (p : Placed) (width : PrintWidth) (max : ℕ)
     → GoesOn line class → fitBy width (reached ruler indent level line) (allCode line) ≡ Fit.Broken max
-    → Breaks ruler max indent st (decode line) level eol drops (length line) out t p out′
-    → Lays ruler (choose (allCodeOrStr (classify Carry.Code (decode line))) width PrintWidth.Off) indent st (decode line) level eol drops (length line) out t p out′
-fit-broken ruler indent line class st level eol drops out out′ t p width max g h b =
+    → Breaks ruler max indent st (decode line) level model eol drops (length line) out t p out′
+    → Lays ruler (choose (allCodeOrStr (classify Carry.Code (decode line))) width PrintWidth.Off) indent st (decode line) level model eol drops (length line) out t p out′
+fit-broken ruler indent line class st level model eol drops out out′ t p width max g h b =
     let e = is-broken width (reached ruler indent level line) (allCode line) max h in
     let here : allCodeOrStr (classify Carry.Code (decode line)) ≡ true = sym (code-same line class g) ∙ e .1 .1 in
     let is = laid-broken ruler indent line st level width max (e .0) (e .1 .0) in
     record {
-      text = λ o ls i h. subst (λ (x : Laid). Text eol (reverseAux (x .lines) (choose drops (dropBlank ls) ls)) (p .text) out′) (sym (is here o i)) (b .text o ls i h);
+      text = λ o ls i h. subst (λ (x : Laid). Text model eol (reverseAux (x .lines) (choose drops (dropBlank ls) ls)) (p .text) out′) (sym (is here o i)) (b .text o ls i h);
       imports = λ o i. b .imports o i ∙ sym (ap (λ (x : Laid). x .importsSplit) (is here o i));
       blanks = λ o i. b .blanks o i ∙ sym (ap (λ (x : Laid). x .blankNames) (is here o i));
       ordered = b .ordered;

@@ -66,16 +66,16 @@ and-choose false b = refl
 -- ---- a line placed
 
 module _
-    (marker : Bool) (indent : List ℕ) (style : Style) (line class eol out out′ : List ℕ) (b : Before) (continued : Bool) (level : ℕ)
+    (marker : Bool) (indent : List ℕ) (style : Style) (line class model eol out out′ : List ℕ) (b : Before) (continued : Bool) (level : ℕ)
     (drops : Bool) (max : PrintWidth) (p : Placed) (g : GoesOn line class) (wc : Closers line (b .closers))
     (wk : Continues line (b .prev .brace) continued) (wl : level ≡ b .levels + choose continued 1 0) (eo : b .own ≡ prevOf line)
     (er : drops ≡ dropsBlank (b .depth) (b .own .declares) (b .prev .declares)) (em : max ≡ breakWidth (style .width) marker continued (b .closers))
-    (w : Lays (style .ruler) (choose (allCodeOrStr (classify Carry.Code (decode line))) max PrintWidth.Off) indent (style .strengths) (decode line) level eol drops (length line) out (b .text) p out′)
+    (w : Lays (style .ruler) (choose (allCodeOrStr (classify Carry.Code (decode line))) max PrintWidth.Off) indent (style .strengths) (decode line) level model eol drops (length line) out (b .text) p out′)
   where
     closers-same : b .closers ≡ leadingClosers (decode line)
     closers-same = wc .is ∙ on-decode leadingClosers leadingClosers closers-encode line (g .well)
 
-    module _ (o : Options) (f : Formatter) (u : Uses o indent style) (k : Knows eol f b out) where
+    module _ (o : Options) (f : Formatter) (u : Uses o indent style) (k : Knows model eol f b out) where
       laid-by : LaidBy o indent (style .ruler) (style .strengths)
       laid-by = record { used = record { indents = u .indents; ruled = u .ruled }; strengths = u .strengths }
 
@@ -105,7 +105,7 @@ module _
       unfolding linesBefore
       lines-same = rw drops-same refl
 
-      lay-text : Text eol (placedLine o f marker (decode line) .lines) (p .text) out′
+      lay-text : Text model eol (placedLine o f marker (decode line) .lines) (p .text) out′
       unfolding placedLine
       lay-text = rw (laid-same, lines-same) (w .text o (f .lines) laid-by (k .text))
 
@@ -117,7 +117,7 @@ module _
       unfolding placedLine
       lay-blanks = rw (laid-same, w .blanks o laid-by) refl
 
-    pub lay-done : Puts (placedBy marker (decode line)) indent style eol (length line) b out p out′
+    pub lay-done : Puts (placedBy marker (decode line)) indent style model eol (length line) b out p out′
     lay-done =
         record { text = lay-text; imports = lay-imports; blanks = lay-blanks; ordered = w .ordered; at = w .at; few = w .few; fewer = w .fewer }
 
@@ -131,18 +131,18 @@ not-first a b r e q = rw (← e, q)
 -- ---- a line that goes on: a plain else is joined where the newest line can take it
 
 module _
-    (marker : Bool) (indent : List ℕ) (style : Style) (line eol out out′ : List ℕ) (b : Before) (e : Bool) (joins : e ≡ (isPlainElse (decode line) && isJoinable (b .text .last)))
+    (marker : Bool) (indent : List ℕ) (style : Style) (line model eol out out′ : List ℕ) (b : Before) (e : Bool) (joins : e ≡ (isPlainElse (decode line) && isJoinable (b .text .last)))
   where
     -- the newest line's kind says whether it can
-    takes : (f : Formatter) → Knows eol f b out → e ≡ (isPlainElse (decode line) && canJoin (f .lines))
+    takes : (f : Formatter) → Knows model eol f b out → e ≡ (isPlainElse (decode line) && canJoin (f .lines))
     takes f k = joins ∙ ap (λ (x : Bool). isPlainElse (decode line) && x) (ap isJoinable (k .text .last) ∙ kind-joinable (f .lines))
 
-    module _ (class : List ℕ) (u : Written) (p : Placed) (g : GoesOn line class) (w : Joins (decode line) out (b .text) out′ u) (is : p ≡ aloneIn u) (yes : e ≡ true) where
-      joined-same : (o : Options) (f : Formatter) → Knows eol f b out → spacedLine o f marker (decode line) ≡ elseLine f (decode line)
+    module _ (class : List ℕ) (u : Written) (p : Placed) (g : GoesOn line class) (w : Joins (decode line) model out (b .text) out′ u) (is : p ≡ aloneIn u) (yes : e ≡ true) where
+      joined-same : (o : Options) (f : Formatter) → Knows model eol f b out → spacedLine o f marker (decode line) ≡ elseLine f (decode line)
       unfolding spacedLine
       joined-same o f k = choose-true _ _ _ (sym (takes f k) ∙ yes)
 
-      join-alone : Puts (spacedBy marker (decode line)) indent style eol (length line) b out (aloneIn u) out′
+      join-alone : Puts (spacedBy marker (decode line)) indent style model eol (length line) b out (aloneIn u) out′
       unfolding elseLine
       join-alone =
           record {
@@ -155,12 +155,12 @@ module _
             fewer = omega arith;
           }
 
-      pub join-put : Puts (spacedBy marker (decode line)) indent style eol (length line) b out p out′
-      join-put = subst (λ (x : Placed). Puts (spacedBy marker (decode line)) indent style eol (length line) b out x out′) (sym is) join-alone
+      pub join-put : Puts (spacedBy marker (decode line)) indent style model eol (length line) b out p out′
+      join-put = subst (λ (x : Placed). Puts (spacedBy marker (decode line)) indent style model eol (length line) b out x out′) (sym is) join-alone
 
-    module _ (p : Placed) (w : Puts (placedBy marker (decode line)) indent style eol (length line) b out p out′) where
-      placed-as : ((f : Formatter) → Knows eol f b out → (isPlainElse (decode line) && canJoin (f .lines)) ≡ false)
-          → Puts (spacedBy marker (decode line)) indent style eol (length line) b out p out′
+    module _ (p : Placed) (w : Puts (placedBy marker (decode line)) indent style model eol (length line) b out p out′) where
+      placed-as : ((f : Formatter) → Knows model eol f b out → (isPlainElse (decode line) && canJoin (f .lines)) ≡ false)
+          → Puts (spacedBy marker (decode line)) indent style model eol (length line) b out p out′
       placed-as h =
           record {
             text = λ o f i k. rw (same o f k) (w .text o f i k);
@@ -172,8 +172,8 @@ module _
             fewer = w .fewer;
           }
         where
-          same : (o : Options) (f : Formatter) → Knows eol f b out → spacedLine o f marker (decode line) ≡ placedLine o f marker (decode line)
+          same : (o : Options) (f : Formatter) → Knows model eol f b out → spacedLine o f marker (decode line) ≡ placedLine o f marker (decode line)
           same o f k = unfold spacedLine in (choose-false _ _ _ (h f k))
 
-      pub not-joined : e ≡ false → Puts (spacedBy marker (decode line)) indent style eol (length line) b out p out′
+      pub not-joined : e ≡ false → Puts (spacedBy marker (decode line)) indent style model eol (length line) b out p out′
       not-joined q = placed-as (λ f k. sym (takes f k) ∙ q)

@@ -38,8 +38,8 @@ pub record GoesOn (line class : List ℕ) : Type 0 where
   pub classes : class ≡ classBytes (classify Carry.Code line)
 
 -- what the code knows before the line: the text, whether a bracket is open, the levels left after the leading closers, the previous line's facts
-pub record Knows (eol : List ℕ) (f : Formatter) (b : Before) (out : List ℕ) : Type 0 where
-  pub text : Text eol (f .lines) (b .text) out
+pub record Knows (model eol : List ℕ) (f : Formatter) (b : Before) (out : List ℕ) : Type 0 where
+  pub text : Text model eol (f .lines) (b .text) out
   pub empty : isEmpty (f .stack) ≡ eqb (b .depth) 0
   pub running : b .levels ≡ levels (drop (b .closers) (f .stack))
   pub prev : b .prev ≡ prevOf (f .prev)
@@ -60,10 +60,10 @@ abbrev pub respacedGrowth : ℕ
 respacedGrowth = 2 ^ 28
 
 -- the line of characters l was put into the text, as the step g says
-pub record Puts (g : Options → Formatter → Formatter) (indent : List ℕ) (style : Style) (eol : List ℕ) (n : ℕ) (b : Before) (out : List ℕ) (r : Placed) (out′ : List ℕ) : Type 0 where
-  pub text : (o : Options) (f : Formatter) → Uses o indent style → Knows eol f b out → Text eol (g o f .lines) (r .text) out′
-  pub imports : (o : Options) (f : Formatter) → Uses o indent style → Knows eol f b out → g o f .importsSplit ≡ f .importsSplit + r .imports
-  pub blanks : (o : Options) (f : Formatter) → Uses o indent style → Knows eol f b out → g o f .blankNames ≡ f .blankNames + r .blanks
+pub record Puts (g : Options → Formatter → Formatter) (indent : List ℕ) (style : Style) (model eol : List ℕ) (n : ℕ) (b : Before) (out : List ℕ) (r : Placed) (out′ : List ℕ) : Type 0 where
+  pub text : (o : Options) (f : Formatter) → Uses o indent style → Knows model eol f b out → Text model eol (g o f .lines) (r .text) out′
+  pub imports : (o : Options) (f : Formatter) → Uses o indent style → Knows model eol f b out → g o f .importsSplit ≡ f .importsSplit + r .imports
+  pub blanks : (o : Options) (f : Formatter) → Uses o indent style → Knows model eol f b out → g o f .blankNames ≡ f .blankNames + r .blanks
   pub ordered : Ordered (r .text)
   pub at : r .text .at .0 ≤ b .text .at .0 + (n + 1) * respacedGrowth
   pub few : r .imports ≤ 1
@@ -85,8 +85,8 @@ pub record LaidBy (o : Options) (indent : List ℕ) (ruler : ℕ) (st : Strength
   pub strengths : o .strengths ≡ st
 
 -- the line of characters l was laid out at a level as `splitWide` says for the width w, after an empty newest line was dropped if `drops` says so
-pub record Lays (ruler : ℕ) (w : PrintWidth) (indent : List ℕ) (st : Strengths) (l : List ℕ) (level : ℕ) (eol : List ℕ) (drops : Bool) (n : ℕ) (out : List ℕ) (t : Written) (r : Placed) (out′ : List ℕ) : Type 0 where
-  pub text : (o : Options) (ls : List (List ℕ)) → LaidBy o indent ruler st → Text eol ls t out → Text eol (reverseAux (splitWide w o level l .lines) (choose drops (dropBlank ls) ls)) (r .text) out′
+pub record Lays (ruler : ℕ) (w : PrintWidth) (indent : List ℕ) (st : Strengths) (l : List ℕ) (level : ℕ) (model eol : List ℕ) (drops : Bool) (n : ℕ) (out : List ℕ) (t : Written) (r : Placed) (out′ : List ℕ) : Type 0 where
+  pub text : (o : Options) (ls : List (List ℕ)) → LaidBy o indent ruler st → Text model eol ls t out → Text model eol (reverseAux (splitWide w o level l .lines) (choose drops (dropBlank ls) ls)) (r .text) out′
   pub imports : (o : Options) → LaidBy o indent ruler st → r .imports ≡ splitWide w o level l .importsSplit
   pub blanks : (o : Options) → LaidBy o indent ruler st → r .blanks ≡ splitWide w o level l .blankNames
   pub ordered : Ordered (r .text)
@@ -105,8 +105,8 @@ fitBy PrintWidth.Off reached code = Fit.Whole
 fitBy (PrintWidth.Columns max) reached code = choose (ltb max reached) (choose code (Fit.Broken max) Fit.Whole) Fit.Whole
 
 -- the line of characters l was broken at a level as `broken` says
-pub record Breaks (ruler max : ℕ) (indent : List ℕ) (st : Strengths) (l : List ℕ) (level : ℕ) (eol : List ℕ) (drops : Bool) (n : ℕ) (out : List ℕ) (t : Written) (r : Placed) (out′ : List ℕ) : Type 0 where
-  pub text : (o : Options) (ls : List (List ℕ)) → LaidBy o indent ruler st → Text eol ls t out → Text eol (reverseAux (broken o max level l .lines) (choose drops (dropBlank ls) ls)) (r .text) out′
+pub record Breaks (ruler max : ℕ) (indent : List ℕ) (st : Strengths) (l : List ℕ) (level : ℕ) (model eol : List ℕ) (drops : Bool) (n : ℕ) (out : List ℕ) (t : Written) (r : Placed) (out′ : List ℕ) : Type 0 where
+  pub text : (o : Options) (ls : List (List ℕ)) → LaidBy o indent ruler st → Text model eol ls t out → Text model eol (reverseAux (broken o max level l .lines) (choose drops (dropBlank ls) ls)) (r .text) out′
   pub imports : (o : Options) → LaidBy o indent ruler st → r .imports ≡ broken o max level l .importsSplit
   pub blanks : (o : Options) → LaidBy o indent ruler st → r .blanks ≡ broken o max level l .blankNames
   pub ordered : Ordered (r .text)

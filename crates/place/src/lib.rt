@@ -29,11 +29,12 @@ use split_import::split_import;
 use split_operation::OperationSplit;
 use split_operation::split_operation;
 use text::Last;
+use text::Adding;
 use text::Written;
 use unicode::Utf16Column;
 
 // What is known before the line is put: the text so far, how many brackets are open, how many levels are left after the line's leading closers popped, what
-// it asks of the previous line, and of this line its leading closers and what the next line asks of it.
+// it asks of the previous line, and of this line its leading closers, what the next line asks of it and whether it is a marker.
 pub struct Before {
     pub text: Written,
     pub depth: usize,
@@ -41,6 +42,7 @@ pub struct Before {
     pub prev: Prev,
     pub closers: usize,
     pub own: Prev,
+    pub marker: bool,
 }
 
 // The text after the line, and what the line adds to the counts.
@@ -56,8 +58,9 @@ pub enum Fit {
     Broken(usize),
 }
 
-// Where a line is put: the level of its indent, and whether an empty newest line goes first.
+// Where a line is put: the text so far, the level of the line's indent, and whether an empty newest line goes first.
 pub struct Slot {
+    pub text: Written,
     pub level: usize,
     pub drops: bool,
 }
@@ -89,39 +92,36 @@ fn push_one(
     indent: &[u8],
     ending: LineEnding,
     slot: Slot,
+    model: &[u8],
     out: &mut [u8],
-    t: Written,
 ) -> Written
     requires { ⌜ ValidIndent (now indent) ⌝ }
     requires { ⌜ slot .level ≤ maxSource ⌝ }
     requires { ⌜ WellFormed (now line) × (length (now line) ≤ 2 * maxSource) ⌝ }
     requires { ⌜ trimEnd (decode (now line)) ≡ decode (now line) ⌝ }
-    requires { ⌜ Ordered t × (t .at .0 ≤ farPlace) ⌝ }
-    ensures { λ r. ⌜ Adds (asStr ending) (slot .drops) (times (slot .level) (now (indent .entry)) ++ decode (now (line .entry))) (now (out .entry)) t (now (out .exit)) r ⌝ }
+    requires { ⌜ Ordered (slot .text) × (slot .text .at .0 ≤ farPlace) ⌝ }
+    ensures { λ r. ⌜ Adds (asStr ending) (slot .drops) (times (slot .level) (now (indent .entry)) ++ decode (now (line .entry))) (now (model .entry)) (now (out .entry)) (slot .text) (now (out .exit)) r ⌝ }
 {
     let joins = format::else_line::trimmed_takes_else(line);
-    let tail = line.len();
-    text::push_line(
-        out,
-        t,
+    let t = slot.text;
+    let how = Adding {
         ending,
-        slot.drops,
-        indent,
-        slot.level,
-        line,
-        tail,
+        drops: slot.drops,
+        levels: slot.level,
+        tail: line.len(),
         joins,
-    )
+    };
+    text::push_line(model, out, t, indent, line, how)
 }
 
 // A plain else joined to the newest line.
-fn join_one(line: &[u8], class: &[u8], out: &mut [u8], t: Written) -> Written
+fn join_one(line: &[u8], class: &[u8], model: &[u8], out: &mut [u8], t: Written) -> Written
     requires { ⌜ GoesOn (now line) (now class) ⌝ }
     requires { ⌜ Ordered t × (t .at .0 ≤ farPlace) ⌝ }
-    ensures { λ r. ⌜ Joins (decode (now (line .entry))) (now (out .entry)) t (now (out .exit)) r ⌝ }
+    ensures { λ r. ⌜ Joins (decode (now (line .entry))) (now (model .entry)) (now (out .entry)) t (now (out .exit)) r ⌝ }
 {
     let brace = format::else_line::ends_in_brace(line);
-    text::join_else(out, t, line, brace)
+    text::join_else(model, out, t, line, brace)
 }
 
 // The line alone adds nothing to the counts.
@@ -191,19 +191,19 @@ fn fit_line(
     indent: &[u8],
     style: Style,
     slot: Slot,
+    model: &[u8],
     out: &mut [u8],
-    t: Written,
 ) -> Placed
     requires { ⌜ ValidIndent (now indent) ⌝ }
     requires { ⌜ slot .level ≤ maxSource ⌝ }
     requires { ⌜ GoesOn (now line) (now class) ⌝ }
-    requires { ⌜ Ordered t × (t .at .0 ≤ farPlace) ⌝ }
-    ensures { λ r. ⌜ Lays (style .ruler) (choose (allCodeOrStr (classify Carry.Code (decode (now (line .entry))))) (style .width) PrintWidth.Off) (now (indent .entry)) (style .strengths) (decode (now (line .entry))) (slot .level) (asStr (style .ending)) (slot .drops) (length (now (line .entry))) (now (out .entry)) t r (now (out .exit)) ⌝ }
+    requires { ⌜ Ordered (slot .text) × (slot .text .at .0 ≤ farPlace) ⌝ }
+    ensures { λ r. ⌜ Lays (style .ruler) (choose (allCodeOrStr (classify Carry.Code (decode (now (line .entry))))) (style .width) PrintWidth.Off) (now (indent .entry)) (style .strengths) (decode (now (line .entry))) (slot .level) (now (model .entry)) (asStr (style .ending)) (slot .drops) (length (now (line .entry))) (now (out .entry)) (slot .text) r (now (out .exit)) ⌝ }
 {
     let ending = style.ending;
     let strengths = style.strengths;
     match fit_of(line, class, indent, style, slot.level) {
-        Fit::Whole => alone(push_one(line, indent, ending, slot, out, t)),
+        Fit::Whole => alone(push_one(line, indent, ending, slot, model, out)),
         Fit::Broken(max) => {
             let s = Layout {
                 level: slot.level,
@@ -212,7 +212,7 @@ fn fit_line(
                 ending,
                 strengths,
             };
-            break_line(line, class, s, indent, slot.drops, out, t)
+            break_line(line, class, s, indent, slot, model, out)
         }
     }
 }
@@ -221,9 +221,9 @@ fn fit_line(
 fn lay_line(
     line: &[u8],
     class: &[u8],
-    marker: bool,
     indent: &[u8],
     style: Style,
+    model: &[u8],
     out: &mut [u8],
     b: Before,
 ) -> Placed
@@ -231,7 +231,7 @@ fn lay_line(
     requires { ⌜ GoesOn (now line) (now class) ⌝ }
     requires { ⌜ Heads (now line) b ⌝ }
     requires { ⌜ Asks b ⌝ }
-    ensures { λ r. ⌜ Puts (placedBy marker (decode (now (line .entry)))) (now (indent .entry)) style (asStr (style .ending)) (length (now (line .entry))) b (now (out .entry)) r (now (out .exit)) ⌝ }
+    ensures { λ r. ⌜ Puts (placedBy (b .marker) (decode (now (line .entry)))) (now (indent .entry)) style (now (model .entry)) (asStr (style .ending)) (length (now (line .entry))) b (now (out .entry)) r (now (out .exit)) ⌝ }
 {
     let t = b.text;
     let depth = b.depth;
@@ -246,15 +246,19 @@ fn lay_line(
     let width = style.width;
     let ending = style.ending;
     let strengths = style.strengths;
-    let max = break_width(width, marker, continued, closers);
+    let max = break_width(width, b.marker, continued, closers);
     let used = Style {
         width: max,
         ruler: style.ruler,
         ending,
         strengths,
     };
-    let slot = Slot { level, drops };
-    fit_line(line, class, indent, used, slot, out, t)
+    let slot = Slot {
+        text: t,
+        level,
+        drops,
+    };
+    fit_line(line, class, indent, used, slot, model, out)
 }
 
 // Whether the line is a plain else that the newest line can take.
@@ -272,9 +276,9 @@ fn joins_newest(line: &[u8], last: Last) -> bool
 pub fn place_line(
     line: &[u8],
     class: &[u8],
-    marker: bool,
     indent: &[u8],
     style: Style,
+    model: &[u8],
     out: &mut [u8],
     b: Before,
 ) -> Placed
@@ -282,14 +286,14 @@ pub fn place_line(
     requires { ⌜ GoesOn (now line) (now class) ⌝ }
     requires { ⌜ Heads (now line) b ⌝ }
     requires { ⌜ Asks b ⌝ }
-    ensures { λ r. ⌜ Puts (spacedBy marker (decode (now (line .entry)))) (now (indent .entry)) style (asStr (style .ending)) (length (now (line .entry))) b (now (out .entry)) r (now (out .exit)) ⌝ }
+    ensures { λ r. ⌜ Puts (spacedBy (b .marker) (decode (now (line .entry)))) (now (indent .entry)) style (now (model .entry)) (asStr (style .ending)) (length (now (line .entry))) b (now (out .entry)) r (now (out .exit)) ⌝ }
 {
     let t = b.text;
     let last = t.last;
     if joins_newest(line, last) {
-        return alone(join_one(line, class, out, t));
+        return alone(join_one(line, class, model, out, t));
     }
-    lay_line(line, class, marker, indent, style, out, b)
+    lay_line(line, class, indent, style, model, out, b)
 }
 
 // The line, all of it code and strings, broken: an import first, otherwise at its operators.
@@ -298,35 +302,36 @@ fn break_line(
     class: &[u8],
     s: Layout,
     indent: &[u8],
-    drops: bool,
+    slot: Slot,
+    model: &[u8],
     out: &mut [u8],
-    t: Written,
 ) -> Placed
     requires { ⌜ ValidIndent (now indent) ⌝ }
     requires { ⌜ s .level ≤ maxSource ⌝ }
     requires { ⌜ GoesOn (now line) (now class) ⌝ }
-    requires { ⌜ Ordered t × (t .at .0 ≤ farPlace) ⌝ }
+    requires { ⌜ Ordered (slot .text) × (slot .text .at .0 ≤ farPlace) ⌝ }
     requires { ⌜ allCodeOrStr (classify Carry.Code (now line)) ≡ true ⌝ }
-    ensures { λ r. ⌜ Breaks (s .ruler) (s .max .0) (now (indent .entry)) (s .strengths) (decode (now (line .entry))) (s .level) (asStr (s .ending)) drops (length (now (line .entry)))
-        (now (out .entry)) t r (now (out .exit)) ⌝ }
+    ensures { λ r. ⌜ Breaks (s .ruler) (s .max .0) (now (indent .entry)) (s .strengths) (decode (now (line .entry))) (s .level) (now (model .entry)) (asStr (s .ending)) (slot .drops) (length (now (line .entry)))
+        (now (out .entry)) (slot .text) r (now (out .exit)) ⌝ }
 {
     let ending = s.ending;
-    let start = text::continue_text(out, t, ending, drops);
+    let t = slot.text;
+    let start = text::continue_text(model, out, t, ending, slot.drops);
     let brace = format::else_line::ends_in_brace(line);
-    let i = split_import(line, class, s, indent, out, start);
+    let i = split_import(line, class, s, indent, model, out, start);
     match i {
         ImportSplit::Split(m) => Placed {
-            text: text::after_lines(m.next, brace),
+            text: text::after_lines(m.last, m.next, brace),
             imports: 1,
             blanks: m.blanks,
         },
         ImportSplit::Whole => {
-            let o = split_operation(line, class, s, indent, out, start);
+            let o = split_operation(line, class, s, indent, model, out, start);
             match o {
-                OperationSplit::Broken(w) => alone(text::after_lines(w.next, brace)),
+                OperationSplit::Broken(w) => alone(text::after_lines(w.start, w.next, brace)),
                 OperationSplit::Whole(w) => {
                     let joins = format::else_line::trimmed_takes_else(line);
-                    alone(text::after_lines(w.next, joins))
+                    alone(text::after_lines(w.start, w.next, joins))
                 }
             }
         }

@@ -37,8 +37,8 @@ unfolding stacked
 stacked-empty scratch base zero = refl
 stacked-empty scratch base (suc depth) = sym (ne-eqb (suc depth) 0 (λ e. absurd (omega arith)))
 
-knows : {eol : List ℕ} {unit closers : ℕ} {left : Nesting} {own : Prev} {f : Formatter} {st : Record} {out scratch : List ℕ} → Holds eol unit f st out scratch
-    → Popped scratch (stackAt unit) (st .nesting) closers left → Knows eol f (beforeOf st (left .levels) closers own) out
+knows : {model eol : List ℕ} {unit closers : ℕ} {left : Nesting} {own : Prev} {marker : Bool} {f : Formatter} {st : Record} {out scratch : List ℕ} → Holds model eol unit f st out scratch
+    → Popped scratch (stackAt unit) (st .nesting) closers left → Knows model eol f (beforeOf st (left .levels) closers own marker) out
 knows {unit = unit} {closers = closers} {st = st} {scratch = scratch} h l =
     record {
       text = h .text;
@@ -58,9 +58,9 @@ pub some-bytes : (line : List ℕ) → WellFormed line → isEmpty (decode line)
 some-bytes line w e = omega (arith, some-length (decode line) e, length-size (decode line), ap length w)
 
 module _ (line scratch : List ℕ) (unit : ℕ) (st : Record) (ready : Ready st scratch unit (length line)) (solid : SolidLine line) where
-  pub asks : (b : Before) (closers : ℕ) (left : Nesting) (own : Prev) → b ≡ beforeOf st (left .levels) closers own
+  pub asks : (b : Before) (closers : ℕ) (left : Nesting) (own : Prev) (marker : Bool) → b ≡ beforeOf st (left .levels) closers own marker
       → Popped scratch (stackAt unit) (st .nesting) closers left → Asks b
-  asks b closers left own e l =
+  asks b closers left own marker e l =
       let n = some-bytes line (solid .well) (solid .some) in
       subst Asks (sym e)
       (record {
@@ -90,19 +90,19 @@ module _ (line scratch : List ℕ) (unit : ℕ) (st : Record) (ready : Ready st 
           classes = goes .classes ∙ ap (λ (s : List ℕ). classBytes (classify Carry.Code s)) (sym e);
         }
 
-    pub heads : (b : Before) (left closers : ℕ) (own : Prev) → b ≡ beforeOf st left closers own → Closers L closers → own ≡ prevOf L → Heads L b
-    heads b left closers own e′ k d = subst (Heads L) (sym e′) (record { closers = k; own = d })
+    pub heads : (b : Before) (left closers : ℕ) (own : Prev) (marker : Bool) → b ≡ beforeOf st left closers own marker → Closers L closers → own ≡ prevOf L → Heads L b
+    heads b left closers own marker e′ k d = subst (Heads L) (sym e′) (record { closers = k; own = d })
 
-    pub put-on : (marker : Bool) (indent : List ℕ) (style : Style) (eol out out′ : List ℕ) (p : Placed) (closers : ℕ) (left : Nesting) (own : Prev) (b : Before)
-        → b ≡ beforeOf st (left .levels) closers own → Puts (spacedBy marker (decode L)) indent style eol (length L) b out p out′
+    pub put-on : (marker : Bool) (indent : List ℕ) (style : Style) (model eol out out′ : List ℕ) (p : Placed) (closers : ℕ) (left : Nesting) (own : Prev) (b : Before)
+        → b ≡ beforeOf st (left .levels) closers own marker → Puts (spacedBy (b .marker) (decode L)) indent style model eol (length L) b out p out′
         → Closers L closers → Popped scratch (stackAt unit) (st .nesting) closers left → own ≡ prevOf L
-        → PutOn marker (respaced (decode line)) indent style eol (length line) unit st out scratch
+        → PutOn marker (respaced (decode line)) indent style model eol (length line) unit st out scratch
         (record { text = p .text; imports = p .imports; blanks = p .blanks; closers = closers; left = left; own = own }) out′
-    put-on marker indent style eol out out′ p closers left own b e′ w ek el eo =
-        let x : Puts (spacedBy marker (decode L)) indent style eol (length L) (beforeOf st (left .levels) closers own) out p out′ =
-        subst (λ (y : Before). Puts (spacedBy marker (decode L)) indent style eol (length L) y out p out′) e′ w in
-        let v : Puts (spacedBy marker (respaced (decode line))) indent style eol (length L) (beforeOf st (left .levels) closers own) out p out′ =
-        subst (λ (l : List ℕ). Puts (spacedBy marker l) indent style eol (length L) (beforeOf st (left .levels) closers own) out p out′) going-text x in
+    put-on marker indent style model eol out out′ p closers left own b e′ w ek el eo =
+        let x : Puts (spacedBy marker (decode L)) indent style model eol (length L) (beforeOf st (left .levels) closers own marker) out p out′ =
+        subst (λ (y : Before). Puts (spacedBy (y .marker) (decode L)) indent style model eol (length L) y out p out′) e′ w in
+        let v : Puts (spacedBy marker (respaced (decode line))) indent style model eol (length L) (beforeOf st (left .levels) closers own marker) out p out′ =
+        subst (λ (l : List ℕ). Puts (spacedBy marker l) indent style model eol (length L) (beforeOf st (left .levels) closers own marker) out p out′) going-text x in
         record {
           text = λ o f u h. v .text o f u (knows h el);
           imports = λ o f u h. v .imports o f u (knows h el);

@@ -68,18 +68,18 @@ leaves o f marker l n = choose-case (Leaves marker l f) (λ h. joined marker n h
         let y : _≡_ {A = ℕ} 0 1 = cc in absurd (omega arith)
     joined false n h = record { stack = rw (else-closers l (and-left (isPlainElse l) (canJoin (f .lines)) h)); number = refl; blank = refl; prev = refl; ignore = refl; carry = refl }
 
-pub spaced-step : (line eol out out′ s₀ s₁ s₂ indent : List ℕ) (style : Style) (unit : ℕ) (marker : Bool) (st : Record) (g : Going) (p : Put) (deep : Nesting) (ignore : Ignore) (r : Record)
+pub spaced-step : (line model eol out out′ s₀ s₁ s₂ indent : List ℕ) (style : Style) (unit : ℕ) (marker : Bool) (st : Record) (g : Going) (p : Put) (deep : Nesting) (ignore : Ignore) (r : Record)
     → Marks marker line → Went line s₀ s₁ unit g
-    → PutOn marker (respaced (decode line)) indent style eol (length line) unit st out s₁ p out′
+    → PutOn marker (respaced (decode line)) indent style model eol (length line) unit st out s₁ p out′
     → BracketsCounted (respaced (decode line)) s₁ s₂ (stackAt unit) (p .left) (length line) deep → ignore ≡ ignoreOf marker → r ≡ afterLine st p deep ignore (g .carry)
     → (o : Options) → Uses o indent style
-    → Stepped (spacedBy marker (respaced (decode line)) o) (length line) unit eol st out s₀ r out′ s₂
+    → Stepped (spacedBy marker (respaced (decode line)) o) (length line) unit model eol st out s₀ r out′ s₂
 unfolding countBrackets
-spaced-step line eol out out′ s₀ s₁ s₂ indent style unit marker st g p deep ignore r n w q v i e o u =
-    subst (λ (x : Record). Stepped (spacedBy marker (respaced (decode line)) o) (length line) unit eol st out s₀ x out′ s₂) (sym e)
+spaced-step line model eol out out′ s₀ s₁ s₂ indent style unit marker st g p deep ignore r n w q v i e o u =
+    subst (λ (x : Record). Stepped (spacedBy marker (respaced (decode line)) o) (length line) unit model eol st out s₀ x out′ s₂) (sym e)
     (record {
       holds = λ f h₀.
-          (let h : Holds eol unit f st out s₁ = holds-past (w .only) (omega arith) h₀ in
+          (let h : Holds model eol unit f st out s₁ = holds-past (w .only) (omega arith) h₀ in
           let k = leaves o f marker (respaced (decode line)) (n .other) in
           record {
             text = q .text o f u h;
@@ -103,7 +103,7 @@ spaced-step line eol out out′ s₀ s₁ s₂ indent style unit marker st g p d
       blanks = omega (arith, q .fewer);
     })
   where
-    stack-after : (f : Formatter) → Holds eol unit f st out s₁
+    stack-after : (f : Formatter) → Holds model eol unit f st out s₁
         → stacked s₂ (stackAt unit) (deep .depth)
         ≡ countBrackets (f .number) (leadingClosers (respaced (decode line))) (classify Carry.Code (respaced (decode line))) (f .stack)
     stack-after f h =
@@ -173,11 +173,11 @@ module _
     pub line-ready : Ready st (w ++ drop (length line) s₀) unit (length line)
     line-ready = ready-as _ _ _ ready only within (t .short)
 
-    module _ {eol out out′ s₂ : List ℕ} {r : Record} where
+    module _ {model eol out out′ s₂ : List ℕ} {r : Record} where
       -- kept as written
       pub code-protected : (m : Marker) (b : Bool) → m ≡ markerIn (decode line) → b ≡ isKept (st .ignore) m → b ≡ true
-          → Stepped (keptBy (decode (take (length raw) raw)) (decode raw)) (length raw) unit eol st out (w ++ drop (length line) s₀) r out′ s₂
-          → (o : Options) → Stepped (codeLineBy o (decode raw)) (length raw) unit eol st out s₀ r out′ s₂
+          → Stepped (keptBy (decode (take (length raw) raw)) (decode raw)) (length raw) unit model eol st out (w ++ drop (length line) s₀) r out′ s₂
+          → (o : Options) → Stepped (codeLineBy o (decode raw)) (length raw) unit model eol st out s₀ r out′ s₂
       code-protected m b d e q v o =
           stepped-as _ _ s₀ only within (omega arith)
           (λ f h. ap (λ (x : List ℕ). keptBy (decode x) (decode raw) f) (take-length raw)
@@ -186,8 +186,8 @@ module _
 
       -- spaced, with or without a marker that stands alone
       pub code-open : (m : Marker) (b a : Bool) → m ≡ markerIn (decode line) → b ≡ isKept (st .ignore) m → b ≡ false → a ≡ isAlone m → (o : Options)
-          → Stepped (spacedBy a (respaced (decode line)) o) (length line) unit eol st out (w ++ drop (length line) s₀) r out′ s₂
-          → Stepped (codeLineBy o (decode raw)) (length raw) unit eol st out s₀ r out′ s₂
+          → Stepped (spacedBy a (respaced (decode line)) o) (length line) unit model eol st out (w ++ drop (length line) s₀) r out′ s₂
+          → Stepped (codeLineBy o (decode raw)) (length raw) unit model eol st out s₀ r out′ s₂
       code-open m b a d e q k o v =
           let x = opens (decode line) (st .ignore) m d (sym e ∙ q) in
           stepped-as _ _ s₀ only within (t .short)
@@ -237,34 +237,35 @@ raw-same o f raw false b i e q = sym (choose-false _ _ _ i ∙ choose-false _ _ 
     outside true h = absurd (false≢true h)
     outside false h = refl
 
-module _ {st : Record} {s₀ out eol : List ℕ} {unit : ℕ} (p b : Bool) (ep : p ≡ inBlock (st .ignore)) (e : b ≡ (p || not (inCodeNow (st .carry)))) where
-  in-block : {f : Formatter} → Holds eol unit f st out s₀ → inBlock (f .ignore) ≡ p
+module _ {st : Record} {s₀ out model eol : List ℕ} {unit : ℕ} (p b : Bool) (ep : p ≡ inBlock (st .ignore)) (e : b ≡ (p || not (inCodeNow (st .carry)))) where
+  in-block : {f : Formatter} → Holds model eol unit f st out s₀ → inBlock (f .ignore) ≡ p
   in-block h = ap inBlock (sym (h .ignore)) ∙ sym ep
 
-  in-now : b ≡ false → {f : Formatter} → Holds eol unit f st out s₀ → inCodeNow (f .carry) ≡ true
+  in-now : b ≡ false → {f : Formatter} → Holds model eol unit f st out s₀ → inCodeNow (f .carry) ≡ true
   in-now q h = ap inCodeNow (sym (h .carry)) ∙ looked p b (st .carry) e q .code
 
-  free : b ≡ false → {f : Formatter} → Holds eol unit f st out s₀ → inBlock (f .ignore) ≡ false
+  free : b ≡ false → {f : Formatter} → Holds model eol unit f st out s₀ → inBlock (f .ignore) ≡ false
   free q h = in-block h ∙ looked p b (st .carry) e q .free
 
   module _ {r : Record} {out′ s₂ : List ℕ} (raw : List ℕ) (o : Options) where
     -- a line of a protected block, or inside a comment or a prefab
-    pub format-raw : b ≡ true → Stepped (rawBy p (decode raw)) (length raw) unit eol st out s₀ r out′ s₂
-        → Stepped (anyLineBy o (decode raw)) (length raw) unit eol st out s₀ r out′ s₂
+    pub format-raw : b ≡ true → Stepped (rawBy (inBlock (st .ignore)) (decode raw)) (length raw) unit model eol st out s₀ r out′ s₂
+        → Stepped (anyLineBy o (decode raw)) (length raw) unit model eol st out s₀ r out′ s₂
     format-raw q v =
         stepped-as _ _ s₀ (only-same s₀ 0 0) (omega arith) (omega arith)
-        (λ f h. raw-same o f (decode raw) p b (in-block h) (e ∙ ap (λ (y : Carry). p || not (inCodeNow y)) (h .carry)) q) v
+        (λ f h. raw-same o f (decode raw) p b (in-block h) (e ∙ ap (λ (y : Carry). p || not (inCodeNow y)) (h .carry)) q)
+        (subst (λ (x : Bool). Stepped (rawBy x (decode raw)) (length raw) unit model eol st out s₀ r out′ s₂) (sym ep) v)
 
     module _ (q : b ≡ false) where
-      pub format-code : isEmpty (trim (decode raw)) ≡ false → Stepped (codeLineBy o (decode raw)) (length raw) unit eol st out s₀ r out′ s₂
-          → Stepped (anyLineBy o (decode raw)) (length raw) unit eol st out s₀ r out′ s₂
+      pub format-code : isEmpty (trim (decode raw)) ≡ false → Stepped (codeLineBy o (decode raw)) (length raw) unit model eol st out s₀ r out′ s₂
+          → Stepped (anyLineBy o (decode raw)) (length raw) unit model eol st out s₀ r out′ s₂
       unfolding anyLine
       format-code z v =
           stepped-as _ _ s₀ (only-same s₀ 0 0) (omega arith) (omega arith)
           (λ f h. sym (choose-false _ _ _ (free q h) ∙ choose-true _ _ _ (in-now q h) ∙ choose-false _ _ _ z)) v
 
-      pub format-blank : isEmpty (trim (decode raw)) ≡ true → Stepped blankLine 0 unit eol st out s₀ r out′ s₂
-          → Stepped (anyLineBy o (decode raw)) (length raw) unit eol st out s₀ r out′ s₂
+      pub format-blank : isEmpty (trim (decode raw)) ≡ true → Stepped blankLine 0 unit model eol st out s₀ r out′ s₂
+          → Stepped (anyLineBy o (decode raw)) (length raw) unit model eol st out s₀ r out′ s₂
       unfolding anyLine
       format-blank z v =
           stepped-as _ _ s₀ (only-same s₀ 0 0) (omega arith) (omega arith)

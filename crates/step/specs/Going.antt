@@ -109,8 +109,8 @@ abbrev pub ignoreOf : Bool → Ignore
 ignoreOf marker = choose marker Ignore.NextLine Ignore.Nothing
 
 -- what is known before the line is put
-abbrev pub beforeOf : Record → ℕ → ℕ → Prev → Before
-beforeOf st left closers own =
+abbrev pub beforeOf : Record → ℕ → ℕ → Prev → Bool → Before
+beforeOf st left closers own marker =
     record {
       text = st .text;
       depth = st .nesting .depth;
@@ -118,6 +118,7 @@ beforeOf st left closers own =
       prev = st .prev;
       closers = closers;
       own = own;
+      marker = marker;
     }
 
 -- the record after the line
@@ -135,10 +136,10 @@ afterLine st p deep ignore carry =
     }
 
 -- a line of n bytes, which goes on as the characters l, was put into the text
-pub record PutOn (marker : Bool) (l indent : List ℕ) (style : Style) (eol : List ℕ) (n unit : ℕ) (st : Record) (out scratch : List ℕ) (r : Put) (out′ : List ℕ) : Type 0 where
-  pub text : (o : Options) (f : Formatter) → Uses o indent style → Holds eol unit f st out scratch → Text eol (spacedBy marker l o f .lines) (r .text) out′
-  pub imports : (o : Options) (f : Formatter) → Uses o indent style → Holds eol unit f st out scratch → spacedBy marker l o f .importsSplit ≡ f .importsSplit + r .imports
-  pub blanks : (o : Options) (f : Formatter) → Uses o indent style → Holds eol unit f st out scratch → spacedBy marker l o f .blankNames ≡ f .blankNames + r .blanks
+pub record PutOn (marker : Bool) (l indent : List ℕ) (style : Style) (model eol : List ℕ) (n unit : ℕ) (st : Record) (out scratch : List ℕ) (r : Put) (out′ : List ℕ) : Type 0 where
+  pub text : (o : Options) (f : Formatter) → Uses o indent style → Holds model eol unit f st out scratch → Text model eol (spacedBy marker l o f .lines) (r .text) out′
+  pub imports : (o : Options) (f : Formatter) → Uses o indent style → Holds model eol unit f st out scratch → spacedBy marker l o f .importsSplit ≡ f .importsSplit + r .imports
+  pub blanks : (o : Options) (f : Formatter) → Uses o indent style → Holds model eol unit f st out scratch → spacedBy marker l o f .blankNames ≡ f .blankNames + r .blanks
   pub closers : Closers (encode l) (r .closers)
   pub left : Popped scratch (stackAt unit) (st .nesting) (r .closers) (r .left)
   pub own : r .own ≡ prevOf l

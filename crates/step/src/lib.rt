@@ -113,8 +113,14 @@ fn count_going(
 }
 
 // What is known before the line is put.
-fn before_of(st: Formatter, levels: usize, closers: usize, own: Prev) -> Before
-    ensures { λ r. ⌜ r ≡ beforeOf st levels closers own ⌝ }
+fn before_of(
+    st: Formatter,
+    levels: usize,
+    closers: usize,
+    own: Prev,
+    marker: bool,
+) -> Before
+    ensures { λ r. ⌜ r ≡ beforeOf st levels closers own marker ⌝ }
 {
     let text = st.text;
     let nesting = st.nesting;
@@ -126,6 +132,7 @@ fn before_of(st: Formatter, levels: usize, closers: usize, own: Prev) -> Before
         prev,
         closers,
         own,
+        marker,
     }
 }
 
@@ -138,6 +145,7 @@ fn put_going<'a>(
     marker: bool,
     indent: &[u8],
     style: Style,
+    model: &[u8],
     out: &mut [u8],
     st: Formatter,
 ) -> Put
@@ -145,7 +153,7 @@ fn put_going<'a>(
     requires { ⌜ SolidLine (now line) ⌝ }
     requires { ⌜ Goes (now line) (now scratch) unit g ⌝ }
     requires { ⌜ ValidIndent (now indent) ⌝ }
-    ensures { λ r. ⌜ PutOn marker (respaced (decode (now (line .entry)))) (now (indent .entry)) style (asStr (style .ending)) (length (now (line .entry))) unit st (now (out .entry)) (now (scratch .entry)) r (now (out .exit)) ⌝ }
+    ensures { λ r. ⌜ PutOn marker (respaced (decode (now (line .entry)))) (now (indent .entry)) style (now (model .entry)) (asStr (style .ending)) (length (now (line .entry))) unit st (now (out .entry)) (now (scratch .entry)) r (now (out .exit)) ⌝ }
 {
     let own = g.own;
     let len = g.len;
@@ -159,8 +167,8 @@ fn put_going<'a>(
     let base = STACK * unit;
     let left = brackets::pop_closers(scratch, base, nesting, closers);
     let own = prev_of(l);
-    let b = before_of(st, left.levels, closers, own);
-    let p = place::place_line(l, class, marker, indent, style, out, b);
+    let b = before_of(st, left.levels, closers, own, marker);
+    let p = place::place_line(l, class, indent, style, model, out, b);
     let text = p.text;
     Put {
         text,
@@ -211,6 +219,7 @@ fn spaced_line(
     marker: bool,
     indent: &[u8],
     style: Style,
+    model: &[u8],
     out: &mut [u8],
     st: Formatter,
 ) -> Formatter
@@ -219,10 +228,10 @@ fn spaced_line(
     requires { ⌜ Marks marker (now line) ⌝ }
     requires { ⌜ Classes Carry.Code (now line) (now scratch) 0 after ⌝ }
     requires { ⌜ ValidIndent (now indent) ⌝ }
-    ensures { λ r. ⌜ ((o : Options) → Uses o (now (indent .entry)) style → Stepped (spacedBy marker (respaced (decode (now (line .entry)))) o) (length (now (line .entry))) unit (asStr (style .ending)) st (now (out .entry)) (now (scratch .entry)) r (now (out .exit)) (now (scratch .exit))) ⌝ }
+    ensures { λ r. ⌜ ((o : Options) → Uses o (now (indent .entry)) style → Stepped (spacedBy marker (respaced (decode (now (line .entry)))) o) (length (now (line .entry))) unit (now (model .entry)) (asStr (style .ending)) st (now (out .entry)) (now (scratch .entry)) r (now (out .exit)) (now (scratch .exit))) ⌝ }
 {
     let g = go_on(line, scratch, unit, after);
-    let p = put_going(line, scratch, unit, g, marker, indent, style, out, st);
+    let p = put_going(line, scratch, unit, g, marker, indent, style, model, out, st);
     let left = p.left;
     let deep = count_going(line, scratch, unit, g, p.closers, left);
     let carry = g.carry;
@@ -286,6 +295,7 @@ fn code_line<'a>(
     unit: usize,
     indent: &[u8],
     style: Style,
+    model: &[u8],
     out: &mut [u8],
     st: Formatter,
 ) -> Formatter
@@ -295,7 +305,7 @@ fn code_line<'a>(
     requires { ⌜ TrimmedLine (now raw) (now line) ⌝ }
     requires { ⌜ isEmpty (decode (now line)) ≡ false ⌝ }
     requires { ⌜ ValidIndent (now indent) ⌝ }
-    ensures { λ r. ⌜ ((o : Options) → Uses o (now (indent .entry)) style → Stepped (codeLineBy o (decode (now (raw .entry)))) (length (now (raw .entry))) unit (asStr (style .ending)) st (now (out .entry)) (now (scratch .entry)) r (now (out .exit)) (now (scratch .exit))) ⌝ }
+    ensures { λ r. ⌜ ((o : Options) → Uses o (now (indent .entry)) style → Stepped (codeLineBy o (decode (now (raw .entry)))) (length (now (raw .entry))) unit (now (model .entry)) (asStr (style .ending)) st (now (out .entry)) (now (scratch .entry)) r (now (out .exit)) (now (scratch .exit))) ⌝ }
 {
     let n = line.len();
     let after = scan::classify(line, Carry::Code, &mut scratch[..n]);
@@ -307,11 +317,12 @@ fn code_line<'a>(
             shown: raw.len(),
             after,
             ending,
+            unit,
         };
-        return line::kept::kept_line(raw, line, k, out, scratch, unit, st);
+        return line::kept::kept_line(raw, line, k, model, out, scratch, st);
     }
     let alone = is_alone(marker);
-    spaced_line(line, scratch, unit, after, alone, indent, style, out, st)
+    spaced_line(line, scratch, unit, after, alone, indent, style, model, out, st)
 }
 
 // One line, of any kind.
@@ -319,6 +330,7 @@ pub fn line_step(
     raw: &[u8],
     indent: &[u8],
     style: Style,
+    model: &[u8],
     out: &mut [u8],
     scratch: &mut [u8],
     unit: usize,
@@ -327,20 +339,20 @@ pub fn line_step(
     requires { ⌜ Ready st (now scratch) unit (length (now raw)) ⌝ }
     requires { ⌜ WellFormed (now raw) ⌝ }
     requires { ⌜ ValidIndent (now indent) ⌝ }
-    ensures { λ r. ⌜ ((o : Options) → Uses o (now (indent .entry)) style → Stepped (anyLineBy o (decode (now (raw .entry)))) (length (now (raw .entry))) unit (asStr (style .ending)) st (now (out .entry)) (now (scratch .entry)) r (now (out .exit)) (now (scratch .exit))) ⌝ }
+    ensures { λ r. ⌜ ((o : Options) → Uses o (now (indent .entry)) style → Stepped (anyLineBy o (decode (now (raw .entry)))) (length (now (raw .entry))) unit (now (model .entry)) (asStr (style .ending)) st (now (out .entry)) (now (scratch .entry)) r (now (out .exit)) (now (scratch .exit))) ⌝ }
 {
     let pending = st.ignore;
     let carry = st.carry;
     let ending = style.ending;
     let guarded = line::kept::in_block(pending);
     if line::kept::is_raw(guarded, carry) {
-        return line::kept::raw_line(raw, guarded, ending, out, scratch, unit, st);
+        return line::kept::raw_line(raw, ending, model, out, scratch, unit, st);
     }
     let tail = unicode::trim_end(raw);
     let start = unicode::trim_start(&raw[..tail]);
     if start == tail {
-        return line::kept::blank_line(out, ending, st);
+        return line::kept::blank_line(model, out, ending, st);
     }
     let line = &raw[start..tail];
-    code_line(raw, line, scratch, unit, indent, style, out, st)
+    code_line(raw, line, scratch, unit, indent, style, model, out, st)
 }

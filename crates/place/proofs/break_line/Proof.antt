@@ -13,8 +13,8 @@ ends-in-brace-requires c κs = search needs
 split-import-requires : tie.Need-split-import-requires
 split-import-requires c κs =
     let t = c .before .before .before .before in
-    let s = t .before .before .before .before .before .before in
-    import-asks _ _ _ _ _ _ _ _ _ _ _ (s .pre .0) (s .pre .1 .0) (s .pre .1 .1 .0) refl (t .continue-text .ensures) (s .pre .1 .1 .1 .0 .1)
+    let s = t .before .before .before .before .before .before .before .before in
+    import-asks _ _ _ _ _ _ _ _ _ _ _ _ (s .pre .0) (s .pre .1 .0) (s .pre .1 .1 .0) refl (t .continue-text .ensures) (s .pre .1 .1 .1 .0 .1)
 
 enum-known-i : tie.Need-enum-known-i
 enum-known-i c = search needs
@@ -28,8 +28,8 @@ enum-told c = search needs
 split-operation-requires : tie.Need-split-operation-requires
 split-operation-requires c κs =
     let t = c .before .before .before .before .before .before .before .before .before .before in
-    let s = t .before .before .before .before .before .before in
-    operation-asks _ _ _ _ _ _ _ _ _ _ _ (s .pre .0) (s .pre .1 .0) (s .pre .1 .1 .0) refl (t .continue-text .ensures) (s .pre .1 .1 .1 .0 .1) (s .pre .1 .1 .1 .1)
+    let s = t .before .before .before .before .before .before .before .before in
+    operation-asks _ _ _ _ _ _ _ _ _ _ _ _ (s .pre .0) (s .pre .1 .0) (s .pre .1 .1 .0) refl (t .continue-text .ensures) (s .pre .1 .1 .1 .0 .1) (s .pre .1 .1 .1 .1)
 
 enum-known-o : tie.Need-enum-known-o
 enum-known-o c = search needs
@@ -45,7 +45,7 @@ enum-known-o-2 c = search needs
 
 trimmed-takes-else-requires : tie.Need-trimmed-takes-else-requires
 trimmed-takes-else-requires c κs =
-    let s = c .before .before .before .before .before .before .before .before .before .before .before .before .before .before .before .before .before .before .before .before .before .before in
+    let s = c .before .before .before .before .before .before .before .before .before .before .before .before .before .before .before .before .before .before .before .before .before .before .before .before in
     (s .pre .1 .1 .0 .well, s .pre .1 .1 .0 .trimmed)
 
 after-lines-requires-3 : tie.Need-after-lines-requires-3
@@ -61,8 +61,8 @@ returns : tie.Need-returns
 returns c =
     let i = c .before .before .before .before .before .before in
     let t = i .before .before .before .before .before in
-    let s = t .before .before .before .before .before .before in
-    import-breaks _ _ _ _ _ _ _ _ _ _ _ (s .pre .0) (s .pre .1 .0) (s .pre .1 .1 .0) refl (t .continue-text .ensures) _ _ _ _ (i .before .before .ends-in-brace .ensures) _ _ (i .split-import .ensures) _ (c .before .before .i .given .1)
+    let s = t .before .before .before .before .before .before .before .before in
+    import-breaks _ _ _ _ _ _ _ _ _ _ _ _ (s .pre .0) (s .pre .1 .0) (s .pre .1 .1 .0) refl (t .continue-text .ensures) _ _ _ _ (i .before .before .ends-in-brace .ensures) _ _ (i .split-import .ensures) _ (c .before .before .i .given .1)
     _ (c .after-lines .ensures)
 
 same-length-2 : tie.Need-same-length-2
@@ -76,8 +76,8 @@ returns-2 c =
     let o = c .before .before .before .before .before .before .before in
     let i = o .before .before .before .before .before .before in
     let t = i .before .before .before .before .before in
-    let s = t .before .before .before .before .before .before in
-    several-breaks _ _ _ _ _ _ _ _ _ _ _ (s .pre .0) (s .pre .1 .0) (s .pre .1 .1 .0) refl (t .continue-text .ensures) _ _ _ _ (i .before .before .ends-in-brace .ensures) _ _ (i .split-import .ensures)
+    let s = t .before .before .before .before .before .before .before .before in
+    several-breaks _ _ _ _ _ _ _ _ _ _ _ _ (s .pre .0) (s .pre .1 .0) (s .pre .1 .1 .0) refl (t .continue-text .ensures) _ _ _ _ (i .before .before .ends-in-brace .ensures) _ _ (i .split-import .ensures)
     (o .before .before .enum-told .given .1) _ _ (o .split-operation .ensures) _ _ _
     (c .before .before .before .o .given .1) (c .before .after-lines2 .ensures) (c .alone .ensures)
 
@@ -92,8 +92,8 @@ returns-3 c =
     let o = c .before .before .before .before .before .before .before .before in
     let i = o .before .before .before .before .before .before in
     let t = i .before .before .before .before .before in
-    let s = t .before .before .before .before .before .before in
-    alone-breaks _ _ _ _ _ _ _ _ _ _ _ (s .pre .0) (s .pre .1 .0) (s .pre .1 .1 .0) refl (t .continue-text .ensures) _ _ _ _ (i .before .before .ends-in-brace .ensures) _ _ (i .split-import .ensures)
+    let s = t .before .before .before .before .before .before .before .before in
+    alone-breaks _ _ _ _ _ _ _ _ _ _ _ _ (s .pre .0) (s .pre .1 .0) (s .pre .1 .1 .0) refl (t .continue-text .ensures) _ _ _ _ (i .before .before .ends-in-brace .ensures) _ _ (i .split-import .ensures)
     (o .before .before .enum-told .given .1) _ _ (o .split-operation .ensures) _ _ _ _
     (c .before .before .trimmed-takes-else .ensures) (c .before .before .before .before .o2 .given .1) (c .before .after-lines3 .ensures) (c .alone2 .ensures)
 

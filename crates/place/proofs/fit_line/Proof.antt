@@ -23,7 +23,7 @@ break-line-requires : tie.Need-break-line-requires
 break-line-requires c κs =
     let m = c .before .before in
     let f = m .before .before in
-    let s = f .before .before .before .before .before .before in
+    let s = f .before .before .before .before .before .before .before in
     (s .pre .0, (s .pre .1 .0, (s .pre .1 .1 .0, (s .pre .1 .1 .1, is-broken _ _ _ _ (sym (f .fit-of .ensures) ∙ m .max .given .1) .1 .1))))
 
 same-length : tie.Need-same-length
@@ -34,8 +34,8 @@ returns c =
     let a = c .before .before .before in
     let d = a .before .before in
     let f = d .before .before in
-    let s = f .before .before .before .before .before .before in
-    fit-whole _ _ _ _ _ _ _ _ _ _ _ (s .pre .0) (s .pre .1 .0) (s .pre .1 .1 .0) (a .push-one .ensures) _ (c .alone .ensures) _ _
+    let s = f .before .before .before .before .before .before .before in
+    fit-whole _ _ _ _ _ _ _ _ _ _ _ _ (s .pre .0) (s .pre .1 .0) (s .pre .1 .1 .0) (a .push-one .ensures) _ (c .alone .ensures) _ _
     (sym (f .fit-of .ensures) ∙ d .enum-told .given .1)
 
 same-length-2 : tie.Need-same-length-2
@@ -46,8 +46,8 @@ returns-2 c =
     let a = c .before .before in
     let m = a .before .before .before in
     let f = m .before .before in
-    let s = f .before .before .before .before .before .before in
-    fit-broken _ _ _ _ _ _ _ _ _ _ _ _ _ _ (s .pre .1 .1 .0) (sym (f .fit-of .ensures) ∙ m .max .given .1) (a .break-line .ensures)
+    let s = f .before .before .before .before .before .before .before in
+    fit-broken _ _ _ _ _ _ _ _ _ _ _ _ _ _ _ (s .pre .1 .1 .0) (sym (f .fit-of .ensures) ∙ m .max .given .1) (a .break-line .ensures)
 
 pub fit-line-spec : {M : Type 1} → statement M
 fit-line-spec =

@@ -20,8 +20,8 @@ returns c =
     let a = c .before .before .before in
     let b = a .before .before in
     let d = b .before in
-    let s = d .before .before .before .before .before .before in
-    join-put _ _ _ _ _ _ _ _ _ (d .joins-newest .ensures) _ _ _ (s .pre .1 .0) (a .join-one .ensures) (c .alone .ensures) (b .if1 .taken)
+    let s = d .before .before .before .before .before .before .before in
+    join-put _ _ _ _ _ _ _ _ _ _ (d .joins-newest .ensures) _ _ _ (s .pre .1 .0) (a .join-one .ensures) (c .alone .ensures) (b .if1 .taken)
 
 lay-line-requires : tie.Need-lay-line-requires
 lay-line-requires c κs = search needs
@@ -33,7 +33,7 @@ returns-2 : tie.Need-returns-2
 returns-2 c =
     let a = c .before .before in
     let b = a .before .before in
-    not-joined _ _ _ _ _ _ _ _ _ (b .before .joins-newest .ensures) _ (a .lay-line .ensures) (b .if1 .left)
+    not-joined _ _ _ _ _ _ _ _ _ _ (b .before .joins-newest .ensures) _ (a .lay-line .ensures) (b .if1 .left)
 
 pub place-line-spec : {M : Type 1} → statement M
 place-line-spec =

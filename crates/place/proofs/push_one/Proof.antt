@@ -9,7 +9,7 @@ trimmed-takes-else-requires c κs = search needs
 
 push-line-requires : tie.Need-push-line-requires
 push-line-requires c κs =
-    let s = c .before .before .before .before .before in
+    let s = c .before .before .before .before .before .before .before in
     (search needs, (search (needs, trimmed-told), (search needs, omega (arith, indent-small (s .args .indent .now) (s .args .slot .level) (s .pre .0) (s .pre .1 .0)))))
 
 same-length : tie.Need-same-length

@@ -12,12 +12,12 @@ slice-relend-prefix-classify c = search needs
 
 slice-aggregate-classify : tie.Need-slice-aggregate-classify
 slice-aggregate-classify c =
-    let s = c .before .before .before .before .before .before in
+    let s = c .before .before .before .before .before .before .before in
     front-size (s .pre .0) (s .args .line .now) (s .pre .1 .1 .1 .0 .short)
 
 classify-requires : tie.Need-classify-requires
 classify-requires c κs =
-    let s = c .before .before .before .before .before .before in
+    let s = c .before .before .before .before .before .before .before in
     classify-room (s .pre .0) Carry.Code (s .args .line .now) (s .pre .1 .1 .1 .0 .short) (omega arith)
 
 slice-reshare-prefix-marker-in : tie.Need-slice-reshare-prefix-marker-in
@@ -26,14 +26,14 @@ slice-reshare-prefix-marker-in c = search needs
 slice-aggregate-marker-in : tie.Need-slice-aggregate-marker-in
 slice-aggregate-marker-in c =
     let a = c .before .before .before in
-    let s = a .before .before .before .before .before .before .before in
+    let s = a .before .before .before .before .before .before .before .before in
     let t = s .pre .1 .1 .1 .0 in
     front-size (code-ready _ _ (s .pre .0) t (a .classify .ensures)) (s .args .line .now) (t .short)
 
 marker-in-requires : tie.Need-marker-in-requires
 marker-in-requires c κs =
     let a = c .before .before .before in
-    let s = a .before .before .before .before .before .before .before in
+    let s = a .before .before .before .before .before .before .before .before in
     let t = s .pre .1 .1 .1 .0 in
     (t .well, code-bytes _ _ (s .pre .0) t (a .classify .ensures))
 
@@ -43,7 +43,7 @@ is-kept-requires c κs = search needs
 kept-line-requires : tie.Need-kept-line-requires
 kept-line-requires c κs =
     let a = c .before .before .before .before .before .before .before .before in
-    let s = a .before .before .before .before .before .before .before in
+    let s = a .before .before .before .before .before .before .before .before in
     let t = s .pre .1 .1 .1 .0 in
     let k = a .classify .ensures in
     (code-ready _ _ (s .pre .0) t k, (s .pre .1 .1 .0, (t, (code-part _ (s .pre .1 .0) (code-classes _ _ (s .pre .0) t k), whole-shown _ (s .pre .1 .1 .0)))))
@@ -61,7 +61,7 @@ returns c =
     let d = b .before in
     let e = d .before in
     let g = e .before .before .before .before in
-    let s = g .before .before .before .before .before .before .before in
+    let s = g .before .before .before .before .before .before .before .before in
     λ o u. code-protected _ _ (s .pre .0) (s .pre .1 .1 .1 .0) (g .classify .ensures) _ _ (e .marker-in .ensures) (d .is-kept .ensures) (b .if1 .taken) (a .kept-line .ensures) o
 
 is-alone-requires : tie.Need-is-alone-requires
@@ -72,7 +72,7 @@ spaced-line-requires c κs =
     let a = c .before .before in
     let b = a .before .before .before in
     let d = b .before .before .before .before in
-    let s = d .before .before .before .before .before .before .before in
+    let s = d .before .before .before .before .before .before .before .before in
     let t = s .pre .1 .1 .1 .0 in
     let k = d .classify .ensures in
     (line-ready _ _ (s .pre .0) t k, (solid _ _ t (s .pre .1 .1 .1 .1 .0), (marks-of _ _ _ (b .marker-in .ensures) (a .is-alone .ensures), (code-classes _ _ (s .pre .0) t k, s .pre .1 .1 .1 .1 .1))))
@@ -91,7 +91,7 @@ returns-2 c =
     let e = d .before in
     let g = e .before in
     let h = g .before .before .before .before in
-    let s = h .before .before .before .before .before .before .before in
+    let s = h .before .before .before .before .before .before .before .before in
     λ o u. code-open _ _ (s .pre .0) (s .pre .1 .1 .1 .0) (h .classify .ensures) _ _ _ (g .marker-in .ensures) (e .is-kept .ensures) (d .if1 .left) (b .is-alone .ensures) o (a .spaced-line .ensures o u)
 
 pub code-line-spec : {M : Type 1} → statement M

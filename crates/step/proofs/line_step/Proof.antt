@@ -65,7 +65,7 @@ code-line-requires c κs =
     let e = d .before .before in
     let h = e .before in
     let i = h .before in
-    let s = i .before .before .before .before .before .before in
+    let s = i .before .before .before .before .before .before .before in
     let te = e .trim-end .ensures in
     let ts = d .trim-start .ensures in
     (s .pre .0, (code-carry (i .before .in-block .result) (i .is-raw .result) _ (i .is-raw .ensures) (h .if1 .left), (s .pre .1 .0, (trimmed-line _ _ _ te ts, (some-line _ _ _ te ts (g .if2 .left), s .pre .1 .1)))))

@@ -28,12 +28,12 @@ leading-closers-requires c κs = search needs
 
 mul-base : tie.Need-mul-base
 mul-base c =
-    let s = c .before .before .before .before .before .before .before .before in
+    let s = c .before .before .before .before .before .before .before .before .before in
     record { fits = omega (arith, s .pre .0 .limit) }
 
 pop-closers-requires : tie.Need-pop-closers-requires
 pop-closers-requires c κs =
-    let s = c .before .before .before .before .before .before .before .before in
+    let s = c .before .before .before .before .before .before .before .before .before in
     stack-nested (s .pre .0)
 
 prev-of-requires : tie.Need-prev-of-requires
@@ -49,12 +49,12 @@ place-line-requires c κs =
     let d = b .before in
     let e = d .before .before in
     let g = e .before .before in
-    let s = g .before .before .before .before .before in
+    let s = g .before .before .before .before .before .before in
     let s0 = s .pre .0 in
     let s1 = s .pre .1 .0 in
     let s2 = s .pre .1 .1 .0 in
     let t = g .line-that-goes-on .ensures in
-    (s .pre .1 .1 .1, (goes-on _ _ _ _ s0 s1 _ s2 _ t, (heads _ _ _ _ s0 s1 _ s2 _ t _ _ _ _ (a .before-of .ensures) (e .leading-closers .ensures) (b .prev-of .ensures), asks _ _ _ _ s0 s1 _ _ _ _ (a .before-of .ensures) (d .pop-closers .ensures))))
+    (s .pre .1 .1 .1, (goes-on _ _ _ _ s0 s1 _ s2 _ t, (heads _ _ _ _ s0 s1 _ s2 _ t _ _ _ _ _ (a .before-of .ensures) (e .leading-closers .ensures) (b .prev-of .ensures), asks _ _ _ _ s0 s1 _ _ _ _ _ (a .before-of .ensures) (d .pop-closers .ensures))))
 
 same-length : tie.Need-same-length
 same-length c = search needs
@@ -67,8 +67,8 @@ returns c =
     let e = d .before in
     let g = e .before .before in
     let h = g .before .before in
-    let s = h .before .before .before .before .before in
-    put-on _ _ _ _ (s .pre .0) (s .pre .1 .0) _ (s .pre .1 .1 .0) _ (h .line-that-goes-on .ensures) _ _ _ _ _ _ _ _ _ _ _
+    let s = h .before .before .before .before .before .before in
+    put-on _ _ _ _ (s .pre .0) (s .pre .1 .0) _ (s .pre .1 .1 .0) _ (h .line-that-goes-on .ensures) _ _ _ _ _ _ _ _ _ _ _ _
     (b .before-of .ensures) (a .place-line .ensures) (g .leading-closers .ensures) (e .pop-closers .ensures) (d .prev-of .ensures)
 
 pub put-going-spec : {M : Type 1} → statement M

@@ -9,13 +9,13 @@ use Rattle.step.proofs.spaced_line.Tie as tie
 
 go-on-requires : tie.Need-go-on-requires
 go-on-requires c κs =
-    let s = c .before .before .before .before .before in
+    let s = c .before .before .before .before .before .before in
     (s .pre .1 .0 .well, (ready-room _ (s .pre .0) refl, s .pre .1 .1 .1 .0))
 
 put-going-requires : tie.Need-put-going-requires
 put-going-requires c κs =
     let a = c .before .before .before .before in
-    let s = a .before .before .before .before .before .before in
+    let s = a .before .before .before .before .before .before .before in
     let w = a .go-on .ensures in
     (ready-as _ _ _ (s .pre .0) (w .only) (le-refl _) (le-refl _), (s .pre .1 .0, (w .goes, s .pre .1 .1 .1 .1)))
 
@@ -23,7 +23,7 @@ count-going-requires : tie.Need-count-going-requires
 count-going-requires c κs =
     let a = c .before .before .before .before in
     let b = a .before .before .before .before .before in
-    let s = b .before .before .before .before .before .before in
+    let s = b .before .before .before .before .before .before .before in
     let w = b .go-on .ensures in
     let q = a .put-going .ensures in
     (s .pre .1 .0 .well, (ready-room _ (s .pre .0) (w .only .long), (w .goes, (q .closers, (omega (arith, s .pre .0 .depth, q .left .depth), q .left .nested)))))
@@ -34,7 +34,7 @@ ignore-of-requires c κs = search needs
 after-line-requires : tie.Need-after-line-requires
 after-line-requires c κs =
     let a = c .before .before .before .before .before .before .before .before in
-    let s = a .before .before .before .before .before .before .before .before .before .before .before in
+    let s = a .before .before .before .before .before .before .before .before .before .before .before .before in
     let r = s .pre .0 in
     let p = a .put-going .ensures in
     (omega (arith, r .imports, r .limit, p .few), omega (arith, r .blanks, r .limit, p .fewer))
@@ -54,8 +54,8 @@ returns c =
     let b = a .before .before .before in
     let d = b .before .before .before .before .before in
     let e = d .before .before .before .before .before in
-    let s = e .before .before .before .before .before .before in
-    spaced-step _ _ _ _ _ _ _ _ _ _ _ _ _ _ _ _ _ (s .pre .1 .1 .0) (e .go-on .ensures) (d .put-going .ensures) (b .count-going .ensures) (a .ignore-of .ensures) (c .after-line .ensures)
+    let s = e .before .before .before .before .before .before .before in
+    spaced-step _ _ _ _ _ _ _ _ _ _ _ _ _ _ _ _ _ _ (s .pre .1 .1 .0) (e .go-on .ensures) (d .put-going .ensures) (b .count-going .ensures) (a .ignore-of .ensures) (c .after-line .ensures)
 
 pub spaced-line-spec : {M : Type 1} → statement M
 spaced-line-spec =

@@ -1,24 +1,25 @@
 -- The kind of a line, told by its bytes.
 --     header-short, header-ends, header-not     the tests of `is_header`
 --     kind-empty, kind-comment, kind-header, kind-pair, kind-other     those of `kind_of`
-use Prim.Native.Nat.{ℕ, zero, suc, _+_, _-_, _≤_, _<_}
+use Prim.Native.Nat.{ℕ, _+_, _-_, _≤_, _<_}
 use mathlib.Core.Bool.{Bool, true, false, _&&_, _||_, and-false}
 use mathlib.Core.List.{List, [], _∷_, _++_}
-use mathlib.Core.Path.{_≡_, refl, sym, ap, subst, _∙_}
+use mathlib.Core.Path.{_≡_, refl, sym, ap, _∙_}
 use native.Mathlib.Omega.{arith}
 use borrow.Author.Tests.{lt-ltb, le-ltb, ltb-true, ne-eqb, eq-eqb, eqb-true}
 use lib.Dec.{ltb, eqb}
 use lib.ListN.{length, take, drop, getD, length-append, length-drop, drop-of-length-le}
 use lib.Seq.{take-at, getD-drop}
 use Rattle.unicode.specs.Unicode.{Scalars, chars, encodeChar, encode, decode, WellFormed, trim}
-use Rattle.unicode.proofs.Table.{High, none, also, Bytes, single, several, bytes}
+use Rattle.unicode.proofs.Table.{Bytes, single, several, bytes}
 use Rattle.unicode.proofs.Tests.{and-left, and-right}
 use Rattle.unicode.proofs.Decode.{encode-nil, encode-cons, encode-one, decode-scalars, decode-encode, wf-encode}
 use Rattle.unicode.proofs.Cut.{AsciiCut, ascii-cut}
 use Rattle.rules.specs.Basics.{choose, is, isEmpty, firstIs, lastIs}
 use Rattle.rules.proofs.Choose.{choose-case, choose-true, choose-false}
+use Rattle.rules.proofs.Leading.{last-at}
 use Rattle.rules.proofs.StartsBytes.{on-decode, encode-some, steady-is, first-encode, last-encode, empty-encode}
-use Rattle.config_rules.specs.Lines.{Line, lower, hasEq, key, setting, isComment, isHeader, lineOf}
+use Rattle.config_rules.specs.Lines.{lower, hasEq, key, setting, isComment, isHeader, lineOf}
 use Rattle.config_rules.specs.Lines.Line.{nothing, header, pair}
 use Rattle.config_lines.specs.Words.{EqAt}
 use Rattle.config_lines.specs.Kinds.{nameIn, lineIn, Parts, KindOf}
@@ -32,14 +33,6 @@ unfolding firstIs
 first-at p [] h = absurd (omega arith)
 first-at p (c ∷ s) h = refl
 
-last-at : (p : ℕ → Bool) (s : List ℕ) (n : ℕ) → length s ≡ suc n → p (getD s n 0) ≡ lastIs p s
-unfolding lastIs
-last-at p [] n e = absurd (omega arith)
-last-at p (a ∷ []) zero e = refl
-last-at p (a ∷ []) (suc n) e = absurd (omega arith)
-last-at p (a ∷ b ∷ s) zero e = absurd (omega arith)
-last-at p (a ∷ b ∷ s) (suc n) e = last-at p (b ∷ s) n (omega arith)
-
 pub header-short : (s : List ℕ) → length s < 2 → false ≡ isHeader s
 unfolding isHeader
 header-short s h = sym (rw (le-ltb 1 (length s) (omega arith)) (and-false (firstIs (is "[") s && lastIs (is "]") s)))
@@ -47,7 +40,7 @@ header-short s h = sym (rw (le-ltb 1 (length s) (omega arith)) (and-false (first
 pub header-ends : (s : List ℕ) → 2 ≤ length s → getD s 0 0 ≡ 91 → eqb (getD s (length s - 1) 0) 93 ≡ isHeader s
 unfolding isHeader
 header-ends s h e =
-    rw (first-at (is "[") s (omega arith), eq-eqb (getD s 0 0) 91 e, ← last-at (is "]") s (length s - 1) (omega arith), lt-ltb 1 (length s) (omega arith))
+    rw (first-at (is "[") s (omega arith), eq-eqb (getD s 0 0) 91 e, ← last-at (is "]") s (λ z. absurd (omega (arith, z))), lt-ltb 1 (length s) (omega arith))
     (and-true (eqb (getD s (length s - 1) 0) 93))
   where
     and-true : (b : Bool) → b ≡ (b && true)
@@ -119,7 +112,7 @@ module _ (s : List ℕ) (w : WellFormed s) (h : isHeader s ≡ true) where
 
   last-byte : getD s (length s - 1) 0 ≡ 93
   last-byte =
-      eqb-true (getD s (length s - 1) 0) 93 (last-at (is "]") s (length s - 1) (omega (arith, long)) ∙ and-right (firstIs (is "[") s) (lastIs (is "]") s) both)
+      eqb-true (getD s (length s - 1) 0) 93 (last-at (is "]") s (λ z. absurd (omega (arith, long, z))) ∙ and-right (firstIs (is "[") s) (lastIs (is "]") s) both)
 
   left-cut : AsciiCut s 0
   left-cut = ascii-cut s 0 w (omega (arith, long)) (omega (arith, first-byte))

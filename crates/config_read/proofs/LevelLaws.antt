@@ -2,20 +2,19 @@
 --     LevelScan     the loop of `level_from`
 --     nearest-is, above-…, applied-…, top-…
 --     level-step    one level outward; relatives-decode     the paths of the levels, by characters
-use Prim.Native.Nat.{ℕ, zero, suc, _+_, _-_, _≤_, _<_}
+use Prim.Native.Nat.{ℕ, suc, _+_, _-_, _≤_, _<_}
 use mathlib.Core.Bool.{Bool, true, false}
 use mathlib.Core.List.{List, [], _∷_, _++_, map, append-assoc, append-nil}
-use mathlib.Core.Path.{_≡_, refl, sym, ap, subst, _∙_}
-use native.Mathlib.Numerals.{add-one}
+use mathlib.Core.Path.{_≡_, refl, sym, ap, _∙_}
 use native.Mathlib.Omega.{arith}
 use borrow.Author.Tests.{ne-eqb, eq-eqb}
-use lib.Dec.{T, eqb}
+use lib.Dec.{eqb}
 use lib.ListN.{length, take, drop, getD}
 use lib.Seq.{drop-cons, take-suc, take-length, drop-length}
-use Rattle.unicode.specs.Unicode.{isScalar, Scalars, chars, encodeChar, encode, decode, WellFormed}
+use Rattle.unicode.specs.Unicode.{Scalars, chars, encodeChar, encode, decode, WellFormed}
 use Rattle.unicode.proofs.Table.{High, none, also, Bytes, single, several, bytes}
 use Rattle.unicode.proofs.Tests.{by-test}
-use Rattle.unicode.proofs.Decode.{encode-nil, decode-scalars, decode-encode}
+use Rattle.unicode.proofs.Decode.{decode-scalars}
 use Rattle.unicode.proofs.Cut.{AsciiCut, ascii-cut}
 use Rattle.buffer.proofs.RegionLaws.{part-from}
 use Rattle.rules.specs.Basics.{choose, is, firstIs}
@@ -26,7 +25,7 @@ use Rattle.config_rules.specs.Lines.{linesOf}
 use Rattle.config_rules.specs.Values.{unset}
 use Rattle.config_rules.specs.Sections.{rootAt, settings}
 use Rattle.config_rules.specs.Texts.{belowSlashes, relatives, resolved}
-use Rattle.config_text.proofs.WalkLaws.{AllScalars}
+use Rattle.rules.proofs.Scalars.{AllScalars, all-decode}
 use Rattle.config_read.specs.Levels.{below, outward, relsAt, farther, LevelAt, LevelFrom, Nearest, Above, Applied, TopOf, Resolves}
 use Rattle.config_read.specs.declared.levels.Level.{Level}
 
@@ -293,10 +292,6 @@ below-scalars : (l : List ℕ) → Scalars l → AllScalars (belowSlashes l)
 unfolding belowSlashes
 below-scalars [] s = tt
 below-scalars (c ∷ l) s = snoc-scalars (belowSlashes l) (is "/" c) l (below-scalars l (s .1)) (s .1)
-
-all-decode : (xs : Rels) → AllScalars xs → map decode (map encode xs) ≡ xs
-all-decode [] a = refl
-all-decode (x ∷ xs) a = rw (decode-encode x (a .0), all-decode xs (a .1))
 
 map-one : (xs : Rels) (s : List ℕ) → map decode (xs ++ (s ∷ [])) ≡ map decode xs ++ (decode s ∷ [])
 map-one [] s = refl

@@ -2,38 +2,37 @@
 --     start-empty, start-mark, start-other     where the lines start
 --     Reached       a line may start here; next-reached, line-well; lines-next, lines-end
 --     Names, Root, Setting      the invariants of the three walks
-use Prim.Native.Nat.{ℕ, zero, suc, _+_, _-_, _≤_, _<_}
+use Prim.Native.Nat.{ℕ, suc, _+_, _-_, _≤_, _<_}
 use mathlib.Core.Bool.{Bool, true, false, _||_}
 use mathlib.Core.List.{List, [], _∷_, map}
 use mathlib.Core.Logic.{_⊎_, inl, inr}
-use mathlib.Core.Path.{_≡_, refl, sym, ap, subst, _∙_}
+use mathlib.Core.Path.{_≡_, refl, sym, ap, _∙_}
 use native.Mathlib.Nat.{zero-add}
-use native.Mathlib.Numerals.{add-one}
 use native.Mathlib.Omega.{arith}
-use borrow.Author.Tests.{le-leb, lt-leb, eq-eqb, ne-eqb, eqb-true, eqb-false}
-use lib.Dec.{T, leb, ltb, eqb}
+use borrow.Author.Tests.{le-leb, lt-leb, eq-eqb, ne-eqb, eqb-true}
+use lib.Dec.{leb, ltb}
 use lib.ListN.{length, take, drop, getD, length-drop, drop-of-length-le}
 use lib.Seq.{drop-drop, take-all}
-use Rattle.unicode.specs.Unicode.{isScalar, Scalars, chars, codeAt, encode, decode, WellFormed, trim}
+use Rattle.unicode.specs.Unicode.{chars, codeAt, encode, decode, WellFormed, trim}
 use Rattle.unicode.specs.Places.{Step}
-use Rattle.unicode.proofs.Tests.{by-test, split, neither-left, neither-right}
+use Rattle.unicode.proofs.Tests.{split, neither-left, neither-right}
 use Rattle.unicode.proofs.Decode.{encode-nil, decode-scalars, decode-encode}
 use Rattle.unicode.proofs.Cut.{AsciiCut, ascii-cut}
 use Rattle.rules.specs.Basics.{choose, is, firstIs, Pieces, pieces, atSep, splitOn}
 use Rattle.rules.specs.declared.Resolved.{Resolved}
 use Rattle.rules.proofs.Choose.{choose-true, choose-false}
 use Rattle.rules.proofs.StartsBytes.{on-decode}
+use Rattle.rules.proofs.Scalars.{AllScalars, split-scalars}
 use Rattle.rules.proofs.WordsBytes.{pieces-encode}
 use Rattle.line_ends.specs.LineEnds.{LineEnd}
 use Rattle.line_ends.proofs.LineCuts.{Last, More, whole, part-of}
-use Rattle.config_rules.specs.Globs.{matches}
 use Rattle.config_rules.specs.Lines.{Line, lineOf, withoutBom, linesOf}
 use Rattle.config_rules.specs.Lines.Line.{nothing, header, pair}
 use Rattle.config_rules.specs.Sections.{longName, rootAt, settings}
 use Rattle.config_lines.specs.Words.{Trimmed}
-use Rattle.config_lines.specs.Kinds.{lineIn, Parts, KindOf}
+use Rattle.config_lines.specs.Kinds.{lineIn, KindOf}
 use Rattle.config_lines.specs.declared.kinds.LineKind.{LineKind}
-use Rattle.config_text.specs.Walk.{linesFrom, StartOf, Readable}
+use Rattle.config_text.specs.Walk.{linesFrom, StartOf}
 use Rattle.config_text.specs.Steps.{startsSection, rootAfter, appliesAfter, valuesAfter, Named, Accepted}
 
 -- ---- where the lines start
@@ -69,20 +68,6 @@ module _ (text : List ℕ) (w : WellFormed text) (n : ℕ) (s : Step text 0 n) (
 
 -- ---- lines by bytes and by characters
 
-abbrev pub AllScalars : List (List ℕ) → Type 0
-AllScalars [] = Unit {0}
-AllScalars (p ∷ ps) = Scalars p × AllScalars ps
-
-sep-scalars : (t : Bool) (c : ℕ) (p : Pieces) → T (isScalar c) → AllScalars (pieces p) → AllScalars (pieces (atSep t c p))
-unfolding atSep
-sep-scalars true c p s r = (tt, r)
-sep-scalars false c p s r = ((s, r .0), r .1)
-
-pieces-scalars : (l : List ℕ) → Scalars l → AllScalars (pieces (splitOn "\n" l))
-unfolding splitOn
-pieces-scalars [] s = (tt, tt)
-pieces-scalars (c ∷ l) s = sep-scalars (is "\n" c) c (splitOn "\n" l) (s .0) (pieces-scalars l (s .1))
-
 each-decode : (ps : List (List ℕ)) → AllScalars ps → map (λ (l : List ℕ). lineOf (trim (decode l))) (map encode ps) ≡ map (λ (l : List ℕ). lineOf (trim l)) ps
 each-decode [] s = refl
 each-decode (p ∷ ps) s = rw (decode-encode p (s .0), each-decode ps (s .1))
@@ -91,7 +76,7 @@ lines-decode : (s : List ℕ) → WellFormed s
     → map (λ (l : List ℕ). lineOf (trim (decode l))) (pieces (splitOn "\n" s)) ≡ map (λ (l : List ℕ). lineOf (trim l)) (pieces (splitOn "\n" (decode s)))
 lines-decode s w =
     ap (map (λ (l : List ℕ). lineOf (trim (decode l)))) (on-decode (λ (l : List ℕ). pieces (splitOn "\n" l)) (λ (l : List ℕ). map encode (pieces (splitOn "\n" l))) (pieces-encode "\n" refl) s w)
-    ∙ each-decode (pieces (splitOn "\n" (decode s))) (pieces-scalars (decode s) (decode-scalars s))
+    ∙ each-decode (pieces (splitOn "\n" (decode s))) (split-scalars "\n" (decode s) (decode-scalars s))
 
 pub start-lines : (text : List ℕ) (at : ℕ) → StartOf text at → linesOf (decode text) ≡ linesFrom text at
 unfolding linesOf linesFrom

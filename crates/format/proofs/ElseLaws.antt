@@ -1,5 +1,5 @@
 -- A plain `else`, and the facts of a line, found on bytes.
-use Prim.Native.Nat.{ℕ, suc, _-_, _≤_, _<_}
+use Prim.Native.Nat.{ℕ, _-_, _≤_, _<_}
 use mathlib.Core.Bool.{Bool, true, false, not, _&&_, and-true}
 use mathlib.Core.List.{List, [], _∷_}
 use mathlib.Core.Path.{_≡_, refl, sym, ap, _∙_}
@@ -12,6 +12,7 @@ use Rattle.unicode.specs.Places.{TrimmedStart, TrimmedEnd}
 use Rattle.buffer.proofs.RegionLaws.{part-from}
 use Rattle.rules.specs.Basics.{is, codes, at, isEmpty, isIdent, startsWith, firstIs, lastIs, startsThen}
 use Rattle.rules.specs.Else.{startsIf, whiteOrBrace, isPlainElse, joinable}
+use Rattle.rules.proofs.Leading.{last-at}
 use Rattle.rules.proofs.StartsBytes.{on-decode, steady-is, steady-not, steady-ident, starts-encode, starts-length, starts-column, empty-encode, then-encode, last-encode}
 use Rattle.format.specs.Words.{whiteOr}
 use Rattle.format.specs.Else.{ifWord, plainRest, Facts}
@@ -29,14 +30,6 @@ last-none : (p : ℕ → Bool) (s : List ℕ) → length s ≡ 0 → false ≡ l
 unfolding lastIs
 last-none p [] h = refl
 last-none p (x ∷ s) h = absurd (omega arith)
-
-last-at : (p : ℕ → Bool) (s : List ℕ) → (length s ≡ 0 → ⊥) → p (getD s (length s - 1) 0) ≡ lastIs p s
-unfolding lastIs
-last-at p [] h = absurd (h refl)
-last-at p (x ∷ []) h = refl
-last-at p (x ∷ y ∷ s) h =
-    let e : length (x ∷ y ∷ s) - 1 ≡ suc (length (y ∷ s) - 1) = omega arith in
-    rw e (last-at p (y ∷ s) (λ e. absurd (omega arith)))
 
 pub brace-none : (s : List ℕ) → length s ≡ 0 → false ≡ lastIs (is "}") s
 brace-none s h = last-none (is "}") s h

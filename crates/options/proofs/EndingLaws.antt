@@ -1,6 +1,6 @@
 -- Laws on the passes over a source that find its line ending.
-use Prim.Native.Nat.{ℕ, zero, suc, _+_, _-_, _≤_, _<_}
-use mathlib.Core.Bool.{Bool, false, _&&_, and-false}
+use Prim.Native.Nat.{ℕ, _+_, _-_, _≤_, _<_}
+use mathlib.Core.Bool.{false, _&&_, and-false}
 use mathlib.Core.Path.{_≡_, refl, sym, ap, subst, _∙_}
 use mathlib.Core.List.{List, [], _∷_}
 use native.Mathlib.Nat.{zero-add}
@@ -11,6 +11,7 @@ use borrow.Author.Tests.{eq-eqb, ne-eqb, lt-ltb, le-ltb}
 use Rattle.rules.specs.Basics.{choose, codes, is, firstIs, lastIs, count}
 use Rattle.rules.specs.Lines.{asStr, crlfs, dominantIn, endsInLf}
 use Rattle.rules.specs.declared.LineEnding.{LineEnding}
+use Rattle.rules.proofs.Leading.{last-at}
 use Rattle.options.specs.Endings.{Block, Counted}
 use Rattle.options.proofs.ListLaws.{drop-next}
 
@@ -110,15 +111,6 @@ module _ {s : List ℕ} {lf crlf last i : ℕ} (c : Counted s 0 0 lf crlf last i
   unfolding dominantIn choose
   dominant-lf l = let e = counted-all c h in rw (e .0, e .1, le-ltb (lf - crlf) crlf l)
 
--- the last byte passes the test
-last-at : (p : ℕ → Bool) (s : List ℕ) (n : ℕ) → length s ≡ suc n → p (getD s n 0) ≡ lastIs p s
-unfolding lastIs
-last-at p [] n e = absurd (omega arith)
-last-at p (a ∷ []) zero e = refl
-last-at p (a ∷ []) (suc n) e = absurd (omega arith)
-last-at p (a ∷ b ∷ s) zero e = absurd (omega arith)
-last-at p (a ∷ b ∷ s) (suc n) e = last-at p (b ∷ s) n (omega arith)
-
 pub ends-empty : (s : List ℕ) → length s ≡ 0 → false ≡ endsInLf s
 unfolding endsInLf lastIs
 ends-empty [] e = refl
@@ -126,7 +118,7 @@ ends-empty (a ∷ s) e = absurd (omega arith)
 
 pub ends-last : (s : List ℕ) → (length s ≡ 0 → ⊥) → eqb (getD s (length s - 1) 0) 10 ≡ endsInLf s
 unfolding endsInLf
-ends-last s n = last-at (is "\n") s (length s - 1) (omega arith)
+ends-last s n = last-at (is "\n") s n
 
 -- the bytes of each ending, in those of CRLF
 pub crlf-lf : (s : List ℕ) → s ≡ codes "\r\n" → take (length s - 1) (drop 1 s) ≡ asStr LineEnding.Lf

@@ -1,4 +1,4 @@
--- The cases P1 to P11 of document 01 as one list of the rules' results, and its further cases.
+-- The cases P1 to P11 of document 01 as one list of the rules' results, its further cases, and open brackets (C-20).
 use mathlib.Core.Path.{_≡_, refl}
 use Prim.Native.Nat.{ℕ}
 use Prim.Native.String.{String}
@@ -97,3 +97,11 @@ others =
 pub further : map given others ≡ map expected others
 unfolding computing
 further = refl
+
+-- the lines of the brackets that are still open: a closer that isn't its line's first character pops the newest one, and the others keep their lines
+abbrev openAfter : String → List ℕ
+openAfter s = formatWith defaults (codes s) .openBrackets
+
+pub still-open : map openAfter ("[(\nb ) (" ∷ "[(\nb )" ∷ "(\na) [" ∷ []) ≡ (0 ∷ 1 ∷ []) ∷ (0 ∷ []) ∷ (1 ∷ []) ∷ []
+unfolding computing
+still-open = refl

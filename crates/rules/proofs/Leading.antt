@@ -1,14 +1,15 @@
 -- How many of the first characters pass a test: the loop that counts them. (On bytes: StartsBytes.)
+--     last-at     the last one
 --     Passing, passing-start, passing-more, passing-stop, passing-end     a loop that has passed i characters
-use Prim.Native.Nat.{ℕ, suc, _+_, _≤_, _<_, zero-le}
+use Prim.Native.Nat.{ℕ, suc, _+_, _-_, _≤_, _<_, zero-le}
 use native.Mathlib.Omega.{arith}
 use native.Mathlib.Numerals.{add-one}
 use mathlib.Core.Bool.{Bool, true, false}
-use mathlib.Core.List.{List}
-use mathlib.Core.Path.{_≡_, _∙_}
+use mathlib.Core.List.{List, [], _∷_}
+use mathlib.Core.Path.{_≡_, refl, _∙_}
 use lib.ListN.{length, getD, drop, drop-of-length-le}
 use lib.Seq.{drop-cons}
-use Rattle.rules.specs.Basics.{choose, leading}
+use Rattle.rules.specs.Basics.{choose, leading, lastIs}
 use Rattle.rules.proofs.Choose.{choose-true, choose-false}
 
 -- the first i characters of s pass the test
@@ -36,3 +37,12 @@ module _ {p : ℕ → Bool} {s : List ℕ} {i : ℕ} (q : Passing p s i) where
   pub passing-end : length s ≤ i → i ≡ leading p s
   unfolding leading
   passing-end h = let k : leading p (drop i s) ≡ 0 = rw (drop-of-length-le s {i = i} h) in omega (arith, q .sum)
+
+-- the last character passes the test
+pub last-at : (p : ℕ → Bool) (s : List ℕ) → (length s ≡ 0 → ⊥) → p (getD s (length s - 1) 0) ≡ lastIs p s
+unfolding lastIs
+last-at p [] h = absurd (h refl)
+last-at p (x ∷ []) h = refl
+last-at p (x ∷ y ∷ s) h =
+    let e : length (x ∷ y ∷ s) - 1 ≡ suc (length (y ∷ s) - 1) = omega arith in
+    rw e (last-at p (y ∷ s) (λ e. absurd (omega arith)))

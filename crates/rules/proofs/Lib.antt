@@ -13,6 +13,7 @@ pub mod CellsLaws
 pub mod SpacingBytes
 pub mod BracketsBytes
 pub mod LinesBytes
+pub mod Scalars
 pub mod WordsBytes
 pub mod OperatorsBytes
 -- demand 3

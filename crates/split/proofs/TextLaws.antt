@@ -9,28 +9,21 @@ use Rattle.compare.specs.Common.{Compared}
 use Rattle.buffer.specs.Repeat.{times}
 use Rattle.buffer.proofs.RepeatLaws.{length-times}
 use Rattle.compare.proofs.WriterLaws.{compared-append}
-use Rattle.unicode.specs.Unicode.{encode, decode, Scalars}
-use Rattle.unicode.proofs.Decode.{encode-nil, encode-append, encode-ascii, decode-encode, wf-encode}
+use Rattle.unicode.specs.Unicode.{encode}
+use Rattle.unicode.proofs.Decode.{encode-nil, encode-append, encode-ascii, wf-encode}
 use Rattle.rules.specs.Options.{Options, indentOf}
 use Rattle.rules.specs.Assembly.{joined}
 use Rattle.split.specs.Measure.{Indent}
 use Rattle.split.specs.Text.{lay, AllWell, following, lastOf, firstOf, LineRoom, LineWritten, Written, Fits}
+use Rattle.rules.proofs.Scalars.{AllScalars}
 use Rattle.rules.proofs.SplitSizes.{blank-ascii}
 use Rattle.split.proofs.MeasureLaws.{ascii-times}
 
 -- ---- parts of a well-formed text
 
-abbrev pub AllScalars : List (List ℕ) → Type 0
-AllScalars [] = Unit {0}
-AllScalars (l ∷ ls) = Scalars l × AllScalars ls
-
 pub all-well : (ls : List (List ℕ)) → AllScalars ls → AllWell (map encode ls)
 all-well [] s = tt
 all-well (l ∷ ls) s = (wf-encode l (s .0), all-well ls (s .1))
-
-pub all-decode : (ls : List (List ℕ)) → AllScalars ls → map decode (map encode ls) ≡ ls
-all-decode [] s = refl
-all-decode (l ∷ ls) s = rw (decode-encode l (s .0), all-decode ls (s .1))
 
 -- ---- lines joined in order
 

@@ -1,6 +1,6 @@
 -- Laws of the names of an import.
 use Prim.Native.Nat.{ℕ, _+_, _-_, _*_, _^_, _≤_, _<_, zero-le}
-use mathlib.Core.Bool.{Bool, true, false}
+use mathlib.Core.Bool.{true, false}
 use mathlib.Core.List.{List, [], _∷_, _++_, map, map-append, foldl, reverse, reverse-cons, append-nil, append-assoc}
 use mathlib.Core.Path.{_≡_, refl, sym, ap, _∙_, subst}
 use native.Mathlib.Numerals.{add-one}
@@ -14,7 +14,7 @@ use Rattle.compare.specs.Common.{Compared}
 use Rattle.buffer.specs.Repeat.{times}
 use Rattle.buffer.proofs.RegionLaws.{part-from}
 use Rattle.compare.proofs.WriterLaws.{compared-nil, compared-append}
-use Rattle.unicode.specs.Unicode.{encode, decode, Scalars, WellFormed, trim}
+use Rattle.unicode.specs.Unicode.{encode, decode, WellFormed, trim}
 use Rattle.unicode.proofs.Tests.{by-test}
 use Rattle.unicode.proofs.Decode.{encode-nil, encode-append, encode-ascii, decode-ascii, decode-scalars, wf-ascii}
 use Rattle.rules.specs.Basics.{choose, isEmpty, Pieces, pieces, atSep, splitOn, is, codes}
@@ -29,7 +29,8 @@ use Rattle.split.specs.Text.{indented, lay, AllWell, following, lineRoom}
 use Rattle.rules.proofs.Columns.{measure-append}
 use Rattle.split.proofs.MeasureLaws.{part-length, ascii-times}
 use Rattle.rules.proofs.SplitSizes.{blank-ascii}
-use Rattle.split.proofs.TextLaws.{AllScalars, all-well, all-decode, following-append, indent-short}
+use Rattle.rules.proofs.Scalars.{AllScalars, all-decode, split-scalars}
+use Rattle.split.proofs.TextLaws.{all-well, following-append, indent-short}
 use Rattle.split_import.specs.declared.Filled.{Filled}
 use Rattle.split_import.specs.Names.{left, NameLen, parts, CountableNames, NamesCounted, NamePlace, NameMeasured, NewestAt, NameFits, namesText, OnNewLine, addIf, AddedTo, Added, NamesFit, NamesWritten}
 
@@ -105,15 +106,6 @@ module _ (s : List ℕ) (i : ℕ) (q : NameScan s i) where
 
 -- ---- the pieces' characters
 
-split-scalars : (l : List ℕ) → Scalars l → AllScalars (pieces (splitOn "," l))
-unfolding splitOn atSep
-split-scalars [] s = (tt, tt)
-split-scalars (c ∷ cs) s = go (is "," c) (split-scalars cs (s .1))
-  where
-    go : (t : Bool) → AllScalars (pieces (splitOn "," cs)) → AllScalars (pieces (atSep t c (splitOn "," cs)))
-    go true q = (tt, q)
-    go false q = ((s .0, q .0), q .1)
-
 pub record AllPieces (s : List ℕ) : Type 0 where
   pub well : AllWell (left s 0)
   pub chars : map decode (left s 0) ≡ parts s
@@ -121,7 +113,7 @@ pub record AllPieces (s : List ℕ) : Type 0 where
 pub all-pieces : (s : List ℕ) → WellFormed s → AllPieces s
 all-pieces s w =
     let e : left s 0 ≡ map encode (parts s) = left-some s 0 zero-le ∙ ap (λ (l : List ℕ). pieces (splitOn "," l)) (sym w) ∙ pieces-encode "," refl (decode s) in
-    let z : AllScalars (parts s) = split-scalars (decode s) (decode-scalars s) in
+    let z : AllScalars (parts s) = split-scalars "," (decode s) (decode-scalars s) in
     record { well = rw e (all-well (parts s) z); chars = ap (map decode) e ∙ all-decode (parts s) z }
 
 -- ---- a name, or a blank piece

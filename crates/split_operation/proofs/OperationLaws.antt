@@ -8,7 +8,7 @@ use mathlib.Core.Path.{_≡_, refl, sym, ap, _∙_, subst}
 use native.Mathlib.Numerals.{add-one}
 use native.Mathlib.Omega.{arith}
 use lib.Dec.{eqb, ltb}
-use lib.ListN.{length, getD, drop, length-append}
+use lib.ListN.{length, getD, length-append}
 use lib.Seq.{drop-cons}
 use borrow.Author.Tests.{eq-eqb, ne-eqb, eqb-false, lt-ltb, le-ltb}
 use Rattle.buffer.specs.Buffer.{part}
@@ -20,12 +20,12 @@ use Rattle.unicode.proofs.Tests.{split}
 use Rattle.unicode.proofs.Decode.{decode-encode, decode-scalars, wf-encode}
 use Rattle.rules.specs.declared.Carry.{Carry}
 use Rattle.rules.specs.Basics.{choose, isEmpty, Pieces}
-use Rattle.rules.specs.Scan.{Cell, charsOf, classify, allCodeOrStr}
+use Rattle.rules.specs.Scan.{Cell, classify, allCodeOrStr}
 use Rattle.rules.specs.ClassBytes.{cellsOf}
 use Rattle.rules.specs.Options.{Options, indentOf, measure, overWide}
 use Rattle.rules.specs.Operators.{maxStrength}
 use Rattle.rules.specs.Strengths.{strengthsIn}
-use Rattle.rules.specs.SplitOperation.{Ops, OpMark, opStep, noOps, marksFrom, topLevelOps, hasWord, isBalanced, keywords, looser, loosest, atMark, cutBefore, trimmed, breakAt, splitOnce, nextBreak, breakOn, breakFirst, layPieces, splitOperation}
+use Rattle.rules.specs.SplitOperation.{OpMark, noOps, topLevelOps, hasWord, isBalanced, keywords, looser, loosest, atMark, cutBefore, trimmed, breakAt, splitOnce, nextBreak, breakOn, breakFirst, layPieces, splitOperation}
 use Rattle.rules.proofs.Choose.{choose-true, choose-false, choose-case}
 use Rattle.rules.proofs.ScanBytes.{encodeCells, classify-encode, chars-classify, all-encode}
 use Rattle.rules.proofs.CellsLaws.{cells-bytes, chars-cells}
@@ -44,9 +44,10 @@ use Rattle.split_operation.specs.declared.OperationSplit.{OperationSplit
 use Rattle.split.specs.Measure.{InUse, Indent, Wide, Within, Trimmed}
 use Rattle.split.specs.Text.{indented, lay, AllWell, following, lastOf, LineRoom, LineWritten, Fits, lineRoom}
 use Rattle.split_operation.specs.Pass.{lineStart, Sound, Breakable, Cutting, breakStrength, restFrom, cutsAt, NextOp, Unbroken, BreakFound}
-use Rattle.split_operation.specs.Operation.{lineOf, isBroken, Broken, trimBytes, restLines, RestFits, After, RestWritten, Classed, OperationFits, LineFits, roundStrength, RoundBreak, firstLine, otherLines, PiecesWritten, brokenIn, FirstBroken}
+use Rattle.split_operation.specs.Operation.{lineOf, Broken, trimBytes, restLines, RestFits, After, RestWritten, Classed, OperationFits, LineFits, roundStrength, RoundBreak, firstLine, otherLines, PiecesWritten, brokenIn, FirstBroken}
 use Rattle.split.proofs.MeasureLaws.{part-length}
-use Rattle.split.proofs.TextLaws.{AllScalars, all-well, following-append, last-append, written-lines, lay-encode, indent-short, level-fits, deeper-fits}
+use Rattle.rules.proofs.Scalars.{AllScalars}
+use Rattle.split.proofs.TextLaws.{all-well, following-append, last-append, written-lines, lay-encode, indent-short, level-fits, deeper-fits}
 use Rattle.split_operation.proofs.ClassLaws.{class-length, piece-classed}
 
 -- ---- a line broken once: on bytes as on characters

@@ -1,6 +1,7 @@
 //! The files that paths mean.
 
 use std::collections::HashSet;
+use std::error::Error;
 use std::ffi::OsStr;
 use std::fs;
 use std::path::{Path, PathBuf};
@@ -81,6 +82,14 @@ fn unread(error: ignore::Error, root: &Path) -> (PathBuf, Trouble) {
     }
 }
 
+/// The error at the bottom, without the path that stands before the message.
 fn told(error: &ignore::Error) -> Trouble {
-    Trouble::whole(format!("it can't be read: {error}"))
+    let mut cause: &dyn Error = match error.io_error() {
+        Some(error) => error,
+        None => error,
+    };
+    while let Some(next) = cause.source() {
+        cause = next;
+    }
+    Trouble::whole(format!("it can't be read: {cause}"))
 }

@@ -5,6 +5,7 @@ use std::io::{self, ErrorKind, Read};
 use std::path::{Path, PathBuf};
 
 use crate::options::{EditorConfig, EndOfLine, IndentSize, IndentStyle, MaxLineLength, Options};
+use crate::raw::Resolved;
 use crate::refusal::Refusal;
 
 /// How many texts a call takes: the file's own directory and the seven above it.
@@ -16,21 +17,13 @@ pub const MAX_TEXT: usize = 65_536;
 /// The name of the files.
 pub const FILE_NAME: &str = ".editorconfig";
 
-/// What reading comes to, in the numbers of [`crate::raw::Resolved`]; with a refusal, zeros.
+/// What reading comes to; with a refusal, its values are zeros.
 #[repr(C)]
 #[derive(Clone, Copy, Debug, Default, PartialEq, Eq)]
 pub struct ConfigAnswer {
     pub refusal: u64,
     pub place: u64,
-    pub style: u64,
-    pub size_kind: u64,
-    pub size: u64,
-    pub tab_set: u64,
-    pub tab: u64,
-    pub max_kind: u64,
-    pub max: u64,
-    pub ending: u64,
-    pub newline: u64,
+    pub values: Resolved,
 }
 
 mod linked {
@@ -92,11 +85,11 @@ impl EditorConfig {
         let answer = raw(path.as_ref(), eight);
         match Refusal::of(answer.refusal, answer.place) {
             Some(refusal) => Err(refusal),
-            None => Ok(Self::of(answer)),
+            None => Ok(Self::of(answer.values)),
         }
     }
 
-    fn of(a: ConfigAnswer) -> Self {
+    fn of(a: Resolved) -> Self {
         Self {
             indent_style: match a.style {
                 1 => Some(IndentStyle::Tabs),

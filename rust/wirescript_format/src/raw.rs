@@ -96,6 +96,7 @@ pub struct Settings {
 /// The resolved values of .editorconfig as numbers; 0 is unset. `style`: 1 tabs, 2 spaces.
 /// `size_kind`: 1 the tab width, 2 the size. `tab_set`: 1 the width. `max_kind`: 1 `off`, 2 the
 /// length. `ending`: 1 LF, 2 CRLF, 3 CR. `newline`: 1 false, 2 true.
+#[repr(C)]
 #[derive(Clone, Copy, Debug, Default, PartialEq, Eq)]
 pub struct Resolved {
     pub style: u64,
@@ -157,9 +158,10 @@ mod linked {
     }
 }
 
-/// Calls an exported function: what stands before the options, the options, what stands after.
+/// Calls an exported function that takes options: what stands before them, the options, the numbers behind
+/// them and the slices that it is lent.
 macro_rules! with_choices {
-    ($name:ident, ($($before:expr),*), $s:ident, ($($after:expr),*)) => {
+    ($name:ident, ($($before:expr),*), $s:ident, ($($number:expr),*), ($($lent:ident),+)) => {
         linked::$name(
             $($before,)*
             $s.indent.as_ptr(),
@@ -168,7 +170,21 @@ macro_rules! with_choices {
             $s.width,
             $s.line_ending,
             $s.final_newline,
-            $($after),*
+            $($number,)*
+            $($lent.as_mut_ptr(), $lent.len()),+
+        )
+    };
+}
+
+/// Calls an exported function that formats.
+macro_rules! formatting {
+    ($name:ident, $source:ident, $s:ident, ($($number:expr),*), $lent:tt) => {
+        with_choices!(
+            $name,
+            ($source.as_ptr(), $source.len()),
+            $s,
+            ($s.ruler_tab, $s.strengths.as_ptr(), $s.strengths.len() $(, $number)*),
+            $lent
         )
     };
 }
@@ -183,100 +199,31 @@ pub fn format(
     opened: &mut [u64],
     scratch: &mut [u8],
 ) -> Answer {
-    let (table, fields) = (s.strengths.as_ptr(), s.strengths.len());
-    let (text, room) = (output.as_mut_ptr(), output.len());
-    let (list, lines) = (opened.as_mut_ptr(), opened.len());
-    let (work, left) = (scratch.as_mut_ptr(), scratch.len());
-    // SAFETY: the pointers and lengths are those of slices; the three that are written are
-    // lent alone, and the function is proved to stay inside them for any arguments.
-    unsafe {
-        with_choices!(
-            wirescript_format,
-            (source.as_ptr(), source.len()),
-            s,
-            (
-                s.ruler_tab,
-                table,
-                fields,
-                text,
-                room,
-                list,
-                lines,
-                work,
-                left
-            )
-        )
-    }
+    // SAFETY: the pointers and lengths are those of slices; those that are written are lent
+    // alone, and the function is proved to stay inside them for any arguments.
+    unsafe { formatting!(wirescript_format, source, s, (), (output, opened, scratch)) }
 }
 
 /// Formats `source` into `output`, and moves the caret from a line and a character column of the
 /// source, both from 0, to one of the text.
 #[must_use]
+#[rustfmt::skip]
 pub fn format_caret(
-    source: &[u8],
-    s: Choices,
-    line: u64,
-    column: u64,
-    output: &mut [u8],
-    scratch: &mut [u8],
+    source: &[u8], s: Choices, line: u64, column: u64, output: &mut [u8], scratch: &mut [u8],
 ) -> CaretAnswer {
-    let (table, fields) = (s.strengths.as_ptr(), s.strengths.len());
-    let (text, room) = (output.as_mut_ptr(), output.len());
-    let (work, left) = (scratch.as_mut_ptr(), scratch.len());
     // SAFETY: as for `format`.
-    unsafe {
-        with_choices!(
-            wirescript_format_caret,
-            (source.as_ptr(), source.len()),
-            s,
-            (
-                s.ruler_tab,
-                table,
-                fields,
-                line,
-                column,
-                text,
-                room,
-                work,
-                left
-            )
-        )
-    }
+    unsafe { formatting!(wirescript_format_caret, source, s, (line, column), (output, scratch)) }
 }
 
 /// Formats `source` into `output`, and lists the changes from it to the text, four numbers to each:
 /// byte offset in the source, bytes removed, byte offset in the text, bytes put in; then zeros.
 #[must_use]
+#[rustfmt::skip]
 pub fn format_changes(
-    source: &[u8],
-    s: Choices,
-    output: &mut [u8],
-    changes: &mut [u64],
-    scratch: &mut [u8],
+    source: &[u8], s: Choices, output: &mut [u8], changes: &mut [u64], scratch: &mut [u8],
 ) -> ChangesAnswer {
-    let (table, fields) = (s.strengths.as_ptr(), s.strengths.len());
-    let (text, room) = (output.as_mut_ptr(), output.len());
-    let (list, numbers) = (changes.as_mut_ptr(), changes.len());
-    let (work, left) = (scratch.as_mut_ptr(), scratch.len());
     // SAFETY: as for `format`.
-    unsafe {
-        with_choices!(
-            wirescript_format_changes,
-            (source.as_ptr(), source.len()),
-            s,
-            (
-                s.ruler_tab,
-                table,
-                fields,
-                text,
-                room,
-                list,
-                numbers,
-                work,
-                left
-            )
-        )
-    }
+    unsafe { formatting!(wirescript_format_changes, source, s, (), (output, changes, scratch)) }
 }
 
 /// The text kind at a line and a character column, both from 0.
@@ -314,21 +261,18 @@ pub fn text_kinds(source: &[u8], places: &[u64], kinds: &mut [u8], scratch: &mut
 /// One tab (`tabs` 1), or `size` spaces (`tabs` 0), as the indent.
 #[must_use]
 pub fn indent_with(s: Choices, tabs: u64, size: u64, output: &mut [u8]) -> Settings {
-    let (indent, room) = (output.as_mut_ptr(), output.len());
     // SAFETY: as for `format`.
-    unsafe { with_choices!(wirescript_indent_with, (), s, (tabs, size, indent, room)) }
+    unsafe { with_choices!(wirescript_indent_with, (), s, (tabs, size), (output)) }
 }
 
 /// The options overridden by resolved values of .editorconfig.
 #[must_use]
 #[rustfmt::skip]
 pub fn editorconfig(s: Choices, r: Resolved, output: &mut [u8]) -> Settings {
-    let (indent, room) = (output.as_mut_ptr(), output.len());
     // SAFETY: as for `format`.
     unsafe {
         with_choices!(wirescript_editorconfig, (), s, (
-            r.style, r.size_kind, r.size, r.tab_set, r.tab, r.max_kind, r.max, r.ending, r.newline,
-            indent, room
-        ))
+            r.style, r.size_kind, r.size, r.tab_set, r.tab, r.max_kind, r.max, r.ending, r.newline
+        ), (output))
     }
 }

@@ -1,7 +1,6 @@
 //! What .editorconfig texts set for a path, from the page on `EditorConfig` and not from our code.
 
-use wirescript_format::editorconfig::ConfigAnswer;
-use wirescript_format::raw::Resolved;
+use wirescript_format::raw::{ConfigAnswer, Resolved};
 
 use crate::globs;
 

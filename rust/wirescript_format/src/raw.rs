@@ -1,9 +1,23 @@
-//! The exported functions of the proved library as they are, on slices and numbers.
-//! None of them asks anything of its arguments.
+//! The exported functions of the proved library as they are, on slices and numbers, for callers with buffers of
+//! their own. None of them asks anything of its arguments.
 //!
-//! A slice passes as pointer and length. After a call the scratch is all zeros, and so
-//! are the output but for the text and a list but for what it was asked for. The declarations fit an archive of one interface, the one
-//! whose number [`interface`] gives; another one doesn't link.
+//! A slice passes as pointer and length. After a call the scratch is all zeros, and so are the output but for the
+//! text and a list but for what it was asked for. The declarations fit an archive of one interface, the one whose
+//! number [`interface`] gives; another one doesn't link. With that number they may change in any release.
+//!
+//! ```
+//! use wirescript_format::{Options, Refusal, raw};
+//!
+//! let source = b"f(a ,b)";
+//! let (mut output, mut scratch) = ([0; 32], [0; 12 * 7 + 256]);
+//! let options = Options::new();
+//! let answer = raw::format(source, options.choices(), &mut output, &mut [], &mut scratch);
+//! assert_eq!(Refusal::of(answer.refusal, answer.place), None);
+//! assert_eq!(output[..answer.length as usize], *b"f(a, b)\n");
+//! ```
+
+use crate::Refusal;
+use crate::editorconfig::TEXTS;
 
 pub use crate::interface::interface;
 
@@ -11,10 +25,15 @@ pub use crate::interface::interface;
 #[repr(C)]
 #[derive(Clone, Copy, Debug, Default, PartialEq, Eq)]
 pub struct Answer {
+    /// The refusal's number, 0 for none.
     pub refusal: u64,
+    /// Its place, 0 for none.
     pub place: u64,
+    /// The text's length in bytes.
     pub length: u64,
+    /// Imports whose names were spread over lines.
     pub imports_split: u64,
+    /// Blank names dropped in them.
     pub blank_names: u64,
     /// How many brackets are open at the end.
     pub open_brackets: u64,
@@ -24,12 +43,19 @@ pub struct Answer {
 #[repr(C)]
 #[derive(Clone, Copy, Debug, Default, PartialEq, Eq)]
 pub struct CaretAnswer {
+    /// The refusal's number, 0 for none.
     pub refusal: u64,
+    /// Its place, 0 for none.
     pub place: u64,
+    /// The text's length in bytes.
     pub length: u64,
+    /// Imports whose names were spread over lines.
     pub imports_split: u64,
+    /// Blank names dropped in them.
     pub blank_names: u64,
+    /// The caret's line in the text.
     pub line: u64,
+    /// Its column, in characters.
     pub column: u64,
 }
 
@@ -37,11 +63,17 @@ pub struct CaretAnswer {
 #[repr(C)]
 #[derive(Clone, Copy, Debug, Default, PartialEq, Eq)]
 pub struct ChangesAnswer {
+    /// The refusal's number, 0 for none.
     pub refusal: u64,
+    /// Its place, 0 for none.
     pub place: u64,
+    /// The text's length in bytes.
     pub length: u64,
+    /// Imports whose names were spread over lines.
     pub imports_split: u64,
+    /// Blank names dropped in them.
     pub blank_names: u64,
+    /// How many changes there are.
     pub changes: u64,
 }
 
@@ -49,8 +81,11 @@ pub struct ChangesAnswer {
 #[repr(C)]
 #[derive(Clone, Copy, Debug, Default, PartialEq, Eq)]
 pub struct Kind {
+    /// The refusal's number, 0 for none.
     pub refusal: u64,
+    /// Its place, 0 for none.
     pub place: u64,
+    /// The kind.
     pub kind: u64,
 }
 
@@ -58,8 +93,11 @@ pub struct Kind {
 #[repr(C)]
 #[derive(Clone, Copy, Debug, Default, PartialEq, Eq)]
 pub struct Kinds {
+    /// The refusal's number, 0 for none.
     pub refusal: u64,
+    /// Its place, 0 for none.
     pub place: u64,
+    /// How many lines were read.
     pub lines_classified: u64,
 }
 
@@ -70,12 +108,19 @@ pub struct Kinds {
 /// leave the ruler tab and the table as they are.
 #[derive(Clone, Copy, Debug, PartialEq, Eq)]
 pub struct Choices<'a> {
+    /// One level of indentation.
     pub indent: &'a [u8],
+    /// Whether there is a print width.
     pub width_set: u64,
+    /// The print width, in UTF-16 units.
     pub width: u64,
+    /// How lines end.
     pub line_ending: u64,
+    /// Whether the text ends in a line ending.
     pub final_newline: u64,
+    /// The ruler's tab.
     pub ruler_tab: u64,
+    /// The table of strengths.
     pub strengths: &'a [u8],
 }
 
@@ -84,12 +129,19 @@ pub struct Choices<'a> {
 #[repr(C)]
 #[derive(Clone, Copy, Debug, Default, PartialEq, Eq)]
 pub struct Settings {
+    /// The refusal's number, 0 for none.
     pub refusal: u64,
+    /// Its place, 0 for none.
     pub place: u64,
+    /// The indent's length in bytes.
     pub indent_len: u64,
+    /// Whether there is a print width.
     pub width_set: u64,
+    /// The print width.
     pub width: u64,
+    /// How lines end.
     pub line_ending: u64,
+    /// Whether the text ends in a line ending.
     pub final_newline: u64,
 }
 
@@ -99,19 +151,75 @@ pub struct Settings {
 #[repr(C)]
 #[derive(Clone, Copy, Debug, Default, PartialEq, Eq)]
 pub struct Resolved {
+    /// `indent_style`.
     pub style: u64,
+    /// What `indent_size` is.
     pub size_kind: u64,
+    /// Its size.
     pub size: u64,
+    /// Whether `tab_width` is set.
     pub tab_set: u64,
+    /// `tab_width`.
     pub tab: u64,
+    /// What `max_line_length` is.
     pub max_kind: u64,
+    /// Its length.
     pub max: u64,
+    /// `end_of_line`.
     pub ending: u64,
+    /// `insert_final_newline`.
     pub newline: u64,
 }
 
+/// What reading .editorconfig texts comes to; with a refusal, its values are zeros.
+#[repr(C)]
+#[derive(Clone, Copy, Debug, Default, PartialEq, Eq)]
+pub struct ConfigAnswer {
+    /// The refusal's number, 0 for none.
+    pub refusal: u64,
+    /// Its place, 0 for none.
+    pub place: u64,
+    /// The values.
+    pub values: Resolved,
+}
+
+/// What a grouping call comes to. `refusal` 0 is an accepted call.
+#[repr(C)]
+#[derive(Clone, Copy, Debug, Default, PartialEq, Eq)]
+pub struct GroupAnswer {
+    /// The refusal's number, 0 for none.
+    pub refusal: u64,
+    /// Its place, 0 for none.
+    pub place: u64,
+    /// The text's length in bytes.
+    pub length: u64,
+}
+
+/// An answer that says whether the call was refused.
+pub(crate) trait Refusable: Sized {
+    fn refusal(&self) -> Option<Refusal>;
+
+    fn accepted(self) -> Result<Self, Refusal> {
+        self.refusal().map_or(Ok(self), Err)
+    }
+}
+
+macro_rules! refusable {
+    ($($answer:ty),+) => {
+        $(impl Refusable for $answer {
+            fn refusal(&self) -> Option<Refusal> {
+                Refusal::of(self.refusal, self.place)
+            }
+        })+
+    };
+}
+
+#[rustfmt::skip]
+refusable!(Answer, CaretAnswer, ChangesAnswer, ConfigAnswer, GroupAnswer, Kind, Kinds, Settings);
+
 mod linked {
-    use super::{Answer, CaretAnswer, ChangesAnswer, Kind, Kinds, Settings};
+    #[rustfmt::skip]
+    use super::{Answer, CaretAnswer, ChangesAnswer, ConfigAnswer, GroupAnswer, Kind, Kinds, Settings};
 
     #[rustfmt::skip]
     unsafe extern "C" {
@@ -155,6 +263,17 @@ mod linked {
             max_kind: u64, max: u64, ending: u64, newline: u64,
             output: *mut u8, output_length: usize,
         ) -> Settings;
+        pub fn wirescript_group(
+            source: *const u8, source_length: usize,
+            output: *mut u8, output_length: usize, scratch: *mut u8, scratch_length: usize,
+        ) -> GroupAnswer;
+        pub fn wirescript_read_editorconfig(
+            path: *const u8, path_length: usize,
+            text_1: *const u8, length_1: usize, text_2: *const u8, length_2: usize,
+            text_3: *const u8, length_3: usize, text_4: *const u8, length_4: usize,
+            text_5: *const u8, length_5: usize, text_6: *const u8, length_6: usize,
+            text_7: *const u8, length_7: usize, text_8: *const u8, length_8: usize,
+        ) -> ConfigAnswer;
     }
 }
 
@@ -274,5 +393,33 @@ pub fn editorconfig(s: Choices, r: Resolved, output: &mut [u8]) -> Settings {
         with_choices!(wirescript_editorconfig, (), s, (
             r.style, r.size_kind, r.size, r.tab_set, r.tab, r.max_kind, r.max, r.ending, r.newline
         ), (output))
+    }
+}
+
+/// How the expression `source` groups: its text goes to the output.
+#[must_use]
+#[rustfmt::skip]
+pub fn group(source: &[u8], output: &mut [u8], scratch: &mut [u8]) -> GroupAnswer {
+    // SAFETY: as for `format`.
+    unsafe {
+        linked::wirescript_group(
+            source.as_ptr(), source.len(),
+            output.as_mut_ptr(), output.len(), scratch.as_mut_ptr(), scratch.len(),
+        )
+    }
+}
+
+/// The values that .editorconfig texts set for a path: the texts of its directories, the nearest first.
+#[must_use]
+#[rustfmt::skip]
+pub fn read_editorconfig(path: &[u8], texts: [&[u8]; TEXTS]) -> ConfigAnswer {
+    let [t1, t2, t3, t4, t5, t6, t7, t8] = texts;
+    // SAFETY: each pointer and length is one slice, and the function only reads them.
+    unsafe {
+        linked::wirescript_read_editorconfig(
+            path.as_ptr(), path.len(),
+            t1.as_ptr(), t1.len(), t2.as_ptr(), t2.len(), t3.as_ptr(), t3.len(), t4.as_ptr(), t4.len(),
+            t5.as_ptr(), t5.len(), t6.as_ptr(), t6.len(), t7.as_ptr(), t7.len(), t8.as_ptr(), t8.len(),
+        )
     }
 }

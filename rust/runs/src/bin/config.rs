@@ -15,14 +15,14 @@ use std::time::Instant;
 
 use runs::random::Random;
 use runs::{config, globs};
-use wirescript_format::editorconfig::{ConfigAnswer, raw};
+use wirescript_format::raw::{self, ConfigAnswer};
 
 fn read(path: &[u8], texts: &[&[u8]]) -> ConfigAnswer {
     let mut eight: [&[u8]; 8] = [&[]; 8];
     for (slot, text) in eight.iter_mut().zip(texts) {
         *slot = text;
     }
-    raw(path, eight)
+    raw::read_editorconfig(path, eight)
 }
 
 /// Whether our reader matches a name with a path of at most seven slashes relative to the top.

@@ -8,5 +8,9 @@ if ! compgen -G "$registry/similar-*" > /dev/null; then
   echo "the crates of Debian's packages are not there: apt-get install $(tr '\n' ' ' < packages.txt)" >&2
   exit 2
 fi
-exec cargo --offline --config 'source.crates-io.replace-with="debian"' \
+command=$1
+shift
+# clippy hands on what stands behind it alone; fmt needs no crates
+if [ "$command" = fmt ]; then exec cargo fmt "$@"; fi
+exec cargo "$command" --offline --config 'source.crates-io.replace-with="debian"' \
   --config "source.debian.directory=\"$registry\"" "$@"

@@ -140,14 +140,13 @@ fn setting_steps() {
         options.indent_with(false, 3),
         Ok(options.clone().indent("   "))
     );
-    let config = EditorConfig {
-        indent_style: Some(IndentStyle::Spaces),
-        indent_size: Some(IndentSize::Tab),
-        tab_width: Some(4),
-        max_line_length: Some(MaxLineLength::Off),
-        end_of_line: Some(EndOfLine::Crlf),
-        insert_final_newline: Some(false),
-    };
+    let config = EditorConfig::new()
+        .with_indent_style(IndentStyle::Spaces)
+        .with_indent_size(IndentSize::Tab)
+        .with_tab_width(4)
+        .with_max_line_length(MaxLineLength::Off)
+        .with_end_of_line(EndOfLine::Crlf)
+        .with_insert_final_newline(false);
     let wanted = Options::new()
         .indent("    ")
         .width(None)
@@ -164,10 +163,7 @@ fn a_refused_step_changes_nothing() {
     let options = Options::new().indent("\t").width(None);
     let before = options.clone();
     assert_eq!(options.indent_with(true, 65), Err(Refusal::BadOption));
-    let config = EditorConfig {
-        indent_size: Some(IndentSize::Value(65)),
-        ..EditorConfig::default()
-    };
+    let config = EditorConfig::new().with_indent_size(IndentSize::Value(65));
     assert_eq!(options.with_editorconfig(config), Err(Refusal::BadOption));
     assert_eq!(options, before);
     assert_eq!(text("{\na", &options), "{\n\ta\n");
@@ -217,16 +213,16 @@ fn lists_changes() {
     for ending in [LineEnding::Lf, LineEnding::Crlf] {
         let options = Options::new().line_ending(ending);
         for source in &sources {
-            let formatted = format(source, &options).expect("a text");
+            let whole = format(source, &options).expect("a text");
             let found = formatter.format_changes(source, &options).expect("changes");
-            assert_eq!(apply(source, &found.changes), formatted.text);
-            assert_eq!(found.imports_split, formatted.imports_split);
-            assert_eq!(found.blank_names, formatted.blank_names);
+            assert_eq!(apply(source, &found.changes), whole.text);
+            assert_eq!(found.imports_split, whole.imports_split);
+            assert_eq!(found.blank_names, whole.blank_names);
             for change in &found.changes {
                 let unkept = |text: &str| text.chars().all(|c| c.is_whitespace() || c == ',');
                 assert!(unkept(&source[change.range.clone()]) && unkept(change.text));
             }
-            let again = formatter.format_changes(&formatted.text, &options);
+            let again = formatter.format_changes(&whole.text, &options);
             assert_eq!(again.map(|found| found.changes.len()), Ok(0));
         }
     }

@@ -1,9 +1,9 @@
 //! What an editor shows of a document: brackets that are never closed, and refusals.
 
-use wirescript_format::{Formatter, MAX_SOURCE, Options, Refusal};
+use wirescript_format::{Formatter, LineIndex, Options, Refusal};
 
 use super::json::{Value, object};
-use super::place::{Position, Walk, formatter_lines, line_end, range};
+use super::place::{Position, Walk, line_end, range};
 use super::settings::configured;
 
 const ERROR: i64 = 1;
@@ -45,17 +45,17 @@ pub fn of(formatter: &mut Formatter, uri: &str, text: &str) -> Vec<Value> {
     found
 }
 
-/// A diagnostic for each of the formatter's lines on which brackets were opened, which ascend.
+/// A diagnostic for each line of the formatter on which brackets were opened; the lines ascend.
 fn opened(text: &str, on: &[u64]) -> Vec<Value> {
     let mut walk = Walk::new(text);
-    let mut lines = (0..).zip(formatter_lines(text));
+    let lines = LineIndex::new(text);
     let mut on_line = |same: &[u64]| {
-        let (_, line) = lines.find(|(number, _)| *number == same[0])?;
+        let ends = [lines.offset(same[0], 0)?, lines.end(same[0])?];
         let message = match same.len() {
             1 => "a bracket opened on this line is never closed".into(),
             many => format!("{many} brackets opened on this line are never closed"),
         };
-        let place = [walk.to(line.start), walk.to(line.end)];
+        let place = ends.map(|byte| walk.to(byte));
         Some(diagnostic(place, WARNING, &message))
     };
     on.chunk_by(|a, b| a == b)
@@ -65,9 +65,9 @@ fn opened(text: &str, on: &[u64]) -> Vec<Value> {
 
 /// Where a refusal stands: from its place in the text to that line's end, or at the start where it names none.
 fn place(text: &str, refusal: Refusal) -> [Position; 2] {
-    let Refusal::SourceTooLong = refusal else {
+    let Some(byte) = refusal.offset().filter(|byte| *byte <= text.len()) else {
         return Default::default();
     };
     let mut walk = Walk::new(text);
-    [walk.to(MAX_SOURCE), walk.to(line_end(text, MAX_SOURCE))]
+    [byte, line_end(text, byte)].map(|byte| walk.to(byte))
 }

@@ -1,8 +1,6 @@
 //! Places in a document: bytes here, lines and UTF-16 units there. A line of the protocol ends in LF, CRLF or a
 //! CR alone; a line of the formatter in LF, with or without a CR before it.
 
-use std::ops::Range;
-
 use super::json::{Value, object};
 
 #[derive(Clone, Copy, Debug, Default, PartialEq, Eq, PartialOrd, Ord)]
@@ -70,17 +68,6 @@ pub fn offset(text: &str, position: Position) -> usize {
         }
     }
     end
-}
-
-/// The lines of the formatter, their endings left out.
-pub fn formatter_lines(text: &str) -> impl Iterator<Item = Range<usize>> {
-    let mut start = 0;
-    text.split('\n').map(move |piece| {
-        let line = piece.strip_suffix('\r').unwrap_or(piece);
-        let range = start..start + line.len();
-        start += piece.len() + 1;
-        range
-    })
 }
 
 /// Gives the positions of ascending bytes in one reading of the text.
@@ -188,14 +175,5 @@ mod tests {
                 assert_eq!(back, byte - usize::from(between), "{text:?} {byte}");
             }
         }
-    }
-
-    #[test]
-    fn lines_of_the_formatter() {
-        let lines = |text| formatter_lines(text).collect::<Vec<_>>();
-        assert_eq!(lines("a\rb\r\nc\n"), [0..3, 5..6, 7..7]);
-        assert_eq!(lines("a\r\n"), [0..1, 3..3]);
-        assert_eq!(lines("a\r").first(), Some(&(0..1)));
-        assert_eq!(lines("").len(), 1);
     }
 }

@@ -1,10 +1,12 @@
-//! The options for a document: the editor's indent, and over it what .editorconfig files say.
+//! The options of a document: the editor's indent, and over it what .editorconfig files say.
 
 use std::ffi::OsString;
 use std::os::unix::ffi::OsStringExt;
 use std::path::PathBuf;
 
-use wirescript_format::{EditorConfig, Options, editorconfig};
+use wirescript_format::Options;
+
+use crate::settings;
 
 /// The path of a `file:` URI on this machine.
 pub fn path(uri: &str) -> Option<PathBuf> {
@@ -37,18 +39,10 @@ fn decoded(text: &[u8]) -> Option<Vec<u8>> {
 
 /// Options with what the .editorconfig files of a document set, or why they can't be had.
 pub fn configured(uri: &str, options: Options) -> Result<Options, String> {
-    let Some(path) = path(uri) else {
-        return Ok(options);
-    };
-    let files = editorconfig::find(path).map_err(|error| said(&error))?;
-    let config = EditorConfig::read(&files.path, &files.texts).map_err(|refusal| said(&refusal))?;
-    options
-        .with_editorconfig(config)
-        .map_err(|refusal| said(&refusal))
-}
-
-fn said(why: &dyn std::fmt::Display) -> String {
-    format!("{}: {why}", editorconfig::FILE_NAME)
+    match path(uri) {
+        Some(path) => settings::configured(&options, &path).map_err(|trouble| trouble.what),
+        None => Ok(options),
+    }
 }
 
 #[cfg(test)]

@@ -144,9 +144,16 @@ fn names_of_every_kind() {
     ];
     for name in names {
         let repository = Repository::new();
-        repository.stage(name, OTHERWISE);
+        // settings are found only by the right path
+        let folder = format!("{name} folder");
+        repository.write(
+            &format!("{folder}/.editorconfig"),
+            "root = true\n[*]\nindent_size = 4\n",
+        );
+        let name = format!("{folder}/{name}");
+        repository.stage(&name, "{\n  a\n}\n");
         repository.stopped(&[]);
-        repository.stage(name, FORMATTED);
+        repository.stage(&name, "{\n    a\n}\n");
         repository.commit();
     }
 }

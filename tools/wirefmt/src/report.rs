@@ -2,7 +2,7 @@
 
 use std::io;
 
-use wirescript_format::Refusal;
+use wirescript_format::{MAX_SOURCE, Position, Refusal};
 
 /// How a run ends; the worst counts.
 #[derive(Clone, Copy, Debug, Default, PartialEq, Eq, PartialOrd, Ord)]
@@ -13,41 +13,18 @@ pub enum Status {
     Trouble = 2,
 }
 
-/// A line and a column in characters, both from 1.
-#[derive(Clone, Copy, Debug, PartialEq, Eq)]
-pub struct Place {
-    pub line: usize,
-    pub column: usize,
-}
-
-impl Place {
-    /// Where a message about a whole file stands.
-    pub const WHOLE: Self = Self { line: 1, column: 1 };
-
-    /// The place of a byte of a source.
-    pub fn of(source: &[u8], offset: usize) -> Self {
-        let before = &source[..offset.min(source.len())];
-        let mut lines = before.split(|byte| *byte == b'\n');
-        let last = lines.next_back().unwrap_or_default();
-        let starts = |byte: &&u8| **byte & 0xc0 != 0x80;
-        Self {
-            line: lines.count() + 1,
-            column: last.iter().filter(starts).count() + 1,
-        }
-    }
-}
-
 /// What stands in the way of formatting a file.
 #[derive(Clone, Debug, PartialEq, Eq)]
 pub struct Trouble {
-    pub place: Place,
-    pub what: String,
+    place: Position,
+    what: String,
 }
 
 impl Trouble {
+    /// One about a file as a whole, which stands at its start.
     pub fn whole(what: impl Into<String>) -> Self {
         Self {
-            place: Place::WHOLE,
+            place: Position::default(),
             what: what.into(),
         }
     }
@@ -58,18 +35,18 @@ impl Trouble {
 
     /// A refusal of a source, in words and with its place.
     pub fn refused(refusal: Refusal, source: &[u8]) -> Self {
-        let (offset, what) = match refusal {
-            Refusal::SourceTooLong => (refusal.place(), "it goes on behind 1 MiB (1048576 bytes)"),
-            Refusal::NotUtf8 { prefix } => (prefix, "it is not UTF-8 from here on"),
-            Refusal::NotExpression { place } => (place, "this is not an expression from here on"),
-            Refusal::TooDeep { place } => (place, "this bracket stands deeper than 64"),
-            other => return Self::whole(other.to_string()),
+        let what = match refusal {
+            Refusal::SourceTooLong if source.len() <= MAX_SOURCE => {
+                return Self::whole("a pass makes it longer than 1 MiB, which the next can't take");
+            }
+            Refusal::SourceTooLong => "it goes on behind 1 MiB (1048576 bytes)".to_owned(),
+            Refusal::NotUtf8 { .. } => "it is not UTF-8 from here on".to_owned(),
+            Refusal::NotExpression { .. } => "this is not an expression from here on".to_owned(),
+            Refusal::TooDeep { .. } => "this bracket stands deeper than 64".to_owned(),
+            other => other.to_string(),
         };
-        let offset = usize::try_from(offset).unwrap_or(usize::MAX);
-        Self {
-            place: Place::of(source, offset),
-            what: what.to_owned(),
-        }
+        let place = refusal.position(source).unwrap_or_default();
+        Self { place, what }
     }
 }
 
@@ -86,26 +63,10 @@ pub struct Report {
 impl Report {
     /// Adds a message in the form `file:line:column: what`.
     pub fn tell(&mut self, name: &str, trouble: &Trouble, status: Status) {
-        let Place { line, column } = trouble.place;
-        let message = format!("{name}:{line}:{column}: {}\n", trouble.what);
+        let Position { line, column, .. } = trouble.place;
+        let (line, column, what) = (line + 1, column + 1, &trouble.what);
+        let message = format!("{name}:{line}:{column}: {what}\n");
         self.messages.push_str(&message);
         self.status = self.status.max(status);
-    }
-}
-
-#[cfg(test)]
-mod tests {
-    use super::*;
-
-    #[test]
-    fn places_count_characters() {
-        let source = "é\n\nab€c".as_bytes();
-        let place = |offset| {
-            let Place { line, column } = Place::of(source, offset);
-            (line, column)
-        };
-        assert_eq!((place(0), place(2), place(3)), ((1, 1), (1, 2), (2, 1)));
-        assert_eq!((place(4), place(6), place(9)), ((3, 1), (3, 3), (3, 4)));
-        assert_eq!((place(10), place(99)), ((3, 5), (3, 5)));
     }
 }

@@ -162,7 +162,7 @@ fn told(job: &Job, path: &Path, report: &mut Report) {
 
 /// Shows the diff, and says whether there is one.
 fn diff(source: &Source, text: &str, report: &mut Report) -> bool {
-    let old = str::from_utf8(&source.bytes).expect("others are refused");
+    let old = std::str::from_utf8(&source.bytes).expect("others are refused");
     let shown = unified(source.path, old, text, colours());
     report.output.extend(shown.as_bytes());
     old != text

@@ -8,35 +8,21 @@ thread_local! {
     static FORMATTER: RefCell<Formatter> = RefCell::new(Formatter::new());
 }
 
-/// How often `--stable` formats.
-const MOST_PASSES: usize = 5;
-
-/// The text of a source after one pass.
-fn pass(source: &[u8], options: &Options) -> Result<String, Refusal> {
-    FORMATTER.with_borrow_mut(|formatter| {
-        let formatted = formatter.format(source, options)?;
-        Ok(formatted.text.to_owned())
-    })
-}
-
-/// The text after one pass or, if it is to be stable, after as many as change something.
+/// The text after one pass or, if it is to be stable, after as many as change something, at most five.
 pub fn text(source: &[u8], options: &Options, stable: bool) -> Result<String, Refusal> {
-    let mut text = pass(source, options)?;
-    if stable {
-        for _ in 1..MOST_PASSES {
-            let next = pass(text.as_bytes(), options)?;
-            if next == text {
-                break;
-            }
-            text = next;
-        }
-    }
-    Ok(text)
+    FORMATTER.with_borrow_mut(|formatter| {
+        let text = if stable {
+            formatter.format_stable(source, options)?.text
+        } else {
+            formatter.format(source, options)?.text
+        };
+        Ok(text.to_owned())
+    })
 }
 
 /// Whether formatting leaves a source as it is; then it does so however often.
 pub fn unchanged(source: &[u8], options: &Options) -> Result<bool, Refusal> {
-    Ok(pass(source, options)?.as_bytes() == source)
+    Ok(text(source, options, false)?.as_bytes() == source)
 }
 
 /// The lines, from 0, of all brackets that are still open at the end, one for each.

@@ -65,3 +65,14 @@ fn a_text_without_end() {
     let what = format!("the text takes {needed} bytes, more than there is room for");
     ran.refused(&format!("<stdin>:1:1: {what}"));
 }
+
+/// The first pass makes the text longer than a source may be.
+#[test]
+fn a_second_pass_that_is_refused() {
+    let source = "(\n".repeat(2_000);
+    let folder = Folder::new();
+    assert!(folder.feed(&[], &source).output.len() > MIB);
+    let what = "a pass makes it longer than 1 MiB, which the next can't take";
+    let ran = folder.feed(&["--stable"], &source);
+    ran.refused(&format!("<stdin>:1:1: {what}"));
+}

@@ -58,7 +58,7 @@ fn length_in(line: &[u8]) -> Option<u64> {
     let at = line.windows(LENGTH.len()).rposition(starts)?;
     let value = line[at + LENGTH.len()..].trim_ascii();
     let digits = !value.is_empty() && value.iter().all(u8::is_ascii_digit);
-    let value = str::from_utf8(value).ok().filter(|_| digits)?;
+    let value = std::str::from_utf8(value).ok().filter(|_| digits)?;
     // a number that doesn't fit is too long in any case
     Some(value.parse().unwrap_or(u64::MAX))
 }

@@ -225,7 +225,7 @@ impl Reader<'_> {
         self.at += 1;
         let digits = self.text.as_bytes().get(self.at..self.at + 4);
         let digits = digits.filter(|four| four.iter().all(u8::is_ascii_hexdigit));
-        let number = digits.and_then(|four| str::from_utf8(four).ok());
+        let number = digits.and_then(|four| std::str::from_utf8(four).ok());
         let Some(Ok(number)) = number.map(|four| u16::from_str_radix(four, 16)) else {
             return self.fail("not four hexadecimal digits");
         };

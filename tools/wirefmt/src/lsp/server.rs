@@ -45,7 +45,7 @@ impl Server {
 
     /// Takes the body of a message; gives what is to be written.
     pub fn take(&mut self, body: &[u8]) -> Vec<Value> {
-        let text = str::from_utf8(body).map_err(|error| error.to_string());
+        let text = std::str::from_utf8(body).map_err(|error| error.to_string());
         match text.and_then(|text| json::read(text).map_err(|error| error.to_string())) {
             Ok(Value::Array(batch)) if !batch.is_empty() => self.batch(&batch),
             Ok(value) => {

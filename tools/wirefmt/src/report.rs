@@ -17,7 +17,7 @@ pub enum Status {
 #[derive(Clone, Debug, PartialEq, Eq)]
 pub struct Trouble {
     place: Position,
-    what: String,
+    pub what: String,
 }
 
 impl Trouble {

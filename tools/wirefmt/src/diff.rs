@@ -20,8 +20,8 @@ pub struct Colours {
     removed: &'static str,
     added: &'static str,
     end: &'static str,
-    /// A CR before an LF, which a terminal would not show.
-    cr: &'static str,
+    /// Whether control characters are shown as `^M` is, since a terminal would obey them.
+    carets: bool,
 }
 
 impl Colours {
@@ -31,7 +31,7 @@ impl Colours {
         removed: "",
         added: "",
         end: "",
-        cr: "\r",
+        carets: false,
     };
     pub const TERMINAL: Self = Self {
         names: "\x1b[1m",
@@ -39,7 +39,7 @@ impl Colours {
         removed: "\x1b[31m",
         added: "\x1b[32m",
         end: "\x1b[m",
-        cr: "^M",
+        carets: true,
     };
 }
 
@@ -108,9 +108,24 @@ fn line(shown: &mut String, tag: ChangeTag, value: &str, colours: &Colours) {
         Some(line) => (line, "\n"),
         None => (value, "\n\\ No newline at end of file\n"),
     };
-    let (line, cr) = match line.strip_suffix('\r') {
-        Some(line) if line.len() + 2 == value.len() => (line, colours.cr),
-        _ => (line, ""),
-    };
-    shown.extend([colour, sign, line, cr, end, ending]);
+    let careted = colours.carets.then(|| carets(line));
+    let line = careted.as_deref().unwrap_or(line);
+    shown.extend([colour, sign, line, end, ending]);
+}
+
+/// The text with its control characters, but for tabs, written out.
+fn carets(line: &str) -> String {
+    let mut shown = String::new();
+    for character in line.chars() {
+        match u8::try_from(character) {
+            Ok(byte) if byte != b'\t' && byte.is_ascii_control() => {
+                shown.extend(['^', char::from(byte ^ 0x40)]);
+            }
+            _ if character != '\t' && character.is_control() => {
+                shown.extend(character.escape_unicode());
+            }
+            _ => shown.push(character),
+        }
+    }
+    shown
 }

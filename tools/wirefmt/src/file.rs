@@ -9,6 +9,7 @@ use std::sync::atomic::{AtomicUsize, Ordering};
 
 use wirescript_format::MAX_SOURCE;
 
+use crate::attributes;
 use crate::report::Trouble;
 
 /// What a source is read from: of one that is too long, no more than it takes to refuse it.
@@ -45,17 +46,17 @@ fn open(how: &mut OpenOptions, path: &Path) -> io::Result<File> {
 
 /// Replaces a file by a text if its bytes are still those that were read; on an error it is as it was.
 pub fn replace(path: &Path, read: &[u8], text: &[u8]) -> Result<(), Trouble> {
-    let failed = |error| Trouble::io("it can't be replaced and is as it was", &error);
-    let old = fs::symlink_metadata(path).map_err(failed)?;
-    if old.nlink() > 1 {
+    let failed = |error| Trouble::io("it was not replaced", &error);
+    // for writing, so that a read-only file is not replaced
+    let old = open(OpenOptions::new().read(true).write(true), path).map_err(failed)?;
+    if old.metadata().map_err(failed)?.nlink() > 1 {
         return Err(Trouble::whole(
             "it has another name (a hard link), which replacing would part from it; it was left alone",
         ));
     }
     let temporary = Temporary::beside(path).map_err(failed)?;
     temporary.fill(text, &old).map_err(failed)?;
-    // for writing too, so that a read-only file is not replaced
-    let now = open(OpenOptions::new().read(true).write(true), path).map_err(failed)?;
+    let now = open(OpenOptions::new().read(true), path).map_err(failed)?;
     let now = read_source(now).map_err(failed)?;
     if now == text {
         // another run was faster
@@ -90,15 +91,16 @@ impl Temporary {
         }
     }
 
-    /// Writes the bytes, gives the file the owner and the permissions of another, and syncs it.
-    fn fill(&self, bytes: &[u8], old: &fs::Metadata) -> io::Result<()> {
+    /// Writes the bytes, gives the file the owner, attributes and permissions of another, and syncs it.
+    fn fill(&self, bytes: &[u8], old: &File) -> io::Result<()> {
         (&self.file).write_all(bytes)?;
-        let new = self.file.metadata()?;
-        if (new.uid(), new.gid()) != (old.uid(), old.gid()) {
-            fchown(&self.file, Some(old.uid()), Some(old.gid()))?;
+        let (new, kept) = (self.file.metadata()?, old.metadata()?);
+        if (new.uid(), new.gid()) != (kept.uid(), kept.gid()) {
+            fchown(&self.file, Some(kept.uid()), Some(kept.gid()))?;
         }
-        // after the owner, whose change drops bits
-        let mode = Permissions::from_mode(old.mode() & 0o7777);
+        attributes::copy(old, &self.file)?;
+        // last, since a change of the owner drops bits
+        let mode = Permissions::from_mode(kept.mode() & 0o7777);
         self.file.set_permissions(mode)?;
         self.file.sync_all()
     }

@@ -1,6 +1,7 @@
 //! `wirefmt`: formats Wirescript files, folders and standard input; `wirefmt lsp` is a language server.
 
 mod arguments;
+mod attributes;
 mod diff;
 mod file;
 mod lsp;

@@ -10,6 +10,7 @@ use crate::arguments::Job;
 use crate::diff::{Colours, unified};
 use crate::progress::Progress;
 use crate::report::{Report, Status, Trouble};
+use crate::text::Text;
 use crate::walk::Found;
 use crate::{file, name, settings, text, walk};
 
@@ -28,17 +29,23 @@ impl Source<'_> {
         Trouble::refused(refusal, &self.bytes)
     }
 
-    fn text(&self, stable: bool) -> Result<String, Trouble> {
-        let text = text::text(&self.bytes, &self.options, stable);
-        text.map_err(|refusal| self.refused(refusal))
+    /// The text that the job asks for; whether it settled is told.
+    fn text(&self, job: &Job, report: &mut Report) -> Result<String, Trouble> {
+        let text = text::text(&self.bytes, &self.options, job.stable);
+        let Text { text, unsettled } = text.map_err(|refusal| self.refused(refusal))?;
+        if unsettled {
+            let note = Trouble::whole("it still changed at the fifth pass");
+            report.tell(&name::shown(self.path), &note, Status::Fine);
+        }
+        Ok(text)
     }
 
-    fn would_change(&self, stable: bool) -> Result<bool, Trouble> {
+    fn would_change(&self, job: &Job, report: &mut Report) -> Result<bool, Trouble> {
         let unchanged = text::unchanged(&self.bytes, &self.options);
         if unchanged.map_err(|refusal| self.refused(refusal))? {
             return Ok(false);
         }
-        Ok(!stable || self.text(stable)?.as_bytes() != self.bytes)
+        Ok(!job.stable || self.text(job, report)?.as_bytes() != self.bytes)
     }
 }
 
@@ -92,7 +99,7 @@ fn stdin_report(
     if !job.writes() {
         return look(job, &source, report);
     }
-    report.output = source.text(job.stable)?.into_bytes();
+    report.output = source.text(job, report)?.into_bytes();
     Ok(())
 }
 
@@ -119,7 +126,7 @@ fn treat(job: &Job, path: &Path, report: &mut Report) -> Result<(), Trouble> {
     if !job.writes() {
         return look(job, &source, report);
     }
-    let text = source.text(job.stable)?;
+    let text = source.text(job, report)?;
     if text.as_bytes() == source.bytes {
         return Ok(());
     }
@@ -132,9 +139,10 @@ fn look(job: &Job, source: &Source, report: &mut Report) -> Result<(), Trouble> 
         brackets(source, report)?;
     }
     let changes = if job.diff {
-        diff(source, &source.text(job.stable)?, report)
+        let text = source.text(job, report)?;
+        diff(source, &text, report)
     } else if job.check || job.list {
-        source.would_change(job.stable)?
+        source.would_change(job, report)?
     } else {
         false
     };

@@ -2,19 +2,13 @@
 //! each, a file is as it was or is formatted.
 
 use std::fs::{self, Permissions};
-use std::io::{self, Write};
 use std::os::unix::fs::{MetadataExt, PermissionsExt, chown};
 use std::os::unix::process::ExitStatusExt;
 use std::path::PathBuf;
 use std::process::{Child, Command, Stdio};
 use std::sync::OnceLock;
 
-use crate::folder::{Folder, Ran, SOURCE, TEXT, WIREFMT};
-
-/// Says that a test could not be made here; the test runner shows it.
-fn not_run(what: &str) {
-    let _ = writeln!(io::stderr(), "not run: {what}");
-}
+use crate::folder::{Folder, Ran, SOURCE, TEXT, WIREFMT, not_run};
 
 fn is_root() -> bool {
     fs::metadata("/proc/self").unwrap().uid() == 0
@@ -48,7 +42,7 @@ fn run_with_fault(fault: &str) -> (Folder, Ran) {
     (folder, ran.into())
 }
 
-const AS_IT_WAS: &str = "a.ws:1:1: it can't be replaced and is as it was";
+const NOT_REPLACED: &str = "a.ws:1:1: it was not replaced";
 
 #[test]
 fn killed_between_writing_and_renaming() {
@@ -70,7 +64,7 @@ fn killed_between_writing_and_renaming() {
 #[test]
 fn a_sync_that_fails() {
     let (folder, ran) = run_with_fault("fail at fsync");
-    ran.refused(&format!("{AS_IT_WAS}: Input/output error (os error 5)"));
+    ran.refused(&format!("{NOT_REPLACED}: Input/output error (os error 5)"));
     assert_eq!(
         (folder.read("a.ws").as_str(), folder.names()),
         (SOURCE, vec!["a.ws".to_owned()])
@@ -80,7 +74,7 @@ fn a_sync_that_fails() {
 #[test]
 fn a_rename_that_fails() {
     let (folder, ran) = run_with_fault("fail at rename");
-    ran.refused(&format!("{AS_IT_WAS}: Input/output error (os error 5)"));
+    ran.refused(&format!("{NOT_REPLACED}: Input/output error (os error 5)"));
     assert_eq!(
         (folder.read("a.ws").as_str(), folder.names()),
         (SOURCE, vec!["a.ws".to_owned()])
@@ -99,7 +93,7 @@ fn a_file_that_is_changed_meanwhile() {
 fn a_file_that_vanishes_meanwhile() {
     let (folder, ran) = run_with_fault("remove at fsync");
     ran.refused(&format!(
-        "{AS_IT_WAS}: No such file or directory (os error 2)"
+        "{NOT_REPLACED}: No such file or directory (os error 2)"
     ));
     assert!(folder.names().is_empty(), "{:?}", folder.names());
 }
@@ -108,7 +102,7 @@ fn a_file_that_vanishes_meanwhile() {
 fn a_file_that_becomes_a_link_meanwhile() {
     let (folder, ran) = run_with_fault("link at fsync");
     let told = "Too many levels of symbolic links (os error 40)";
-    ran.refused(&format!("{AS_IT_WAS}: {told}"));
+    ran.refused(&format!("{NOT_REPLACED}: {told}"));
     let link = fs::read_link(folder.path().join("a.ws")).unwrap();
     assert_eq!(link.to_str(), Some("elsewhere"));
     assert_eq!(folder.names(), ["a.ws"]);
@@ -142,7 +136,7 @@ fn a_full_disk() {
     folder.write(".editorconfig", "root = true\n");
     let source = SOURCE.repeat(5000);
     folder.write("a.ws", &source);
-    let told = format!("{AS_IT_WAS}: No space left on device (os error 28)");
+    let told = format!("{NOT_REPLACED}: No space left on device (os error 28)");
     folder.run(&["a.ws"]).refused(&told);
     assert!(folder.read("a.ws") == source);
     assert_eq!(folder.names(), ["a.ws"]);
@@ -185,7 +179,7 @@ fn a_read_only_folder() {
     let Some(ran) = ran else {
         return not_run("a read-only folder (setpriv can't take root's privileges)");
     };
-    ran.refused(&format!("{AS_IT_WAS}: {DENIED}"));
+    ran.refused(&format!("{NOT_REPLACED}: {DENIED}"));
     assert_eq!(
         (folder.read("a.ws").as_str(), folder.names()),
         (SOURCE, vec!["a.ws".to_owned()])
@@ -210,7 +204,7 @@ fn files_without_permission() {
         return not_run("files without permission (setpriv can't take root's privileges)");
     };
     let unread = format!("it can't be read: {DENIED}");
-    let told = format!("./{AS_IT_WAS}: {DENIED}\n./b.ws:1:1: {unread}\n./c:1:1: {unread}\n");
+    let told = format!("./{NOT_REPLACED}: {DENIED}\n./b.ws:1:1: {unread}\n./c:1:1: {unread}\n");
     assert_eq!((ran.status, ran.messages), (Some(2), told));
     for name in ["a.ws", "b.ws", "c/d.ws"] {
         assert_eq!(folder.read(name), SOURCE, "{name}");
@@ -238,7 +232,7 @@ fn the_owner_is_kept() {
     match without(&folder, "-chown", &["a.ws"]) {
         Some(ran) => {
             ran.refused(&format!(
-                "{AS_IT_WAS}: Operation not permitted (os error 1)"
+                "{NOT_REPLACED}: Operation not permitted (os error 1)"
             ));
             assert_eq!(
                 (folder.read("a.ws").as_str(), owner()),

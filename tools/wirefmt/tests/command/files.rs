@@ -1,12 +1,12 @@
 //! Files and folders in place.
 
-use std::ffi::OsStr;
+use std::ffi::{CStr, CString, OsStr};
 use std::fs::{self, Permissions};
 use std::os::unix::ffi::OsStrExt;
 use std::os::unix::fs::{MetadataExt, PermissionsExt, symlink};
 use std::process::Command;
 
-use crate::folder::{Folder, SOURCE, TEXT};
+use crate::folder::{Folder, SOURCE, TEXT, not_run};
 
 #[test]
 fn named_files_are_formatted() {
@@ -108,6 +108,47 @@ fn permissions_are_kept() {
         assert_eq!(fs::metadata(&path).unwrap().mode() & 0o7777, mode);
     }
     assert_eq!(folder.names(), ["a.ws"]);
+}
+
+/// The value of an extended attribute of `a.ws`.
+fn attribute(folder: &Folder, name: &CStr) -> Vec<u8> {
+    let path = CString::new(folder.path().join("a.ws").as_os_str().as_bytes()).unwrap();
+    let mut value = vec![0_u8; 99];
+    let buffer = value.as_mut_ptr().cast();
+    // SAFETY: both names end in NUL, and the buffer has this length.
+    let length = unsafe { libc::getxattr(path.as_ptr(), name.as_ptr(), buffer, 99) };
+    value.truncate(usize::try_from(length).unwrap());
+    value
+}
+
+/// Gives `a.ws` an extended attribute; `false` where the file system has none.
+fn set_attribute(folder: &Folder, name: &CStr, value: &[u8]) -> bool {
+    let path = CString::new(folder.path().join("a.ws").as_os_str().as_bytes()).unwrap();
+    let (bytes, length) = (value.as_ptr().cast(), value.len());
+    // SAFETY: both names end in NUL, and pointer and length are those of a slice.
+    unsafe { libc::setxattr(path.as_ptr(), name.as_ptr(), bytes, length, 0) == 0 }
+}
+
+/// An access control list: the owner reads and writes, user 12345 too, the group and all others read.
+const LIST: &[u8] = b"\x02\0\0\0\x01\0\x06\0\xff\xff\xff\xff\x02\0\x06\0\x39\x30\0\0\
+    \x04\0\x04\0\xff\xff\xff\xff\x10\0\x06\0\xff\xff\xff\xff\x20\0\x04\0\xff\xff\xff\xff";
+
+#[test]
+fn extended_attributes_are_kept() {
+    let folder = Folder::new();
+    for (name, value) in [
+        (c"user.note", &b"a\0b"[..]),
+        (c"system.posix_acl_access", LIST),
+    ] {
+        folder.write("a.ws", SOURCE);
+        if !set_attribute(&folder, name, value) {
+            not_run("extended attributes are kept (the file system has none)");
+            continue;
+        }
+        folder.run(&["a.ws"]).quiet(0);
+        assert_eq!(folder.read("a.ws"), TEXT);
+        assert_eq!(attribute(&folder, name), value, "{name:?}");
+    }
 }
 
 /// A file that is formatted is not written again.

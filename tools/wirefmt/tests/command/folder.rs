@@ -2,7 +2,7 @@
 
 use std::ffi::OsStr;
 use std::fs;
-use std::io::Write;
+use std::io::{self, Write};
 use std::path::{Path, PathBuf};
 use std::process::{Command, Output, Stdio};
 use std::sync::atomic::{AtomicUsize, Ordering};
@@ -12,6 +12,11 @@ pub const WIREFMT: &str = env!("CARGO_BIN_EXE_wirefmt");
 /// A source and its text.
 pub const SOURCE: &str = "f(a ,b)\n";
 pub const TEXT: &str = "f(a, b)\n";
+
+/// Says that a test could not be made here; the test runner shows it.
+pub fn not_run(what: &str) {
+    let _ = writeln!(io::stderr(), "not run: {what}");
+}
 
 /// A new folder, in which no .editorconfig file from above counts; removed at the end.
 pub struct Folder(PathBuf);

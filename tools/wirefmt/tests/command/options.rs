@@ -78,6 +78,22 @@ fn stable() {
     assert_eq!(folder.read("a.ws"), "aaaa\n-5\n");
 }
 
+/// The fifth pass changes it once more; that is told, and the text is the fifth's.
+#[test]
+fn a_text_that_is_late_to_settle() {
+    let folder = Folder::new();
+    let mut text = "import {bb-5 /a,) }".to_owned();
+    let stable = folder.feed(&["--width=0", "--stable"], &text);
+    for _ in 0..5 {
+        let next = folder.feed(&["--width=0"], &text).output;
+        assert_ne!(next, text);
+        text = next;
+    }
+    assert_eq!(stable.output, text);
+    let told = "<stdin>:1:1: it still changed at the fifth pass\n";
+    assert_eq!((stable.status, stable.messages.as_str()), (Some(0), told));
+}
+
 /// A section for `wide` alone.
 fn configured() -> Folder {
     let folder = Folder::new();

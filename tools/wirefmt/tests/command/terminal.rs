@@ -40,6 +40,16 @@ fn a_diff_has_colours() {
     assert_eq!(shown, format!("{names}{hunk}{lines}"));
 }
 
+/// A source can't send the terminal commands of its own.
+#[test]
+fn control_characters_are_shown() {
+    let folder = Folder::new();
+    folder.write("a.ws", "f(a ,\"\x1b[2J\t\u{9b}\x7fé\")\n");
+    let shown = on_terminal(&mut folder.command(&NONE), "--diff a.ws");
+    let line = "\x1b[32m+f(a, \"^[[2J\t\\u{9b}^?é\")\x1b[m\n";
+    assert!(shown.ends_with(line), "{shown:?}");
+}
+
 #[test]
 fn colours_can_be_refused() {
     let folder = Folder::new();

@@ -28,7 +28,11 @@ pub enum Command {
         expression: String,
     },
     /// A language server on standard input and output
-    Lsp,
+    Lsp {
+        /// Changes nothing: some editors say so where they start a server
+        #[arg(long, hide = true)]
+        stdio: bool,
+    },
 }
 
 /// What to format, and what to do with the text.

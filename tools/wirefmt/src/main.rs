@@ -24,7 +24,7 @@ use report::{Report, Status, Trouble};
 fn main() -> ExitCode {
     let arguments = Arguments::parse();
     let status = match arguments.command {
-        Some(Command::Lsp) => return lsp::run(io::stdin().lock(), io::stdout().lock()),
+        Some(Command::Lsp { .. }) => return lsp::run(io::stdin().lock(), io::stdout().lock()),
         Some(Command::Group { expression }) => group(&expression),
         None => format(&arguments.job),
     };

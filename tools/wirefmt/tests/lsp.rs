@@ -14,8 +14,12 @@ struct Client {
 
 impl Client {
     fn new() -> Self {
+        Self::started(&["lsp"])
+    }
+
+    fn started(arguments: &[&str]) -> Self {
         let mut child = Command::new(env!("CARGO_BIN_EXE_wirefmt"))
-            .arg("lsp")
+            .args(arguments)
             .stdin(Stdio::piped())
             .stdout(Stdio::piped())
             .stderr(Stdio::null())
@@ -301,6 +305,17 @@ fn the_order_of_a_session() {
     client.send(r#"{"jsonrpc":"2.0","method":"exit"}"#);
     // nothing is read behind exit
     assert_eq!(client.end(), (Some(0), String::new()));
+}
+
+/// Some editors say how they talk to a server.
+#[test]
+fn standard_streams_may_be_named() {
+    let mut client = Client::started(&["lsp", "--stdio"]);
+    client.ask(
+        r#"{"jsonrpc":"2.0","id":1,"method":"initialize","params":{}}"#,
+        INITIALIZED,
+    );
+    client.shut_down();
 }
 
 #[test]

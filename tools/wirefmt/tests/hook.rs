@@ -1,34 +1,32 @@
 //! Plays tools/hooks/pre-commit in real repositories.
 
+#[path = "command/folder.rs"]
+#[expect(dead_code, reason = "the tests of the command use the rest")]
+mod folder;
+
 use std::fs;
 use std::os::unix::fs::{PermissionsExt, symlink};
-use std::path::{Path, PathBuf};
+use std::path::Path;
 use std::process::{Command, Output};
-use std::sync::atomic::{AtomicU32, Ordering};
 
-const FORMATTED: &str = "f(a, b)\n";
-const OTHERWISE: &str = "f(a ,b)\n";
+use folder::{Folder, SOURCE, TEXT, WIREFMT};
 
-/// A repository of its own with the hook, removed with this.
-struct Repository(PathBuf);
+/// A repository of its own with the hook.
+struct Repository(Folder);
 
 impl Repository {
     fn new() -> Self {
-        static NEXT: AtomicU32 = AtomicU32::new(0);
-        let number = NEXT.fetch_add(1, Ordering::Relaxed);
-        let name = format!("wirefmt hook {}-{number}", std::process::id());
-        let repository = Self(std::env::temp_dir().join(name));
-        fs::create_dir_all(&repository.0).expect("a folder");
+        let repository = Self(Folder::new());
         repository.done(&["init", "--quiet"]);
         let hook = Path::new(env!("CARGO_MANIFEST_DIR")).join("../hooks/pre-commit");
-        let installed = repository.0.join(".git/hooks/pre-commit");
+        let installed = repository.0.path().join(".git/hooks/pre-commit");
         fs::copy(hook, &installed).expect("the hook");
         fs::set_permissions(installed, fs::Permissions::from_mode(0o755)).expect("its mode");
         repository
     }
 
     fn git(&self, arguments: &[&str]) -> Output {
-        self.git_with(arguments, env!("CARGO_BIN_EXE_wirefmt"))
+        self.git_with(arguments, WIREFMT)
     }
 
     /// Without the settings of the user and of the machine.
@@ -36,10 +34,10 @@ impl Repository {
         Command::new("git")
             .args(["-c", "user.name=a", "-c", "user.email=a@b"])
             .args(arguments)
-            .current_dir(&self.0)
+            .current_dir(self.0.path())
             .env_clear()
             .env("PATH", std::env::var_os("PATH").unwrap_or_default())
-            .env("HOME", &self.0)
+            .env("HOME", self.0.path())
             .env("GIT_CONFIG_NOSYSTEM", "1")
             .env("WIREFMT", wirefmt)
             .output()
@@ -52,9 +50,7 @@ impl Repository {
     }
 
     fn write(&self, name: &str, text: impl AsRef<[u8]>) {
-        let path = self.0.join(name);
-        fs::create_dir_all(path.parent().expect("a folder")).expect("a folder");
-        fs::write(path, text).expect("a file");
+        self.0.write(name, text);
     }
 
     /// Writes a file and stages it.
@@ -78,54 +74,42 @@ impl Repository {
     }
 }
 
-impl Drop for Repository {
-    fn drop(&mut self) {
-        let _ = fs::remove_dir_all(&self.0);
-    }
-}
-
 #[test]
 fn the_first_commit_and_the_next() {
     let repository = Repository::new();
-    repository.stage("a.ws", OTHERWISE);
-    repository.stage("b.txt", OTHERWISE);
+    repository.stage("a.ws", SOURCE);
+    repository.stage("b.txt", SOURCE);
     let told = repository.stopped(&[]);
     assert!(told.contains("a.ws") && !told.contains("b.txt"), "{told}");
-    repository.stage("a.ws", FORMATTED);
+    repository.stage("a.ws", TEXT);
     repository.commit();
-    repository.stage("folder/c.ws", OTHERWISE);
+    repository.stage("folder/c.ws", SOURCE);
     let told = repository.stopped(&[]);
     assert!(
         told.contains("folder/c.ws") && !told.contains("a.ws"),
         "{told}"
     );
-    repository.stage("folder/c.ws", FORMATTED);
+    repository.stage("folder/c.ws", TEXT);
     repository.commit();
 }
 
 /// The work tree says one thing and the index another.
 #[test]
 fn the_staged_content_counts() {
-    let check = |repository: &Repository| {
-        let status = Command::new(env!("CARGO_BIN_EXE_wirefmt"))
-            .args(["--check", "a.ws"])
-            .current_dir(&repository.0)
-            .output();
-        status.expect("wirefmt starts").status.code()
-    };
+    let check = |repository: &Repository| repository.0.run(&["--check", "a.ws"]).status;
     let repository = Repository::new();
-    repository.stage("a.ws", OTHERWISE);
-    repository.write("a.ws", FORMATTED);
+    repository.stage("a.ws", SOURCE);
+    repository.write("a.ws", TEXT);
     assert_eq!(check(&repository), Some(0));
     repository.stopped(&[]);
-    repository.stage("a.ws", FORMATTED);
-    repository.write("a.ws", OTHERWISE);
+    repository.stage("a.ws", TEXT);
+    repository.write("a.ws", SOURCE);
     assert_eq!(check(&repository), Some(1));
     repository.commit();
     // with -a, and with a path, git commits from another index
     repository.stopped(&["-a"]);
     repository.stopped(&["a.ws"]);
-    repository.stage("b.ws", OTHERWISE);
+    repository.stage("b.ws", SOURCE);
     repository.write("a.ws", "f(a, b, c)\n");
     repository.done(&["commit", "--quiet", "--message=m", "a.ws"]);
 }
@@ -161,20 +145,20 @@ fn names_of_every_kind() {
 #[test]
 fn what_is_gone_moved_or_no_file() {
     let repository = Repository::new();
-    repository.write("a.ws", OTHERWISE);
+    repository.write("a.ws", SOURCE);
     repository.done(&["add", "a.ws"]);
     repository.done(&["commit", "--quiet", "--message=m", "--no-verify"]);
     // what was there before isn't looked at, nor what goes
-    repository.stage("b.ws", FORMATTED);
+    repository.stage("b.ws", TEXT);
     repository.commit();
     repository.done(&["rm", "--quiet", "b.ws"]);
     repository.commit();
     // a file under another name is a new one
     repository.done(&["mv", "a.ws", "c.ws"]);
     assert!(repository.stopped(&[]).contains("c.ws"));
-    repository.stage("c.ws", FORMATTED);
+    repository.stage("c.ws", TEXT);
     repository.commit();
-    symlink("no  where", repository.0.join("link.ws")).expect("a link");
+    symlink("no  where", repository.0.path().join("link.ws")).expect("a link");
     repository.done(&["add", "link.ws"]);
     repository.commit();
 }
@@ -203,7 +187,7 @@ fn line_endings_of_the_work_tree() {
     repository.stage("a.ws", "f(a, b)\r\n");
     assert_eq!(
         repository.git(&["cat-file", "blob", ":a.ws"]).stdout,
-        FORMATTED.as_bytes()
+        TEXT.as_bytes()
     );
     repository.commit();
     repository.stage("a.ws", "f(a ,b)\r\n");
@@ -215,7 +199,7 @@ fn a_refusal_and_a_missing_program() {
     let repository = Repository::new();
     repository.stage("a.ws", b"ab\n\xff\n");
     assert!(repository.stopped(&[]).contains("a.ws:2:1: "));
-    repository.stage("a.ws", FORMATTED);
+    repository.stage("a.ws", TEXT);
     let output = repository.git_with(&["commit", "--quiet", "--message=m"], "no-wirefmt");
     assert_eq!(output.status.code(), Some(1));
     let told = String::from_utf8(output.stderr).expect("UTF-8");

@@ -20,7 +20,7 @@ use server::Server;
 pub fn run(mut input: impl BufRead, mut output: impl Write) -> ExitCode {
     let mut server = Server::default();
     if let Err(error) = serve(&mut server, &mut input, &mut output) {
-        eprintln!("wirefmt lsp: {error}");
+        tell(&error.to_string());
         return ExitCode::FAILURE;
     }
     if server.was_shut_down() {
@@ -28,6 +28,11 @@ pub fn run(mut input: impl BufRead, mut output: impl Write) -> ExitCode {
     } else {
         ExitCode::FAILURE
     }
+}
+
+/// A message for the editor's log. One that nobody takes is no reason to stop.
+fn tell(what: &str) {
+    let _ = writeln!(io::stderr(), "wirefmt lsp: {what}");
 }
 
 fn serve(server: &mut Server, input: &mut impl BufRead, output: &mut impl Write) -> io::Result<()> {

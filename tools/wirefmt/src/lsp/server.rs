@@ -13,7 +13,7 @@ use super::rpc::{
     REQUEST_FAILED, notification, response,
 };
 use super::settings::configured;
-use super::tokens;
+use super::{tell, tokens};
 
 #[derive(Clone, Copy, Debug, Default, PartialEq, Eq)]
 enum State {
@@ -84,7 +84,7 @@ impl Server {
             }
             Message::Notification { method, params } => {
                 if self.notice(method, params).is_none() {
-                    eprintln!("wirefmt lsp: {method} with parameters that it doesn't have");
+                    tell(&format!("{method} with parameters that it doesn't have"));
                 }
                 None
             }

@@ -77,10 +77,12 @@ fn a_missing_file() {
 #[test]
 fn bad_options() {
     let folder = folder();
-    let bad: [&[&str]; 14] = [
+    let bad: [&[&str]; 16] = [
         &["--indent", "65", "raw.ws"],
         &["--tabs", "--indent", "65", "raw.ws"],
         &["--indent", "x", "raw.ws"],
+        &["--indent", "", "raw.ws"],
+        &["--indent", &" ".repeat(65), "raw.ws"],
         &["--width", "-1", "raw.ws"],
         &["--width", "9", "--no-width", "raw.ws"],
         &["--end-of-line", "cr", "raw.ws"],

@@ -1,6 +1,7 @@
 //! The command line.
 
 use std::path::{Path, PathBuf};
+use std::str::FromStr;
 
 use clap::{Args, Parser, Subcommand, ValueEnum};
 use wirescript_format::{FinalNewline, LineEnding, Options, Refusal};
@@ -105,9 +106,9 @@ impl Job {
 /// The options that the command line sets.
 #[derive(Args)]
 pub struct Chosen {
-    /// Indent by this many spaces, at most 64 [default: 2]
+    /// Indent by this many spaces, at most 64, or by these spaces and tabs themselves [default: 2]
     #[arg(long, value_name = "SPACES", help_heading = "Options of the text")]
-    indent: Option<u64>,
+    indent: Option<Indent>,
     /// Indent by tabs, whatever --indent says
     #[arg(long, help_heading = "Options of the text")]
     tabs: bool,
@@ -135,8 +136,11 @@ pub struct Chosen {
 impl Chosen {
     /// The options with those that the command line sets.
     pub fn over(&self, mut options: Options) -> Result<Options, Refusal> {
-        if self.tabs || self.indent.is_some() {
-            options = options.indent_with(self.tabs, self.indent.unwrap_or(0))?;
+        match &self.indent {
+            Some(Indent::Spaces(spaces)) => options = options.indent_with(self.tabs, *spaces)?,
+            Some(Indent::Themselves(indent)) if !self.tabs => options = options.indent(indent),
+            _ if self.tabs => options = options.indent_with(true, 0)?,
+            _ => {}
         }
         if self.no_width || self.width.is_some() {
             options = options.width(self.width);
@@ -154,6 +158,24 @@ impl Chosen {
             options = options.strengths(table.as_slice());
         }
         Ok(options)
+    }
+}
+
+#[derive(Clone)]
+enum Indent {
+    Spaces(u64),
+    Themselves(String),
+}
+
+impl FromStr for Indent {
+    type Err = &'static str;
+
+    fn from_str(value: &str) -> Result<Self, Self::Err> {
+        if !value.is_empty() && value.bytes().all(|byte| matches!(byte, b' ' | b'\t')) {
+            return Ok(Self::Themselves(value.to_owned()));
+        }
+        let spaces = value.parse().map(Self::Spaces);
+        spaces.map_err(|_| "it is neither a number nor spaces and tabs")
     }
 }
 
@@ -178,7 +200,9 @@ impl From<Ending> for LineEnding {
 
 #[derive(Clone, Copy, ValueEnum)]
 enum Final {
+    #[value(alias = "true")]
     Always,
+    #[value(alias = "false")]
     Never,
     /// If the source does
     #[value(aliases = ["source", "keep"])]
@@ -199,11 +223,12 @@ impl From<Final> for FinalNewline {
 #[derive(Clone)]
 struct Strengths(Vec<u8>);
 
-impl std::str::FromStr for Strengths {
+impl FromStr for Strengths {
     type Err = &'static str;
 
     fn from_str(digits: &str) -> Result<Self, Self::Err> {
-        let digits: Option<Vec<u32>> = digits.chars().map(|digit| digit.to_digit(16)).collect();
+        let digits = digits.chars().filter(|digit| *digit != ' ');
+        let digits: Option<Vec<u32>> = digits.map(|digit| digit.to_digit(16)).collect();
         let digits = digits.ok_or("hexadecimal digits are 0 to 9 and a to f")?;
         if digits.len() != 22 {
             return Err("there are not 22 digits");

@@ -17,6 +17,8 @@ fn indent_and_tabs() {
     assert_eq!(text(&["--indent", "0"], source), "f(\na\n)\n");
     assert_eq!(text(&["--tabs"], source), "f(\n\ta\n)\n");
     assert_eq!(text(&["--tabs", "--indent=3"], source), "f(\n\ta\n)\n");
+    assert_eq!(text(&["--indent", " \t"], source), "f(\n \ta\n)\n");
+    assert_eq!(text(&["--tabs", "--indent= "], source), "f(\n\ta\n)\n");
 }
 
 #[test]
@@ -64,6 +66,9 @@ fn ruler_tab() {
 fn strengths() {
     let arguments = ["--width=6", "--strengths", "112345667777889DdbBbc0"];
     assert_eq!(text(&arguments, "a + b*c"), "a + b\n  *c\n");
+    let spaced = "11 23 45 66 77 77 88 9d db bb c0";
+    let spaced = ["--width=6", "--strengths", spaced];
+    assert_eq!(text(&spaced, "a + b*c"), "a + b\n  *c\n");
 }
 
 /// A sign at a line's start goes on with nothing, so the second pass takes its indent away.

@@ -25,6 +25,42 @@ fn check_tells_what_would_change() {
     }
 }
 
+/// Whatever the options, status 1 means another text: blank lines at the end, an `else` that joins, each ending.
+#[test]
+fn check_agrees_with_the_text() {
+    let folder = Folder::new();
+    let sources = [
+        "",
+        "\n",
+        "a",
+        "a\n",
+        "a\n\n",
+        "a\r\n",
+        "a\r\nb\n",
+        "{\n}\nelse {\n}\n",
+        "{\n} else {\n}\n",
+        "\na\n",
+    ];
+    let (mut same, mut others) = (0, 0);
+    for ending in ["keep", "lf", "crlf"] {
+        for newline in ["always", "never", "as-source"] {
+            let options = ["--end-of-line", ending, "--final-newline", newline];
+            let check = [&["--check"][..], &options].concat();
+            for source in sources {
+                let changes = folder.feed(&options, source).output != source;
+                let ran = folder.feed(&check, source);
+                assert_eq!(
+                    ran.status,
+                    Some(i32::from(changes)),
+                    "{source:?} {options:?}"
+                );
+                *(if changes { &mut others } else { &mut same }) += 1;
+            }
+        }
+    }
+    assert!(same > 9 && others > 9, "{same} {others}");
+}
+
 /// A fixed point of one pass is one of any number; else the passes meant are told.
 #[test]
 fn check_of_stable_texts() {
@@ -77,10 +113,12 @@ fn a_missing_file() {
 #[test]
 fn bad_options() {
     let folder = folder();
-    let bad: [&[&str]; 14] = [
+    let bad: [&[&str]; 16] = [
         &["--indent", "65", "raw.ws"],
         &["--tabs", "--indent", "65", "raw.ws"],
         &["--indent", "x", "raw.ws"],
+        &["--indent", "", "raw.ws"],
+        &["--indent", &" ".repeat(65), "raw.ws"],
         &["--width", "-1", "raw.ws"],
         &["--width", "9", "--no-width", "raw.ws"],
         &["--end-of-line", "cr", "raw.ws"],

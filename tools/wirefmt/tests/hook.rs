@@ -158,6 +158,9 @@ fn what_is_gone_moved_or_no_file() {
     assert!(repository.stopped(&[]).contains("c.ws"));
     repository.stage("c.ws", TEXT);
     repository.commit();
+    // one that is only announced isn't part of the commit
+    repository.write("d.ws", SOURCE);
+    repository.done(&["add", "--intent-to-add", "d.ws"]);
     symlink("no  where", repository.0.path().join("link.ws")).expect("a link");
     repository.done(&["add", "link.ws"]);
     repository.commit();

@@ -2,11 +2,11 @@
 //!
 //!     passes [SOURCES] [SEED]
 //!
-//! Takes so many sources, 100,000 by default, of each stage of `diff` that formats, with their options, and formats each
-//! by the library until nothing changes, at most six times. Refused calls are left out, as are the two stages around the
-//! limits of length. Then the sources of the grammar with the default options. The cause is told from the first line
-//! that a pass changes. Of each cause an example is shown: of the first sources found, each made as small as it gets,
-//! the shortest. Status 1 where a change has none of the causes, or the last pass still changes something.
+//! Takes so many sources, 100,000 by default, of each stage of `diff` that formats, with their options, and formats
+//! each by the library until nothing changes, at most six times. Refused calls are left out, as are the two stages
+//! around the limits of length. Then the sources of the grammar with the default options. The cause is told from the
+//! first line that a pass changes. Of each cause an example is shown: of the first sources found, each made as small as
+//! it gets, the shortest. Status 1 where a change has none of the causes, or the last pass still changes something.
 
 use runs::call::Call;
 use runs::compare::Check;

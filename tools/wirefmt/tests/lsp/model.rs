@@ -1,5 +1,5 @@
-//! Random documents and changes: a client that keeps its text in UTF-16, by code of its own, and carries out the edits that
-//! it gets must come to the formatter's text.
+//! Random documents and changes: a client that keeps its text in UTF-16, by code of its own, and carries out the edits
+//! that it gets must come to the formatter's text.
 
 use wirescript_format::{Options, format};
 

@@ -107,7 +107,7 @@ impl Small {
         let mut mount = Command::new("mount");
         mount.args(["-t", "tmpfs", "-o", "size=64k", "none"]);
         let mounted = mount.arg(folder.path()).stderr(Stdio::null()).status();
-        mounted.unwrap().success().then_some(Self(folder))
+        mounted.unwrap().success().then(|| Self(folder))
     }
 }
 

@@ -61,9 +61,8 @@ pub fn files(job: &Job) -> io::Result<Status> {
     let mut status = Status::Fine;
     for chunk in found.chunks(TOGETHER) {
         let reports: Vec<Report> = chunk.par_iter().map(step).collect();
-        for report in &reports {
-            status = status.max(report.status);
-        }
+        let worst = reports.iter().map(|report| report.status).max();
+        status = status.max(worst.unwrap_or_default());
         progress.aside(|| reports.iter().try_for_each(publish))?;
     }
     progress.end();
@@ -89,48 +88,50 @@ fn stdin_report(
     report: &mut Report,
 ) -> Result<(), Trouble> {
     let bytes = file::read_source(io::stdin().lock());
-    let bytes = bytes.map_err(|error| Trouble::io("it can't be read", &error))?;
-    let options = settings::options(job, file)?;
     let source = Source {
         path,
-        bytes,
-        options,
+        bytes: bytes.map_err(|error| Trouble::io("it can't be read", &error))?,
+        options: settings::options(job, file)?,
     };
-    if !job.writes() {
-        return look(job, &source, report);
+    if let Some(text) = treat(job, &source, report)? {
+        report.output = text.into_bytes();
     }
-    report.output = source.text(job, report)?.into_bytes();
     Ok(())
 }
 
 fn file_report(job: &Job, found: &Found) -> Report {
     let mut report = Report::default();
-    let (path, treated) = match found {
-        Ok(path) => (path, treat(job, path, &mut report)),
+    let (path, done) = match found {
+        Ok(path) => (path, format_file(job, path, &mut report)),
         Err((path, trouble)) => (path, Err(trouble.clone())),
     };
-    if let Err(trouble) = treated {
+    if let Err(trouble) = done {
         report.tell(&name::shown(path), &trouble, Status::Trouble);
     }
     report
 }
 
-fn treat(job: &Job, path: &Path, report: &mut Report) -> Result<(), Trouble> {
-    let bytes = file::read(path)?;
-    let options = settings::options(job, Some(path))?;
+fn format_file(job: &Job, path: &Path, report: &mut Report) -> Result<(), Trouble> {
     let source = Source {
         path,
-        bytes,
-        options,
+        bytes: file::read(path)?,
+        options: settings::options(job, Some(path))?,
     };
-    if !job.writes() {
-        return look(job, &source, report);
+    match treat(job, &source, report)? {
+        Some(text) if text.as_bytes() != source.bytes => {
+            file::replace(path, &source.bytes, text.as_bytes())
+        }
+        _ => Ok(()),
     }
-    let text = source.text(job, report)?;
-    if text.as_bytes() == source.bytes {
-        return Ok(());
+}
+
+/// Gives the text where one is to be written, else reports.
+fn treat(job: &Job, source: &Source, report: &mut Report) -> Result<Option<String>, Trouble> {
+    if job.writes() {
+        return source.text(job, report).map(Some);
     }
-    file::replace(path, &source.bytes, text.as_bytes())
+    look(job, source, report)?;
+    Ok(None)
 }
 
 /// Reports on a source, which stays as it is.

@@ -62,23 +62,13 @@ fn killed_between_writing_and_renaming() {
 }
 
 #[test]
-fn a_sync_that_fails() {
-    let (folder, ran) = run_with_fault("fail at fsync");
-    ran.refused(&format!("{NOT_REPLACED}: Input/output error (os error 5)"));
-    assert_eq!(
-        (folder.read("a.ws").as_str(), folder.names()),
-        (SOURCE, vec!["a.ws".to_owned()])
-    );
-}
-
-#[test]
-fn a_rename_that_fails() {
-    let (folder, ran) = run_with_fault("fail at rename");
-    ran.refused(&format!("{NOT_REPLACED}: Input/output error (os error 5)"));
-    assert_eq!(
-        (folder.read("a.ws").as_str(), folder.names()),
-        (SOURCE, vec!["a.ws".to_owned()])
-    );
+fn a_sync_or_a_rename_that_fails() {
+    for fault in ["fail at fsync", "fail at rename"] {
+        let (folder, ran) = run_with_fault(fault);
+        ran.refused(&format!("{NOT_REPLACED}: Input/output error (os error 5)"));
+        folder.holds(&["a.ws"], SOURCE);
+        assert_eq!(folder.names(), ["a.ws"]);
+    }
 }
 
 #[test]
@@ -117,7 +107,7 @@ impl Small {
         let mut mount = Command::new("mount");
         mount.args(["-t", "tmpfs", "-o", "size=64k", "none"]);
         let mounted = mount.arg(folder.path()).stderr(Stdio::null()).status();
-        mounted.unwrap().success().then_some(Self(folder))
+        mounted.unwrap().success().then(|| Self(folder))
     }
 }
 
@@ -206,9 +196,7 @@ fn files_without_permission() {
     let unread = format!("it can't be read: {DENIED}");
     let told = format!("./{NOT_REPLACED}: {DENIED}\n./b.ws:1:1: {unread}\n./c:1:1: {unread}\n");
     assert_eq!((ran.status, ran.messages), (Some(2), told));
-    for name in ["a.ws", "b.ws", "c/d.ws"] {
-        assert_eq!(folder.read(name), SOURCE, "{name}");
-    }
+    folder.holds(&["a.ws", "b.ws", "c/d.ws"], SOURCE);
     assert_eq!(folder.read("e.ws"), TEXT);
     assert_eq!(folder.names(), ["a.ws", "b.ws", "c", "e.ws"]);
 }
@@ -269,7 +257,5 @@ fn four_at_once_in_one_folder() {
         Ran::from(child.wait_with_output().unwrap()).quiet(0);
     }
     assert_eq!(folder.names(), names);
-    for name in &names {
-        assert_eq!(folder.read(name), TEXT, "{name}");
-    }
+    folder.holds(&names, TEXT);
 }

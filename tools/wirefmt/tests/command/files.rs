@@ -42,12 +42,8 @@ fn the_sources_of_folders_are_formatted() {
         folder.write(name, SOURCE);
     }
     folder.run(&["."]).quiet(0);
-    for name in ours {
-        assert_eq!(folder.read(name), TEXT, "{name:?}");
-    }
-    for name in others {
-        assert_eq!(folder.read(name), SOURCE, "{name:?}");
-    }
+    folder.holds(&ours, TEXT);
+    folder.holds(&others, SOURCE);
 }
 
 /// With a repository and without; a file that is named is formatted all the same.
@@ -68,12 +64,8 @@ fn ignored_files_are_left_out() {
             folder.write(name, SOURCE);
         }
         folder.run(&["."]).quiet(0);
-        for name in left_out {
-            assert_eq!(folder.read(name), SOURCE, "{name}");
-        }
-        for name in ours {
-            assert_eq!(folder.read(name), TEXT, "{name}");
-        }
+        folder.holds(&left_out, SOURCE);
+        folder.holds(&ours, TEXT);
         // those of the folders above count too
         folder.write("b/d.gen.ws", SOURCE);
         folder.run(&["b"]).quiet(0);

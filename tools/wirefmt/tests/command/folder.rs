@@ -50,6 +50,14 @@ impl Folder {
         fs::read_to_string(self.0.join(name)).unwrap()
     }
 
+    /// Checks that all these files have one text.
+    #[track_caller]
+    pub fn holds(&self, names: &[impl AsRef<Path>], text: &str) {
+        for name in names {
+            assert_eq!(self.read(name), text, "{}", name.as_ref().display());
+        }
+    }
+
     /// The names of the files that stand directly in it, but for .editorconfig.
     pub fn names(&self) -> Vec<String> {
         let entries = fs::read_dir(&self.0).unwrap();

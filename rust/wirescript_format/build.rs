@@ -1,5 +1,5 @@
 //! Links `libwirescript.a` from the folder `WIRESCRIPT_LIB`, by default the repository's
-//! `target/staticlib`. Without the archive the build fails, and says what to do.
+//! `target/staticlib`. Without the archive the build fails, and says what to do; but docs.rs has none.
 
 mod archive;
 
@@ -8,6 +8,10 @@ use std::path::PathBuf;
 
 fn main() {
     println!("cargo::rerun-if-env-changed=WIRESCRIPT_LIB");
+    // documentation alone links nothing
+    if env::var_os("DOCS_RS").is_some() {
+        return;
+    }
     if let Err(what) = link() {
         println!("cargo::error={what}");
     }

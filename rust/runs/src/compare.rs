@@ -1,7 +1,7 @@
 //! One comparison with the Rust: answers, every byte lent, and the bytes around them.
 
 use crate::call::{Call, Chosen, Outcome, kind_scratch_needed};
-use crate::library::Library;
+use crate::library::{Library, Room};
 use crate::model;
 use crate::quoted;
 use crate::safe::SafeCall;
@@ -195,13 +195,12 @@ impl Buffers {
         // one more than there are, as many, or one less
         let lines = (must.opened.len() + call.source.len() % 3).saturating_sub(1);
         let opened = lend_list(&mut self.opened, lines);
-        let answer = library.format(
-            &call.source,
-            call.choices(),
-            &mut self.output[output.clone()],
-            &mut self.opened[opened.clone()],
-            &mut self.scratch[scratch.clone()],
-        );
+        let room = Room {
+            output: &mut self.output[output.clone()],
+            opened: &mut self.opened[opened.clone()],
+            scratch: &mut self.scratch[scratch.clone()],
+        };
+        let answer = library.format(&call.source, call.choices(), room);
         if answer != must.answer {
             return Some(differ("the answer", answer, must.answer));
         }

@@ -1,6 +1,6 @@
 //! What .editorconfig texts set for a path, from the page on `EditorConfig` and not from our code.
 
-use wirescript_format::editorconfig::ConfigAnswer;
+use wirescript_format::raw::{ConfigAnswer, Resolved};
 
 use crate::globs;
 
@@ -70,7 +70,7 @@ fn whole(value: &str) -> Option<u64> {
 }
 
 /// A pair supersedes the value of its key.
-pub fn supersede(answer: &mut ConfigAnswer, key: &str, value: &str) {
+pub fn supersede(values: &mut Resolved, key: &str, value: &str) {
     let number = |named: &[&str]| {
         named
             .iter()
@@ -78,34 +78,34 @@ pub fn supersede(answer: &mut ConfigAnswer, key: &str, value: &str) {
             .map_or(0, |i| i as u64 + 1)
     };
     match key {
-        "indent_style" => answer.style = number(&["tab", "space"]),
-        "end_of_line" => answer.ending = number(&["lf", "crlf", "cr"]),
-        "insert_final_newline" => answer.newline = number(&["false", "true"]),
+        "indent_style" => values.style = number(&["tab", "space"]),
+        "end_of_line" => values.ending = number(&["lf", "crlf", "cr"]),
+        "insert_final_newline" => values.newline = number(&["false", "true"]),
         "indent_size" => {
-            (answer.size_kind, answer.size) = match whole(value) {
+            (values.size_kind, values.size) = match whole(value) {
                 Some(n) => (2, n),
                 None => (u64::from(value == "tab"), 0),
             }
         }
         "max_line_length" => {
-            (answer.max_kind, answer.max) = match whole(value) {
+            (values.max_kind, values.max) = match whole(value) {
                 Some(n) => (2, n),
                 None => (u64::from(value == "off"), 0),
             }
         }
         "tab_width" => {
-            (answer.tab_set, answer.tab) = whole(value).map_or((0, 0), |n| (1, n));
+            (values.tab_set, values.tab) = whole(value).map_or((0, 0), |n| (1, n));
         }
         _ => {}
     }
 }
 
-fn apply(answer: &mut ConfigAnswer, text: &str, relative: &str) {
+fn apply(values: &mut Resolved, text: &str, relative: &str) {
     let mut applies = false;
     for line in lines(text) {
         match line {
             Line::Header(name) => applies = globs::matches(&name, relative),
-            Line::Pair(key, value) if applies => supersede(answer, &key, &value),
+            Line::Pair(key, value) if applies => supersede(values, &key, &value),
             _ => {}
         }
     }
@@ -144,7 +144,7 @@ pub fn read(path: &[u8], texts: &[&[u8]]) -> ConfigAnswer {
     }
     let mut answer = ConfigAnswer::default();
     for (text, relative) in used.iter().rev() {
-        apply(&mut answer, text, relative);
+        apply(&mut answer.values, text, relative);
     }
     answer
 }

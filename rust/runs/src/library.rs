@@ -6,16 +6,16 @@ use crate::safe::{self, SafeCall, Told};
 use wirescript_format::Formatter;
 use wirescript_format::raw::{self, Answer, Choices, Kind, Resolved, Settings};
 
+/// What a formatting call is lent.
+pub struct Room<'a> {
+    pub output: &'a mut [u8],
+    pub opened: &'a mut [u64],
+    pub scratch: &'a mut [u8],
+}
+
 /// The functions that a host can reach.
 pub trait Library: Sync {
-    fn format(
-        &self,
-        source: &[u8],
-        s: Choices,
-        output: &mut [u8],
-        opened: &mut [u64],
-        scratch: &mut [u8],
-    ) -> Answer;
+    fn format(&self, source: &[u8], s: Choices, room: Room) -> Answer;
     fn text_kind_at(&self, source: &[u8], line: u64, column: u64, scratch: &mut [u8]) -> Kind;
     fn indent_with(&self, s: Choices, tabs: u64, size: u64, output: &mut [u8]) -> Settings;
     fn editorconfig(&self, s: Choices, values: Resolved, output: &mut [u8]) -> Settings;
@@ -31,15 +31,8 @@ pub trait Library: Sync {
 pub struct Linked;
 
 impl Library for Linked {
-    fn format(
-        &self,
-        source: &[u8],
-        s: Choices,
-        output: &mut [u8],
-        opened: &mut [u64],
-        scratch: &mut [u8],
-    ) -> Answer {
-        raw::format(source, s, output, opened, scratch)
+    fn format(&self, source: &[u8], s: Choices, room: Room) -> Answer {
+        raw::format(source, s, room.output, room.opened, room.scratch)
     }
 
     fn text_kind_at(&self, source: &[u8], line: u64, column: u64, scratch: &mut [u8]) -> Kind {
@@ -159,14 +152,12 @@ impl Standin {
 }
 
 impl Library for Standin {
-    fn format(
-        &self,
-        source: &[u8],
-        s: Choices,
-        output: &mut [u8],
-        opened: &mut [u64],
-        scratch: &mut [u8],
-    ) -> Answer {
+    fn format(&self, source: &[u8], s: Choices, room: Room) -> Answer {
+        let Room {
+            output,
+            opened,
+            scratch,
+        } = room;
         let mut call = Self::call(source, s, output.len(), scratch.len());
         if self.has(Fault::ScratchSize) {
             call.scratch = Size::Fixed(scratch.len() + 1);

@@ -6,8 +6,8 @@ use crate::model;
 use ec4rs::Properties;
 use ec4rs::property;
 use wirescript_format::{
-    EditorConfig, EndOfLine, FinalNewline, Formatted, Formatter, IndentSize, IndentStyle,
-    LineEnding, MaxLineLength, Options, TextKind,
+    EditorConfig, EndOfLine, FinalNewline, Formatter, IndentSize, IndentStyle, LineEnding,
+    MaxLineLength, Options, TextKind,
 };
 
 /// What a safe function is given. Options and values are the Rust's, which can name what the host
@@ -34,6 +34,28 @@ pub enum SafeCall {
         options: Chosen,
         values: Properties,
     },
+}
+
+/// What a formatting call tells.
+#[derive(Clone, Debug, PartialEq, Eq)]
+pub struct Formatted {
+    pub text: String,
+    pub imports_split: u64,
+    pub blank_names: u64,
+    pub open_brackets: u64,
+    pub opened: Vec<u64>,
+}
+
+impl From<wirescript_format::Formatted> for Formatted {
+    fn from(told: wirescript_format::Formatted) -> Self {
+        Self {
+            text: told.text,
+            imports_split: told.imports_split,
+            blank_names: told.blank_names,
+            open_brackets: told.open_brackets,
+            opened: told.opened,
+        }
+    }
 }
 
 /// What a safe function tells; a refusal by its number and place.
@@ -144,27 +166,27 @@ pub fn options_of(chosen: &Chosen) -> Options {
 
 /// The host crate's values that are the Rust's.
 fn config_of(values: Properties) -> EditorConfig {
-    EditorConfig {
-        indent_style: values.style.map(|style| match style {
-            property::IndentStyle::Tabs => IndentStyle::Tabs,
-            property::IndentStyle::Spaces => IndentStyle::Spaces,
-        }),
-        indent_size: values.size.map(|size| match size {
-            property::IndentSize::UseTabWidth => IndentSize::Tab,
-            property::IndentSize::Value(n) => IndentSize::Value(n as u64),
-        }),
-        tab_width: values.tab.map(|property::TabWidth::Value(n)| n as u64),
-        max_line_length: values.max.map(|max| match max {
-            property::MaxLineLen::Off => MaxLineLength::Off,
-            property::MaxLineLen::Value(n) => MaxLineLength::Value(n as u64),
-        }),
-        end_of_line: values.ending.map(|ending| match ending {
-            property::EndOfLine::Lf => EndOfLine::Lf,
-            property::EndOfLine::CrLf => EndOfLine::Crlf,
-            property::EndOfLine::Cr => EndOfLine::Cr,
-        }),
-        insert_final_newline: values.newline.map(|property::FinalNewline::Value(v)| v),
-    }
+    let mut config = EditorConfig::new();
+    config.indent_style = values.style.map(|style| match style {
+        property::IndentStyle::Tabs => IndentStyle::Tabs,
+        property::IndentStyle::Spaces => IndentStyle::Spaces,
+    });
+    config.indent_size = values.size.map(|size| match size {
+        property::IndentSize::UseTabWidth => IndentSize::Tab,
+        property::IndentSize::Value(n) => IndentSize::Value(n as u64),
+    });
+    config.tab_width = values.tab.map(|property::TabWidth::Value(n)| n as u64);
+    config.max_line_length = values.max.map(|max| match max {
+        property::MaxLineLen::Off => MaxLineLength::Off,
+        property::MaxLineLen::Value(n) => MaxLineLength::Value(n as u64),
+    });
+    config.end_of_line = values.ending.map(|ending| match ending {
+        property::EndOfLine::Lf => EndOfLine::Lf,
+        property::EndOfLine::CrLf => EndOfLine::Crlf,
+        property::EndOfLine::Cr => EndOfLine::Cr,
+    });
+    config.insert_final_newline = values.newline.map(|property::FinalNewline::Value(v)| v);
+    config
 }
 
 /// What the host crate tells. The formatter is kept from call to call, as an editor keeps it.
@@ -174,22 +196,15 @@ pub fn told(call: &SafeCall, most: Option<usize>, formatter: &mut Formatter) -> 
             source, options, ..
         } => {
             let options = options_of(options);
-            match most {
-                None => wirescript_format::format(source, &options).map(Told::Formatted),
+            let text = match most {
+                None => wirescript_format::format(source, &options),
                 Some(bytes) => {
                     *formatter = std::mem::take(formatter).most(bytes);
                     let lent = formatter.format(source, &options);
-                    lent.map(|formatted| {
-                        Told::Formatted(Formatted {
-                            text: formatted.text.into(),
-                            imports_split: formatted.imports_split,
-                            blank_names: formatted.blank_names,
-                            open_brackets: formatted.open_brackets,
-                            opened: formatted.opened.to_vec(),
-                        })
-                    })
+                    lent.map(wirescript_format::Formatted::into_owned)
                 }
-            }
+            };
+            text.map(|text| Told::Formatted(text.into()))
         }
         SafeCall::Kind {
             source,

@@ -6,19 +6,24 @@ use crate::library::Library;
 use crate::safe::SafeCall;
 use wirescript_format::Options;
 
-/// Makes a check that differs as small as it gets: the first smaller one that differs
-/// still, again and again.
+/// Makes a check that differs as small as it gets.
 pub fn shrink(library: &dyn Library, check: Check) -> Check {
     let mut buffers = Buffers::default();
+    smallest(check, &mut |check| buffers.check(library, check).is_some())
+}
+
+/// Makes a check of which something holds as small as it gets: the first smaller one of which it
+/// holds still, again and again.
+pub fn smallest(check: Check, holds: &mut dyn FnMut(&Check) -> bool) -> Check {
     let mut best = check;
     loop {
         let mut smaller = None;
         candidates(&best, &mut |check| {
-            let differs = buffers.check(library, &check).is_some();
-            if differs {
+            let taken = holds(&check);
+            if taken {
                 smaller = Some(check);
             }
-            differs
+            taken
         });
         match smaller {
             Some(check) => best = check,

@@ -65,6 +65,9 @@ pub const RULED: [&str; 3] = ["rulers", "ruled short sources", "ruled"];
 /// The stages whose calls have strengths of their own, which the Rust lacks.
 pub const TABLED: [&str; 2] = ["strengths", "pairs of strengths"];
 
+/// The stage around the limits of length.
+pub const LIMITS: &str = "limits";
+
 /// The stage that takes longest for each check.
 pub const LONG: &str = "long sources";
 
@@ -73,7 +76,7 @@ pub fn all(seed: u64) -> Vec<Stage> {
     let mut stages = vec![
         Stage::list("cases of the rules", cases()),
         Stage::list("safe cases", safe_cases()),
-        Stage::list("limits", limits()),
+        Stage::list(LIMITS, limits()),
         Stage::list(LONG, long_sources()),
         Stage::list("indent_with", indents()),
         Stage::list("editorconfig", configs()),

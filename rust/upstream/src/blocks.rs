@@ -1,7 +1,7 @@
 //! A child of the upstream module `format`: its loop over the lines, with the protected blocks of
 //! request C-15, which the Rust doesn't have.
 
-use super::reach::{Counted, import_of, note_brackets};
+use super::reach::{Counted, fresh, import_of, note_brackets};
 use super::scan::Carry;
 use super::{FormatOptions, Formatter, LineEnding};
 
@@ -12,15 +12,7 @@ pub struct Blocks {
 }
 
 pub fn format_blocks(source: &str, opts: &FormatOptions) -> Blocks {
-    let mut f = Formatter {
-        opts,
-        lines: Vec::new(),
-        stack: Vec::new(),
-        prev_blank: false,
-        prev: String::new(),
-        ignore_next: false,
-        carry: Carry::Code,
-    };
+    let mut f = fresh(opts);
     // in a block, how many brackets were open before its first line
     let mut block = None;
     let (mut any, mut imports_split, mut blank_names) = (false, 0, 0);

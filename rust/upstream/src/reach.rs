@@ -133,14 +133,9 @@ pub struct Counted {
     pub open_lines: Vec<u64>,
 }
 
-/// The loop of `format_with` over the Rust's own `line`, counting the imports that
-/// its `split_import` breaks. The text is `format_with`'s.
-pub fn format_counted(source: &str, opts: &FormatOptions) -> Counted {
-    let text = super::format_with(source, opts);
-    let (mut imports_split, mut blank_names) = (0, 0);
-    let mut open_lines = Vec::new();
-    let imports = opts.print_width.is_some() && source.contains("import");
-    let mut f = Formatter {
+/// The formatter before the first line.
+pub(super) fn fresh(opts: &FormatOptions) -> Formatter<'_> {
+    Formatter {
         opts,
         lines: Vec::new(),
         stack: Vec::new(),
@@ -148,7 +143,17 @@ pub fn format_counted(source: &str, opts: &FormatOptions) -> Counted {
         prev: String::new(),
         ignore_next: false,
         carry: RustCarry::Code,
-    };
+    }
+}
+
+/// The loop of `format_with` over the Rust's own `line`, counting the imports that
+/// its `split_import` breaks. The text is `format_with`'s.
+pub fn format_counted(source: &str, opts: &FormatOptions) -> Counted {
+    let text = super::format_with(source, opts);
+    let (mut imports_split, mut blank_names) = (0, 0);
+    let mut open_lines = Vec::new();
+    let imports = opts.print_width.is_some() && source.contains("import");
+    let mut f = fresh(opts);
     for (number, raw) in source.split('\n').enumerate() {
         let raw = raw.strip_suffix('\r').unwrap_or(raw);
         let split = imports.then(|| import_of(&f, raw)).flatten();

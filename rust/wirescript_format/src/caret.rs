@@ -1,16 +1,24 @@
 //! A formatted text, and where the caret goes in it.
 
-use crate::{Formatter, Options, Refusal, raw, utf8};
+use alloc::borrow::ToOwned;
+use alloc::string::String;
+
+use crate::formatter::utf8;
+use crate::{Formatter, Options, Refusal, raw, size};
 
 /// A formatted text, with the caret's line and character column in it, both from 0.
 #[derive(Clone, Copy, Debug, PartialEq, Eq)]
+#[non_exhaustive]
 pub struct WithCaret<Text = String> {
+    /// The text.
     pub text: Text,
     /// Imports whose names were spread over lines.
     pub imports_split: u64,
     /// Blank names dropped in them.
     pub blank_names: u64,
+    /// The caret's line.
     pub line: u64,
+    /// Its column, in characters.
     pub column: u64,
 }
 
@@ -77,13 +85,11 @@ impl Formatter {
         column: u64,
     ) -> Result<WithCaret<&str>, Refusal> {
         let source = source.as_ref();
-        let answer = self.with_room(source, |buffers, room| {
-            let (output, scratch) = buffers.lend(source, room);
-            let answer =
-                raw::format_caret(source, options.choices(), line, column, output, scratch);
-            Refusal::of(answer.refusal, answer.place).map_or(Ok(answer), Err)
+        let answer = self.with_room(source, |lent| {
+            let (output, scratch) = (lent.output, lent.scratch);
+            raw::format_caret(source, options.choices(), line, column, output, scratch)
         })?;
-        self.last = answer.length as usize;
+        self.last = size(answer.length);
         Ok(WithCaret {
             text: utf8(&self.output[..self.last]),
             imports_split: answer.imports_split,

@@ -1,19 +1,28 @@
 //! What formatting changes, in place of a whole text.
 
-use crate::{Formatter, MAX_SOURCE, Options, Refusal, format_scratch, part, raw, utf8};
-use std::ops::Range;
+use alloc::borrow::ToOwned;
+use alloc::string::String;
+use alloc::vec::Vec;
+use core::ops::Range;
+
+use crate::formatter::{Lent, utf8};
+use crate::{Formatter, MAX_SOURCE, Options, Refusal, raw, size};
 
 /// The bytes of the source in `range` give way to `text`. Only white space and commas do, and only
-/// they are put in.
+/// they are put in. Both fields are all that a change is, so that a caller can make one for [`apply`].
 #[derive(Clone, Debug, PartialEq, Eq)]
 pub struct Change<Text = String> {
+    /// Bytes of the source.
     pub range: Range<usize>,
+    /// What takes their place.
     pub text: Text,
 }
 
 /// The changes that turn a source into its text, in ascending order, and what splitting did.
 #[derive(Clone, Debug, PartialEq, Eq)]
+#[non_exhaustive]
 pub struct Changes<Text = String> {
+    /// The changes.
     pub changes: Vec<Change<Text>>,
     /// Imports whose names were spread over lines.
     pub imports_split: u64,
@@ -98,24 +107,21 @@ impl Formatter {
         if self.changes.len() < guess {
             self.changes.resize(guess, 0);
         }
-        let mut call = |buffers: &mut Self, room: usize| {
-            let output = part(&mut buffers.output, room.min(buffers.most));
-            let scratch = part(&mut buffers.scratch, format_scratch(source));
-            let list = &mut buffers.changes;
-            let answer = raw::format_changes(source, options.choices(), output, list, scratch);
-            Refusal::of(answer.refusal, answer.place).map_or(Ok(answer), Err)
+        let call = |lent: Lent| {
+            let (output, list) = (lent.output, lent.changes);
+            raw::format_changes(source, options.choices(), output, list, lent.scratch)
         };
-        let answer = match self.with_room(source, &mut call) {
+        let answer = match self.with_room(source, call) {
             Err(Refusal::ListShort { needed }) => {
-                self.changes.resize(4 * needed as usize, 0);
-                self.with_room(source, &mut call)
+                self.changes.resize(4 * size(needed), 0);
+                self.with_room(source, call)
             }
             other => other,
         }?;
-        self.last = answer.length as usize;
+        self.last = size(answer.length);
         let text = utf8(&self.output[..self.last]);
         let change = |entry: &[u64]| {
-            let [at, removed, from, put] = [0, 1, 2, 3].map(|field| entry[field] as usize);
+            let [at, removed, from, put] = [0, 1, 2, 3].map(|field| size(entry[field]));
             Change {
                 range: at..at + removed,
                 text: &text[from..from + put],
@@ -123,7 +129,7 @@ impl Formatter {
         };
         let entries = self.changes.chunks_exact(4);
         Ok(Changes {
-            changes: entries.take(answer.changes as usize).map(change).collect(),
+            changes: entries.take(size(answer.changes)).map(change).collect(),
             imports_split: answer.imports_split,
             blank_names: answer.blank_names,
         })

@@ -1,11 +1,14 @@
 //! Our .editorconfig files (C-12): found on disk, read, and applied to options.
 
-use std::fs;
-use std::io::{self, ErrorKind, Read};
-use std::path::{Path, PathBuf};
-
 use crate::options::{EditorConfig, EndOfLine, IndentSize, IndentStyle, MaxLineLength, Options};
+use crate::raw::{self, Refusable, Resolved};
 use crate::refusal::Refusal;
+
+#[cfg(feature = "std")]
+pub use self::disk::{Files, find};
+
+#[cfg(feature = "std")]
+mod disk;
 
 /// How many texts a call takes: the file's own directory and the seven above it.
 pub const TEXTS: usize = 8;
@@ -15,53 +18,6 @@ pub const MAX_TEXT: usize = 65_536;
 
 /// The name of the files.
 pub const FILE_NAME: &str = ".editorconfig";
-
-/// What reading comes to, in the numbers of [`crate::raw::Resolved`]; with a refusal, zeros.
-#[repr(C)]
-#[derive(Clone, Copy, Debug, Default, PartialEq, Eq)]
-pub struct ConfigAnswer {
-    pub refusal: u64,
-    pub place: u64,
-    pub style: u64,
-    pub size_kind: u64,
-    pub size: u64,
-    pub tab_set: u64,
-    pub tab: u64,
-    pub max_kind: u64,
-    pub max: u64,
-    pub ending: u64,
-    pub newline: u64,
-}
-
-mod linked {
-    use super::ConfigAnswer;
-
-    #[rustfmt::skip]
-    unsafe extern "C" {
-        pub fn wirescript_read_editorconfig(
-            path: *const u8, path_length: usize,
-            text_1: *const u8, length_1: usize, text_2: *const u8, length_2: usize,
-            text_3: *const u8, length_3: usize, text_4: *const u8, length_4: usize,
-            text_5: *const u8, length_5: usize, text_6: *const u8, length_6: usize,
-            text_7: *const u8, length_7: usize, text_8: *const u8, length_8: usize,
-        ) -> ConfigAnswer;
-    }
-}
-
-/// The exported function as it is: a path, and the texts of its directories, the nearest first.
-#[must_use]
-#[rustfmt::skip]
-pub fn raw(path: &[u8], texts: [&[u8]; TEXTS]) -> ConfigAnswer {
-    let [t1, t2, t3, t4, t5, t6, t7, t8] = texts;
-    // SAFETY: each pointer and length is one slice, and the function only reads them.
-    unsafe {
-        linked::wirescript_read_editorconfig(
-            path.as_ptr(), path.len(),
-            t1.as_ptr(), t1.len(), t2.as_ptr(), t2.len(), t3.as_ptr(), t3.len(), t4.as_ptr(), t4.len(),
-            t5.as_ptr(), t5.len(), t6.as_ptr(), t6.len(), t7.as_ptr(), t7.len(), t8.as_ptr(), t8.len(),
-        )
-    }
-}
 
 impl EditorConfig {
     /// The values that .editorconfig texts set for a path. A leading slash of the path is dropped;
@@ -89,14 +45,11 @@ impl EditorConfig {
         for (slot, text) in eight.iter_mut().zip(texts) {
             *slot = text.as_ref();
         }
-        let answer = raw(path.as_ref(), eight);
-        match Refusal::of(answer.refusal, answer.place) {
-            Some(refusal) => Err(refusal),
-            None => Ok(Self::of(answer)),
-        }
+        let answer = raw::read_editorconfig(path.as_ref(), eight).accepted()?;
+        Ok(Self::of(answer.values))
     }
 
-    fn of(a: ConfigAnswer) -> Self {
+    fn of(a: Resolved) -> Self {
         Self {
             indent_style: match a.style {
                 1 => Some(IndentStyle::Tabs),
@@ -152,79 +105,25 @@ impl Options {
     }
 }
 
-/// A path and the texts of its directories, as [`EditorConfig::read`] takes them.
-#[derive(Clone, Debug, Default, PartialEq, Eq)]
-pub struct Files {
-    pub path: String,
-    pub texts: Vec<Vec<u8>>,
-}
+/// The name that [`raw::ConfigAnswer`] had.
+#[doc(hidden)]
+#[deprecated(since = "0.2.0", note = "it is `raw::ConfigAnswer`")]
+pub type ConfigAnswer = raw::ConfigAnswer;
 
-/// Finds the .editorconfig files of a file: the texts of its directory and of up to seven above it.
-/// The file itself need not be there. A path that isn't absolute starts at the current directory.
-/// A file that is missing is an empty text; of one that is too long no more is read than it takes to
-/// refuse it.
-///
-/// ```
-/// use wirescript_format::{Options, editorconfig::find};
-///
-/// let folder = std::env::temp_dir().join(format!("find-{}", std::process::id()));
-/// std::fs::create_dir_all(folder.join("src"))?;
-/// std::fs::write(folder.join(".editorconfig"), "root = true\n[src/*.ws]\nindent_size = 4\n")?;
-/// let files = find(folder.join("src/gate.ws"))?;
-/// assert_eq!((files.texts[0].len(), files.texts[1].len() > 0), (0, true));
-/// let options = Options::from_editorconfig(&files.path, &files.texts)?;
-/// assert_eq!(options, Options::new().indent("    "));
-/// std::fs::remove_dir_all(folder)?;
-/// # Ok::<(), Box<dyn std::error::Error>>(())
-/// ```
-///
-/// # Errors
-/// Where the current directory or a file can't be read, or the path isn't UTF-8.
-pub fn find(file: impl AsRef<Path>) -> io::Result<Files> {
-    let file = std::path::absolute(file)?;
-    let directories: Vec<PathBuf> = file
-        .ancestors()
-        .skip(1)
-        .take(TEXTS)
-        .map(Path::to_path_buf)
-        .collect();
-    let mut parts = Vec::new();
-    for part in file.components().skip_while(|part| {
-        !matches!(
-            part,
-            std::path::Component::Normal(_) | std::path::Component::ParentDir
-        )
-    }) {
-        let part = part.as_os_str().to_str();
-        parts.push(part.ok_or_else(|| io::Error::new(ErrorKind::InvalidData, "not UTF-8"))?);
-    }
-    let texts = directories
-        .iter()
-        .map(|directory| text_of(&directory.join(FILE_NAME)))
-        .collect::<io::Result<_>>()?;
-    Ok(Files {
-        path: parts.join("/"),
-        texts,
-    })
-}
-
-/// The text of a file, cut one byte behind the longest; empty where there is none.
-fn text_of(path: &Path) -> io::Result<Vec<u8>> {
-    let file = match fs::File::open(path) {
-        Ok(file) => file,
-        Err(error) if matches!(error.kind(), ErrorKind::NotFound | ErrorKind::NotADirectory) => {
-            return Ok(Vec::new());
-        }
-        Err(error) => return Err(error),
-    };
-    let mut text = Vec::new();
-    file.take(MAX_TEXT as u64 + 1).read_to_end(&mut text)?;
-    Ok(text)
+/// The name that [`raw::read_editorconfig`] had.
+#[doc(hidden)]
+#[deprecated(since = "0.2.0", note = "it is `raw::read_editorconfig`")]
+#[must_use]
+pub fn raw(path: &[u8], texts: [&[u8]; TEXTS]) -> raw::ConfigAnswer {
+    raw::read_editorconfig(path, texts)
 }
 
 #[cfg(test)]
 mod tests {
     use super::*;
+    use alloc::format;
+    use alloc::string::String;
+    use alloc::vec;
 
     #[test]
     fn every_value_comes_through() {

@@ -19,6 +19,8 @@ pub fn interface() -> u64 {
 
 #[cfg(test)]
 mod tests {
+    use alloc::format;
+
     /// The archive gives the number that stands in the name.
     #[test]
     fn the_number_is_the_one_in_the_name() {

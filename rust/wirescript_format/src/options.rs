@@ -1,5 +1,10 @@
-use crate::raw::{self, Choices, Resolved, Settings};
+//! What a host chooses, and what .editorconfig files say.
+
+use alloc::string::String;
+
+use crate::raw::{self, Choices, Refusable, Resolved, Settings};
 use crate::refusal::{MAX_INDENT, Refusal};
+use crate::{Strengths, size};
 
 /// How the text's lines end.
 #[derive(Clone, Copy, Debug, Default, PartialEq, Eq)]
@@ -7,7 +12,9 @@ pub enum LineEnding {
     /// CRLF if more of the source's lines end so than in LF alone, else LF.
     #[default]
     Kept,
+    /// LF.
     Lf,
+    /// CRLF.
     Crlf,
 }
 
@@ -16,14 +23,22 @@ pub enum LineEnding {
 pub enum FinalNewline {
     /// If the source does.
     AsSource,
+    /// Whatever the source ends in.
     #[default]
     Always,
-    /// Whatever the source ends in; an empty text stays empty.
+    /// It ends in none, whatever the source ends in; an empty text stays empty.
     Never,
 }
 
 /// What a host chooses. The defaults: two spaces, width 100, ending kept, final newline, ruler tab 0, the
 /// built-in strengths of operators.
+///
+/// ```
+/// use wirescript_format::{LineEnding, Options};
+///
+/// let options = Options::new().indent("\t").width(None).line_ending(LineEnding::Lf);
+/// assert_eq!((options.get_indent(), options.get_width()), ("\t", None));
+/// ```
 #[derive(Clone, Debug, PartialEq, Eq)]
 pub struct Options {
     pub(crate) indent: String,
@@ -31,7 +46,7 @@ pub struct Options {
     pub(crate) line_ending: LineEnding,
     pub(crate) final_newline: FinalNewline,
     pub(crate) ruler_tab: u64,
-    pub(crate) strengths: Vec<u8>,
+    pub(crate) strengths: Strengths,
 }
 
 impl Default for Options {
@@ -42,19 +57,19 @@ impl Default for Options {
             line_ending: LineEnding::Kept,
             final_newline: FinalNewline::Always,
             ruler_tab: 0,
-            strengths: Self::BUILT_IN_STRENGTHS.into(),
+            strengths: Strengths::new(),
         }
     }
 }
 
 impl Options {
+    /// The print width by default.
     pub const DEFAULT_WIDTH: u64 = 100;
 
     /// The strengths that operators have by default: 1 to 12.
-    pub const BUILT_IN_STRENGTHS: [u8; 11] = [
-        0x11, 0x23, 0x45, 0x66, 0x77, 0x77, 0x88, 0x9a, 0xab, 0xbb, 0xc0,
-    ];
+    pub const BUILT_IN_STRENGTHS: [u8; 11] = Strengths::BUILT_IN;
 
+    /// The defaults.
     #[must_use]
     pub fn new() -> Self {
         Self::default()
@@ -67,6 +82,12 @@ impl Options {
         self
     }
 
+    /// One level of indentation.
+    #[must_use]
+    pub fn get_indent(&self) -> &str {
+        &self.indent
+    }
+
     /// Lines wider than this, in UTF-16 units, are split where they can be; `None` splits none.
     #[must_use]
     pub fn width(mut self, width: Option<u64>) -> Self {
@@ -74,10 +95,23 @@ impl Options {
         self
     }
 
+    /// The print width.
+    #[must_use]
+    pub fn get_width(&self) -> Option<u64> {
+        self.width
+    }
+
+    /// How the text's lines end.
     #[must_use]
     pub fn line_ending(mut self, line_ending: LineEnding) -> Self {
         self.line_ending = line_ending;
         self
+    }
+
+    /// How the text's lines end.
+    #[must_use]
+    pub fn get_line_ending(&self) -> LineEnding {
+        self.line_ending
     }
 
     /// Whether the text ends in a line ending.
@@ -94,6 +128,12 @@ impl Options {
     pub fn final_newline(mut self, final_newline: FinalNewline) -> Self {
         self.final_newline = final_newline;
         self
+    }
+
+    /// Whether the text ends in a line ending.
+    #[must_use]
+    pub fn get_final_newline(&self) -> FinalNewline {
+        self.final_newline
     }
 
     /// How far apart the tab stops of the editor's ruler are, up to 16 columns: in the width of a
@@ -117,28 +157,36 @@ impl Options {
         self
     }
 
+    /// How far apart the ruler's tab stops are.
+    #[must_use]
+    pub fn get_ruler_tab(&self) -> u64 {
+        self.ruler_tab
+    }
+
     /// How tightly each operator binds: a line that is too wide is broken before its loosest ones
-    /// first, and never before one of strength 0. The table has 11 bytes: a field of 4 bits for each of
-    /// `|| ^^ && | ^ & == != < > <= >= << >> .. + - * / % **`, the upper ones of a byte first, then four
-    /// zero bits. Another length and other last bits are refused by the call.
+    /// first, and never before one of strength 0. Bytes are taken as a table, which is refused by the call if its
+    /// length or its last bits are others than [`Strengths`] says.
     ///
     /// ```
-    /// use wirescript_format::{Options, Refusal, format};
+    /// use wirescript_format::{Operator, Options, Refusal, Strengths, format};
     ///
-    /// let options = Options::new().width(Some(6));
-    /// assert_eq!(format("a + b*c", &options)?.text, "a\n  + b*c\n");
-    /// // `+` and `-` bind tightest
-    /// let mut table = Options::BUILT_IN_STRENGTHS;
-    /// (table[7], table[8]) = (0x9d, 0xdb);
-    /// let options = options.strengths(table);
-    /// assert_eq!(format("a + b*c", &options)?.text, "a + b\n  *c\n");
+    /// let options = Options::new().width(Some(4));
+    /// let never = Strengths::new().with(Operator::Add, 0);
+    /// assert_eq!(format("a + b", &options)?.text, "a\n  + b\n");
+    /// assert_eq!(format("a + b", &options.clone().strengths(never))?.text, "a + b\n");
     /// assert_eq!(format("", &options.strengths([1, 2])), Err(Refusal::StrengthsLength));
     /// # Ok::<(), wirescript_format::Refusal>(())
     /// ```
     #[must_use]
-    pub fn strengths(mut self, table: impl Into<Vec<u8>>) -> Self {
+    pub fn strengths(mut self, table: impl Into<Strengths>) -> Self {
         self.strengths = table.into();
         self
+    }
+
+    /// How tightly each operator binds.
+    #[must_use]
+    pub fn get_strengths(&self) -> &Strengths {
+        &self.strengths
     }
 
     /// These options with a tab as their indent, or with `size` spaces. A size over 64 is refused,
@@ -152,6 +200,9 @@ impl Options {
     /// assert_eq!(options.indent_with(true, 65), Err(Refusal::BadOption));
     /// assert_eq!(options, Options::new().width(None));
     /// ```
+    ///
+    /// # Errors
+    /// [`Refusal::BadOption`] of the size, or of the indent that the options have.
     pub fn indent_with(&self, tabs: bool, size: u64) -> Result<Self, Refusal> {
         let mut indent = [0; MAX_INDENT];
         let set = raw::indent_with(self.choices(), u64::from(tabs), size, &mut indent);
@@ -165,15 +216,15 @@ impl Options {
     /// use wirescript_format::{EditorConfig, IndentSize, Options, Refusal};
     ///
     /// let options = Options::new().indent("\t");
-    /// let size = |n| EditorConfig {
-    ///     indent_size: Some(IndentSize::Value(n)),
-    ///     ..EditorConfig::default()
-    /// };
+    /// let size = |n| EditorConfig::new().with_indent_size(IndentSize::Value(n));
     /// // no style is set: the tabs stay
     /// assert_eq!(options.with_editorconfig(size(4)), Ok(Options::new().indent("\t")));
     /// assert_eq!(options.with_editorconfig(size(65)), Err(Refusal::BadOption));
     /// assert_eq!(options, Options::new().indent("\t"));
     /// ```
+    ///
+    /// # Errors
+    /// [`Refusal::BadOption`] of a size, or of the indent that the options have.
     pub fn with_editorconfig(&self, config: EditorConfig) -> Result<Self, Refusal> {
         let mut indent = [0; MAX_INDENT];
         let set = raw::editorconfig(self.choices(), config.resolved(), &mut indent);
@@ -181,6 +232,7 @@ impl Options {
     }
 
     /// The options as the library takes them.
+    #[cfg_attr(not(feature = "raw"), doc(hidden))]
     #[must_use]
     pub fn choices(&self) -> Choices<'_> {
         Choices {
@@ -198,16 +250,14 @@ impl Options {
                 FinalNewline::Never => 2,
             },
             ruler_tab: self.ruler_tab,
-            strengths: &self.strengths,
+            strengths: self.strengths.as_bytes(),
         }
     }
 
     /// The options that a setting step on these gave; their ruler tab and table stay.
     fn of(&self, set: Settings, indent: &[u8]) -> Result<Self, Refusal> {
-        if let Some(refusal) = Refusal::of(set.refusal, set.place) {
-            return Err(refusal);
-        }
-        let indent = &indent[..set.indent_len as usize];
+        let set = set.accepted()?;
+        let indent = &indent[..size(set.indent_len)];
         Ok(Self {
             indent: indent.iter().map(|b| char::from(*b)).collect(),
             width: (set.width_set == 1).then_some(set.width),
@@ -227,47 +277,100 @@ impl Options {
     }
 }
 
+/// `indent_style`.
 #[derive(Clone, Copy, Debug, PartialEq, Eq)]
 pub enum IndentStyle {
+    /// `tab`.
     Tabs,
+    /// `space`.
     Spaces,
 }
 
+/// `indent_size`.
 #[derive(Clone, Copy, Debug, PartialEq, Eq)]
 pub enum IndentSize {
-    /// The tab width.
+    /// `tab`: the tab width.
     Tab,
+    /// So many columns.
     Value(u64),
 }
 
+/// `max_line_length`.
 #[derive(Clone, Copy, Debug, PartialEq, Eq)]
 pub enum MaxLineLength {
+    /// `off`.
     Off,
+    /// So many UTF-16 units.
     Value(u64),
 }
 
+/// `end_of_line`.
 #[derive(Clone, Copy, Debug, PartialEq, Eq)]
 pub enum EndOfLine {
+    /// `lf`.
     Lf,
+    /// `crlf`.
     Crlf,
-    /// Changes nothing.
+    /// `cr`, which changes nothing.
     Cr,
 }
 
 /// Resolved values of .editorconfig; `None` is unset.
 #[derive(Clone, Copy, Debug, Default, PartialEq, Eq)]
+#[non_exhaustive]
 pub struct EditorConfig {
+    /// Tabs or spaces.
     pub indent_style: Option<IndentStyle>,
+    /// Columns of one level.
     pub indent_size: Option<IndentSize>,
+    /// Columns of a tab.
     pub tab_width: Option<u64>,
+    /// The print width.
     pub max_line_length: Option<MaxLineLength>,
+    /// How lines end.
     pub end_of_line: Option<EndOfLine>,
     /// `false` gives [`FinalNewline::Never`], as the specification says.
     pub insert_final_newline: Option<bool>,
 }
 
+/// A function that sets a value.
+macro_rules! setter {
+    ($name:ident, $field:ident, $value:ty) => {
+        #[doc = concat!("The same with `", stringify!($field), "` set.")]
+        #[must_use]
+        pub fn $name(mut self, value: $value) -> Self {
+            self.$field = Some(value);
+            self
+        }
+    };
+}
+
 impl EditorConfig {
+    /// Nothing set.
+    ///
+    /// ```
+    /// use wirescript_format::{EditorConfig, IndentSize, IndentStyle};
+    ///
+    /// let config = EditorConfig::new()
+    ///     .with_indent_style(IndentStyle::Spaces)
+    ///     .with_indent_size(IndentSize::Value(4));
+    /// assert_eq!(config, EditorConfig::read("a", &["[*]\nindent_style=space\nindent_size=4"])?);
+    /// # Ok::<(), wirescript_format::Refusal>(())
+    /// ```
+    #[must_use]
+    pub fn new() -> Self {
+        Self::default()
+    }
+
+    setter!(with_indent_style, indent_style, IndentStyle);
+    setter!(with_indent_size, indent_size, IndentSize);
+    setter!(with_tab_width, tab_width, u64);
+    setter!(with_max_line_length, max_line_length, MaxLineLength);
+    setter!(with_end_of_line, end_of_line, EndOfLine);
+    setter!(with_insert_final_newline, insert_final_newline, bool);
+
     /// The values as the library takes them.
+    #[cfg_attr(not(feature = "raw"), doc(hidden))]
     #[must_use]
     pub fn resolved(self) -> Resolved {
         let (size_kind, size) = match self.indent_size {

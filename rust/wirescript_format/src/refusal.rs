@@ -1,7 +1,10 @@
-use std::error::Error;
-use std::fmt;
+//! Why a call was turned away, and where.
+
+use core::error::Error;
+use core::fmt;
 
 use crate::editorconfig::MAX_TEXT;
+use crate::{Position, position, size};
 
 /// The longest source, in bytes.
 pub const MAX_SOURCE: usize = 1_048_576;
@@ -15,7 +18,18 @@ pub const MAX_INDENT: usize = 64;
 /// The largest ruler tab, in columns.
 pub const MAX_RULER: u64 = 16;
 
-/// Why a call was turned away.
+/// Why a call was turned away. `Display` says it in words.
+///
+/// ```
+/// use wirescript_format::{Options, Refusal, format};
+///
+/// let source = b"f(a)\nb\xff";
+/// let refusal = format(source, &Options::new()).expect_err("refused");
+/// assert_eq!(refusal, Refusal::NotUtf8 { prefix: 6 });
+/// assert_eq!(refusal.to_string(), "the source is not UTF-8 at byte 6");
+/// let place = refusal.position(source).expect("a place of the source");
+/// assert_eq!((place.line, place.column), (1, 1));
+/// ```
 #[derive(Clone, Copy, Debug, PartialEq, Eq)]
 #[non_exhaustive]
 pub enum Refusal {
@@ -25,12 +39,21 @@ pub enum Refusal {
     /// size is over [`MAX_INDENT`].
     BadOption,
     /// The scratch buffer is under this many bytes.
-    ScratchShort { needed: u64 },
+    ScratchShort {
+        /// The bytes.
+        needed: u64,
+    },
     /// The source is not well-formed UTF-8 after this many bytes. Of .editorconfig texts and their
     /// path, 0: one of them isn't.
-    NotUtf8 { prefix: u64 },
+    NotUtf8 {
+        /// The bytes.
+        prefix: u64,
+    },
     /// The text takes this many bytes, more than the output has.
-    OutputShort { needed: u64 },
+    OutputShort {
+        /// The bytes.
+        needed: u64,
+    },
     /// The source has no such line, or the line is shorter than the column.
     NoPlace,
     /// An .editorconfig text is over [`crate::editorconfig::MAX_TEXT`] bytes.
@@ -48,16 +71,68 @@ pub enum Refusal {
     /// The last four bits of the table of strengths are not zero.
     StrengthsBits,
     /// No expression has the character at this byte of the source, or the source ends early there.
-    NotExpression { place: u64 },
+    NotExpression {
+        /// The byte.
+        place: u64,
+    },
     /// The bracket at this byte of the source stands deeper than 64.
-    TooDeep { place: u64 },
+    TooDeep {
+        /// The byte.
+        place: u64,
+    },
     /// There are this many changes, more than the list has room for.
-    ListShort { needed: u64 },
+    ListShort {
+        /// The changes.
+        needed: u64,
+    },
     /// A refusal that this crate has no name for, as the library tells it.
-    Other { number: u64, place: u64 },
+    Other {
+        /// The refusal's number.
+        number: u64,
+        /// The place that is named with it.
+        place: u64,
+    },
 }
 
 impl Refusal {
+    /// The byte of the source that it is about: the first that is too many, isn't UTF-8, fits no expression, or is a
+    /// bracket that stands too deep. `None` for a refusal of something else.
+    ///
+    /// A refusal of .editorconfig texts doesn't say where: its offset is 0, of none of them.
+    ///
+    /// ```
+    /// use wirescript_format::{Refusal, group};
+    ///
+    /// assert_eq!(group("a ? b").map_err(Refusal::offset), Err(Some(2)));
+    /// assert_eq!(Refusal::BadOption.offset(), None);
+    /// ```
+    #[must_use]
+    pub fn offset(self) -> Option<usize> {
+        match self {
+            Self::SourceTooLong
+            | Self::NotUtf8 { .. }
+            | Self::NotExpression { .. }
+            | Self::TooDeep { .. } => Some(size(self.place())),
+            _ => None,
+        }
+    }
+
+    /// Line and columns, from 0, of the byte of the source that it is about, in characters and in UTF-16 units.
+    ///
+    /// ```
+    /// use wirescript_format::{Options, format};
+    ///
+    /// let source = b"a\n\xf0\x9f\x98\x80\xff";
+    /// let refusal = format(source, &Options::new()).expect_err("not UTF-8");
+    /// let place = refusal.position(source).expect("a place");
+    /// // behind an emoji
+    /// assert_eq!((place.line, place.column, place.utf16_column), (1, 1, 2));
+    /// ```
+    #[must_use]
+    pub fn position(self, source: impl AsRef<[u8]>) -> Option<Position> {
+        self.offset().map(|offset| position(source, offset))
+    }
+
     /// The refusal that a number and a place name; `None` for an accepted call.
     ///
     /// ```
@@ -67,6 +142,7 @@ impl Refusal {
     /// assert_eq!(Refusal::of(99, 7), Some(Refusal::Other { number: 99, place: 7 }));
     /// assert_eq!(Refusal::of(0, 0), None);
     /// ```
+    #[cfg_attr(not(feature = "raw"), doc(hidden))]
     #[must_use]
     pub fn of(number: u64, place: u64) -> Option<Self> {
         Some(match (number, place) {
@@ -92,6 +168,7 @@ impl Refusal {
     }
 
     /// The refusal's number in the library's rules.
+    #[cfg_attr(not(feature = "raw"), doc(hidden))]
     #[must_use]
     pub fn number(self) -> u64 {
         match self {
@@ -116,6 +193,7 @@ impl Refusal {
     }
 
     /// The place that the library names with it, 0 for none.
+    #[cfg_attr(not(feature = "raw"), doc(hidden))]
     #[must_use]
     pub fn place(self) -> u64 {
         match self {
@@ -190,6 +268,7 @@ impl Error for Refusal {}
 #[cfg(test)]
 mod tests {
     use super::*;
+    use alloc::string::ToString;
 
     /// Whatever the library tells comes back as it was told.
     #[test]
@@ -226,6 +305,22 @@ mod tests {
         for (number, place, refusal) in named {
             assert_eq!(Refusal::of(number, place), Some(refusal));
         }
+    }
+
+    /// A place of the source for four of them, at the byte that the library names.
+    #[test]
+    fn places_in_the_source() {
+        let source = "a\n\u{1f600}b";
+        for number in 1..=17 {
+            let refusal = Refusal::of(number, 6).expect("a refusal");
+            let place = refusal.position(source);
+            let place = place.map(|p| (p.line, p.column, p.utf16_column));
+            let wanted = matches!(number, 4 | 14 | 15).then_some((1, 1, 2));
+            assert_eq!(place, wanted, "{number}");
+        }
+        let long = "ab\n".repeat(MAX_SOURCE / 3 + 1);
+        let place = Refusal::SourceTooLong.position(&long).expect("a place");
+        assert_eq!((place.line, place.column), (349_525, 1));
     }
 
     #[test]

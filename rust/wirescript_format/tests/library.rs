@@ -2,7 +2,8 @@
 
 use wirescript_format::{
     EditorConfig, EndOfLine, FinalNewline, Formatter, IndentSize, IndentStyle, LineEnding,
-    MAX_SOURCE, MaxLineLength, Options, Refusal, TextKind, apply, format, text_kind_at,
+    MAX_SOURCE, MaxLineLength, Operator, Options, Refusal, Strengths, TextKind, apply, format,
+    format_changes, format_stable, format_with_caret, group, text_kind_at, text_kinds,
 };
 
 fn text(source: &str, options: &Options) -> String {
@@ -50,6 +51,85 @@ fn counts_imports_and_blank_names() {
     assert_eq!(counted(&import("a,,,b")), (broken.into(), 1, 2));
     let three = import("a,b") + &import(",a,b") + &import("a,b");
     assert_eq!(counted(&three), (broken.repeat(3), 3, 1));
+}
+
+/// An import that is split with two blank names in it, and three brackets that stay open on two lines.
+const UNTIDY: &str = "import {a,,,b} from \"l\"\n(\n[{";
+const TIDY: &str = "import {\n  a, b,\n} from \"l\"\n(\n  [{\n";
+
+/// Every field of every answer, each with a number of its own.
+#[test]
+fn every_field() {
+    let options = Options::new().width(Some(10));
+    let whole = format(UNTIDY, &options).expect("accepted");
+    assert_eq!(whole.text, TIDY);
+    assert_eq!((whole.imports_split, whole.blank_names), (1, 2));
+    assert_eq!(
+        (whole.open_brackets, &whole.opened[..]),
+        (3, &[1, 2, 2][..])
+    );
+    let moved = format_with_caret(UNTIDY, &options, 2, 1).expect("accepted");
+    assert_eq!(moved.text, TIDY);
+    assert_eq!((moved.imports_split, moved.blank_names), (1, 2));
+    assert_eq!((moved.line, moved.column), (4, 3));
+    let found = format_changes(UNTIDY, &options).expect("accepted");
+    assert_eq!((found.imports_split, found.blank_names), (1, 2));
+    let change = |range, text: &str| wirescript_format::Change {
+        range,
+        text: text.to_owned(),
+    };
+    let wanted = [
+        change(8..8, "\n  "),
+        change(9..12, ", "),
+        change(13..13, ",\n"),
+        change(25..26, "\n  "),
+        change(28..28, "\n"),
+    ];
+    assert_eq!(found.changes, wanted);
+    let stable = format_stable(UNTIDY, &options).expect("accepted");
+    assert_eq!((&*stable.text, stable.passes), (TIDY, 2));
+    assert_eq!((stable.imports_split, stable.blank_names), (1, 2));
+}
+
+/// What the setters set, the getters give and the calls take.
+#[test]
+fn every_option() {
+    let options = Options::new();
+    assert_eq!(
+        (options.get_indent(), options.get_width()),
+        ("  ", Some(100))
+    );
+    assert_eq!(options.get_line_ending(), LineEnding::Kept);
+    assert_eq!(options.get_final_newline(), FinalNewline::Always);
+    assert_eq!(options.get_ruler_tab(), 0);
+    assert_eq!(options.get_strengths(), &Strengths::new());
+    let strengths = Strengths::new().with(Operator::Add, 13);
+    let options = options
+        .indent("\t")
+        .width(Some(12))
+        .line_ending(LineEnding::Crlf)
+        .final_newline(FinalNewline::Never)
+        .ruler_tab(8)
+        .strengths(strengths.clone());
+    assert_eq!(
+        (options.get_indent(), options.get_width()),
+        ("\t", Some(12))
+    );
+    assert_eq!(options.get_line_ending(), LineEnding::Crlf);
+    assert_eq!(options.get_final_newline(), FinalNewline::Never);
+    assert_eq!(options.get_ruler_tab(), 8);
+    assert_eq!(options.get_strengths(), &strengths);
+    // the tab of the indent takes 8 columns, so that 13 are too many; `*` is looser than `+`
+    let wanted = "{\r\n\ta+b\r\n\t\t*c";
+    assert_eq!(text("{\na+b*c", &options), wanted);
+    assert_eq!(
+        text("{\na+b*c", &options.clone().ruler_tab(7)),
+        "{\r\n\ta+b*c"
+    );
+    let moved = format_with_caret("{\na+b*c", &options, 1, 4).expect("accepted");
+    assert_eq!((&*moved.text, moved.line, moved.column), (wanted, 2, 3));
+    let found = format_changes("{\na+b*c", &options).expect("accepted");
+    assert_eq!(apply("{\na+b*c", &found.changes), wanted);
 }
 
 /// Many open brackets between a few, in lists with room for all and for two.
@@ -140,14 +220,13 @@ fn setting_steps() {
         options.indent_with(false, 3),
         Ok(options.clone().indent("   "))
     );
-    let config = EditorConfig {
-        indent_style: Some(IndentStyle::Spaces),
-        indent_size: Some(IndentSize::Tab),
-        tab_width: Some(4),
-        max_line_length: Some(MaxLineLength::Off),
-        end_of_line: Some(EndOfLine::Crlf),
-        insert_final_newline: Some(false),
-    };
+    let config = EditorConfig::new()
+        .with_indent_style(IndentStyle::Spaces)
+        .with_indent_size(IndentSize::Tab)
+        .with_tab_width(4)
+        .with_max_line_length(MaxLineLength::Off)
+        .with_end_of_line(EndOfLine::Crlf)
+        .with_insert_final_newline(false);
     let wanted = Options::new()
         .indent("    ")
         .width(None)
@@ -164,10 +243,7 @@ fn a_refused_step_changes_nothing() {
     let options = Options::new().indent("\t").width(None);
     let before = options.clone();
     assert_eq!(options.indent_with(true, 65), Err(Refusal::BadOption));
-    let config = EditorConfig {
-        indent_size: Some(IndentSize::Value(65)),
-        ..EditorConfig::default()
-    };
+    let config = EditorConfig::new().with_indent_size(IndentSize::Value(65));
     assert_eq!(options.with_editorconfig(config), Err(Refusal::BadOption));
     assert_eq!(options, before);
     assert_eq!(text("{\na", &options), "{\n\ta\n");
@@ -217,19 +293,98 @@ fn lists_changes() {
     for ending in [LineEnding::Lf, LineEnding::Crlf] {
         let options = Options::new().line_ending(ending);
         for source in &sources {
-            let formatted = format(source, &options).expect("a text");
+            let whole = format(source, &options).expect("a text");
             let found = formatter.format_changes(source, &options).expect("changes");
-            assert_eq!(apply(source, &found.changes), formatted.text);
-            assert_eq!(found.imports_split, formatted.imports_split);
-            assert_eq!(found.blank_names, formatted.blank_names);
+            assert_eq!(apply(source, &found.changes), whole.text);
+            assert_eq!(found.imports_split, whole.imports_split);
+            assert_eq!(found.blank_names, whole.blank_names);
             for change in &found.changes {
                 let unkept = |text: &str| text.chars().all(|c| c.is_whitespace() || c == ',');
                 assert!(unkept(&source[change.range.clone()]) && unkept(change.text));
             }
-            let again = formatter.format_changes(&formatted.text, &options);
+            let again = formatter.format_changes(&whole.text, &options);
             assert_eq!(again.map(|found| found.changes.len()), Ok(0));
         }
     }
     let text = formatter.format_changes(b"a\xff", &Options::new());
     assert_eq!(text, Err(Refusal::NotUtf8 { prefix: 1 }));
+}
+
+/// Passes from one to five, and a source that five do not settle: each text is that of one pass more.
+#[test]
+fn formats_until_nothing_changes() {
+    let sources = [
+        ("a\n", 0, 1),
+        ("a ,b", 100, 2),
+        ("price -5", 6, 3),
+        ("+*", 0, 4),
+        ("a-*", 0, 5),
+    ];
+    let mut formatter = Formatter::new();
+    for (source, width, passes) in sources {
+        let options = Options::new().width(Some(width));
+        let stable = formatter.format_stable(source, &options).expect("accepted");
+        assert_eq!((stable.passes, stable.stable), (passes, true), "{source}");
+        let last = (0..passes).fold(source.to_owned(), |source, _| text(&source, &options));
+        assert_eq!(stable.text, last, "{source}");
+        assert_eq!(text(&last, &options), last, "{source}");
+    }
+    let (source, options) = ("import {*-5+**,{then  }", Options::new().width(Some(1)));
+    let stable = format_stable(source, &options).expect("accepted");
+    assert_eq!((stable.passes, stable.stable), (Formatter::PASSES, false));
+    let fourth = (0..4).fold(source.to_owned(), |source, _| text(&source, &options));
+    assert_ne!(stable.text, fourth);
+    assert_eq!(stable.text, text(&fourth, &options));
+    let refused = formatter.format_stable(b"a\xff", &Options::new());
+    assert_eq!(refused, Err(Refusal::NotUtf8 { prefix: 1 }));
+    let again = formatter.format_stable("a ,b", &Options::new());
+    assert_eq!(again.map(|stable| stable.text), Ok("a, b\n"));
+}
+
+/// The formatter's own buffers serve for groups too, of texts longer than the first guess.
+#[test]
+fn groups() {
+    let mut formatter = Formatter::new();
+    let chain = "a".to_owned() + &"+a".repeat(500);
+    let wanted = "(".repeat(500) + "a" + &" + a)".repeat(500);
+    assert_eq!(formatter.group(&chain), Ok(&*wanted));
+    assert_eq!(formatter.group("a"), Ok("a"));
+    assert_eq!(group(&chain), Ok(wanted));
+    let deep = "(".repeat(65) + "a";
+    assert_eq!(group(deep), Err(Refusal::TooDeep { place: 64 }));
+    assert_eq!(group("a = b"), Err(Refusal::NotExpression { place: 3 }));
+    assert_eq!(group(b"a\xff"), Err(Refusal::NotUtf8 { prefix: 1 }));
+    let mut small = Formatter::new().most(4);
+    let refused = small.group("a+b");
+    assert_eq!(refused, Err(Refusal::OutputShort { needed: 7 }));
+}
+
+/// Line and column are not taken for each other, and each place gets its own kind.
+#[test]
+fn tells_text_kinds_of_places() {
+    let source = "'s'\n// c\n\nd";
+    let places = [
+        (0, 1),
+        (1, 0),
+        (1, 3),
+        (2, 0),
+        (3, 0),
+        (3, 9),
+        (u64::MAX, 0),
+    ];
+    let kinds = text_kinds(source, &places).expect("accepted");
+    let wanted = places.map(|(line, column)| text_kind_at(source, line, column));
+    assert_eq!(kinds.into_iter().map(Ok).collect::<Vec<_>>(), wanted);
+    assert_eq!(wanted[..2], [Ok(TextKind::Str), Ok(TextKind::Comment)]);
+    assert_eq!(text_kind_at(source, 1, 0), Ok(TextKind::Comment));
+    assert_eq!(text_kind_at(source, 0, 1), Ok(TextKind::Str));
+    let unordered = Err(Refusal::PlacesUnordered);
+    assert_eq!(text_kinds(source, &[(0, 2), (0, 1)]), unordered);
+    let long = "a".repeat(MAX_SOURCE + 1);
+    assert_eq!(text_kinds(&long, &[(0, 0)]), Err(Refusal::SourceTooLong));
+    assert_eq!(text_kind_at(&long, 0, 0), Err(Refusal::SourceTooLong));
+    assert_eq!(
+        text_kinds(b"ab\xff", &[(0, 0)]),
+        Err(Refusal::NotUtf8 { prefix: 2 })
+    );
 }

@@ -15,14 +15,14 @@ use std::time::Instant;
 
 use runs::random::Random;
 use runs::{config, globs};
-use wirescript_format::editorconfig::{ConfigAnswer, raw};
+use wirescript_format::raw::{self, ConfigAnswer};
 
 fn read(path: &[u8], texts: &[&[u8]]) -> ConfigAnswer {
     let mut eight: [&[u8]; 8] = [&[]; 8];
     for (slot, text) in eight.iter_mut().zip(texts) {
         *slot = text;
     }
-    raw(path, eight)
+    raw::read_editorconfig(path, eight)
 }
 
 /// Whether our reader matches a name with a path of at most seven slashes relative to the top.
@@ -32,7 +32,7 @@ fn ours(name: &str, path: &str) -> bool {
     texts[path.matches('/').count()] = text.as_bytes();
     let answer = read(format!("/{path}").as_bytes(), &texts);
     assert_eq!(answer.refusal, 0, "name {name:?}, path {path:?}");
-    answer.tab_set == 1
+    answer.values.tab_set == 1
 }
 
 fn words(alphabet: &[char], length: usize) -> Vec<String> {
@@ -324,7 +324,7 @@ fn usual_texts() {
     let texts = [near.as_bytes(), far.as_bytes()];
     let start = Instant::now();
     for _ in 0..10_000 {
-        assert_eq!(read(b"src/adder.ws", &texts).size, 4);
+        assert_eq!(read(b"src/adder.ws", &texts).values.size, 4);
     }
     let each = start.elapsed().as_secs_f64() * 100.0;
     println!("two usual texts, four sections: {each:.1} microseconds");
@@ -397,7 +397,7 @@ impl Core {
         let mut answer = ConfigAnswer::default();
         for line in String::from_utf8_lossy(&said).lines() {
             if let Some((key, value)) = line.split_once('=') {
-                config::supersede(&mut answer, key, &value.to_ascii_lowercase());
+                config::supersede(&mut answer.values, key, &value.to_ascii_lowercase());
             }
         }
         answer

@@ -8,7 +8,8 @@ use std::process::ExitCode;
 use std::time::Instant;
 
 use runs::random::Random;
-use wirescript_format::group::{GroupAnswer, group, raw};
+use wirescript_format::group;
+use wirescript_format::raw::{self, GroupAnswer};
 
 /// 02: the operators and how tightly each binds.
 const OPERATORS: [(&str, u32); 21] = [
@@ -167,7 +168,7 @@ fn refused(refusal: u64, place: usize) -> GroupAnswer {
 fn call(source: &[u8], room: usize, expected: &Result<String, Fail>) -> Result<(), String> {
     let mut output = vec![0xAA; room];
     let mut scratch = vec![0x55; 12 * source.len() + 256];
-    let answer = raw(source, &mut output, &mut scratch);
+    let answer = raw::group(source, &mut output, &mut scratch);
     let mut wanted = vec![0; room];
     let awaited = match expected {
         Ok(text) if text.len() <= room => {
@@ -319,7 +320,7 @@ fn readings() -> Result<u64, String> {
     ];
     for (source, place) in places {
         let mut scratch = vec![0; 12 * source.len() + 256];
-        let answer = raw(source.as_bytes(), &mut [], &mut scratch);
+        let answer = raw::group(source.as_bytes(), &mut [], &mut scratch);
         if answer != refused(14, place) {
             return Err(format!("{source}: {answer:?}"));
         }
@@ -331,18 +332,18 @@ fn readings() -> Result<u64, String> {
         (b"a\xff".to_vec(), refused(4, 1)),
     ] {
         let mut scratch = vec![0; 12 * source.len() + 256];
-        let answer = raw(&source, &mut [], &mut scratch);
+        let answer = raw::group(&source, &mut [], &mut scratch);
         if answer != awaited {
             return Err(format!("{source:?}: {answer:?}"));
         }
         let mut short = vec![7; 12 * source.len() + 255];
-        let answer = raw(&source, &mut [], &mut short);
+        let answer = raw::group(&source, &mut [], &mut short);
         if answer != refused(3, 12 * source.len() + 256) || short.iter().any(|b| *b != 0) {
             return Err(format!("scratch: {answer:?}"));
         }
     }
     let long = vec![b'a'; 1_048_577];
-    if raw(&long, &mut [], &mut []) != refused(1, 1_048_576) {
+    if raw::group(&long, &mut [], &mut []) != refused(1, 1_048_576) {
         return Err("a source of 1,048,577 bytes".into());
     }
     Ok((texts.len() + places.len() + 7) as u64)
@@ -357,7 +358,7 @@ fn on_small_stack(source: Vec<u8>, room: usize) -> (f64, GroupAnswer) {
         let mut answer = GroupAnswer::default();
         for _ in 0..5 {
             let start = Instant::now();
-            answer = raw(&source, &mut output, &mut scratch);
+            answer = raw::group(&source, &mut output, &mut scratch);
             best = best.min(start.elapsed().as_secs_f64());
         }
         (best, answer)

@@ -37,16 +37,6 @@ const PIECES: [&str; 12] = [
     "if a {",
 ];
 
-const DEFAULTS: Choices = Choices {
-    indent: b"  ",
-    width_set: 1,
-    width: 100,
-    line_ending: 0,
-    final_newline: 1,
-    ruler_tab: 0,
-    strengths: &Options::BUILT_IN_STRENGTHS,
-};
-
 /// One call with a list of `room` lines: what it answers, and the list, whose guards are checked.
 fn call(
     source: &[u8],
@@ -73,7 +63,8 @@ fn needed(source: &[u8]) -> usize {
 /// the count is of all.
 fn accepted(source: &[u8], counted: &Counted, room: usize) {
     let mut output = vec![0x5a; counted.text.len()];
-    let (answer, list) = call(source, DEFAULTS, &mut output, room, needed(source));
+    let options = Options::new();
+    let (answer, list) = call(source, options.choices(), &mut output, room, needed(source));
     let mut must = counted.open_lines.clone();
     must.resize(room, 0);
     let shown = String::from_utf8_lossy(source);
@@ -110,18 +101,20 @@ fn check(text: &str) -> u64 {
         accepted(source, &counted, room);
     }
     let length = counted.text.len();
-    refused(source, DEFAULTS, length - 1, needed(source), (5, length));
+    let options = Options::new();
+    let defaults = options.choices();
+    refused(source, defaults, length - 1, needed(source), (5, length));
     let sum = needed(source);
-    refused(source, DEFAULTS, length, sum - 1, (3, sum));
+    refused(source, defaults, length, sum - 1, (3, sum));
     let bad = Choices {
         line_ending: 3,
-        ..DEFAULTS
+        ..defaults
     };
     refused(source, bad, length, sum, (2, 0));
     let mut broken = source.to_vec();
     broken.push(0xff);
     let at = source.len();
-    refused(&broken, DEFAULTS, length, needed(&broken), (4, at));
+    refused(&broken, defaults, length, needed(&broken), (4, at));
     (count + 3 - from + 4) as u64
 }
 
@@ -160,6 +153,12 @@ fn main() {
         calls += check(&text);
     }
     let long = vec![b'('; (1 << 20) + 1];
-    refused(&long, DEFAULTS, 0, needed(&long), (1, 1 << 20));
+    refused(
+        &long,
+        Options::new().choices(),
+        0,
+        needed(&long),
+        (1, 1 << 20),
+    );
     println!("{} calls agree", calls + 1);
 }

@@ -1,4 +1,5 @@
-//! A formatter's buffers serve again: the second call on a source allocates nothing.
+//! A formatter's buffers are as long as its sources need, and serve again: the second call on a source allocates
+//! nothing.
 
 use std::alloc::{GlobalAlloc, Layout, System};
 use std::cell::Cell;
@@ -7,6 +8,7 @@ use wirescript_format::{Formatter, Options};
 
 thread_local! {
     static ALLOCATIONS: Cell<u64> = const { Cell::new(0) };
+    static BYTES: Cell<usize> = const { Cell::new(0) };
 }
 
 /// Counts what the thread asks for.
@@ -16,6 +18,7 @@ struct Counting;
 unsafe impl GlobalAlloc for Counting {
     unsafe fn alloc(&self, layout: Layout) -> *mut u8 {
         ALLOCATIONS.set(ALLOCATIONS.get() + 1);
+        BYTES.set(BYTES.get() + layout.size());
         // SAFETY: the caller keeps the rules of `System`.
         unsafe { System.alloc(layout) }
     }
@@ -55,4 +58,14 @@ fn the_second_call_allocates_nothing() {
     ];
     assert!(calls[0].0 > 0, "the first call allocates");
     assert_eq!(calls.map(|(_, second)| second), [0; 5]);
+}
+
+/// The list of open brackets has 8,000 bytes; scratch and output grow with the source.
+#[test]
+fn a_short_source_needs_little() {
+    let before = BYTES.get();
+    let mut formatter = Formatter::new();
+    assert!(formatter.format("f(a ,b)", &Options::new()).is_ok());
+    assert!(formatter.format("f(a, b)", &Options::new()).is_ok());
+    assert!(BYTES.get() - before < 10_000);
 }

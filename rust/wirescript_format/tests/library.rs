@@ -24,6 +24,8 @@ fn formats() {
     assert_eq!(text("\n", &ending(FinalNewline::Never)), "");
     let crlf = options.clone().line_ending(LineEnding::Crlf);
     assert_eq!(text("a\nb", &crlf), "a\r\nb\r\n");
+    let lf = options.clone().line_ending(LineEnding::Lf);
+    assert_eq!(text("a\r\nb\r\n", &lf), "a\nb\n");
     assert_eq!(
         text("a + b*c", &options.clone().width(Some(6))),
         "a\n  + b*c\n"

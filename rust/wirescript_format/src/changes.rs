@@ -67,6 +67,9 @@ pub fn format_changes(source: impl AsRef<[u8]>, options: &Options) -> Result<Cha
 /// assert_eq!(apply(source, &found.changes), format(source, &Options::new())?.text);
 /// # Ok::<(), wirescript_format::Refusal>(())
 /// ```
+///
+/// # Panics
+/// If they are of another source: where a range lies outside of it, within a character, or before the last one's end.
 pub fn apply<Text: AsRef<str>>(source: &str, changes: &[Change<Text>]) -> String {
     let mut text = String::with_capacity(source.len());
     let mut at = 0;

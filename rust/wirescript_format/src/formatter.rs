@@ -226,11 +226,12 @@ impl Formatter {
         source: &[u8],
         call: impl Fn(Lent) -> Answer,
     ) -> Result<Answer, Refusal> {
-        let room = source.len().max(self.last);
-        match call(self.lend(source, room + room / 4 + 256)).accepted() {
-            // the place is the text's length, so the second call has room
+        let room = |length: usize| length.saturating_add(length / 4 + 256);
+        let guess = source.len().max(self.last);
+        match call(self.lend(source, room(guess))).accepted() {
+            // the place is the text's length; with as much more as the next call will ask for
             Err(Refusal::OutputShort { needed }) if size(needed) <= self.most => {
-                call(self.lend(source, size(needed))).accepted()
+                call(self.lend(source, room(size(needed)))).accepted()
             }
             other => other,
         }

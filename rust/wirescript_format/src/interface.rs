@@ -3,7 +3,7 @@
 unsafe extern "C" {
     /// The interface's number is part of the name, so that an archive with other signatures doesn't
     /// link: the error names this symbol. `crates/wirescript/src/interface.rt` exports it. With every
-    /// change of a signature the number rises in that file and in this one.
+    /// change of a signature the number rises in that file, in this one and in `c/wirescript.h`.
     safe fn wirescript_interface_4() -> u64;
 }
 

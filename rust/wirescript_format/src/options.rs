@@ -443,6 +443,36 @@ mod tests {
         assert_eq!(other.choices(), choices);
     }
 
+    /// Each choice, to its number and back.
+    #[test]
+    fn every_choice() {
+        let back = |set: Settings| Options::new().of(set, b"").expect("accepted");
+        let endings = [LineEnding::Kept, LineEnding::Lf, LineEnding::Crlf];
+        for (line_ending, ending) in (0..).zip(endings) {
+            let options = Options::new().line_ending(ending);
+            assert_eq!(options.choices().line_ending, line_ending);
+            let set = Settings {
+                line_ending,
+                ..Settings::default()
+            };
+            assert_eq!(back(set).get_line_ending(), ending);
+        }
+        let newlines = [
+            FinalNewline::AsSource,
+            FinalNewline::Always,
+            FinalNewline::Never,
+        ];
+        for (final_newline, newline) in (0..).zip(newlines) {
+            let options = Options::new().final_newline(newline);
+            assert_eq!(options.choices().final_newline, final_newline);
+            let set = Settings {
+                final_newline,
+                ..Settings::default()
+            };
+            assert_eq!(back(set).get_final_newline(), newline);
+        }
+    }
+
     #[test]
     fn an_answer_becomes_options() {
         let mut set = Settings {

@@ -4,7 +4,6 @@ use alloc::vec::Vec;
 
 /// A place in a text, all numbers from 0.
 #[derive(Clone, Copy, Debug, Default, PartialEq, Eq, PartialOrd, Ord, Hash)]
-#[non_exhaustive]
 pub struct Position {
     /// The line: how many LFs stand before the place.
     pub line: u64,

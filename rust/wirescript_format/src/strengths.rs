@@ -184,37 +184,19 @@ impl<const N: usize> From<&[u8; N]> for Strengths {
 mod tests {
     use super::*;
 
-    /// The list of document 01, by symbol.
+    /// The list of document 01, by symbol, and the order of the table.
     #[test]
     fn built_in() {
-        let strengths = Strengths::new();
-        let listed = [
-            ("||", 1),
-            ("^^", 1),
-            ("&&", 2),
-            ("|", 3),
-            ("^", 4),
-            ("&", 5),
-            ("==", 6),
-            ("!=", 6),
-            ("<", 7),
-            (">", 7),
-            ("<=", 7),
-            (">=", 7),
-            ("<<", 8),
-            (">>", 8),
-            ("..", 9),
-            ("+", 10),
-            ("-", 10),
-            ("*", 11),
-            ("/", 11),
-            ("%", 11),
-            ("**", 12),
-        ];
-        for (operator, (symbol, strength)) in Operator::ALL.into_iter().zip(listed) {
-            assert_eq!(operator.symbol(), symbol);
-            assert_eq!(strengths.get(operator), Some(strength), "{symbol}");
+        let listed = "|| ^^, &&, |, ^, &, == !=, < > <= >=, << >>, .., + -, * / %, **";
+        let mut operators = Operator::ALL.into_iter();
+        for (strength, symbols) in (1..).zip(listed.split(", ")) {
+            for symbol in symbols.split(' ') {
+                let operator = operators.next().expect("an operator");
+                assert_eq!(operator.symbol(), symbol);
+                assert_eq!(Strengths::new().get(operator), Some(strength), "{symbol}");
+            }
         }
+        assert_eq!(operators.next(), None);
     }
 
     /// One strength is set, its neighbours stay, the last bits too.

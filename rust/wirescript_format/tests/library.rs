@@ -24,6 +24,8 @@ fn formats() {
     assert_eq!(text("\n", &ending(FinalNewline::Never)), "");
     let crlf = options.clone().line_ending(LineEnding::Crlf);
     assert_eq!(text("a\nb", &crlf), "a\r\nb\r\n");
+    let lf = options.clone().line_ending(LineEnding::Lf);
+    assert_eq!(text("a\r\nb\r\n", &lf), "a\nb\n");
     assert_eq!(
         text("a + b*c", &options.clone().width(Some(6))),
         "a\n  + b*c\n"
@@ -233,6 +235,24 @@ fn setting_steps() {
         .line_ending(LineEnding::Crlf)
         .final_newline(FinalNewline::Never);
     assert_eq!(options.with_editorconfig(config), Ok(wanted));
+    let config = EditorConfig::new()
+        .with_indent_style(IndentStyle::Spaces)
+        .with_indent_size(IndentSize::Value(3))
+        .with_tab_width(8)
+        .with_max_line_length(MaxLineLength::Value(70))
+        .with_end_of_line(EndOfLine::Lf)
+        .with_insert_final_newline(true);
+    let old = Options::new().final_newline(FinalNewline::AsSource);
+    let wanted = Options::new()
+        .indent("   ")
+        .width(Some(70))
+        .line_ending(LineEnding::Lf);
+    assert_eq!(old.with_editorconfig(config), Ok(wanted));
+    let tabs = EditorConfig::new().with_indent_style(IndentStyle::Tabs);
+    let wanted = Options::new().indent("\t");
+    assert_eq!(options.with_editorconfig(tabs), Ok(wanted));
+    let cr = EditorConfig::new().with_end_of_line(EndOfLine::Cr);
+    assert_eq!(options.with_editorconfig(cr), Ok(options.clone()));
     let unset = EditorConfig::default();
     assert_eq!(options.with_editorconfig(unset), Ok(options));
 }

@@ -46,7 +46,7 @@ fn the_sources_of_folders_are_formatted() {
     folder.holds(&others, SOURCE);
 }
 
-/// With a repository and without; a file that is named is formatted all the same.
+/// With a repository and without; a file or a folder that is named is formatted all the same.
 #[test]
 fn ignored_files_are_left_out() {
     for repository in [false, true] {
@@ -70,8 +70,8 @@ fn ignored_files_are_left_out() {
         folder.write("b/d.gen.ws", SOURCE);
         folder.run(&["b"]).quiet(0);
         assert_eq!(folder.read("b/d.gen.ws"), SOURCE);
-        folder.run(&["a.gen.ws"]).quiet(0);
-        assert_eq!(folder.read("a.gen.ws"), TEXT);
+        folder.run(&["a.gen.ws", "out"]).quiet(0);
+        folder.holds(&["a.gen.ws", "out/a.ws"], TEXT);
     }
 }
 

@@ -23,16 +23,21 @@ pub struct Folder(PathBuf);
 
 impl Folder {
     pub fn new() -> Self {
-        Self::under(&std::env::temp_dir())
+        Self::under(&std::env::temp_dir()).unwrap()
     }
 
-    pub fn under(parent: &Path) -> Self {
+    /// In memory where that can be, so that syncing takes no time.
+    pub fn in_memory() -> Self {
+        Self::under(Path::new("/dev/shm")).unwrap_or_else(|_| Self::new())
+    }
+
+    fn under(parent: &Path) -> io::Result<Self> {
         static COUNT: AtomicUsize = AtomicUsize::new(0);
         let count = COUNT.fetch_add(1, Ordering::Relaxed);
         let folder = Self(parent.join(format!("wirefmt-test-{}-{count}", std::process::id())));
-        fs::create_dir(&folder.0).unwrap();
+        fs::create_dir(&folder.0)?;
         folder.write(".editorconfig", "root = true\n");
-        folder
+        Ok(folder)
     }
 
     pub fn path(&self) -> &Path {

@@ -8,7 +8,7 @@ const MIB: usize = 1_048_576;
 
 #[test]
 fn ten_thousand_files() {
-    let folder = Folder::new();
+    let folder = Folder::in_memory();
     let names: Vec<String> = (0..10_000)
         .map(|file| format!("{}/{file}.ws", file % 97))
         .collect();

@@ -268,7 +268,7 @@ def legend(y):
     return shown
 
 
-CONTRACT = re.compile(r'^pub extern "C" fn (\w+).*?ensures \{ λ r\. ⌜ (\w+)', re.MULTILINE | re.DOTALL)
+CONTRACT = re.compile(r'^pub extern "C" fn (\w+).*?ensures \{ λ r\. ⌜ (?:r ≡ )?(\w+)', re.MULTILINE | re.DOTALL)
 
 
 def calls():
@@ -287,7 +287,7 @@ def head(totals):
     ]
     for n, (name, contract) in enumerate(calls()):
         x, y = MARGIN + n % 3 * 430, 154 + n // 3 * 18
-        shown = f"{name}: {contract if contract != 'r' else 'its number'}"
+        shown = f"{name}: {'its number' if contract.isdigit() else contract}"
         lines.append(text(x, y, SMALL_SIZE + 1, shown))
     return lines, 154 + (len(calls()) + 2) // 3 * 18 + 16
 

@@ -32,12 +32,18 @@ def contract_uses(text, signature):
     return "\n".join(match.group(0) for match in lines)
 
 
+def asking_nothing(name, signature):
+    """A signature and its contract, which must have no requires: the page says so."""
+    assert "requires" not in signature, f"{name} asks something of its caller"
+    return signature
+
+
 def exports():
     """Each exported function with the use lines of its contract."""
     found = {}
     for path in sources(EXPORTER):
         text = path.read_text()
-        found.update({name: contract_uses(text, rest) for name, rest in EXPORT.findall(text)})
+        found.update({name: contract_uses(text, asking_nothing(name, rest)) for name, rest in EXPORT.findall(text)})
     return dict(sorted(found.items()))
 
 
@@ -95,9 +101,19 @@ def shown(path):
     return str(path.relative_to(ROOT))
 
 
+def length(path):
+    return len(path.read_text().splitlines())
+
+
+def extent(files, function):
+    """How much stands behind a function."""
+    own_files = [path for path, calls in files.items() if function in calls]
+    return f"{sum(map(length, own_files)):,} lines in {len(own_files)} files"
+
+
 def table(files, numbers):
     """A line for each file: how long it is, and the numbers of the functions that it is behind."""
-    rows = [(len(path.read_text().splitlines()), shown(path), files[path]) for path in sorted(files, key=order)]
+    rows = [(length(path), shown(path), files[path]) for path in sorted(files, key=order)]
     wide = max(len(name) for _, name, _ in rows)
     lines = [f"{count:5}  {name:{wide}}  {' '.join(str(numbers[f]) for f in calls)}" for count, name, calls in rows]
     return [*lines, f"{sum(row[0] for row in rows):5}  lines in {len(rows)} files"]
@@ -211,7 +227,7 @@ def parts():
     files = {path: calls for path, calls in behind().items() if path.suffix == ".antt"}
     numbers = {name: n for n, name in enumerate(exports(), 1)}
     return {
-        "exports": [f"{n}. `{name}`" for name, n in numbers.items()],
+        "exports": [f"{n}. `{name}`: {extent(files, name)}" for name, n in numbers.items()],
         "files": ["```", *table(files, numbers), "```"],
         "types": listing(declared_types(files)),
         "kit": listing(kit_names(files)),

@@ -1,0 +1,21 @@
+#!/usr/bin/env python3
+"""Fails where a line of a document has more than 120 columns."""
+import sys
+
+from repository import ROOT
+
+MOST = 120
+
+
+def documents():
+    return (path for path in sorted(ROOT.rglob("*.md")) if "target" not in path.parts)
+
+
+def wide(path):
+    lines = enumerate(path.read_text().splitlines(), 1)
+    return [f"{path.relative_to(ROOT)}:{n}: {len(line)} columns" for n, line in lines if len(line) > MOST]
+
+
+found = [line for path in documents() for line in wide(path)]
+print("\n".join(found) or f"no line of a document has more than {MOST} columns")
+sys.exit(bool(found))

@@ -17,6 +17,7 @@ use Rattle.rules.specs.declared.EndOfLine.{EndOfLine}
 use Rattle.rules.specs.declared.FinalNewline.{FinalNewline}
 use Rattle.basics.specs.Depth.{carryDepth}
 use Rattle.split.specs.Text.{AllWell}
+use Rattle.compare.specs.Common.{Keeps}
 use Rattle.text.specs.Text.{Ordered}
 use Rattle.line.specs.Holds.{Record, Holds, Runs, Ready, Stepped, Uses, initial, nextLine, growth}
 use Rattle.line.proofs.HoldsLaws.{initial-holds, initial-runs}
@@ -28,11 +29,11 @@ use Rattle.lines.proofs.LineChars.{lines-well, lines-decode}
 
 -- ---- the line that starts at `at` and those after it
 
-record Next (source : List ℕ) (at e : ℕ) : Type 0 where
-  rest : List (List ℕ)
-  is : linesOf (drop at source) ≡ dropCr (part source at e) ∷ rest
-  here : e + 1 ≤ length source → rest ≡ linesOf (drop (e + 1) source)
-  none : length source < e + 1 → rest ≡ []
+pub record Next (source : List ℕ) (at e : ℕ) : Type 0 where
+  pub rest : List (List ℕ)
+  pub is : linesOf (drop at source) ≡ dropCr (part source at e) ∷ rest
+  pub here : e + 1 ≤ length source → rest ≡ linesOf (drop (e + 1) source)
+  pub none : length source < e + 1 → rest ≡ []
 
 last-line : (s : List ℕ) → Last s → linesOf s ≡ dropCr s ∷ []
 unfolding linesOf
@@ -42,7 +43,7 @@ more-lines : (s : List ℕ) (k : ℕ) → More s k → linesOf s ≡ dropCr (tak
 unfolding linesOf
 more-lines s k e = rw e
 
-next-line : (source : List ℕ) (at e : ℕ) → LineEnd source at e → Next source at e
+pub next-line : (source : List ℕ) (at e : ℕ) → LineEnd source at e → Next source at e
 next-line source at e q = go (split e (length source))
   where
     go : (e < length source) ⊎ (length source ≤ e) → Next source at e
@@ -64,7 +65,7 @@ next-line source at e q = go (split e (length source))
 
 -- ---- the next line is read
 
-read-on : {eol : List ℕ} {unit : ℕ} {f : Formatter} {st : Record} {out scratch : List ℕ} → Holds eol unit f st out scratch → Holds eol unit (readOn f) (nextLine st) out scratch
+pub read-on : {model eol : List ℕ} {unit : ℕ} {f : Formatter} {st : Record} {out scratch : List ℕ} → Holds model eol unit f st out scratch → Holds model eol unit (readOn f) (nextLine st) out scratch
 read-on h =
     record {
       text = h .text;
@@ -94,18 +95,18 @@ someOptions indent style =
     }
 
 -- the lines `left` are still to come, after the definition's record f
-pub record Running (o : Options) (source eol : List ℕ) (left : List (List ℕ)) (st : Record) (out scratch : List ℕ) : Type 0 where
+pub record Running (o : Options) (source model eol : List ℕ) (left : List (List ℕ)) (st : Record) (out scratch : List ℕ) : Type 0 where
   pub f : Formatter
   pub same : formatLines o (linesOf (decode source)) start ≡ formatLines o (map decode left) f
-  pub holds : Holds eol (length source) f st out scratch
+  pub holds : Holds model eol (length source) f st out scratch
 
-pub record Reached (source indent : List ℕ) (style : Style) (out₀ scratch₀ out scratch : List ℕ) (st : Record) (at : ℕ) : Type 0 where
+pub record Reached (source indent : List ℕ) (style : Style) (model out₀ scratch₀ out scratch : List ℕ) (st : Record) (at : ℕ) : Type 0 where
   pub within : at ≤ length source + 1
   pub left : List (List ℕ)
   pub here : at ≤ length source → left ≡ linesOf (drop at source)
   pub none : length source < at → left ≡ []
   pub well : AllWell left
-  pub run : (o : Options) → Uses o indent style → Running o source (asStr (style .ending)) left st out scratch
+  pub run : (o : Options) → Uses o indent style → Running o source model (asStr (style .ending)) left st out scratch
   pub ordered : Ordered (st .text)
   pub place : st .text .at .0 ≤ at * growth
   pub runs : Runs (length source) st scratch
@@ -117,9 +118,9 @@ pub record Reached (source indent : List ℕ) (style : Style) (out₀ scratch₀
   pub as-long : length out ≡ length out₀
   pub as-wide : length scratch ≡ length scratch₀
 
-pub reached-start : (source indent : List ℕ) (style : Style) (out scratch : List ℕ) (st : Record) → Passed source indent scratch → st ≡ initial
-    → Reached source indent style out scratch out scratch st 0
-reached-start source indent style out scratch st p e =
+pub reached-start : (source indent : List ℕ) (style : Style) (model out scratch : List ℕ) (st : Record) → Passed source indent scratch → Keeps model out [] → st ≡ initial
+    → Reached source indent style model out scratch out scratch st 0
+reached-start source indent style model out scratch st p k e =
     rw e
     (record {
       within = zero-le;
@@ -130,7 +131,7 @@ reached-start source indent style out scratch st p e =
       run = λ o u. record {
         f = start;
         same = ap (λ (ls : List (List ℕ)). formatLines o ls start) (sym (lines-decode source (p .well)));
-        holds = initial-holds (asStr (style .ending)) (length source) out scratch;
+        holds = initial-holds model (asStr (style .ending)) (length source) out scratch k;
       };
       ordered = record { cut = omega arith; full = omega arith; below = omega arith };
       place = zero-le;
@@ -145,8 +146,8 @@ reached-start source indent style out scratch st p e =
     })
 
 module _
-    {source indent : List ℕ} {style : Style} {out₀ scratch₀ out scratch : List ℕ} {st : Record} {at : ℕ}
-    (r : Reached source indent style out₀ scratch₀ out scratch st at) (p : Passed source indent scratch₀) (more : at ≤ length source)
+    {source indent : List ℕ} {style : Style} {model out₀ scratch₀ out scratch : List ℕ} {st : Record} {at : ℕ}
+    (r : Reached source indent style model out₀ scratch₀ out scratch st at) (p : Passed source indent scratch₀) (more : at ≤ length source)
     {e : ℕ} (q : LineEnd source at e) {raw : List ℕ} (l : raw ≡ dropCr (part source at e))
   where
     raw-long : length raw ≤ e - at
@@ -166,7 +167,7 @@ module _
           room = omega (arith, p .room, r .as-wide);
         }
 
-    lines-left : (n : Next source at e) → r .left ≡ raw ∷ n .rest
+    pub lines-left : (n : Next source at e) → r .left ≡ raw ∷ n .rest
     lines-left n = r .here more ∙ n .is ∙ rw l
 
     all-well : (n : Next source at e) → AllWell (raw ∷ n .rest)
@@ -176,16 +177,16 @@ module _
     reached-well = all-well (next-line source at e q) .0
 
     module _ {st′ : Record} {out′ scratch′ : List ℕ}
-        (w : (o : Options) → Uses o indent style → Stepped (λ f. anyLine o f (decode raw)) (length raw) (length source) (asStr (style .ending)) st out scratch st′ out′ scratch′)
+        (w : (o : Options) → Uses o indent style → Stepped (λ f. anyLine o f (decode raw)) (length raw) (length source) model (asStr (style .ending)) st out scratch st′ out′ scratch′)
       where
         -- what a step gives for some options
-        stepped : Stepped (λ f. anyLine (someOptions indent style) f (decode raw)) (length raw) (length source) (asStr (style .ending)) st out scratch st′ out′ scratch′
+        pub stepped : Stepped (λ f. anyLine (someOptions indent style) f (decode raw)) (length raw) (length source) model (asStr (style .ending)) st out scratch st′ out′ scratch′
         stepped = w (someOptions indent style) (record { indents = refl; breaks = refl; ruled = refl; strengths = refl })
 
         pub number-fits : st′ .nesting .line + 1 < 2 ^ 64
         number-fits = omega (arith, stepped .line, r .line, p .limit)
 
-        run-on : (n : Next source at e) (o : Options) → Uses o indent style → Running o source (asStr (style .ending)) (n .rest) (nextLine st′) out′ scratch′
+        run-on : (n : Next source at e) (o : Options) → Uses o indent style → Running o source model (asStr (style .ending)) (n .rest) (nextLine st′) out′ scratch′
         unfolding formatLines formatLine
         run-on n o u =
             let k = r .run o u in
@@ -195,7 +196,7 @@ module _
               holds = read-on (w o u .holds (k .f) (k .holds));
             }
 
-        next-reached : length out′ ≡ length out → length scratch′ ≡ length scratch → Reached source indent style out₀ scratch₀ out′ scratch′ (nextLine st′) (e + 1)
+        pub next-reached : length out′ ≡ length out → length scratch′ ≡ length scratch → Reached source indent style model out₀ scratch₀ out′ scratch′ (nextLine st′) (e + 1)
         next-reached eo es =
             let n = next-line source at e q in
             let s = stepped in
@@ -219,18 +220,18 @@ module _
             }
 
         pub reached-more : (next : Record) → next ≡ nextLine st′ → length out′ ≡ length out → length scratch′ ≡ length scratch
-            → Reached source indent style out₀ scratch₀ out′ scratch′ next (e + 1)
-        reached-more next i eo es = subst (λ (x : Record). Reached source indent style out₀ scratch₀ out′ scratch′ x (e + 1)) (sym i) (next-reached eo es)
+            → Reached source indent style model out₀ scratch₀ out′ scratch′ next (e + 1)
+        reached-more next i eo es = subst (λ (x : Record). Reached source indent style model out₀ scratch₀ out′ scratch′ x (e + 1)) (sym i) (next-reached eo es)
 
-pub reached-end : {source indent : List ℕ} {style : Style} {out₀ scratch₀ out scratch : List ℕ} {st : Record} {at : ℕ}
-    → Reached source indent style out₀ scratch₀ out scratch st at → Passed source indent scratch₀ → length source < at
-    → LinesDone source indent style st out scratch
+pub reached-end : {source indent : List ℕ} {style : Style} {model out₀ scratch₀ out scratch : List ℕ} {st : Record} {at : ℕ}
+    → Reached source indent style model out₀ scratch₀ out scratch st at → Passed source indent scratch₀ → length source < at
+    → LinesDone source indent style model st out scratch
 unfolding formatLines
-reached-end {source = source} {style = style} {out = out} {scratch = scratch} {st = st} r p h =
+reached-end {source = source} {style = style} {model = model} {out = out} {scratch = scratch} {st = st} r p h =
     record {
       holds = λ o u. (let k = r .run o u in
           let e : formatLines o (linesOf (decode source)) start ≡ k .f = k .same ∙ ap (λ (ls : List (List ℕ)). formatLines o (map decode ls) (k .f)) (r .none h) in
-          subst (λ (f : Formatter). Holds (asStr (style .ending)) (length source) f st out scratch) (sym e) (k .holds));
+          subst (λ (f : Formatter). Holds model (asStr (style .ending)) (length source) f st out scratch) (sym e) (k .holds));
       small = record { ordered = r .ordered; at = omega (arith, r .place, r .within, p .limit) };
       stack = omega (arith, r .depth, r .within, r .as-wide, p .room);
     }

@@ -1,5 +1,6 @@
 //! Formats files and standard input.
 
+use std::env;
 use std::io::{self, IsTerminal, Write};
 use std::path::Path;
 
@@ -177,9 +178,11 @@ fn diff(source: &Source, text: &str, report: &mut Report) -> bool {
     old != text
 }
 
+/// Colours on a terminal that knows them, unless they are unwanted.
 fn colours() -> &'static Colours {
-    let unwanted = std::env::var_os("NO_COLOR").is_some_and(|value| !value.is_empty());
-    if io::stdout().is_terminal() && !unwanted {
+    let unwanted = env::var_os("NO_COLOR").is_some_and(|value| !value.is_empty());
+    let dumb = env::var_os("TERM").is_some_and(|name| name == "dumb");
+    if io::stdout().is_terminal() && !unwanted && !dumb {
         &Colours::TERMINAL
     } else {
         &Colours::NONE

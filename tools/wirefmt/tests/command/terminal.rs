@@ -1,6 +1,6 @@
 //! On a terminal, which `script` makes.
 
-use std::process::Command;
+use std::process::{Command, Stdio};
 
 use crate::faults::with_fault;
 use crate::folder::{Folder, SOURCE, WIREFMT};
@@ -14,14 +14,15 @@ fn on_terminal(command: &mut Command, line: &str) -> String {
         "--quiet",
         "--return",
         "--command",
-        &format!("{WIREFMT} {line}"),
+        &format!("'{WIREFMT}' {line}"),
         "/dev/null",
     ]);
     script.current_dir(command.get_current_dir().unwrap());
+    script.env("TERM", "xterm").env_remove("NO_COLOR");
     for (name, value) in command.get_envs() {
         script.env(name, value.unwrap());
     }
-    let ran = script.output().unwrap();
+    let ran = script.stdin(Stdio::null()).output().unwrap();
     assert!(ran.status.success(), "{ran:?}");
     // the terminal's own endings
     String::from_utf8(ran.stdout).unwrap().replace("\r\n", "\n")
@@ -54,9 +55,11 @@ fn control_characters_are_shown() {
 fn colours_can_be_refused() {
     let folder = Folder::new();
     folder.write("a.ws", SOURCE);
-    let mut command = folder.command(&NONE);
-    let shown = on_terminal(command.env("NO_COLOR", "1"), "--diff a.ws");
-    assert!(shown.ends_with("\n-f(a ,b)\n+f(a, b)\n"), "{shown}");
+    for (name, value) in [("NO_COLOR", "1"), ("TERM", "dumb")] {
+        let mut command = folder.command(&NONE);
+        let shown = on_terminal(command.env(name, value), "--diff a.ws");
+        assert!(shown.ends_with("\n-f(a ,b)\n+f(a, b)\n"), "{name} {shown}");
+    }
 }
 
 /// Each file takes 20 ms, on as many threads as there are processors.

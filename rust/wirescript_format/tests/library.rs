@@ -357,6 +357,7 @@ fn formats_until_nothing_changes() {
     let (source, options) = ("import {*-5+**,{then  }", Options::new().width(Some(1)));
     let stable = format_stable(source, &options).expect("accepted");
     assert_eq!((stable.passes, stable.stable), (Formatter::PASSES, false));
+    assert_eq!((stable.imports_split, stable.blank_names), (1, 0));
     let fourth = (0..4).fold(source.to_owned(), |source, _| text(&source, &options));
     assert_ne!(stable.text, fourth);
     assert_eq!(stable.text, text(&fourth, &options));

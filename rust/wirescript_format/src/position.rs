@@ -37,16 +37,20 @@ pub struct Position {
 pub fn position(source: impl AsRef<[u8]>, offset: usize) -> Position {
     let source = source.as_ref();
     let before = &source[..offset.min(source.len())];
-    let lines = before.split(|byte| *byte == b'\n');
+    let lines = before.split(|byte| *byte == b'\n').count();
     let last = before.rsplit(|byte| *byte == b'\n').next();
     let start = before.len() - last.map_or(0, <[u8]>::len);
-    within(lines.count() - 1, source, start, offset)
+    // no more than the line, since characters are read ahead
+    let line = source[start..]
+        .split_inclusive(|byte| *byte == b'\n')
+        .next();
+    within(lines - 1, start, line.unwrap_or_default(), offset)
 }
 
 /// Where the lines of a source start, for going from bytes to lines and columns and back.
 ///
 /// Lines are cut at LF; a CR at a line's end is no part of it, as for the formatter. So a source has one line more
-/// than LFs.
+/// than LFs. What it is asked takes no longer than reading the line does.
 ///
 /// ```
 /// use wirescript_format::LineIndex;
@@ -89,7 +93,8 @@ impl<'a> LineIndex<'a> {
     pub fn position(&self, offset: usize) -> Position {
         // the first line starts at 0, so there is one
         let line = self.starts.partition_point(|start| *start <= offset) - 1;
-        within(line, self.source, self.starts[line], offset)
+        let (start, text) = (self.starts[line], self.whole(line));
+        within(line, start, text, offset)
     }
 
     /// The byte at which a line ends, before its LF or CRLF; `None` where there is no such line.
@@ -122,9 +127,15 @@ impl<'a> LineIndex<'a> {
     fn line(&self, line: u64) -> Option<(usize, &'a [u8])> {
         let line = usize::try_from(line).ok()?;
         let start = *self.starts.get(line)?;
-        let next = self.starts.get(line + 1);
-        let text = &self.source[start..next.map_or(self.source.len(), |next| next - 1)];
+        let text = self.whole(line);
+        let text = text.strip_suffix(b"\n").unwrap_or(text);
         Some((start, text.strip_suffix(b"\r").unwrap_or(text)))
+    }
+
+    /// The bytes of a line with its ending.
+    fn whole(&self, line: usize) -> &'a [u8] {
+        let next = self.starts.get(line + 1);
+        &self.source[self.starts[line]..next.map_or(self.source.len(), |next| *next)]
     }
 
     /// The byte of a line at which characters of such widths reach a column.
@@ -164,14 +175,14 @@ fn units(text: &[u8]) -> impl Iterator<Item = Unit> {
     })
 }
 
-/// The place of a byte of a line that starts at `start`.
-fn within(line: usize, source: &[u8], start: usize, offset: usize) -> Position {
+/// The place of a byte of a line, which starts at `start` and is `text` with its ending.
+fn within(line: usize, start: usize, text: &[u8], offset: usize) -> Position {
     let mut place = Position {
         line: line as u64,
         ..Position::default()
     };
     let mut at = start;
-    for unit in units(&source[start..]) {
+    for unit in units(text) {
         at += unit.bytes;
         if at > offset {
             break;
@@ -229,6 +240,19 @@ mod tests {
             let line = u64::from(offset > 5);
             assert_eq!(numbers(place), (line, column, column), "{offset}");
         }
+    }
+
+    /// Places of a long source take no longer than their lines: a tenth of a second, and not minutes.
+    #[test]
+    fn many_places() {
+        let begun = std::time::Instant::now();
+        let source = "ab\n".repeat(300_000);
+        let lines = LineIndex::new(&source);
+        for line in 0..300_000 {
+            let offset = lines.offset(line, 2).expect("a place");
+            assert_eq!(numbers(lines.position(offset)), (line, 2, 2));
+        }
+        assert!(begun.elapsed().as_secs() < 20);
     }
 
     /// A column of each line, and the first that a line hasn't.

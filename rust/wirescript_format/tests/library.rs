@@ -235,6 +235,13 @@ fn setting_steps() {
         .line_ending(LineEnding::Crlf)
         .final_newline(FinalNewline::Never);
     assert_eq!(options.with_editorconfig(config), Ok(wanted));
+    let unset = EditorConfig::default();
+    assert_eq!(options.with_editorconfig(unset), Ok(options));
+}
+
+#[test]
+fn setting_steps_with_sizes() {
+    let options = Options::new();
     let config = EditorConfig::new()
         .with_indent_style(IndentStyle::Spaces)
         .with_indent_size(IndentSize::Value(3))
@@ -252,9 +259,7 @@ fn setting_steps() {
     let wanted = Options::new().indent("\t");
     assert_eq!(options.with_editorconfig(tabs), Ok(wanted));
     let cr = EditorConfig::new().with_end_of_line(EndOfLine::Cr);
-    assert_eq!(options.with_editorconfig(cr), Ok(options.clone()));
-    let unset = EditorConfig::default();
-    assert_eq!(options.with_editorconfig(unset), Ok(options));
+    assert_eq!(options.with_editorconfig(cr), Ok(options));
 }
 
 /// The options that a refused step was asked of are still there, and still serve.
@@ -352,6 +357,7 @@ fn formats_until_nothing_changes() {
     let (source, options) = ("import {*-5+**,{then  }", Options::new().width(Some(1)));
     let stable = format_stable(source, &options).expect("accepted");
     assert_eq!((stable.passes, stable.stable), (Formatter::PASSES, false));
+    assert_eq!((stable.imports_split, stable.blank_names), (1, 0));
     let fourth = (0..4).fold(source.to_owned(), |source, _| text(&source, &options));
     assert_ne!(stable.text, fourth);
     assert_eq!(stable.text, text(&fourth, &options));

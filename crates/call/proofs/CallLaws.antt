@@ -90,12 +90,12 @@ pub refused-call : (why : Refusal) (scratch : List ℕ) (n k m : ℕ) {r : ℕ} 
     → Told (openLines (stacked scratch 0 0)) k m r list work → RefusedCall why n k m (Outcome.Refused why) out list work
 refused-call why scratch n k m z w = record { outcome = refl; zeros = z; none = none-told scratch w; cleared = w .cleared }
 
--- out₁ is what `format_lines` leaves of the output, out₂ what `finish_text` leaves of it; list₁ and scratch₂ are what `list_open` leaves
+-- out₁ is what `read_lines` leaves of the output, out₂ what `finish_text` leaves of it; list₁ and scratch₂ are what `list_open` leaves
 module _
     (source indent : List ℕ) (chosen : FormatOptions) (ending : LineEnding) (last : Bool) (st : Record)
     (out₀ list₀ scratch₀ out₁ scratch₁ out₂ list₁ scratch₂ : List ℕ) (n r : ℕ)
     (e : ending ≡ endingOf (chosen .«end_of_line») (decode source))
-    (l : LinesDone source indent (record { width = chosen .«print_width»; ruler = chosen .«ruler_tab»; ending = ending; strengths = chosen .strengths }) st out₁ scratch₁)
+    (l : LinesDone source indent (record { width = chosen .«print_width»; ruler = chosen .«ruler_tab»; ending = ending; strengths = chosen .strengths }) [] st out₁ scratch₁)
     (k : (eol : List ℕ) → choose last eol [] ≡ lastEnding (chosen .«insert_final_newline») (decode source) eol)
     (w : Finished (asStr ending) (choose last (asStr ending) []) out₁ (st .text) out₂ n)
     (eo : length out₁ ≡ length out₀) (es : length scratch₁ ≡ length scratch₀) (ef : length out₂ ≡ length out₁)
@@ -103,7 +103,7 @@ module _
     abbrev o : Options
     o = optionsWith indent chosen
 
-    held-here : Holds (asStr ending) (length source) (formattedLines o source) st out₁ scratch₁
+    held-here : Holds [] (asStr ending) (length source) (formattedLines o source) st out₁ scratch₁
     held-here = l .holds o (record { indents = refl; breaks = refl; ruled = refl; strengths = refl })
 
     text-is : formatWith o (decode source) .text ≡ joined (asStr ending) (dropEmpty (formattedLines o source .lines)) ++ choose last (asStr ending) []
@@ -245,7 +245,7 @@ module _
           ∙ ap (λ (x : List ℕ). heldNamed (record { indent = indent; numbers = numbers; strengths = x }))
           (reads (whole-table table (head-passed _ _ (first-tests ∙ e))))
 
-      admits : Admitted source (c .choices) (length scratch)
+      pub admits : Admitted source (c .choices) (length scratch)
       admits = admitted source (c .choices) (length scratch) (first-tests ∙ e)
 
       indent-is : ValidIndent indent
@@ -261,7 +261,7 @@ module _
       passed =
           record { limit = admits .reads .short; well = test-wf source (admits .reads .well); indents = indent-is; room = omega (arith, admits .reads .room) }
 
-      options-held : t .options ≡ held (optionsOf (c .choices))
+      pub options-held : t .options ≡ held (optionsOf (c .choices))
       options-held = named-options (c .choices) t named-here (bad-is ∙ rw (admits .valid))
 
       pub ruler-small : t .options .«ruler_tab» ≤ maxRuler

@@ -21,7 +21,7 @@ use rules::Outcome;
 use rules::Refusal;
 
 // The ending that the text's lines get: set, or the one that most of the source's lines have.
-fn ending_of(end_of_line: EndOfLine, source: &[u8]) -> LineEnding
+pub fn ending_of(end_of_line: EndOfLine, source: &[u8]) -> LineEnding
     requires { ⌜ WellFormed (now source) ⌝ }
     ensures { λ r. ⌜ r ≡ endingOf «end_of_line» (decode (now (source .entry))) ⌝ }
 {
@@ -32,7 +32,7 @@ fn ending_of(end_of_line: EndOfLine, source: &[u8]) -> LineEnding
 }
 
 // Whether one more ending follows the text: always, if the source ends in LF, or never.
-fn has_last_ending(newline: FinalNewline, source: &[u8]) -> bool
+pub fn has_last_ending(newline: FinalNewline, source: &[u8]) -> bool
     requires { ⌜ WellFormed (now source) ⌝ }
     ensures { λ r. ⌜ ((eol : List ℕ) → choose r eol [] ≡ lastEnding newline (decode (now (source .entry))) eol) ⌝ }
 {
@@ -78,7 +78,8 @@ pub fn format_with(
         ending,
         strengths,
     };
-    let st = lines::format_lines(source, indent, style, output, scratch);
+    let read = lines::read_lines(source, indent, style, false, b"", output, scratch);
+    let st = read.st;
     let t = st.text;
     let last = has_last_ending(newline, source);
     let n = text::finish_text(output, t, ending, last);

@@ -22,7 +22,7 @@ pub const FORMAT_SCRATCH: usize = 12;
 pub const MAX_RULER: u64 = 16;
 
 // Refusals 12, 13, 1, 2, 11, 3 and 4, in this order.
-fn test(
+pub fn test(
     strengths: &[u8],
     source: &[u8],
     bad_option: bool,

@@ -28,7 +28,7 @@ use Rattle.line_ends.specs.LineEnds.{LineEnd}
 use Rattle.lines.specs.Lines.{Passed, Starts, LinesDone, wholeText, answerAt, Differs, AllRead}
 use Rattle.lines.specs.declared.LinesRead.{LinesRead}
 use Rattle.lines.proofs.LineChars.{lines-decode}
-use Rattle.lines.proofs.LoopLaws.{Reached, reached-start, reached-end, next-line, lines-left, read-on, stepped, next-reached}
+use Rattle.lines.proofs.LoopLaws.{Reached, reached-start, reached-end, next-line, lines-left, read-on, stepped, next-reached, next-left}
 
 -- ---- whether the settled text is a beginning of the model
 
@@ -47,6 +47,18 @@ settled-chars : (source eol : List ℕ) (ls : List (List ℕ)) (text : List ℕ)
 settled-chars source eol ls text w s b =
     ap (λ (x : List ℕ). startsWith x (encode (closed eol (settledLines ls)))) (sym w)
     ∙ starts-bytes (decode source) (closed eol (settledLines ls)) (decode-scalars source) (scalars-left (closed eol (settledLines ls)) (b .more) (rw (b .is) at s))
+
+-- in the terms of `differs`
+not-not : (b : Bool) → not (not b) ≡ b
+not-not true = refl
+not-not false = refl
+
+pub differs-told : (checks : Bool) (model out : List ℕ) (k : ℕ) (r : Bool) → checks ≡ true → Tells model out k r → Differs checks model out k (not r)
+differs-told checks model out k r e t =
+    record { off = λ h. absurd (true≢false (sym e ∙ h)); told = λ h. subst (Tells model out k) (sym (not-not r)) t }
+
+pub differs-off : (checks : Bool) (model out : List ℕ) (k : ℕ) → checks ≡ false → Differs checks model out k false
+differs-off checks model out k e = record { off = λ h. refl; told = λ h. absurd (true≢false (sym h ∙ e)) }
 
 -- ---- the definition's answer, after some lines
 
@@ -170,7 +182,7 @@ module _
     looked-more f eo es =
         record {
           reached = next-reached (r .reached) p more q l w eo es;
-          check = λ c m o u s. record {
+          check = λ c m o u s. subst (λ (ls : List (List ℕ)). Checking o source eol ls (nextLine st′) out′ scratch′) (sym (next-left (r .reached) p more q l w eo es)) (record {
             f = after c m o u s;
             lines = lines-on c m o u s;
             holds = holds-on c m o u s;
@@ -178,7 +190,7 @@ module _
                 checks-on c m o u s
                 ∙ check-next o (decode source) eol (decode raw) (map decode rest) (now c m o u s .f) (st .nesting .line) (sym (test c m o u s) ∙ ap not f)
                 ∙ ap (checkLines o (decode source) eol (map decode rest) (after c m o u s)) number;
-          };
+          });
         }
 
     pub looked-stop : d ≡ true → AllRead source indent style checks model (record { st = nextLine st′; all = false }) out′ scratch′

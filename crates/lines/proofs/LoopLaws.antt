@@ -219,9 +219,9 @@ module _
               as-wide = es ∙ r .as-wide;
             }
 
-        pub reached-more : (next : Record) → next ≡ nextLine st′ → length out′ ≡ length out → length scratch′ ≡ length scratch
-            → Reached source indent style model out₀ scratch₀ out′ scratch′ next (e + 1)
-        reached-more next i eo es = subst (λ (x : Record). Reached source indent style model out₀ scratch₀ out′ scratch′ x (e + 1)) (sym i) (next-reached eo es)
+        pub next-left : (eo : length out′ ≡ length out) (es : length scratch′ ≡ length scratch) → next-reached eo es .left ≡ next-line source at e q .rest
+        unfolding next-reached
+        next-left eo es = refl
 
 pub reached-end : {source indent : List ℕ} {style : Style} {model out₀ scratch₀ out scratch : List ℕ} {st : Record} {at : ℕ}
     → Reached source indent style model out₀ scratch₀ out scratch st at → Passed source indent scratch₀ → length source < at

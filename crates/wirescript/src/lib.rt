@@ -1,6 +1,7 @@
 // What a host links.
 pub mod caret;
 pub mod changes;
+pub mod checking;
 mod config;
 pub mod editorconfig;
 pub mod grouping;

@@ -1,25 +1,26 @@
-use mathlib.Core.Path.{refl}
+use mathlib.Core.Path.{_∙_}
 use native.Mathlib.Omega.{arith}
+use borrow.Author.Needs.{needs}
 use Prim.Native.Nat.{_-_, _+_}
 use lib.ListN.{length}
-use Rattle.lines.proofs.LoopLaws.{Reached, reached-start, reached-ready, reached-well, number-fits, reached-more, reached-end}
-use borrow.Author.Needs.{needs}
-use Rattle.lines.proofs.format_lines.Statement.{statement}
-use Rattle.lines.proofs.format_lines.Tie as tie
+use Rattle.lines.proofs.LoopLaws.{reached-ready, reached-well, number-fits}
+use Rattle.lines.proofs.CheckLaws.{Looked, looked-start, looked-more, looked-stop, looked-end}
+use Rattle.lines.proofs.read_lines.Statement.{statement}
+use Rattle.lines.proofs.read_lines.Tie as tie
 
 abbrev Inv-loop : tie.InvT-loop
-Inv-loop source indent style out₀ scratch₀ unit st₀ at₀ out scratch st at = Reached source indent style out₀ scratch₀ out scratch st at
+Inv-loop source indent style checks model out₀ scratch₀ unit st₀ at₀ out scratch st at = Looked source indent style checks model out₀ scratch₀ out scratch st at
 
 abbrev μ-loop : tie.MeasureT-loop
-μ-loop source indent style out₀ scratch₀ unit st₀ at₀ out scratch st at = length source + 1 - at
+μ-loop source indent style checks model out₀ scratch₀ unit st₀ at₀ out scratch st at = length source + 1 - at
 
 new-requires : tie.Need-new-requires Inv-loop μ-loop
 new-requires c κs = search needs
 
 loop-holds : tie.Need-loop-holds Inv-loop μ-loop
 loop-holds c =
-    let s = c .before .before .before .before .before in
-    reached-start _ _ _ _ _ _ (s .pre) (c .new .ensures)
+    let s = c .before .before .before .before .before .before in
+    looked-start _ _ _ _ _ _ _ _ (s .pre .0) (s .pre .1) (c .new .ensures)
 
 line-end-requires : tie.Need-line-end-requires Inv-loop μ-loop
 line-end-requires c κs = search needs
@@ -39,45 +40,54 @@ without-cr-requires c κs = search needs
 line-step-requires : tie.Need-line-step-requires Inv-loop μ-loop
 line-step-requires c κs =
     let a = c .before .before in
-    let b = a .before .before in
-    let d = b .before .before in
-    let s = d .before .before .before .before .before .before in
-    let i = d .loop .inv in
-    (reached-ready i (s .pre) (omega arith) (b .line-end .ensures) (a .without-cr .ensures), (reached-well i (s .pre) (omega arith) (b .line-end .ensures) (a .without-cr .ensures), s .pre .indents))
+    let q = c .before .before .before .before in
+    let s = c .before .before .before .before .before .before .before .before .before .before .before .before .before in
+    let i = c .before .before .before .before .before .before .loop .inv .reached in
+    (reached-ready i (s .pre .0) (omega arith) (q .line-end .ensures) (a .without-cr .ensures), (reached-well i (s .pre .0) (omega arith) (q .line-end .ensures) (a .without-cr .ensures), s .pre .0 .indents))
 
 add-next : tie.Need-add-next Inv-loop μ-loop
 add-next c =
     omega (
       arith,
-      number-fits (c .before .before .before .before .before .before .before .before .before .before .before .before .loop .inv) (c .before .before .before .before .before .before .before .before .before .before .before .before .before .before .before .before .before .before .pre) (omega arith) (c .before .before .before .before .before .before .before .before .before .before .line-end .ensures) (c .before .before .before .before .before .before .before .before .without-cr .ensures)
-          (c .before .before .before .before .before .line-step .ensures),
+      number-fits (c .before .before .before .before .before .before .before .before .before .before .before .before .loop .inv .reached) (c .before .before .before .before .before .before .before .before .before .before .before .before .before .before .before .before .before .before .before .pre .0) (omega arith) (c .before .before .before .before .before .before .before .before .before .before .line-end .ensures) (c .before .before .before .before .before .before .before .before .without-cr .ensures) (c .before .before .before .before .before .line-step .ensures),
     )
 
 add-at : tie.Need-add-at Inv-loop μ-loop
-add-at c = omega (arith, c .before .before .before .before .before .before .before .before .before .before .before .line-end .ensures .fits, c .before .before .before .before .before .before .before .before .before .before .before .before .before .before .before .before .before .before .before .pre .limit)
+add-at c = omega (arith, c .before .before .before .before .before .before .before .before .before .before .before .line-end .ensures .fits, c .before .before .before .before .before .before .before .before .before .before .before .before .before .before .before .before .before .before .before .before .pre .0 .limit)
 
-loop-less : tie.Need-loop-less Inv-loop μ-loop
-loop-less c = omega (arith, c .before .before .before .before .before .before .before .before .before .before .before .line-end .ensures .from, c .before .before .before .before .before .before .before .before .before .before .before .before .loop-test .taken)
-
-loop-again : tie.Need-loop-again Inv-loop μ-loop
-loop-again c =
-    reached-more (c .before .before .before .before .before .before .before .before .before .before .before .before .before .loop .inv) (c .before .before .before .before .before .before .before .before .before .before .before .before .before .before .before .before .before .before .before .pre) (omega arith) (c .before .before .before .before .before .before .before .before .before .before .before .line-end .ensures) (c .before .before .before .before .before .before .before .before .before .without-cr .ensures)
-    (c .before .before .before .before .before .before .line-step .ensures) _ refl (c .before .before .before .before .before .out .given) (c .before .before .before .scratch .given)
+differs-requires : tie.Need-differs-requires Inv-loop μ-loop
+differs-requires c κs = search needs
 
 same-length : tie.Need-same-length Inv-loop μ-loop
-same-length c = search needs
+same-length c = c .before .before .before .before .before .before .before .before .before .out .given ∙ c .before .before .before .before .before .before .before .before .before .before .before .before .before .before .before .before .before .loop .inv .reached .as-long
 
 same-length-2 : tie.Need-same-length-2 Inv-loop μ-loop
-same-length-2 c = search needs
+same-length-2 c = c .before .before .before .before .before .before .before .scratch .given ∙ c .before .before .before .before .before .before .before .before .before .before .before .before .before .before .before .before .before .loop .inv .reached .as-wide
 
 returns : tie.Need-returns Inv-loop μ-loop
 returns c =
-    let a = c .before in
-    let s = a .before .before .before .before .before .before in
-    reached-end (a .loop .inv) (s .pre) (omega arith)
+    looked-stop (c .before .before .before .before .before .before .before .before .before .before .before .before .before .before .before .before .before .loop .inv) (c .before .before .before .before .before .before .before .before .before .before .before .before .before .before .before .before .before .before .before .before .before .before .before .before .pre .0) (omega arith) (c .before .before .before .before .before .before .before .before .before .before .before .before .before .before .before .line-end .ensures) (c .before .before .before .before .before .before .before .before .before .before .before .before .before .without-cr .ensures) (c .before .before .before .before .before .before .before .before .before .before .line-step .ensures)
+    (c .before .differs .ensures) (c .if1 .taken)
 
-pub format-lines-spec : {M : Type 1} → statement M
-format-lines-spec =
+loop-less : tie.Need-loop-less Inv-loop μ-loop
+loop-less c = omega (arith, c .before .before .before .before .before .before .before .before .before .before .before .before .before .before .before .line-end .ensures .from, c .before .before .before .before .before .before .before .before .before .before .before .before .before .before .before .before .loop-test .taken)
+
+loop-again : tie.Need-loop-again Inv-loop μ-loop
+loop-again c =
+    looked-more (c .before .before .before .before .before .before .before .before .before .before .before .before .before .before .before .before .before .loop .inv) (c .before .before .before .before .before .before .before .before .before .before .before .before .before .before .before .before .before .before .before .before .before .before .before .before .pre .0) (omega arith) (c .before .before .before .before .before .before .before .before .before .before .before .before .before .before .before .line-end .ensures) (c .before .before .before .before .before .before .before .before .before .before .before .before .before .without-cr .ensures) (c .before .before .before .before .before .before .before .before .before .before .line-step .ensures)
+    (c .before .differs .ensures) (c .if1 .left) (c .before .before .before .before .before .before .before .before .before .out .given) (c .before .before .before .before .before .before .before .scratch .given)
+
+same-length-3 : tie.Need-same-length-3 Inv-loop μ-loop
+same-length-3 c = search needs
+
+same-length-4 : tie.Need-same-length-4 Inv-loop μ-loop
+same-length-4 c = search needs
+
+returns-2 : tie.Need-returns-2 Inv-loop μ-loop
+returns-2 c = looked-end (c .before .loop .inv) (c .before .before .before .before .before .before .before .before .pre .0) (omega arith)
+
+pub read-lines-spec : {M : Type 1} → statement M
+read-lines-spec =
     tie.close
     (tie.spec
     Inv-loop
@@ -92,8 +102,12 @@ format-lines-spec =
     line-step-requires
     add-next
     add-at
-    loop-less
-    loop-again
+    differs-requires
     same-length
     same-length-2
-    returns)
+    returns
+    loop-less
+    loop-again
+    same-length-3
+    same-length-4
+    returns-2)

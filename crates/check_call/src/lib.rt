@@ -40,12 +40,7 @@ fn equals(source: &[u8], cell: &[u8], n: usize) -> bool
 }
 
 // The lines of the source, compared with it, and the finish.
-fn check_with(
-    source: &[u8],
-    indent: &[u8],
-    chosen: FormatOptions,
-    scratch: &mut [u8],
-) -> Finding
+fn check_with(source: &[u8], indent: &[u8], chosen: FormatOptions, scratch: &mut [u8]) -> Finding
     requires { ⌜ Passed (now source) (now indent) (now scratch) ⌝ }
     requires { ⌜ chosen .«ruler_tab» ≤ maxRuler ⌝ }
     ensures { λ r. ⌜ CheckedWith (optionsWith (now (indent .entry)) chosen) (now (source .entry)) r ⌝ }

@@ -48,20 +48,6 @@ initial =
       blanks = 0;
     }
 
--- the next source line is read
-abbrev pub nextLine : Record → Record
-nextLine st =
-    record {
-      text = st .text;
-      nesting = record { depth = st .nesting .depth; levels = st .nesting .levels; line = st .nesting .line + 1 };
-      blank = st .blank;
-      prev = st .prev;
-      ignore = st .ignore;
-      carry = st .carry;
-      imports = st .imports;
-      blanks = st .blanks;
-    }
-
 -- The code's state st, the output or what a comparison with the model keeps, and the scratch hold the definition's record f.
 pub record Holds (model eol : List ℕ) (unit : ℕ) (f : Formatter) (st : Record) (out scratch : List ℕ) : Type 0 where
   pub text : Text model eol (f .lines) (st .text) out

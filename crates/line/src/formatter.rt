@@ -1,7 +1,6 @@
 // The formatter's record, by value.
 ghost use mathlib.Core.Path.{_≡_};
-ghost use Prim.Native.Nat.{_+_, _<_, _^_};
-ghost use Rattle.line.specs.Holds.{initial, nextLine, prevOf};
+ghost use Rattle.line.specs.Holds.{initial, prevOf};
 use brackets::Nesting;
 use format::words::Declaration;
 use rules::Carry;
@@ -23,14 +22,15 @@ pub fn prev_of(line: &[u8]) -> Prev
 }
 
 // Of the open brackets it keeps how many there are and how many of them added a level, with the number of the line that is read; they lie in scratch.
-// Of the previous line it keeps what later lines ask.
+// Of the previous line it keeps what later lines ask. carry stands before ignore, since the gap after the three bytes
+// is then one byte, and is copied in a register.
 pub struct Formatter {
     pub text: Written,
     pub nesting: Nesting,
     pub blank: bool,
     pub prev: Prev,
-    pub ignore: Ignore,
     pub carry: Carry,
+    pub ignore: Ignore,
     pub imports: usize,
     pub blanks: usize,
 }
@@ -52,36 +52,10 @@ impl Formatter {
                 declares: Declaration::Nothing,
                 brace: false,
             },
-            ignore: Ignore::Nothing,
             carry: Carry::Code,
+            ignore: Ignore::Nothing,
             imports: 0,
             blanks: 0,
-        }
-    }
-
-    // The next source line is read.
-    pub fn next_line(self) -> Self
-        requires { ⌜ self .nesting .line + 1 < 2 ^ 64 ⌝ }
-        ensures { λ r. ⌜ r ≡ nextLine self ⌝ }
-    {
-        let text = self.text;
-        let nesting = self.nesting;
-        let prev = self.prev;
-        let ignore = self.ignore;
-        let carry = self.carry;
-        Self {
-            text,
-            nesting: Nesting {
-                depth: nesting.depth,
-                levels: nesting.levels,
-                line: nesting.line + 1,
-            },
-            blank: self.blank,
-            prev,
-            ignore,
-            carry,
-            imports: self.imports,
-            blanks: self.blanks,
         }
     }
 }

@@ -21,14 +21,14 @@ use Rattle.check_rules.proofs.SettledLaws.{Begins, joined-begins, settled-begin
 use Rattle.check_rules.proofs.ByteLaws.{starts-bytes}
 use Rattle.text.specs.Text.{Text}
 use Rattle.text.specs.declared.Written.{Written}
-use Rattle.line.specs.Holds.{Record, Holds, Stepped, Uses, initial, nextLine}
+use Rattle.line.specs.Holds.{Record, Holds, Stepped, Uses, initial}
 use Rattle.line.proofs.HoldsLaws.{initial-holds}
 use Rattle.line.specs.declared.style.Style.{Style}
 use Rattle.line_ends.specs.LineEnds.{LineEnd}
 use Rattle.lines.specs.Lines.{Passed, Starts, LinesDone, wholeText, answerAt, Differs, AllRead}
 use Rattle.lines.specs.declared.LinesRead.{LinesRead}
 use Rattle.lines.proofs.LineChars.{lines-decode}
-use Rattle.lines.proofs.LoopLaws.{Reached, reached-start, reached-end, next-line, lines-left, read-on, stepped, next-reached, next-left}
+use Rattle.lines.proofs.LoopLaws.{nextLine, Reached, reached-start, reached-end, next-line, lines-left, read-on, stepped, next-reached, next-left}
 
 -- ---- whether the settled text is a beginning of the model
 

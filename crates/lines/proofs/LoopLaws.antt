@@ -19,7 +19,7 @@ use Rattle.basics.specs.Depth.{carryDepth}
 use Rattle.split.specs.Text.{AllWell}
 use Rattle.compare.specs.Common.{Keeps}
 use Rattle.text.specs.Text.{Ordered}
-use Rattle.line.specs.Holds.{Record, Holds, Runs, Ready, Stepped, Uses, initial, nextLine, growth}
+use Rattle.line.specs.Holds.{Record, Holds, Runs, Ready, Stepped, Uses, initial, growth}
 use Rattle.line.proofs.HoldsLaws.{initial-holds, initial-runs}
 use Rattle.line.specs.declared.style.Style.{Style}
 use Rattle.line_ends.specs.LineEnds.{LineEnd}
@@ -64,6 +64,19 @@ next-line source at e q = go (split e (length source))
         }
 
 -- ---- the next line is read
+
+abbrev pub nextLine : Record → Record
+nextLine st =
+    record {
+      text = st .text;
+      nesting = record { depth = st .nesting .depth; levels = st .nesting .levels; line = st .nesting .line + 1 };
+      blank = st .blank;
+      prev = st .prev;
+      ignore = st .ignore;
+      carry = st .carry;
+      imports = st .imports;
+      blanks = st .blanks;
+    }
 
 pub read-on : {model eol : List ℕ} {unit : ℕ} {f : Formatter} {st : Record} {out scratch : List ℕ} → Holds model eol unit f st out scratch → Holds model eol unit (readOn f) (nextLine st) out scratch
 read-on h =

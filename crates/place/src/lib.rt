@@ -28,8 +28,8 @@ use split_import::ImportSplit;
 use split_import::split_import;
 use split_operation::OperationSplit;
 use split_operation::split_operation;
-use text::Last;
 use text::Adding;
+use text::Last;
 use text::Written;
 use unicode::Utf16Column;
 

@@ -86,13 +86,7 @@ pub fn append_ending(model: &[u8], out: &mut [u8], at: usize, ending: LineEnding
 }
 
 // The line ending before a line, but not before the first.
-fn separate(
-    model: &[u8],
-    out: &mut [u8],
-    at: usize,
-    ending: LineEnding,
-    first: bool,
-) -> usize
+fn separate(model: &[u8], out: &mut [u8], at: usize, ending: LineEnding, first: bool) -> usize
     requires { ⌜ at + 2 < 2 ^ 64 ⌝ }
     ensures { λ r. ⌜ Compared (now (model .entry)) (now (out .entry)) (now (out .exit)) at (sepBy (asStr ending) first) r ⌝ }
 {
@@ -214,13 +208,7 @@ pub fn push_line(
 }
 
 // A space and line, a trimmed else, after the newest line trimmed at its end. joins tells whether line ends in `}`.
-pub fn join_else(
-    model: &[u8],
-    out: &mut [u8],
-    t: Written,
-    line: &[u8],
-    joins: bool,
-) -> Written
+pub fn join_else(model: &[u8], out: &mut [u8], t: Written, line: &[u8], joins: bool) -> Written
     requires { ⌜ ElseLine (now line) joins ⌝ }
     requires { ⌜ t .cut ≤ t .at .0 ⌝ }
     requires { ⌜ t .at .0 + 1 + length (now line) < 2 ^ 64 ⌝ }

@@ -4,10 +4,8 @@
 # A call whose output is found too short is made again with a larger one, and both are counted.
 set -euo pipefail
 cd "$(dirname "$0")"
-cargo build --release --quiet --package runs --bin bench
-bench=${CARGO_TARGET_DIR:-target}/release/bench
+source ./callgrind.sh
 "$bench" --names | while read -r name; do
-  log=$(valgrind --tool=callgrind --callgrind-out-file=/dev/null --toggle-collect=wirescript_format \
-    "$bench" --once "$name" 2>&1)
+  log=$(profile "$name" /dev/null)
   printf '%s\t%s\n' "$name" "$(sed -n 's/.*Collected : *//p' <<< "$log")"
 done

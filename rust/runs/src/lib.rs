@@ -1,6 +1,7 @@
 //! Runs beside the Rust formatter: sources and options, what each call must come to, and
 //! the comparison.
 
+pub mod bench;
 pub mod call;
 pub mod compare;
 pub mod config;

@@ -124,6 +124,7 @@ mod tests {
     use alloc::format;
     use alloc::string::String;
     use alloc::vec;
+    use alloc::vec::Vec;
 
     #[test]
     fn every_value_comes_through() {
@@ -185,15 +186,20 @@ mod tests {
         }
     }
 
-    /// The eighth text counts, a ninth doesn't.
+    /// Each text speaks of its own directory; the eighth counts, a ninth doesn't.
     #[test]
     fn eight_texts() {
-        let size = |n: usize| {
+        let path = "0/1/2/3/4/5/6/7/8/a.ws";
+        let names: Vec<&str> = path.split('/').rev().collect();
+        for nth in 0..9 {
+            // the path from the nth directory on, which no other directory has
+            let mut relative: Vec<&str> = names[..=nth].to_vec();
+            relative.reverse();
             let mut texts = vec![String::new(); 9];
-            texts[n] = "[*]\ntab_width=2\n".into();
-            EditorConfig::read("a/b/c/d/e/f/g/h/i", &texts).map(|c| c.tab_width)
-        };
-        assert_eq!((size(7), size(8)), (Ok(Some(2)), Ok(None)));
+            texts[nth] = format!("[/{}]\ntab_width=2\n", relative.join("/"));
+            let found = EditorConfig::read(path, &texts).map(|config| config.tab_width);
+            assert_eq!(found, Ok((nth < 8).then_some(2)), "{nth}");
+        }
     }
 
     #[test]

@@ -241,7 +241,6 @@ fn setting_steps() {
 
 #[test]
 fn setting_steps_with_sizes() {
-    let options = Options::new();
     let config = EditorConfig::new()
         .with_indent_style(IndentStyle::Spaces)
         .with_indent_size(IndentSize::Value(3))
@@ -255,11 +254,54 @@ fn setting_steps_with_sizes() {
         .width(Some(70))
         .line_ending(LineEnding::Lf);
     assert_eq!(old.with_editorconfig(config), Ok(wanted));
-    let tabs = EditorConfig::new().with_indent_style(IndentStyle::Tabs);
-    let wanted = Options::new().indent("\t");
-    assert_eq!(options.with_editorconfig(tabs), Ok(wanted));
-    let cr = EditorConfig::new().with_end_of_line(EndOfLine::Cr);
-    assert_eq!(options.with_editorconfig(cr), Ok(options));
+}
+
+/// Each value alone changes its own option.
+#[test]
+fn setting_steps_with_one_value() {
+    let (new, options) = (EditorConfig::new, Options::new);
+    let newline = options().final_newline(FinalNewline::AsSource);
+    let cases = [
+        (
+            new().with_indent_style(IndentStyle::Tabs),
+            options().indent("\t"),
+        ),
+        (
+            new().with_indent_size(IndentSize::Value(4)),
+            options().indent("    "),
+        ),
+        (new().with_tab_width(3), options().indent("   ")),
+        (
+            new().with_max_line_length(MaxLineLength::Off),
+            options().width(None),
+        ),
+        (
+            new().with_max_line_length(MaxLineLength::Value(7)),
+            options().width(Some(7)),
+        ),
+        (
+            new().with_end_of_line(EndOfLine::Lf),
+            options().line_ending(LineEnding::Lf),
+        ),
+        (
+            new().with_end_of_line(EndOfLine::Crlf),
+            options().line_ending(LineEnding::Crlf),
+        ),
+        (new().with_end_of_line(EndOfLine::Cr), options()),
+        (
+            new().with_insert_final_newline(false),
+            options().final_newline(FinalNewline::Never),
+        ),
+    ];
+    for (config, wanted) in cases {
+        assert_eq!(
+            options().with_editorconfig(config),
+            Ok(wanted),
+            "{config:?}"
+        );
+    }
+    let always = new().with_insert_final_newline(true);
+    assert_eq!(newline.with_editorconfig(always), Ok(options()));
 }
 
 /// The options that a refused step was asked of are still there, and still serve.

@@ -153,27 +153,33 @@ mod tests {
         assert_eq!(EditorConfig::read("a", &none), Ok(EditorConfig::default()));
     }
 
-    /// Each value alone, to numbers and back.
+    /// Each value alone: read, to numbers and back.
     #[test]
     #[rustfmt::skip]
     fn one_value_at_a_time() {
         let (new, unset) = (EditorConfig::new, Resolved::default());
         let cases = [
-            (new(), unset),
-            (new().with_indent_style(IndentStyle::Tabs), Resolved { style: 1, ..unset }),
-            (new().with_indent_style(IndentStyle::Spaces), Resolved { style: 2, ..unset }),
-            (new().with_indent_size(IndentSize::Tab), Resolved { size_kind: 1, ..unset }),
-            (new().with_indent_size(IndentSize::Value(3)), Resolved { size_kind: 2, size: 3, ..unset }),
-            (new().with_tab_width(8), Resolved { tab_set: 1, tab: 8, ..unset }),
-            (new().with_max_line_length(MaxLineLength::Off), Resolved { max_kind: 1, ..unset }),
-            (new().with_max_line_length(MaxLineLength::Value(9)), Resolved { max_kind: 2, max: 9, ..unset }),
-            (new().with_end_of_line(EndOfLine::Lf), Resolved { ending: 1, ..unset }),
-            (new().with_end_of_line(EndOfLine::Crlf), Resolved { ending: 2, ..unset }),
-            (new().with_end_of_line(EndOfLine::Cr), Resolved { ending: 3, ..unset }),
-            (new().with_insert_final_newline(false), Resolved { newline: 1, ..unset }),
-            (new().with_insert_final_newline(true), Resolved { newline: 2, ..unset }),
+            ("", new(), unset),
+            ("indent_style=tab", new().with_indent_style(IndentStyle::Tabs), Resolved { style: 1, ..unset }),
+            ("indent_style=space", new().with_indent_style(IndentStyle::Spaces), Resolved { style: 2, ..unset }),
+            ("indent_size=tab", new().with_indent_size(IndentSize::Tab), Resolved { size_kind: 1, ..unset }),
+            ("indent_size=3", new().with_indent_size(IndentSize::Value(3)),
+                Resolved { size_kind: 2, size: 3, ..unset }),
+            ("tab_width=8", new().with_tab_width(8), Resolved { tab_set: 1, tab: 8, ..unset }),
+            ("max_line_length=off", new().with_max_line_length(MaxLineLength::Off),
+                Resolved { max_kind: 1, ..unset }),
+            ("max_line_length=9", new().with_max_line_length(MaxLineLength::Value(9)),
+                Resolved { max_kind: 2, max: 9, ..unset }),
+            ("end_of_line=lf", new().with_end_of_line(EndOfLine::Lf), Resolved { ending: 1, ..unset }),
+            ("end_of_line=crlf", new().with_end_of_line(EndOfLine::Crlf), Resolved { ending: 2, ..unset }),
+            ("end_of_line=cr", new().with_end_of_line(EndOfLine::Cr), Resolved { ending: 3, ..unset }),
+            ("insert_final_newline=false", new().with_insert_final_newline(false),
+                Resolved { newline: 1, ..unset }),
+            ("insert_final_newline=true", new().with_insert_final_newline(true),
+                Resolved { newline: 2, ..unset }),
         ];
-        for (config, numbers) in cases {
+        for (line, config, numbers) in cases {
+            assert_eq!(EditorConfig::read("a", &[format!("[*]\n{line}\n")]), Ok(config));
             assert_eq!(config.resolved(), numbers);
             assert_eq!(EditorConfig::of(numbers), config);
         }

@@ -36,7 +36,7 @@ pub enum Refusal {
     /// The source is over [`MAX_SOURCE`] bytes.
     SourceTooLong,
     /// The indent is over [`MAX_INDENT`] bytes or has a byte other than space or tab, or a
-    /// size is over [`MAX_INDENT`].
+    /// size is over [`MAX_INDENT`]; or a check was asked for with a line ending that is kept.
     BadOption,
     /// The scratch buffer is under this many bytes.
     ScratchShort {
@@ -219,40 +219,29 @@ impl Refusal {
 }
 
 impl fmt::Display for Refusal {
+    #[rustfmt::skip]
     fn fmt(&self, f: &mut fmt::Formatter<'_>) -> fmt::Result {
         match self {
             Self::SourceTooLong => write!(f, "the source is over {MAX_SOURCE} bytes"),
-            Self::BadOption => write!(
-                f,
-                "an option is not allowed: an indent is at most {MAX_INDENT} spaces or tabs"
-            ),
-            Self::ScratchShort { needed } => write!(f, "the scratch is under {needed} bytes"),
-            Self::NotUtf8 { prefix } => {
-                write!(f, "the source is not UTF-8 at byte {prefix}")
+            Self::BadOption => {
+                write!(f, "an option is not allowed: an indent is at most {MAX_INDENT} spaces or tabs, ")?;
+                write!(f, "and a check needs a fixed line ending")
             }
+            Self::ScratchShort { needed } => write!(f, "the scratch is under {needed} bytes"),
+            Self::NotUtf8 { prefix } => write!(f, "the source is not UTF-8 at byte {prefix}"),
             Self::OutputShort { needed } => {
-                write!(
-                    f,
-                    "the text takes {needed} bytes, more than there is room for"
-                )
+                write!(f, "the text takes {needed} bytes, more than there is room for")
             }
             Self::NoPlace => write!(f, "the source has no such line or column"),
-            Self::ConfigTooLong => {
-                write!(f, "an .editorconfig text is over {MAX_TEXT} bytes")
-            }
+            Self::ConfigTooLong => write!(f, "an .editorconfig text is over {MAX_TEXT} bytes"),
             Self::NameTooLong => {
-                write!(
-                    f,
-                    "a section's name in an .editorconfig text is over 1024 characters"
-                )
+                write!(f, "a section's name in an .editorconfig text is over 1024 characters")
             }
             Self::PlacesUnordered => write!(f, "the places are not in ascending order"),
             Self::KindsShort => write!(f, "there are fewer answer bytes than places"),
             Self::RulerTooWide => write!(f, "the ruler tab is over {MAX_RULER} columns"),
             Self::StrengthsLength => write!(f, "the table of strengths has not 11 bytes"),
-            Self::StrengthsBits => {
-                write!(f, "the last bits of the table of strengths are not zero")
-            }
+            Self::StrengthsBits => write!(f, "the last bits of the table of strengths are not zero"),
             Self::NotExpression { place } => write!(f, "not an expression at byte {place}"),
             Self::TooDeep { place } => write!(f, "brackets deeper than 64 at byte {place}"),
             Self::ListShort { needed } => {

@@ -25,6 +25,19 @@ pub struct Stable<Text = String> {
     pub blank_names: u64,
 }
 
+impl<Text> Stable<Text> {
+    /// The same with another text.
+    fn with<Other>(self, text: Other) -> Stable<Other> {
+        Stable {
+            text,
+            passes: self.passes,
+            stable: self.stable,
+            imports_split: self.imports_split,
+            blank_names: self.blank_names,
+        }
+    }
+}
+
 /// Formats a source until nothing changes; see [`Formatter::format_stable`].
 ///
 /// ```
@@ -43,13 +56,7 @@ pub struct Stable<Text = String> {
 pub fn format_stable(source: impl AsRef<[u8]>, options: &Options) -> Result<Stable, Refusal> {
     let mut buffers = Formatter::new();
     let stable = buffers.format_stable(source, options)?;
-    Ok(Stable {
-        text: stable.text.to_owned(),
-        passes: stable.passes,
-        stable: stable.stable,
-        imports_split: stable.imports_split,
-        blank_names: stable.blank_names,
-    })
+    Ok(stable.with(stable.text.to_owned()))
 }
 
 impl Formatter {
@@ -83,34 +90,27 @@ impl Formatter {
         previous.extend_from_slice(source.as_ref());
         let found = self.passes(&mut previous, options);
         self.previous = previous;
-        let (passes, stable, imports_split, blank_names) = found?;
-        Ok(Stable {
-            text: utf8(&self.output[..self.last]),
-            passes,
-            stable,
-            imports_split,
-            blank_names,
-        })
+        Ok(found?.with(utf8(&self.output[..self.last])))
     }
 
-    /// The passes over a text, whose last one stays in the output: how many, whether the last one changed
-    /// nothing, and both counts.
-    fn passes(
-        &mut self,
-        text: &mut Vec<u8>,
-        options: &Options,
-    ) -> Result<(u32, bool, u64, u64), Refusal> {
-        let (mut imports_split, mut blank_names) = (0, 0);
-        for pass in 1..=Self::PASSES {
+    /// The passes over a text, whose last one stays in the output.
+    fn passes(&mut self, text: &mut Vec<u8>, options: &Options) -> Result<Stable<()>, Refusal> {
+        let mut found = Stable {
+            text: (),
+            passes: 0,
+            stable: false,
+            imports_split: 0,
+            blank_names: 0,
+        };
+        while !found.stable && found.passes < Self::PASSES {
             let formatted = self.format(&*text, options)?;
-            imports_split += formatted.imports_split;
-            blank_names += formatted.blank_names;
-            if formatted.text.as_bytes() == text.as_slice() {
-                return Ok((pass, true, imports_split, blank_names));
-            }
+            found.passes += 1;
+            found.stable = formatted.text.as_bytes() == text.as_slice();
+            found.imports_split += formatted.imports_split;
+            found.blank_names += formatted.blank_names;
             text.clear();
             text.extend_from_slice(formatted.text.as_bytes());
         }
-        Ok((Self::PASSES, false, imports_split, blank_names))
+        Ok(found)
     }
 }

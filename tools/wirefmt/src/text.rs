@@ -2,7 +2,7 @@
 
 use std::cell::RefCell;
 
-use wirescript_format::{Formatter, Options, Refusal};
+use wirescript_format::{Formatter, LineEnding, Options, Refusal};
 
 thread_local! {
     static FORMATTER: RefCell<Formatter> = RefCell::new(Formatter::new());
@@ -32,6 +32,9 @@ pub fn text(source: &[u8], options: &Options, stable: bool) -> Result<Text, Refu
 /// Whether formatting leaves a source as it is; then it does so however often.
 pub fn unchanged(source: &[u8], options: &Options) -> Result<bool, Refusal> {
     FORMATTER.with_borrow_mut(|formatter| {
+        if options.get_line_ending() != LineEnding::Kept {
+            return formatter.is_formatted(source, options);
+        }
         let formatted = formatter.format(source, options)?;
         Ok(formatted.text.as_bytes() == source)
     })

@@ -55,8 +55,8 @@ impl Formatted<&str, &[u64]> {
 /// ```
 /// use wirescript_format::{Options, format};
 ///
-/// let options = Options::new().width(Some(8));
-/// let once = format("price -5", &Options::new().width(Some(6)))?.text;
+/// let options = Options::new().width(Some(6));
+/// let once = format("price -5", &options)?.text;
 /// assert_eq!(once, "price\n  -5\n");
 /// // a line that starts with `-5` starts a statement of its own, and so has no indent
 /// let twice = format(&once, &options)?.text;

@@ -183,6 +183,28 @@ static void editing(void)
     CHECK(h.changes == 3 && holds("a b\n") && lists(three, 12) && cleared(WIRESCRIPT_SCRATCH(source_length)));
 }
 
+static wirescript_check_answer checked(options o, const char *text, size_t work)
+{
+    take(text, strlen(text));
+    stale();
+    return wirescript_is_formatted(source, source_length, CHOSEN(o), scratch, work);
+}
+
+static void checking(void)
+{
+    options o = defaults;
+    o.line_ending = WIRESCRIPT_ENDING_LF;
+    wirescript_check_answer c = checked(o, "a\nb\nc\n", WIRESCRIPT_SCRATCH(6));
+    CHECK(c.refusal == 0 && c.place == 0 && c.formatted == 1 && c.lines_read == 4 && cleared(WIRESCRIPT_SCRATCH(6)));
+    c = checked(o, " a\nb\nc\n", WIRESCRIPT_SCRATCH(7));
+    CHECK(c.refusal == 0 && c.formatted == 0 && c.lines_read == 2 && cleared(WIRESCRIPT_SCRATCH(7)));
+    c = checked(o, "a", WIRESCRIPT_SCRATCH(1) - 1);
+    CHECK(c.refusal == WIRESCRIPT_SCRATCH_SHORT && c.place == WIRESCRIPT_SCRATCH(1) && c.lines_read == 0);
+    c = checked(o, "a\xff", WIRESCRIPT_SCRATCH(2));
+    CHECK(c.refusal == WIRESCRIPT_NOT_UTF8 && c.place == 1 && c.formatted == 0);
+    CHECK(checked(defaults, "a\xff", 0).refusal == WIRESCRIPT_BAD_OPTION);
+}
+
 static void kinds(void)
 {
     static const uint64_t places[] = {0, 0, 0, 2, 1, 1, 1, 3};
@@ -342,6 +364,8 @@ static void empty(void)
           == 0);
     CHECK(wirescript_format_changes(NULL, 0, NULL, 0, 1, 0, 0, 0, 0, strengths, 11, NULL, 0, NULL, 0, scratch, 256)
               .refusal == 0);
+    CHECK(wirescript_is_formatted(NULL, 0, NULL, 0, 1, 0, 1, 0, 0, strengths, 11, NULL, 0).place == 256);
+    CHECK(wirescript_is_formatted(NULL, 0, NULL, 0, 1, 0, 1, 0, 0, strengths, 11, scratch, 256).formatted == 1);
     CHECK(wirescript_text_kind_at(NULL, 0, 0, 0, NULL, 0).refusal == 3);
     CHECK(wirescript_text_kind_at(NULL, 0, 0, 0, scratch, 256).refusal == 0);
     CHECK(wirescript_text_kinds(NULL, 0, NULL, 0, NULL, 0, scratch, 256).refusal == 0);
@@ -374,6 +398,7 @@ static void *all(void *unused)
     choosing();
     strengths();
     editing();
+    checking();
     kinds();
     grouping();
     settings();

@@ -29,18 +29,18 @@ extern "C" {
 
 /* The number of this interface is part of a symbol's name, to which every program that includes this file refers: an
  * archive with other signatures doesn't link. The function gives the number. */
-uint64_t wirescript_interface_4(void);
+uint64_t wirescript_interface_5(void);
 
 #ifdef __GNUC__
 __attribute__((used))
 #endif
-static uint64_t (*const wirescript_interface)(void) = wirescript_interface_4;
+static uint64_t (*const wirescript_interface)(void) = wirescript_interface_5;
 
 /* Refusals. Each call says which it gives, in the order in which they are tested. */
 enum {
     WIRESCRIPT_ACCEPTED = 0,
     WIRESCRIPT_SOURCE_TOO_LONG = 1,   /* over WIRESCRIPT_MAX_SOURCE bytes; the place is that number */
-    WIRESCRIPT_BAD_OPTION = 2,        /* an option that names no choice, or an indent that isn't allowed */
+    WIRESCRIPT_BAD_OPTION = 2,        /* an option that names no choice, an indent that isn't allowed, a size over 64 */
     WIRESCRIPT_SCRATCH_SHORT = 3,     /* the place is the length that is needed */
     WIRESCRIPT_NOT_UTF8 = 4,          /* the place is the length of the longest beginning that is UTF-8 */
     WIRESCRIPT_OUTPUT_SHORT = 5,      /* the place is the length that is needed */
@@ -135,6 +135,20 @@ wirescript_changes_answer wirescript_format_changes(
     const uint8_t *strengths, size_t strengths_length,
     uint8_t *output, size_t output_length, uint64_t *changes, size_t changes_length,
     uint8_t *scratch, size_t scratch_length);
+
+typedef struct {
+    uint64_t refusal;
+    uint64_t place;
+    uint64_t formatted;  /* 1: the text would equal the source; 0: it would not */
+    uint64_t lines_read; /* all where it would; a last LF is followed by one more line */
+} wirescript_check_answer;
+
+/* Whether formatting would leave the source as it is. No text is written, and reading stops soon after the first line
+ * that changes. line_ending must not be WIRESCRIPT_ENDING_KEPT. Refusals 12, 13, 1, 2, 11, 3, 4. */
+wirescript_check_answer wirescript_is_formatted(
+    const uint8_t *source, size_t source_length, const uint8_t *indent, size_t indent_length,
+    uint64_t width_set, uint64_t width, uint64_t line_ending, uint64_t final_newline, uint64_t ruler_tab,
+    const uint8_t *strengths, size_t strengths_length, uint8_t *scratch, size_t scratch_length);
 
 /* What a place is part of. Code is also a ${..} in a string, a prefab, and a place past the end. */
 enum { WIRESCRIPT_KIND_CODE = 0, WIRESCRIPT_KIND_STRING = 1, WIRESCRIPT_KIND_COMMENT = 2 };

@@ -237,7 +237,7 @@ impl Formatter {
         }
     }
 
-    fn lend(&mut self, source: &[u8], room: usize) -> Lent<'_> {
+    pub(crate) fn lend(&mut self, source: &[u8], room: usize) -> Lent<'_> {
         Lent {
             output: part(&mut self.output, room.min(self.most)),
             opened: &mut self.opened,

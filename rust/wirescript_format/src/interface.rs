@@ -4,12 +4,12 @@ unsafe extern "C" {
     /// The interface's number is part of the name, so that an archive with other signatures doesn't
     /// link: the error names this symbol. `crates/wirescript/src/interface.rt` exports it. With every
     /// change of a signature the number rises in that file, in this one and in `c/wirescript.h`.
-    safe fn wirescript_interface_4() -> u64;
+    safe fn wirescript_interface_5() -> u64;
 }
 
 /// Refers to the symbol in every program that links this crate, whatever it calls.
 #[used]
-static INTERFACE: extern "C" fn() -> u64 = wirescript_interface_4;
+static INTERFACE: extern "C" fn() -> u64 = wirescript_interface_5;
 
 /// The number of the interface that the linked archive and this crate share.
 #[must_use]

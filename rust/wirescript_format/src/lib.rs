@@ -7,6 +7,7 @@ extern crate std;
 
 mod caret;
 mod changes;
+mod check;
 pub mod editorconfig;
 mod formatter;
 pub mod group;
@@ -22,6 +23,7 @@ mod strengths;
 
 pub use caret::{WithCaret, format_with_caret};
 pub use changes::{Change, Changes, apply, format_changes};
+pub use check::{Check, is_formatted};
 pub use formatter::{Formatted, Formatter, format};
 pub use group::group;
 pub use kinds::{TextKind, text_kind_at, text_kinds};

@@ -77,6 +77,20 @@ pub struct ChangesAnswer {
     pub changes: u64,
 }
 
+/// What a check comes to: `formatted` 1 yes, 0 no.
+#[repr(C)]
+#[derive(Clone, Copy, Debug, Default, PartialEq, Eq)]
+pub struct CheckAnswer {
+    /// The refusal's number, 0 for none.
+    pub refusal: u64,
+    /// Its place, 0 for none.
+    pub place: u64,
+    /// Whether the source is formatted.
+    pub formatted: u64,
+    /// How many lines were read.
+    pub lines_read: u64,
+}
+
 /// What asking for a text kind comes to: 0 code, 1 string, 2 comment.
 #[repr(C)]
 #[derive(Clone, Copy, Debug, Default, PartialEq, Eq)]
@@ -215,11 +229,15 @@ macro_rules! refusable {
 }
 
 #[rustfmt::skip]
-refusable!(Answer, CaretAnswer, ChangesAnswer, ConfigAnswer, GroupAnswer, Kind, Kinds, Settings);
+refusable!(
+    Answer, CaretAnswer, ChangesAnswer, CheckAnswer, ConfigAnswer, GroupAnswer, Kind, Kinds, Settings
+);
 
 mod linked {
     #[rustfmt::skip]
-    use super::{Answer, CaretAnswer, ChangesAnswer, ConfigAnswer, GroupAnswer, Kind, Kinds, Settings};
+    use super::{
+        Answer, CaretAnswer, ChangesAnswer, CheckAnswer, ConfigAnswer, GroupAnswer, Kind, Kinds, Settings,
+    };
 
     #[rustfmt::skip]
     unsafe extern "C" {
@@ -243,6 +261,11 @@ mod linked {
             output: *mut u8, output_length: usize, changes: *mut u64, changes_length: usize,
             scratch: *mut u8, scratch_length: usize,
         ) -> ChangesAnswer;
+        pub fn wirescript_is_formatted(
+            source: *const u8, source_length: usize, indent: *const u8, indent_length: usize,
+            width_set: u64, width: u64, line_ending: u64, final_newline: u64, ruler_tab: u64,
+            strengths: *const u8, strengths_length: usize, scratch: *mut u8, scratch_length: usize,
+        ) -> CheckAnswer;
         pub fn wirescript_text_kind_at(
             source: *const u8, source_length: usize, line: u64, column: u64,
             scratch: *mut u8, scratch_length: usize,
@@ -343,6 +366,13 @@ pub fn format_changes(
 ) -> ChangesAnswer {
     // SAFETY: as for `format`.
     unsafe { formatting!(wirescript_format_changes, source, s, (), (output, changes, scratch)) }
+}
+
+/// Whether the text of `source` would equal it. A line ending that is kept is refused.
+#[must_use]
+pub fn is_formatted(source: &[u8], s: Choices, scratch: &mut [u8]) -> CheckAnswer {
+    // SAFETY: as for `format`.
+    unsafe { formatting!(wirescript_is_formatted, source, s, (), (scratch)) }
 }
 
 /// The text kind at a line and a character column, both from 0.

@@ -36,7 +36,7 @@ pub enum Refusal {
     /// The source is over [`MAX_SOURCE`] bytes.
     SourceTooLong,
     /// The indent is over [`MAX_INDENT`] bytes or has a byte other than space or tab, or a
-    /// size is over [`MAX_INDENT`].
+    /// size is over [`MAX_INDENT`]; or a check was asked for with a line ending that is kept.
     BadOption,
     /// The scratch buffer is under this many bytes.
     ScratchShort {
@@ -224,7 +224,8 @@ impl fmt::Display for Refusal {
         match self {
             Self::SourceTooLong => write!(f, "the source is over {MAX_SOURCE} bytes"),
             Self::BadOption => {
-                write!(f, "an option is not allowed: an indent is at most {MAX_INDENT} spaces or tabs")
+                write!(f, "an option is not allowed: an indent is at most {MAX_INDENT} spaces or tabs, ")?;
+                write!(f, "and a check needs a fixed line ending")
             }
             Self::ScratchShort { needed } => write!(f, "the scratch is under {needed} bytes"),
             Self::NotUtf8 { prefix } => write!(f, "the source is not UTF-8 at byte {prefix}"),

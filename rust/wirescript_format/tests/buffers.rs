@@ -4,7 +4,7 @@
 use std::alloc::{GlobalAlloc, Layout, System};
 use std::cell::Cell;
 
-use wirescript_format::{Formatter, Options};
+use wirescript_format::{Formatter, LineEnding, Options};
 
 thread_local! {
     static ALLOCATIONS: Cell<u64> = const { Cell::new(0) };
@@ -45,6 +45,7 @@ fn twice(mut call: impl FnMut()) -> (u64, u64) {
 #[test]
 fn the_second_call_allocates_nothing() {
     let options = Options::new().width(Some(10));
+    let lf = Options::new().line_ending(LineEnding::Lf);
     // the text is much longer than the first guess
     let source = "(\n".repeat(300) + "aaaaaa -5";
     let chain = "a".to_owned() + &"+a".repeat(500);
@@ -55,9 +56,10 @@ fn the_second_call_allocates_nothing() {
         twice(|| assert!(formatter.format_with_caret(&source, &options, 2, 0).is_ok())),
         twice(|| assert!(formatter.group(&chain).is_ok())),
         twice(|| assert!(formatter.text_kind_at(&source, 2, 0).is_ok())),
+        twice(|| assert!(formatter.is_formatted(&source, &lf).is_ok())),
     ];
     assert!(calls[0].0 > 0, "the first call allocates");
-    assert_eq!(calls.map(|(_, second)| second), [0; 5]);
+    assert_eq!(calls.map(|(_, second)| second), [0; 6]);
 }
 
 /// The list of open brackets has 8,000 bytes; scratch and output grow with the source.

@@ -53,3 +53,25 @@ fn colours() {
     assert_eq!(printed(&output), wanted);
     assert!(output.status.success());
 }
+
+#[cfg(feature = "std")]
+#[test]
+fn hook() {
+    let tidy = file("tidy", "{\n    a\n}\n");
+    let untidy = file("untidy", "{\n  a\n}\n");
+    let output = run("hook", &tidy, &[]);
+    assert_eq!((printed(&output), output.status.code()), ("", Some(0)));
+    let output = run("hook", &tidy, &[untidy.to_str().expect("UTF-8")]);
+    let wanted = format!("{}: not formatted\n", untidy.display());
+    assert_eq!(printed(&output), wanted);
+    assert_eq!(output.status.code(), Some(1));
+    let broken = file("broken", "");
+    std::fs::write(&broken, b"a\n\xf0\x9f\x98\x80\xff\n").expect("written");
+    let output = run("hook", &broken, &[untidy.to_str().expect("UTF-8")]);
+    let refused = format!(
+        "{}:2:2: the source is not UTF-8 at byte 6\n",
+        broken.display()
+    );
+    assert_eq!(printed(&output), refused + &wanted);
+    assert_eq!(output.status.code(), Some(2));
+}

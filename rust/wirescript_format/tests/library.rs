@@ -3,7 +3,8 @@
 use wirescript_format::{
     EditorConfig, EndOfLine, FinalNewline, Formatter, IndentSize, IndentStyle, LineEnding,
     MAX_SOURCE, MaxLineLength, Operator, Options, Refusal, Strengths, TextKind, apply, format,
-    format_changes, format_stable, format_with_caret, group, text_kind_at, text_kinds,
+    format_changes, format_stable, format_with_caret, group, is_formatted, text_kind_at,
+    text_kinds,
 };
 
 fn text(source: &str, options: &Options) -> String {
@@ -455,4 +456,99 @@ fn tells_text_kinds_of_places() {
         text_kinds(b"ab\xff", &[(0, 0)]),
         Err(Refusal::NotUtf8 { prefix: 2 })
     );
+}
+
+/// Yes and no, and the lines read, as READINGS-02 has them.
+#[test]
+fn checks() {
+    let lf = Options::new().line_ending(LineEnding::Lf);
+    let crlf = Options::new().line_ending(LineEnding::Crlf);
+    let never = lf.clone().final_newline(FinalNewline::Never);
+    let source = lf.clone().final_newline(FinalNewline::AsSource);
+    let narrow = lf.clone().width(Some(0));
+    let cases = [
+        ("a\nb\n", &lf, true, 3),
+        ("a+b\nc\n", &narrow, false, 1),
+        (" a\nb\nc\n", &lf, false, 2),
+        (" a\n\n\nb\n", &lf, false, 4),
+        ("a\n\n\nb\nc\n", &lf, false, 5),
+        ("a\nb\n", &crlf, false, 2),
+        ("a", &lf, false, 1),
+        ("a\n\n", &lf, false, 3),
+        ("", &source, true, 1),
+        ("\n", &never, false, 2),
+        ("a", &never, true, 1),
+    ];
+    let mut formatter = Formatter::new();
+    for (text, options, formatted, lines) in cases {
+        let check = formatter.check(text, options).expect("accepted");
+        assert_eq!(
+            (check.formatted, check.lines_read),
+            (formatted, lines),
+            "{text:?}"
+        );
+        assert_eq!(is_formatted(text, options), Ok(formatted), "{text:?}");
+        assert_eq!(
+            formatter.is_formatted(text, options),
+            Ok(formatted),
+            "{text:?}"
+        );
+    }
+}
+
+/// Options of a check are those of formatting: each answers for the texts of all, and no other one answers the same.
+#[test]
+fn checks_by_every_option() {
+    let lf = Options::new().line_ending(LineEnding::Lf).width(Some(10));
+    let never = Strengths::new()
+        .with(Operator::Add, 0)
+        .with(Operator::Multiply, 0);
+    let each = [
+        lf.clone(),
+        lf.clone().indent("\t"),
+        lf.clone().width(Some(30)),
+        lf.clone().width(None).final_newline(FinalNewline::Never),
+        lf.clone().line_ending(LineEnding::Crlf),
+        lf.clone().indent("\t").ruler_tab(16),
+        lf.clone().strengths(never),
+    ];
+    let source = "{\na+b*c\naaaaaa + b*c\naaaaaaaaaaaaaaaaaaaaaaaaaaaaaaaa + b*c\n";
+    let texts = each.each_ref().map(|options| text(source, options));
+    let answers = each.each_ref().map(|options| {
+        texts.each_ref().map(|made| {
+            let same = text(made, options) == *made;
+            assert_eq!(
+                is_formatted(made, options),
+                Ok(same),
+                "{made:?} {options:?}"
+            );
+            same
+        })
+    });
+    for (i, row) in answers.iter().enumerate() {
+        assert!(!answers[..i].contains(row), "{i} {answers:?}");
+    }
+}
+
+/// The refusals of formatting but for the output's; and a line ending that is kept, in 2's place.
+#[test]
+fn checks_refused() {
+    let lf = Options::new().line_ending(LineEnding::Lf);
+    let long = "a".repeat(MAX_SOURCE + 1);
+    let kept = Options::new().ruler_tab(17);
+    let refused =
+        |source: &[u8], options: &Options| is_formatted(source, options).expect_err("refused");
+    assert_eq!(refused(b"a\xff", &lf), Refusal::NotUtf8 { prefix: 1 });
+    assert_eq!(refused(b"a\xff", &Options::new()), Refusal::BadOption);
+    assert_eq!(refused(b"a\xff", &kept), Refusal::BadOption);
+    assert_eq!(
+        refused(b"a\xff", &lf.clone().ruler_tab(17)),
+        Refusal::RulerTooWide
+    );
+    assert_eq!(refused(long.as_bytes(), &kept), Refusal::SourceTooLong);
+    let table = kept.strengths([0x11; 11]);
+    assert_eq!(refused(long.as_bytes(), &table), Refusal::StrengthsBits);
+    // a text too long for any output is only compared
+    let deep = "(\n".repeat(100_000);
+    assert_eq!(is_formatted(&deep, &lf), Ok(false));
 }

@@ -47,7 +47,9 @@ use Rattle.text.specs.Text.{Finished}
 use Rattle.brackets.specs.Stack.{stacked}
 use Rattle.line.specs.Holds.{Record, Holds, ValidIndent}
 use Rattle.line.specs.Scratch.{stackAt}
-use Rattle.lines.specs.Lines.{Passed, LinesDone}
+use Rattle.line.specs.declared.style.Style.{Style}
+use Rattle.lines.specs.Lines.{Passed, LinesDone, AllRead}
+use Rattle.lines.specs.declared.LinesRead.{LinesRead}
 use Rattle.call.specs.Formatted.{optionsWith, outcomeIn, Told, Fitted, RefusedCall}
 use Rattle.call.specs.Ran.{callOf, Ran}
 use Rattle.call.specs.FormatAnswered.{FormatAnswered}
@@ -89,6 +91,11 @@ none-told scratch {k = k} w = let e : k - 0 ≡ k = omega arith in w .listed .ho
 pub refused-call : (why : Refusal) (scratch : List ℕ) (n k m : ℕ) {r : ℕ} {out list work : List ℕ} → out ≡ replicate n 0
     → Told (openLines (stacked scratch 0 0)) k m r list work → RefusedCall why n k m (Outcome.Refused why) out list work
 refused-call why scratch n k m z w = record { outcome = refl; zeros = z; none = none-told scratch w; cleared = w .cleared }
+
+-- without a comparison all lines are read
+pub all-done : {source indent : List ℕ} {style : Style} {model : List ℕ} {r : LinesRead} {out scratch : List ℕ}
+    → AllRead source indent style false model r out scratch → LinesDone source indent style model (r .st) out scratch
+all-done w = w .done (w .all refl)
 
 -- out₁ is what `read_lines` leaves of the output, out₂ what `finish_text` leaves of it; list₁ and scratch₂ are what `list_open` leaves
 module _

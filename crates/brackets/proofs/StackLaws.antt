@@ -3,13 +3,14 @@ use Prim.Native.Nat.{ℕ, zero, suc, _+_, _-_, _*_, _/_, _%_, _≤_, _<_, zero-l
 use mathlib.Core.Bool.{Bool, true, false, not, _||_, true≢false}
 use mathlib.Core.List.{List, [], _∷_, foldl}
 use mathlib.Core.Path.{_≡_, refl, sym, ap, subst, _∙_}
-use native.Mathlib.Nat.{zero-add}
+use native.Mathlib.Nat.{zero-add, add-zero}
 use native.Mathlib.Numerals.{add-one}
 use native.Mathlib.Omega.{arith}
-use borrow.Author.Tests.{ne-eqb, eqb-true, le-leb, lt-leb}
-use lib.Dec.{eqb, leb}
+use borrow.Author.Tests.{ne-eqb, eqb-true, le-leb, lt-leb, ltb-true, ltb-false}
+use lib.Dec.{eqb, leb, ltb}
 use lib.ListN.{length, getD, drop, set, length-set, drop-of-length-le}
 use lib.Seq.{getD-set-same, getD-set-other, drop-cons}
+use Rattle.unicode.specs.Places.{NoneAmong}
 use Rattle.buffer.specs.Buffer.{part}
 use Rattle.unicode.proofs.Tests.{by-test}
 use Rattle.rules.specs.Basics.{choose, isCloser, leading}
@@ -21,7 +22,7 @@ use Rattle.rules.proofs.Choose.{choose-case, choose-true, choose-false}
 use Rattle.rules.proofs.CellsLaws.{drop-cells, cells-at, cells-end}
 use Rattle.basics.specs.Region.{Only}
 use Rattle.basics.specs.Closers.{Closers}
-use Rattle.brackets.specs.Stack.{entrySize, addsOf, entryAt, stacked, EntryRoom, EntryPut, Nested, Popped, Tallies, mayTurn, StackRoom, Turned, StackFits, BracketsDone}
+use Rattle.brackets.specs.Stack.{entrySize, addsOf, entryAt, stacked, EntryRoom, EntryPut, Nested, Popped, Tallies, mayTurn, turnsAt, IdleRun, StackRoom, Turned, StackFits, BracketsDone}
 use Rattle.brackets.specs.declared.Nesting.{Nesting}
 use Rattle.brackets.specs.declared.Tally.{Tally}
 use Rattle.basics.proofs.OnlyLaws.{only-same, only-set, only-wider, only-then, only-at, only-past, read-now}
@@ -449,6 +450,47 @@ module _ (line buf₀ : List ℕ) (class base : ℕ) (b : Nesting) (skip : ℕ) 
       → BracketsDone buf₀ buf base b (length line) (scanBrackets (b .line) (drop skip (cellsOf line (part buf₀ class (class + length line)))) (stacked buf₀ base (b .depth)))
       (record { depth = t .depth; levels = t .levels; line = t .line })
   scan-end h = scanning-end w h
+
+-- several bytes that are no bracket and no backslash
+module _ (line buf₀ : List ℕ) (class base : ℕ) (b : Nesting) (skip : ℕ) (buf : List ℕ) (t : Tally) (f : StackFits buf₀ class (length line) base b) where
+  abbrev Here : ℕ → Type 0
+  Here i = Scanning line (part buf₀ class (class + length line)) (length line) buf₀ base b skip buf t i
+
+  run-skip : (i n : ℕ) → Here i → t .esc ≡ false → i + n ≤ length line → ((j : ℕ) → j < n → mayTurn (getD line (i + j) 0) ≡ false) → Here (i + n)
+  run-skip i zero w e h a = subst Here (sym (add-zero i)) w
+  run-skip i (suc n) w e h a =
+      let k : i + n + 1 ≡ i + suc n = omega arith in
+      let idle : true ≡ not (t .esc || mayTurn (getD line (i + n) 0)) = rw (e, a n (omega arith)) in
+      subst Here k (scan-skip line buf₀ class base b skip buf t (i + n) f (run-skip i n w e (omega arith) (λ j l. a j (omega arith))) true (omega arith) idle refl)
+
+  pub idle-skip : (i : ℕ) → Here i → (r : Bool) (k : ℕ) → i < length line → r ≡ not (t .esc || mayTurn (getD line i 0)) → r ≡ true → IdleRun line (i + 1) k → Here k
+  idle-skip i w r k h e q idle =
+      let s : i + 1 + (k - (i + 1)) ≡ k = omega (arith, idle .from) in
+      subst Here s
+      (run-skip (i + 1) (k - (i + 1)) (scan-skip line buf₀ class base b skip buf t i f w r h e q) (neither (t .esc) (mayTurn (getD line i 0)) r e q .0)
+      (omega (arith, idle .from, idle .fits)) (λ j l. idle .none j (omega (arith, idle .from))))
+
+-- runs of such bytes
+pub idle-start : (s : List ℕ) (at : ℕ) → at ≤ length s → IdleRun s at at
+idle-start s at h = record { from = omega arith; fits = h; none = λ j l. absurd (omega (arith, l)) }
+
+module _ {s : List ℕ} {at i : ℕ} (w : IdleRun s at i) where
+  pub idle-more : (n : ℕ) → i + n ≤ length s → ((j : ℕ) → j < n → mayTurn (getD s (i + j) 0) ≡ false) → IdleRun s at (i + n)
+  idle-more n h a =
+      record {
+        from = omega (arith, w .from);
+        fits = h;
+        none = λ j l. by-test (ltb (at + j) i) (λ e. w .none j (ltb-true (at + j) i e)) (λ e. past j l (ltb-false (at + j) i e));
+      }
+    where
+      past : (j : ℕ) → at + j < i + n → i ≤ at + j → mayTurn (getD s (at + j) 0) ≡ false
+      past j l g = let k : i + (at + j - i) ≡ at + j = omega arith in rw k at (a (at + j - i) (omega arith))
+
+  pub idle-block : {any : Bool} → i + 8 ≤ length s → NoneAmong (turnsAt s) i 8 any → any ≡ false → IdleRun s at (i + 8)
+  idle-block h a e = idle-more 8 h (a .none e)
+
+  pub idle-one : {r : Bool} → i < length s → r ≡ mayTurn (getD s i 0) → r ≡ false → IdleRun s at (i + 1)
+  idle-one h e q = idle-more 1 (omega arith) (λ j l. let z : i + j ≡ i = omega (arith, l) in rw z (sym e ∙ q))
 
 -- a line in scratch
 module _ (buf₀ : List ℕ) (at n class base : ℕ) (b : Nesting) (skip : ℕ) (buf : List ℕ) (t : Tally) (i : ℕ) (f : (StackFits buf₀ class n base b) × (at + n ≤ base))

@@ -1,6 +1,6 @@
 -- The stack of open brackets as it lies in scratch: from base on, the oldest first, three bytes for each.
 use Prim.Native.Nat.{ℕ, zero, suc, _+_, _-_, _*_, _/_, _%_, _≤_, _<_}
-use mathlib.Core.Bool.{Bool, not, _||_}
+use mathlib.Core.Bool.{Bool, not, _||_, false}
 use mathlib.Core.List.{List, [], _∷_}
 use mathlib.Core.Path.{_≡_}
 use lib.Dec.{eqb, ltb}
@@ -76,6 +76,15 @@ pub record Tallies (buf : List ℕ) (base : ℕ) (t : Tally) (o : Open) : Type 0
 -- the ranges that the brackets and the backslash stand in
 unfoldable pub mayTurn : ℕ → Bool
 mayTurn c = within 40 41 c || within 91 93 c || within 123 125 c
+
+abbrev pub turnsAt : List ℕ → ℕ → Bool
+turnsAt s i = mayTurn (getD s i 0)
+
+-- the bytes from `at` up to r are none of them
+pub record IdleRun (s : List ℕ) (at r : ℕ) : Type 0 where
+  pub from : at ≤ r
+  pub fits : r ≤ length s
+  pub none : (j : ℕ) → at + j < r → mayTurn (getD s (at + j) 0) ≡ false
 
 -- there is room for one more
 pub record StackRoom (buf : List ℕ) (base : ℕ) (t : Tally) : Type 0 where

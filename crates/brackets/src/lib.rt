@@ -4,6 +4,7 @@ ghost use mathlib.Core.Path.{_≡_};
 ghost use mathlib.Core.Bool.{not, _||_};
 ghost use Prim.Native.Nat.{_+_, _-_, _*_, _≤_, _<_};
 ghost use lib.ListN.{length, drop};
+ghost use Rattle.unicode.specs.Places.{NoneAmong};
 ghost use Rattle.buffer.specs.Buffer.{part};
 ghost use Rattle.rules.specs.Basics.{choose};
 ghost use Rattle.rules.specs.Scan.{cell};
@@ -11,7 +12,7 @@ ghost use Rattle.rules.specs.ClassBytes.{classOf, cellsOf};
 ghost use Rattle.rules.specs.Brackets.{push, pop, bracketStep, scanBrackets, openLines};
 ghost use Rattle.rules.specs.Call.{listed};
 ghost use Rattle.basics.specs.Closers.{Closers};
-ghost use Rattle.brackets.specs.Stack.{addsOf, entryAt, entrySize, stacked, Nested, Popped, EntryRoom, EntryPut, StackRoom, Turned, StackFits, BracketsDone, mayTurn, lineAt, Listed};
+ghost use Rattle.brackets.specs.Stack.{addsOf, entryAt, entrySize, stacked, Nested, Popped, EntryRoom, EntryPut, StackRoom, Turned, StackFits, BracketsDone, mayTurn, turnsAt, IdleRun, lineAt, Listed};
 use basics::is_closer;
 use basics::is_opener;
 
@@ -174,12 +175,63 @@ fn pop(scratch: &[u8], base: usize, t: Tally) -> Tally
     }
 }
 
-// Whether c changes nothing, whatever its class: it is not escaped, and neither a bracket nor a backslash, which stand in three ranges. Most bytes
-// are such, and their class is not looked at.
+// Whether c may be a bracket or a backslash, which stand in three ranges.
+fn may_turn(c: u8) -> bool
+    ensures { λ r. ⌜ r ≡ mayTurn c ⌝ }
+{
+    ((40 <= c) & (c <= 41)) | ((91 <= c) & (c <= 93)) | ((123 <= c) & (c <= 125))
+}
+
+// Whether c changes nothing, whatever its class: it is not escaped, and neither a bracket nor a backslash. Most bytes are such, and their class is not
+// looked at.
 fn is_idle(c: u8, esc: bool) -> bool
     ensures { λ r. ⌜ r ≡ not (esc || mayTurn c) ⌝ }
 {
-    !(esc | (((40 <= c) & (c <= 41)) | ((91 <= c) & (c <= 93)) | ((123 <= c) & (c <= 125))))
+    !(esc | may_turn(c))
+}
+
+// Whether one of the eight bytes from `at` on may be one. It makes no branch, so that the eight are tested at once.
+fn any_turn(line: &[u8], at: usize) -> bool
+    requires { ⌜ at + 8 ≤ length (now line) ⌝ }
+    ensures { λ r. ⌜ NoneAmong (turnsAt (now (line .entry))) at 8 r ⌝ }
+{
+    let mut any = false;
+    let mut k: usize = 0;
+    while k < 8 {
+        any = any | may_turn(line[at + k]);
+        k += 1;
+    }
+    any
+}
+
+// Past the bytes that are none, eight at a time.
+fn idle_eights(line: &[u8], at: usize) -> usize
+    requires { ⌜ at ≤ length (now line) ⌝ }
+    ensures { λ r. ⌜ IdleRun (now (line .entry)) at r ⌝ }
+{
+    let mut i = at;
+    while line.len() - i >= 8 {
+        if any_turn(line, i) {
+            return i;
+        }
+        i += 8;
+    }
+    i
+}
+
+// Past the bytes that are none.
+fn idle_to(line: &[u8], at: usize) -> usize
+    requires { ⌜ at ≤ length (now line) ⌝ }
+    ensures { λ r. ⌜ IdleRun (now (line .entry)) at r ⌝ }
+{
+    let mut i = idle_eights(line, at);
+    while i < line.len() {
+        if may_turn(line[i]) {
+            return i;
+        }
+        i += 1;
+    }
+    i
 }
 
 // A byte c of class k.
@@ -231,7 +283,7 @@ pub fn scan_brackets(
     while i < line.len() {
         let c = line[i];
         if is_idle(c, t.esc) {
-            i += 1;
+            i = idle_to(line, i + 1);
             continue;
         }
         t = bracket_step(c, scratch[class_at + i], scratch, base, t);

@@ -1,3 +1,4 @@
 pub mod NextLaws
 pub mod ReachedLaws
+pub mod RestLaws
 pub mod WithinLaws

@@ -1,9 +1,10 @@
 -- The loop of `classify_at`: a line and its class bytes, two parts of one buffer.
 use Prim.Native.Nat.{ℕ, _+_, _-_, _<_, _≤_}
 use mathlib.Core.Path.{_≡_, refl, ap, sym, subst, _∙_}
+use mathlib.Core.Bool.{Bool, true, not, _&&_}
 use mathlib.Core.List.{List}
 use native.Mathlib.Omega.{arith}
-use lib.ListN.{length, take, drop, set, length-set}
+use lib.ListN.{length, getD, take, drop, set, length-set}
 use lib.Seq.{take-all, drop-set-lt, take-set-le, take-set-lt, drop-set-add, drop-drop}
 use Rattle.rules.specs.declared.Carry.{Carry}
 use Rattle.rules.specs.declared.Mark.{Mark}
@@ -12,7 +13,8 @@ use Rattle.rules.specs.ClassBytes.{classByte}
 use Rattle.buffer.specs.Buffer.{part}
 use Rattle.buffer.proofs.RegionLaws.{part-from, drop-take, length-part}
 use Rattle.basics.specs.Depth.{depthOf}
-use Rattle.marks.specs.Within.{ClassRoom, ClassifiedAt}
+use Rattle.marks.specs.Within.{ClassRoom, ClassifiedAt, telling, atRest}
+use Rattle.marks.proofs.RestLaws.{passes-on, rest-start}
 use Rattle.marks.proofs.ReachedLaws.{open-depth, Reached, reached-start, reached-more, all-written, all-read}
 
 -- one byte written into a part; beside it
@@ -67,6 +69,12 @@ module _ {buf₀ : List ℕ} {at n class : ℕ} {t₀ : Mark} {buf : List ℕ} {
             (reached-more (r .reached) u b (omega (arith, line-long)) room (e ∙ ap (next t) rest) f);
       }
 
+  pub within-pass : (rests b : Bool) (byte : ℕ) → i < n → rests ≡ atRest t → byte ≡ classByte (t .class) → b ≡ (rests && not (telling (getD buf (at + i) 0))) → b ≡ true
+      → Within buf₀ at n class t₀ (set buf (class + i) byte) t (i + 1)
+  within-pass rests b byte h e f g q =
+      within-more t byte h
+      (passes-on t buf (at + i) (at + n - (at + i)) rests b (omega (arith, r .long, fits .apart, fits .room)) (omega arith) e g q) f
+
   pub within-end : (y : Carry) → n ≤ i → t₀ ≡ begin Carry.Code → y ≡ openAfter (t .mode) → ClassifiedAt buf₀ at n class buf y
   unfolding classify carryAfter
   within-end y h e f =
@@ -81,3 +89,12 @@ module _ {buf₀ : List ℕ} {at n class : ℕ} {t₀ : Mark} {buf : List ℕ} {
         front = r .front;
         back = r .back;
       }
+
+-- the loop's invariant: beside the line, whether the mark rests, and its class byte
+pub record Marking (buf₀ : List ℕ) (at n class : ℕ) (t₀ : Mark) (buf : List ℕ) (t : Mark) (rests : Bool) (byte i : ℕ) : Type 0 where
+  pub within : Within buf₀ at n class t₀ buf t i
+  pub resting : rests ≡ atRest t
+  pub labelled : byte ≡ classByte (t .class)
+
+pub marking-start : (buf : List ℕ) (at n class : ℕ) (t : Mark) → t ≡ begin Carry.Code → Marking buf at n class t buf t true 0 0
+marking-start buf at n class t e = record { within = within-start buf at n class t; resting = rest-start t e; labelled = rw e }

@@ -1,11 +1,14 @@
-use mathlib.Core.Path.{refl}
-use Rattle.brackets.specs.Stack.{mayTurn}
+use mathlib.Core.Bool.{not, _||_}
+use mathlib.Core.Path.{ap}
+use borrow.Author.Needs.{needs}
 use Rattle.brackets.proofs.is_idle.Statement.{statement}
 use Rattle.brackets.proofs.is_idle.Tie as tie
 
+may-turn-requires : tie.Need-may-turn-requires
+may-turn-requires c κs = search needs
+
 returns : tie.Need-returns
-unfolding mayTurn
-returns c = refl
+returns c = rw (c .may-turn .ensures)
 
 pub is-idle-spec : {M : Type 1} → statement M
-is-idle-spec = tie.close (tie.spec returns)
+is-idle-spec = tie.close (tie.spec may-turn-requires returns)

@@ -2,7 +2,7 @@ use borrow.Author.Needs.{needs}
 use Prim.Native.Nat.{_+_, _-_}
 use lib.ListN.{length}
 use Rattle.buffer.specs.Buffer.{part}
-use Rattle.brackets.proofs.StackLaws.{nestingOf, Scanning, scanning-start, scan-skip, scan-more, scan-room, scan-end}
+use Rattle.brackets.proofs.StackLaws.{nestingOf, Scanning, scanning-start, idle-skip, scan-more, scan-room, scan-end}
 use Rattle.brackets.proofs.scan_brackets.Statement.{statement}
 use Rattle.brackets.proofs.scan_brackets.Tie as tie
 
@@ -22,14 +22,17 @@ shared-slice-read-c c = search needs
 is-idle-requires : tie.Need-is-idle-requires Inv-loop μ-loop
 is-idle-requires c κs = search needs
 
-add-i : tie.Need-add-i Inv-loop μ-loop
-add-i c = search needs
+add-idle-to : tie.Need-add-idle-to Inv-loop μ-loop
+add-idle-to c = search needs
+
+idle-to-requires : tie.Need-idle-to-requires Inv-loop μ-loop
+idle-to-requires c κs = search needs
 
 loop-less : tie.Need-loop-less Inv-loop μ-loop
 loop-less c = search needs
 
 loop-again : tie.Need-loop-again Inv-loop μ-loop
-loop-again c = search (needs, scan-skip)
+loop-again c = search (needs, idle-skip)
 
 add-bracket-step : tie.Need-add-bracket-step Inv-loop μ-loop
 add-bracket-step c = search needs
@@ -40,8 +43,8 @@ slice-read-bracket-step c = search needs
 bracket-step-requires : tie.Need-bracket-step-requires Inv-loop μ-loop
 bracket-step-requires c κs = search (needs, scan-room)
 
-add-i-2 : tie.Need-add-i-2 Inv-loop μ-loop
-add-i-2 c = search needs
+add-i : tie.Need-add-i Inv-loop μ-loop
+add-i c = search needs
 
 loop-less-2 : tie.Need-loop-less-2 Inv-loop μ-loop
 loop-less-2 c = search needs
@@ -64,13 +67,14 @@ scan-brackets-spec =
     loop-holds
     shared-slice-read-c
     is-idle-requires
-    add-i
+    add-idle-to
+    idle-to-requires
     loop-less
     loop-again
     add-bracket-step
     slice-read-bracket-step
     bracket-step-requires
-    add-i-2
+    add-i
     loop-less-2
     loop-again-2
     same-length

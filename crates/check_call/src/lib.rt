@@ -1,4 +1,5 @@
-// Is this source formatted already? The whole call: the refusals, then the lines, compared with the source as they come, then the answer.
+// Is this source formatted already? The whole call: the refusals, then the lines, compared with the source as they
+// come, then the answer.
 ghost use mathlib.Core.Path.{_≡_};
 ghost use mathlib.Core.Bool.{_||_};
 ghost use Prim.Native.Nat.{_≤_};
@@ -40,12 +41,7 @@ fn equals(source: &[u8], cell: &[u8], n: usize) -> bool
 }
 
 // The lines of the source, compared with it, and the finish.
-fn check_with(
-    source: &[u8],
-    indent: &[u8],
-    chosen: FormatOptions,
-    scratch: &mut [u8],
-) -> Finding
+fn check_with(source: &[u8], indent: &[u8], chosen: FormatOptions, scratch: &mut [u8]) -> Finding
     requires { ⌜ Passed (now source) (now indent) (now scratch) ⌝ }
     requires { ⌜ chosen .«ruler_tab» ≤ maxRuler ⌝ }
     ensures { λ r. ⌜ CheckedWith (optionsWith (now (indent .entry)) chosen) (now (source .entry)) r ⌝ }

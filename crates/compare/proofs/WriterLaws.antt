@@ -121,14 +121,14 @@ compared-on [] x x′ l at c p n r some e k b q f w = absurd (omega arith)
 compared-on (a ∷ m) x x′ l at c p n r some e k b q f w =
     grows a m x x′ l at r e (w .size)
     (λ text h t.
-        let s = common-model (a ∷ m) text in
-        let i : p ≡ length text = omega (arith, t .same) in
-        let g : n ≡ common (drop (length text) (a ∷ m)) l = f ∙ rw (part-from, i) in
-        let j = common-text (drop (length text) (a ∷ m)) l in
-        let o = common-full (a ∷ m) text l (omega (arith, t .same)) in
-        let v = common-model (a ∷ m) (text ++ l) in
-        let y : cellOf x′ ≡ at + n = w .is (omega (arith, t .small, g, o)) in
-        record { room = omega (arith, t .room, w .size); small = t .small; same = omega (arith, t .same, g, j, y, o, length-append text l) })
+    let s = common-model (a ∷ m) text in
+    let i : p ≡ length text = omega (arith, t .same) in
+    let g : n ≡ common (drop (length text) (a ∷ m)) l = f ∙ rw (part-from, i) in
+    let j = common-text (drop (length text) (a ∷ m)) l in
+    let o = common-full (a ∷ m) text l (omega (arith, t .same)) in
+    let v = common-model (a ∷ m) (text ++ l) in
+    let y : cellOf x′ ≡ at + n = w .is (omega (arith, t .small, g, o)) in
+    record { room = omega (arith, t .room, w .size); small = t .small; same = omega (arith, t .same, g, j, y, o, length-append text l) })
 
 -- in the terms of `track` and of `track_levels`
 module _ (m x l : List ℕ) (at : ℕ) (some : 0 < length m) where

@@ -1,5 +1,6 @@
-// Where a text goes. With no model, to an output that may be too short. With a model, it is compared with that as it comes, and nothing of it is
-// written: three bytes keep how many of its first bytes are the model's. A text is cut back by going on from a smaller place.
+// Where a text goes. With no model, to an output that may be too short. With a model, it is compared with that as it
+// comes, and nothing of it is written: three bytes keep how many of its first bytes are the model's. A text is cut back
+// by going on from a smaller place.
 ghost use mathlib.Core.Path.{_≡_};
 ghost use mathlib.Core.List.{_++_};
 ghost use Prim.Native.Nat.{_+_, _<_, _≤_, _^_, min};

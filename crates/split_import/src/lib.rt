@@ -132,14 +132,7 @@ fn put_name(model: &[u8], out: &mut [u8], at: usize, name: &[u8]) -> usize
 }
 
 // A name, and its comma, on a line of its own.
-fn put_line(
-    model: &[u8],
-    out: &mut [u8],
-    at: usize,
-    s: Layout,
-    indent: &[u8],
-    name: &[u8],
-) -> usize
+fn put_line(model: &[u8], out: &mut [u8], at: usize, s: Layout, indent: &[u8], name: &[u8]) -> usize
     requires { ⌜ NamePlace (asStr (s .ending)) (now indent) (s .level) (now name) at ⌝ }
     ensures { λ r. ⌜ Compared (now (model .entry)) (now (out .entry)) (now (out .exit)) at (asStr (s .ending) ++ lay (now (indent .entry)) (s .level) (now (name .entry) ++ 44 ∷ [])) r ⌝ }
 {

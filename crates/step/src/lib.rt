@@ -113,13 +113,7 @@ fn count_going(
 }
 
 // What is known before the line is put.
-fn before_of(
-    st: Formatter,
-    levels: usize,
-    closers: usize,
-    own: Prev,
-    marker: bool,
-) -> Before
+fn before_of(st: Formatter, levels: usize, closers: usize, own: Prev, marker: bool) -> Before
     ensures { λ r. ⌜ r ≡ beforeOf st levels closers own marker ⌝ }
 {
     let text = st.text;
@@ -231,7 +225,18 @@ fn spaced_line(
     ensures { λ r. ⌜ ((o : Options) → Uses o (now (indent .entry)) style → Stepped (spacedBy marker (respaced (decode (now (line .entry)))) o) (length (now (line .entry))) unit (now (model .entry)) (asStr (style .ending)) st (now (out .entry)) (now (scratch .entry)) r (now (out .exit)) (now (scratch .exit))) ⌝ }
 {
     let g = go_on(line, scratch, unit, after);
-    let p = put_going(line, scratch, unit, g, marker, indent, style, model, out, st);
+    let p = put_going(
+        line,
+        scratch,
+        unit,
+        g,
+        marker,
+        indent,
+        style,
+        model,
+        out,
+        st,
+    );
     let left = p.left;
     let deep = count_going(line, scratch, unit, g, p.closers, left);
     let carry = g.carry;
@@ -322,7 +327,18 @@ fn code_line<'a>(
         return line::kept::kept_line(raw, line, k, model, out, scratch, st);
     }
     let alone = is_alone(marker);
-    spaced_line(line, scratch, unit, after, alone, indent, style, model, out, st)
+    spaced_line(
+        line,
+        scratch,
+        unit,
+        after,
+        alone,
+        indent,
+        style,
+        model,
+        out,
+        st,
+    )
 }
 
 // One line, of any kind.

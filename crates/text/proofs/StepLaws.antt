@@ -337,7 +337,6 @@ module _
               omega (arith, n, ends, ap size (joined-closed eol m (ms ++ before)), size-append (closed eol (ms ++ before)) m)
               ∙ ap (λ (a : List (List ℕ)). size (closed eol a)) (sym (settled-solid m (ms ++ before) (λ w. solid (sym trims ∙ end-none m w))));
         }
-
       where
         solid : m ≡ [] → ⊥
         solid e = let h : 1 ≤ size m = some in omega (arith, ap size e, ap length encode-nil)

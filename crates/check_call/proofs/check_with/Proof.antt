@@ -15,7 +15,7 @@ slice-aggregate-read-lines : tie.Need-slice-aggregate-read-lines
 slice-aggregate-read-lines c = search needs
 
 read-lines-requires : tie.Need-read-lines-requires
-read-lines-requires c κs = 
+read-lines-requires c κs =
     let s = c .before .before .before .before .before .before .before .before in
     (s .pre .0, record { none = keeps-start _ _ (omega arith) (omega (arith, s .pre .0 .limit)) })
 
@@ -26,7 +26,7 @@ slice-aggregate-end-text : tie.Need-slice-aggregate-end-text
 slice-aggregate-end-text c = search needs
 
 end-text-requires : tie.Need-end-text-requires
-end-text-requires c κs = 
+end-text-requires c κs =
     let d = c .before .before .before .before .before .before .before .before .before .read-lines .ensures .done (c .before .before .before .if1 .taken) in
     omega (arith, d .small .ordered .full, d .small .ordered .below, d .small .at)
 
@@ -40,7 +40,7 @@ same-length : tie.Need-same-length
 same-length c = search needs
 
 returns : tie.Need-returns
-returns c = 
+returns c =
     let s = c .before .before .before .before .before .before .before .before .before .before .before .before .before .before .before .before .before .before .before .before .before .before in
     found-late _ _ (s .args .chosen) _ _ _ _ (s .pre .0) ((c .before .before .before .before .before .before .before .before .before .before .before .before .before .before .before .before .before) .ending-of .ensures) _ ((c .before .before .before .before .before .before .before .before .before .before .before .before .before) .read-lines .ensures) ((c .before .before .before .before .before .before .before) .if1 .taken) _ ((c .before .before .before .before .before) .has-last-ending .ensures) _ _
     ((c .before .before .before) .end-text .ensures) _ (c .equals .ensures)
@@ -49,7 +49,7 @@ same-length-2 : tie.Need-same-length-2
 same-length-2 c = search needs
 
 returns-2 : tie.Need-returns-2
-returns-2 c = 
+returns-2 c =
     let s = c .before .before .before .before .before .before .before .before .before .before .before .before .before .before .before in
     found-early _ _ (s .args .chosen) _ _ _ _ (s .pre .0) ((c .before .before .before .before .before .before .before .before .before .before) .ending-of .ensures) _ ((c .before .before .before .before .before .before) .read-lines .ensures) (c .if1 .left)
 

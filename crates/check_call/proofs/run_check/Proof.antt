@@ -22,14 +22,14 @@ enum-told : tie.Need-enum-told
 enum-told c = search needs
 
 check-with-requires : tie.Need-check-with-requires
-check-with-requires c κs = 
+check-with-requires c κs =
     let a = c .before .before .before .before .before .before .before .before .before .before .before .before .args in (
       check-passed _ _ _ (a .strengths .now) (a .scratch .now) _ _ _ _ ((c .before .before .before .before .before .before .before) .read .ensures) ((c .before .before .before .before .before .before) .from-numbers .ensures) ((c .before .before .before .before) .refuses .ensures) ((c .before .before .before) .test .ensures) (c .before .enum-told .given .1),
       check-ruler _ _ _ (a .strengths .now) (a .scratch .now) _ _ _ _ ((c .before .before .before .before .before .before .before) .read .ensures) ((c .before .before .before .before .before .before) .from-numbers .ensures) ((c .before .before .before .before) .refuses .ensures) ((c .before .before .before) .test .ensures) (c .before .enum-told .given .1),
     )
 
 returns : tie.Need-returns
-returns c = 
+returns c =
     let a = c .before .before .before .before .before .before .before .before .before .before .before .before .args in
     run-refused _ _ _ (a .strengths .now) (a .scratch .now) _ _ _ _ ((c .before .before .before .before .before .before .before) .read .ensures) ((c .before .before .before .before .before .before) .from-numbers .ensures) ((c .before .before .before .before) .refuses .ensures) ((c .before .before .before) .test .ensures) _ (c .before .why .given .1)
 
@@ -37,7 +37,7 @@ same-length : tie.Need-same-length
 same-length c = search needs
 
 returns-2 : tie.Need-returns-2
-returns-2 c = 
+returns-2 c =
     let a = c .before .before .before .before .before .before .before .before .before .before .before .before .before .before .before .args in
     run-found _ _ _ (a .strengths .now) (a .scratch .now) _ _ _ _ ((c .before .before .before .before .before .before .before .before .before .before) .read .ensures) ((c .before .before .before .before .before .before .before .before .before) .from-numbers .ensures) ((c .before .before .before .before .before .before .before) .refuses .ensures) ((c .before .before .before .before .before .before) .test .ensures) (c .before .before .before .before .enum-told .given .1) _ (c .before .before .check-with .ensures)
 

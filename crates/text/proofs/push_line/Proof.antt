@@ -53,7 +53,7 @@ same-length : tie.Need-same-length
 same-length c = search needs
 
 returns : tie.Need-returns
-returns c = 
+returns c =
     let d = c .before .before .before .before .before .before .before .before in
     let w = d .before .before .before .before in
     let s = w .before .before .before .before .before .before .before .before in

@@ -15,7 +15,7 @@ is-first-requires : tie.Need-is-first-requires
 is-first-requires c κs = search needs
 
 returns-2 : tie.Need-returns-2
-returns-2 c = 
+returns-2 c =
     let s = c .before .before .before .before .before .before in
     blank-first _ _ _ _ _ (s .pre) ((c .before .before) .if1 .left) ((c .before) .is-first .ensures) (c .if2 .taken)
 
@@ -26,7 +26,7 @@ slice-aggregate-push-line-2 : tie.Need-slice-aggregate-push-line-2
 slice-aggregate-push-line-2 c = search needs
 
 push-line-requires : tie.Need-push-line-requires
-push-line-requires c κs = 
+push-line-requires c κs =
     let s = c .before .before .before .before .before .before .before .before .before .before .before in
     (indent-none, (line-none, (s .pre .ordered, omega (arith, ap length (times-nil 0), s .pre .at))))
 
@@ -34,7 +34,7 @@ same-length : tie.Need-same-length
 same-length c = search needs
 
 returns-3 : tie.Need-returns-3
-returns-3 c = 
+returns-3 c =
     let b = c .before .before .before .before .before .before .before .before in
     let s = b .before .before .before .before .before .before in
     blank-new _ _ _ _ _ (s .pre) ((c .before .before .before .before .before .before .before .before .before .before) .if1 .left) (b .before .is-first .ensures) _ _ (b .if2 .left) (c .before .before .push-line .ensures)

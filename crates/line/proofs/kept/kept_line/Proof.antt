@@ -8,7 +8,7 @@ use Rattle.line.proofs.kept.kept_line.Statement.{statement}
 use Rattle.line.proofs.kept.kept_line.Tie as tie
 
 slice-aggregate-shown : tie.Need-slice-aggregate-shown
-slice-aggregate-shown c = 
+slice-aggregate-shown c =
     let s = c .before .before .before .before .before .before .before .before in
     sym (length-take-le _ _ (s .pre .1 .1 .1 .1 .fits))
 
@@ -22,7 +22,7 @@ slice-aggregate-push-line : tie.Need-slice-aggregate-push-line
 slice-aggregate-push-line c = search needs
 
 push-line-requires : tie.Need-push-line-requires
-push-line-requires c κs = 
+push-line-requires c κs =
     let s = c .before .before .before .before .before .before .before .before .before .before .before .before in
     let p = s .pre .1 .1 .1 .1 in
     (indent-none, (line-told _ _ _ (p .well) ((c .before .before .before) .line-facts .ensures) ((c .before .before) .takes-else .ensures), (s .pre .0 .small .ordered, push-room (s .pre .0) _ (shown-short p))))
@@ -40,7 +40,7 @@ scanned-part-requires : tie.Need-scanned-part-requires
 scanned-part-requires c κs = search needs
 
 scan-brackets-requires : tie.Need-scan-brackets-requires
-scan-brackets-requires c κs = 
+scan-brackets-requires c κs =
     let b = c .before in
     let a = b .before in
     let s = a .before .before .before .before .before .before .before .before .before .before .before .before .before .before .before .before .before .before .before in
@@ -61,7 +61,7 @@ same-length-2 : tie.Need-same-length-2
 same-length-2 c = search needs
 
 returns : tie.Need-returns
-returns c = 
+returns c =
     let b = c .before .before .before .before in
     let e = c .before .before .before .before .before .before .before in
     let h = c .before .before .before .before .before .before .before .before .before .before .before .before .before in

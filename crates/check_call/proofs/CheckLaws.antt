@@ -174,6 +174,14 @@ module _
 
 -- ---- the answer
 
+pub one-on : (b : Bool) → b ≡ true → 1 ≡ oneIf b
+unfolding choose
+one-on b e = rw e
+
+pub one-off : (b : Bool) → b ≡ false → 0 ≡ oneIf b
+unfolding choose
+one-off b e = rw e
+
 one-yes : (b : Bool) → oneIf b ≡ 1 → b ≡ true
 unfolding choose
 one-yes true h = refl
@@ -183,6 +191,9 @@ one-no : (b : Bool) → oneIf b ≡ 0 → b ≡ false
 unfolding choose
 one-no true h = absurd (omega arith)
 one-no false h = refl
+
+abbrev foundIn : Choices → List ℕ → Checked
+foundIn c source = isFormatted (optionsOf c) (decode source)
 
 pub answered : (c : Choices) (source : List ℕ) (room : ℕ) (x : CheckOutcome) (r : CheckAnswer) (work : List ℕ)
     → Found c source room x → work ≡ replicate room 0 → r ≡ answerOf x → CheckAnswered c source room r work
@@ -196,28 +207,25 @@ answered c source room x r work w z e =
       all = λ k h. all-here k h i;
     }
   where
-    abbrev found : Checked
-    found = isFormatted (optionsOf c) (decode source)
-
-    accepted : answerOf (outcomeOf c source room) .refusal ≡ 0 → outcomeOf c source room ≡ CheckOutcome.Found (findingOf found)
+    accepted : answerOf (outcomeOf c source room) .refusal ≡ 0 → outcomeOf c source room ≡ CheckOutcome.Found (findingOf (foundIn c source))
     accepted k = go (verdictOf c source room) (rw-outcome) k
       where
-        rw-outcome : outcomeOf c source room ≡ outcomeAfter (verdictOf c source room) (findingOf found)
+        rw-outcome : outcomeOf c source room ≡ outcomeAfter (verdictOf c source room) (findingOf (foundIn c source))
         rw-outcome = unfold outcomeOf in refl
 
-        go : (v : Verdict) → outcomeOf c source room ≡ outcomeAfter v (findingOf found) → answerOf (outcomeOf c source room) .refusal ≡ 0
-            → outcomeOf c source room ≡ CheckOutcome.Found (findingOf found)
+        go : (v : Verdict) → outcomeOf c source room ≡ outcomeAfter v (findingOf (foundIn c source)) → answerOf (outcomeOf c source room) .refusal ≡ 0
+            → outcomeOf c source room ≡ CheckOutcome.Found (findingOf (foundIn c source))
         go Verdict.Accepted q k = q
         go (Verdict.Refused why) q k = absurd (numbered why (ap (λ (y : CheckOutcome). answerOf y .refusal) (sym q) ∙ k))
 
-    here : r .refusal ≡ 0 → r ≡ answerOf (outcomeOf c source room) → r ≡ answerOf (CheckOutcome.Found (findingOf found))
+    here : r .refusal ≡ 0 → r ≡ answerOf (outcomeOf c source room) → r ≡ answerOf (CheckOutcome.Found (findingOf (foundIn c source)))
     here k i = i ∙ ap answerOf (accepted (ap (λ (a : CheckAnswer). a .refusal) (sym i) ∙ k))
 
-    yes-here : r .refusal ≡ 0 → r .formatted ≡ 1 → r ≡ answerOf (outcomeOf c source room) → found .yes ≡ true
-    yes-here k h i = one-yes (found .yes) (ap (λ (a : CheckAnswer). a .formatted) (sym (here k i)) ∙ h)
+    yes-here : r .refusal ≡ 0 → r .formatted ≡ 1 → r ≡ answerOf (outcomeOf c source room) → foundIn c source .yes ≡ true
+    yes-here k h i = one-yes (foundIn c source .yes) (ap (λ (a : CheckAnswer). a .formatted) (sym (here k i)) ∙ h)
 
-    no-here : r .refusal ≡ 0 → r .formatted ≡ 0 → r ≡ answerOf (outcomeOf c source room) → found .yes ≡ false
-    no-here k h i = one-no (found .yes) (ap (λ (a : CheckAnswer). a .formatted) (sym (here k i)) ∙ h)
+    no-here : r .refusal ≡ 0 → r .formatted ≡ 0 → r ≡ answerOf (outcomeOf c source room) → foundIn c source .yes ≡ false
+    no-here k h i = one-no (foundIn c source .yes) (ap (λ (a : CheckAnswer). a .formatted) (sym (here k i)) ∙ h)
 
     all-here : r .refusal ≡ 0 → r .formatted ≡ 1 → r ≡ answerOf (outcomeOf c source room) → r .«lines_read» ≡ length (linesOf (decode source))
     all-here k h i = ap (λ (a : CheckAnswer). a .«lines_read») (here k i) ∙ yes-read (optionsOf c) (decode source) (yes-here k h i)

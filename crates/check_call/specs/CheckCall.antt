@@ -36,7 +36,7 @@ unfoldable pub outcomeOf : Choices → List ℕ → ℕ → CheckOutcome
 outcomeOf c source scratch = outcomeAfter (verdictOf c source scratch) (findingOf (isFormatted (optionsOf c) (decode source)))
 
 abbrev pub oneIf : Bool → ℕ
-oneIf yes = choose yes 1 0
+oneIf b = choose b 1 0
 
 -- what the host reads: a refused call gives number and place, other fields 0
 abbrev pub answerOf : CheckOutcome → CheckAnswer

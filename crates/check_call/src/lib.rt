@@ -1,4 +1,5 @@
-// Is this source formatted already? The whole call: the refusals, then the lines, compared with the source as they come, then the answer.
+// Is this source formatted already? The whole call: the refusals, then the lines, compared with the source as they
+// come, then the answer.
 ghost use mathlib.Core.Path.{_≡_};
 ghost use mathlib.Core.Bool.{_||_};
 ghost use Prim.Native.Nat.{_≤_};

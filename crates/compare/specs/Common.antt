@@ -1,10 +1,10 @@
 -- How long a beginning of a text agrees with a model, and where a text goes.
 use Prim.Native.Nat.{ℕ, suc, _+_, _*_, _≤_, _<_, _^_, min}
-use mathlib.Core.Bool.{Bool, true, false}
+use mathlib.Core.Bool.{Bool, true, false, not}
 use mathlib.Core.List.{List, [], _∷_, _++_}
 use mathlib.Core.Path.{_≡_}
 use lib.Dec.{eqb}
-use lib.ListN.{length, take, getD}
+use lib.ListN.{length, take, drop, getD}
 use Rattle.buffer.specs.Buffer.{Agree}
 use Rattle.rules.specs.Basics.{choose, startsWith}
 
@@ -13,6 +13,14 @@ unfoldable pub common : List ℕ → List ℕ → ℕ
 common [] t = 0
 common (m ∷ ms) [] = 0
 common (m ∷ ms) (c ∷ t) = choose (eqb m c) (suc (common ms t)) 0
+
+-- the first i elements of both agree, of the n that both have
+pub record Agreeing (m l : List ℕ) (n i : ℕ) : Type 0 where
+  pub within : i ≤ n
+  pub is : common m l ≡ i + common (drop i m) (drop i l)
+
+abbrev pub differAt : List ℕ → List ℕ → ℕ → Bool
+differAt m l i = not (eqb (getD m i 0) (getD l i 0))
 
 -- a number below 2 ^ 24 in three bytes
 abbrev pub cellSize : ℕ

@@ -1,21 +1,53 @@
-// Where a text goes. With no model, to an output that may be too short. With a model, it is compared with that as it comes, and nothing of it is
-// written: three bytes keep how many of its first bytes are the model's. A text is cut back by going on from a smaller place.
+// Where a text goes. With no model, to an output that may be too short. With a model, it is compared with that as it
+// comes, and nothing of it is written: three bytes keep how many of its first bytes are the model's. A text is cut back
+// by going on from a smaller place.
 ghost use mathlib.Core.Path.{_≡_};
 ghost use mathlib.Core.List.{_++_};
-ghost use Prim.Native.Nat.{_+_, _<_, _≤_, _^_};
+ghost use Prim.Native.Nat.{_+_, _<_, _≤_, _^_, min};
 ghost use lib.ListN.{length};
+ghost use Rattle.unicode.specs.Places.{NoneAmong};
 ghost use Rattle.buffer.specs.Repeat.{times};
-ghost use Rattle.compare.specs.Common.{common, cellSize, cellOf, CellPut, Compared, Tells};
+ghost use Rattle.compare.specs.Common.{common, Agreeing, differAt, cellSize, cellOf, CellPut, Compared, Tells};
 
 // The bytes that keep how far the text agrees.
 pub const CELL: usize = 3;
+
+// Whether the 16 bytes from `at` on differ. It makes no branch, so that the 16 are tested at once.
+fn differ_among(model: &[u8], line: &[u8], at: usize) -> bool
+    requires { ⌜ at + 16 ≤ length (now model) ⌝ }
+    requires { ⌜ at + 16 ≤ length (now line) ⌝ }
+    ensures { λ r. ⌜ NoneAmong (differAt (now (model .entry)) (now (line .entry))) at 16 r ⌝ }
+{
+    let mut any = false;
+    let mut k: usize = 0;
+    while k < 16 {
+        any = any | (model[at + k] != line[at + k]);
+        k += 1;
+    }
+    any
+}
+
+// Past the blocks of 16 bytes that agree, of the n that both have.
+fn agree_blocks(model: &[u8], line: &[u8], n: usize) -> usize
+    requires { ⌜ n ≡ min (length (now line)) (length (now model)) ⌝ }
+    ensures { λ r. ⌜ Agreeing (now (model .entry)) (now (line .entry)) n r ⌝ }
+{
+    let mut i = 0;
+    while n - i >= 16 {
+        if differ_among(model, line, i) {
+            return i;
+        }
+        i += 16;
+    }
+    i
+}
 
 // How many of the first bytes of line are the model's.
 fn agree(model: &[u8], line: &[u8]) -> usize
     ensures { λ r. ⌜ r ≡ common (now (model .entry)) (now (line .entry)) ⌝ }
 {
     let n = buffer::place(line.len(), model.len());
-    let mut i = 0;
+    let mut i = agree_blocks(model, line, n);
     while i < n {
         if model[i] != line[i] {
             return i;

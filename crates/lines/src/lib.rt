@@ -22,8 +22,8 @@ fn differs(checks: bool, model: &[u8], out: &[u8], k: usize) -> bool
     false
 }
 
-// Every line of the source goes to the output. After the last LF stands one more line. If checks, the text is compared with the model, and reading stops
-// after the first line whose settled text differs.
+// Every line of the source goes to the output. After the last LF stands one more line. If checks, the text is compared
+// with the model, and reading stops after the first line whose settled text differs.
 pub fn read_lines(
     source: &[u8],
     indent: &[u8],

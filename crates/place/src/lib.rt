@@ -33,8 +33,9 @@ use text::Last;
 use text::Written;
 use unicode::Utf16Column;
 
-// What is known before the line is put: the text so far, how many brackets are open, how many levels are left after the line's leading closers popped, what
-// it asks of the previous line, and of this line its leading closers, what the next line asks of it and whether it is a marker.
+// What is known before the line is put: the text so far, how many brackets are open, how many levels are left after the
+// line's leading closers popped, what it asks of the previous line, and of this line its leading closers, what the next
+// line asks of it and whether it is a marker.
 pub struct Before {
     pub text: Written,
     pub depth: usize,
@@ -183,8 +184,8 @@ fn fit_of(line: &[u8], class: &[u8], indent: &[u8], style: Style, level: usize) 
     }
 }
 
-// The line laid out at its level: split where it is wider than the width and all of it is code and strings. Each way has one call, so that
-// both are part of this function when it is compiled.
+// The line laid out at its level: split where it is wider than the width and all of it is code and strings. Each way
+// has one call, so that both are part of this function when it is compiled.
 fn fit_line(
     line: &[u8],
     class: &[u8],

@@ -1,5 +1,5 @@
-// The text so far, in an output that may be too short or compared with a model (crate compare): lines are added at its end, and the newest can be
-// cut back.
+// The text so far, in an output that may be too short or compared with a model (crate compare): lines are added at its
+// end, and the newest can be cut back.
 ghost use mathlib.Core.Path.{_≡_};
 ghost use mathlib.Core.Bool.{true};
 ghost use mathlib.Core.List.{[], _++_};
@@ -157,8 +157,8 @@ fn full_of(long: usize, full: usize, at: usize) -> usize
     at
 }
 
-// How a line is added: the ending before it; whether an empty newest line goes first; the levels of its indent; its length trimmed at its end, without
-// the indent; whether it can take an else.
+// How a line is added: the ending before it; whether an empty newest line goes first; the levels of its indent; its
+// length trimmed at its end, without the indent; whether it can take an else.
 pub struct Adding {
     pub ending: LineEnding,
     pub drops: bool,
@@ -246,7 +246,8 @@ pub fn continue_text(
     separate(model, out, from, ending, first)
 }
 
-// The record after several lines that reach up to next, the newest from last on. That is trimmed and not empty; joins tells whether it can take an else.
+// The record after several lines that reach up to next, the newest from last on. That is trimmed and not empty; joins
+// tells whether it can take an else.
 pub fn after_lines(last: usize, next: usize, joins: bool) -> Written
     ensures { λ r. ⌜ r ≡ afterLines last next joins ⌝ }
 {

@@ -5,8 +5,8 @@ ghost use Rattle.check_call.specs.CheckAnswered.{choicesOf, CheckAnswered};
 use check_rules::CheckAnswer;
 use rules::OptionNumbers;
 
-// Whether the text of a source would equal it: formatted is 1 or 0, and lines_read the lines that were read to tell. The options are those of
-// wirescript_format; an ending that is kept is refused as a bad option.
+// Whether the text of a source would equal it: formatted is 1 or 0, and lines_read the lines that were read to tell.
+// The options are those of wirescript_format; an ending that is kept is refused as a bad option.
 #[no_mangle]
 pub extern "C" fn wirescript_is_formatted(
     source: &[u8],

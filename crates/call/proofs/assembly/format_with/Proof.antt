@@ -21,7 +21,7 @@ has-last-ending-requires : tie.Need-has-last-ending-requires
 has-last-ending-requires c κs = (c .before .before .before .before .before .before .before .before .before .before .before .before .before .before .before .before .before .before) .pre .0 .well
 
 finish-text-requires : tie.Need-finish-text-requires
-finish-text-requires c κs = 
+finish-text-requires c κs =
     let d = all-done (c .before .before .before .before .before .before .before .before .read-lines .ensures) in
     omega (arith, d .small .ordered .full, d .small .ordered .below, d .small .at)
 
@@ -38,7 +38,7 @@ same-length-3 : tie.Need-same-length-3
 same-length-3 c = search needs
 
 returns : tie.Need-returns
-returns c = 
+returns c =
     let s = c .before .before .before .before .before .before .before .before .before .before .before .before .before .before .before .before .before .before .before .before .before .before .before .before .before .before .before .before .before .before .before in
     text-short _ _ (s .args .chosen) _ _ _ (s .args .output .now) (s .args .opened .now) (s .args .scratch .now) _ _ _ _ _ _ _
     ((c .before .before .before .before .before .before .before .before .before .before .before .before .before .before .before .before .before .before .before .before .before .before .before .before) .ending-of .ensures) (all-done (c .before .before .before .before .before .before .before .before .before .before .before .before .before .before .before .before .before .before .before .read-lines .ensures)) ((c .before .before .before .before .before .before .before .before .before .before .before .before) .has-last-ending .ensures) ((c .before .before .before .before .before .before .before .before .before .before) .finish-text .ensures)
@@ -60,7 +60,7 @@ same-length-6 : tie.Need-same-length-6
 same-length-6 c = search needs
 
 returns-2 : tie.Need-returns-2
-returns-2 c = 
+returns-2 c =
     let s = c .before .before .before .before .before .before .before .before .before .before .before .before .before .before .before .before .before .before .before .before .before .before .before .before .before .before .before .before .before .before .before .before in
     text-fits _ _ (s .args .chosen) _ _ _ (s .args .output .now) (s .args .opened .now) (s .args .scratch .now) _ _ _ _ _ _ _
     ((c .before .before .before .before .before .before .before .before .before .before .before .before .before .before .before .before .before .before .before .before .before .before .before .before .before) .ending-of .ensures) (all-done (c .before .before .before .before .before .before .before .before .before .before .before .before .before .before .before .before .before .before .before .before .read-lines .ensures)) ((c .before .before .before .before .before .before .before .before .before .before .before .before .before) .has-last-ending .ensures) ((c .before .before .before .before .before .before .before .before .before .before .before) .finish-text .ensures)

@@ -2,10 +2,10 @@
 use Prim.Native.Nat.{ℕ, _*_, _%_, _≤_, _<_}
 use native.Mathlib.Nat.{mul-le-mul}
 use mathlib.Core.List.{List, [], _∷_}
-use mathlib.Core.Path.{_≡_, refl, sym, ap, _∙_}
+use mathlib.Core.Path.{_≡_, sym, _∙_}
 use borrow.Author.Tests.{lt-ltb, le-ltb, eq-eqb, ne-eqb}
 use lib.ListN.{length, getD}
-use Rattle.unicode.specs.Unicode.{wellFormed, prefixLen}
+use Rattle.unicode.specs.Unicode.{prefixLen}
 use Rattle.unicode.proofs.Decode.{test-whole, test-part}
 use Rattle.rules.specs.Basics.{choose}
 use Rattle.rules.specs.Refusals.{maxSource, scratchNeeded, refuseIf, tested, longSource, shortScratch, illFormed, wrongLength, bitsSet}

@@ -41,7 +41,8 @@ pub fn test_length(source: &[u8]) -> Verdict
 pub fn test_bytes(source: &[u8], each: usize, scratch: usize) -> Verdict
     requires { ⌜ length (now source) ≤ maxSource ⌝ }
     requires { ⌜ each ≤ 255 ⌝ }
-    ensures { λ r. ⌜ r ≡ tested (shortScratch (scratchNeeded each (now (source .entry))) scratch ∷ illFormed (now (source .entry)) ∷ []) ⌝ }
+    ensures { λ r. ⌜ r ≡ tested (shortScratch (scratchNeeded each (now (source .entry))) scratch ∷ illFormed
+        (now (source .entry)) ∷ []) ⌝ }
 {
     let n = source.len();
     let needed = each * n + 256;

@@ -4,7 +4,7 @@ use mathlib.Core.List.{List, [], _∷_, _++_, append-assoc}
 use mathlib.Core.Path.{_≡_, refl, sym, ap, _∙_}
 use native.Mathlib.Nat.{le-refl}
 use native.Mathlib.Omega.{arith}
-use lib.ListN.{length, getD, take, drop, set, length-set, length-drop, length-append}
+use lib.ListN.{length, getD, take, drop, set, length-set, length-append}
 use lib.Seq.{length-take-le, take-take, drop-drop, getD-take, getD-drop, take-set-le, drop-set-lt, take-at, drop-at, take-nil}
 use Rattle.buffer.specs.Buffer.{part, put}
 use Rattle.buffer.proofs.RegionLaws.{length-put}

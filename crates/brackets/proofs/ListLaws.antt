@@ -7,7 +7,6 @@ use mathlib.Core.Logic.{_⊎_, inl, inr}
 use mathlib.Core.Path.{_≡_, refl, sym, ap, _∙_}
 use native.Mathlib.Omega.{arith}
 use borrow.Author.Tests.{lt-ltb, le-ltb}
-use lib.Dec.{ltb}
 use lib.ListN.{length, getD, take, set, replicate, length-append, length-take, length-replicate, length-set, getD-replicate, List·getD-eq-default, List·getD-append}
 use lib.Seq.{getD-append-add, getD-append-seam, getD-take, getD-set-same, getD-set-other, ext-getD}
 use Rattle.unicode.proofs.Tests.{split}

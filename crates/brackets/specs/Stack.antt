@@ -54,7 +54,8 @@ pub record Listed (lines : List ℕ) (n r : ℕ) (list : List ℕ) : Type 0 wher
   pub holds : list ≡ listed n lines
   pub count : r ≡ length lines
 
--- The running value: the levels that b keeps are those of the stack that lies in buf. The line's number fits into an entry.
+-- The running value: the levels that b keeps are those of the stack that lies in buf. The line's number fits into an
+-- entry.
 pub record Nested (buf : List ℕ) (base : ℕ) (b : Nesting) : Type 0 where
   pub fits : base + entrySize * b .depth ≤ length buf
   pub runs : b .levels ≡ levels (stacked buf base (b .depth))

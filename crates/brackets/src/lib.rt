@@ -1,5 +1,5 @@
-// Brackets: leading closers, and the stack of open brackets in scratch, ENTRY bytes for each: the first one's lowest bit tells whether it added a level,
-// its other bits and the two bytes after it are the source line of the opener.
+// Brackets: leading closers, and the stack of open brackets in scratch, ENTRY bytes for each: the first one's lowest
+// bit tells whether it added a level, its other bits and the two bytes after it are the source line of the opener.
 ghost use mathlib.Core.Path.{_≡_};
 ghost use mathlib.Core.Bool.{not, _||_};
 ghost use Prim.Native.Nat.{_+_, _-_, _*_, _≤_, _<_};
@@ -10,7 +10,6 @@ ghost use Rattle.rules.specs.Basics.{choose};
 ghost use Rattle.rules.specs.Scan.{cell};
 ghost use Rattle.rules.specs.ClassBytes.{classOf, cellsOf};
 ghost use Rattle.rules.specs.Brackets.{push, pop, bracketStep, scanBrackets, openLines};
-ghost use Rattle.rules.specs.Call.{listed};
 ghost use Rattle.basics.specs.Closers.{Closers};
 ghost use Rattle.brackets.specs.Stack.{addsOf, entryAt, entrySize, stacked, Nested, Popped, EntryRoom, EntryPut, StackRoom, Turned, StackFits, BracketsDone, mayTurn, turnsAt, IdleRun, lineAt, Listed};
 use basics::is_closer;
@@ -19,7 +18,8 @@ use basics::is_opener;
 // The bytes of an entry.
 pub const ENTRY: usize = 3;
 
-// How many brackets are open, how many of them added a level, and the number of the source line that is read. The stack itself lies in scratch.
+// How many brackets are open, how many of them added a level, and the number of the source line that is read. The stack
+// itself lies in scratch.
 pub struct Nesting {
     pub depth: usize,
     pub levels: usize,
@@ -89,7 +89,8 @@ fn put_entry(scratch: &mut [u8], p: usize, level: usize, line: usize)
     scratch[p + 2] = (q % 256) as u8;
 }
 
-// The n leading closers of a line: each pops any opener, with the level that it added, and on an empty stack does nothing.
+// The n leading closers of a line: each pops any opener, with the level that it added, and on an empty stack does
+// nothing.
 pub fn pop_closers(scratch: &[u8], base: usize, b: Nesting, n: usize) -> Nesting
     requires { ⌜ Nested (now scratch) base b ⌝ }
     ensures { λ r. ⌜ Popped (now (scratch .entry)) base b n r ⌝ }
@@ -182,8 +183,8 @@ fn may_turn(c: u8) -> bool
     ((40 <= c) & (c <= 41)) | ((91 <= c) & (c <= 93)) | ((123 <= c) & (c <= 125))
 }
 
-// Whether c changes nothing, whatever its class: it is not escaped, and neither a bracket nor a backslash. Most bytes are such, and their class is not
-// looked at.
+// Whether c changes nothing, whatever its class: it is not escaped, and neither a bracket nor a backslash. Most bytes
+// are such, and their class is not looked at.
 fn is_idle(c: u8, esc: bool) -> bool
     ensures { λ r. ⌜ r ≡ not (esc || mayTurn c) ⌝ }
 {
@@ -237,7 +238,8 @@ fn idle_to(line: &[u8], at: usize) -> usize
 // A byte c of class k.
 fn bracket_step(c: u8, k: u8, scratch: &mut [u8], base: usize, t: Tally) -> Tally
     requires { ⌜ StackRoom (now scratch) base t ⌝ }
-    ensures { λ r. ⌜ Turned (λ o. bracketStep o (cell c (classOf k))) (now (scratch .entry)) base t (now (scratch .exit)) r ⌝ }
+    ensures { λ r. ⌜ Turned (λ o. bracketStep o (cell c (classOf k))) (now (scratch .entry)) base t
+        (now (scratch .exit)) r ⌝ }
 {
     let mut u = t;
     if k != 0 {
@@ -260,7 +262,8 @@ fn bracket_step(c: u8, k: u8, scratch: &mut [u8], base: usize, t: Tally) -> Tall
     t
 }
 
-// The brackets of a line, without its first `skip` bytes, whose class bytes stand in scratch from class_at on. The stack lies from base on.
+// The brackets of a line, without its first `skip` bytes, whose class bytes stand in scratch from class_at on. The
+// stack lies from base on.
 pub fn scan_brackets(
     line: &[u8],
     scratch: &mut [u8],
@@ -270,7 +273,10 @@ pub fn scan_brackets(
     skip: usize,
 ) -> Nesting
     requires { ⌜ StackFits (now scratch) «class_at» (length (now line)) base b ⌝ }
-    ensures { λ r. ⌜ BracketsDone (now (scratch .entry)) (now (scratch .exit)) base b (length (now (line .entry))) (scanBrackets (b .line) (drop skip (cellsOf (now (line .entry)) (part (now (scratch .entry)) «class_at» («class_at» + length (now (line .entry)))))) (stacked (now (scratch .entry)) base (b .depth))) r ⌝ }
+    ensures { λ r. ⌜ BracketsDone (now (scratch .entry)) (now (scratch .exit)) base b (length (now (line .entry)))
+        (scanBrackets (b .line) (drop skip (cellsOf (now (line .entry))
+        (part (now (scratch .entry)) «class_at» («class_at» + length (now (line .entry))))))
+        (stacked (now (scratch .entry)) base (b .depth))) r ⌝ }
 {
     let mut t = Tally {
         depth: b.depth,
@@ -307,7 +313,10 @@ pub fn scan_brackets_at(
     skip: usize,
 ) -> Nesting
     requires { ⌜ (StackFits (now scratch) «class_at» n base b) × («line_at» + n ≤ base) ⌝ }
-    ensures { λ r. ⌜ BracketsDone (now (scratch .entry)) (now (scratch .exit)) base b n (scanBrackets (b .line) (drop skip (cellsOf (part (now (scratch .entry)) «line_at» («line_at» + n)) (part (now (scratch .entry)) «class_at» («class_at» + n)))) (stacked (now (scratch .entry)) base (b .depth))) r ⌝ }
+    ensures { λ r. ⌜ BracketsDone (now (scratch .entry)) (now (scratch .exit)) base b n
+        (scanBrackets (b .line) (drop skip (cellsOf (part (now (scratch .entry)) «line_at» («line_at» + n))
+        (part (now (scratch .entry)) «class_at» («class_at» + n)))) (stacked (now (scratch .entry)) base (b .depth))) r
+        ⌝ }
 {
     let mut t = Tally {
         depth: b.depth,
@@ -345,10 +354,12 @@ fn line_at(scratch: &[u8], base: usize, depth: usize, i: usize) -> u64
     0
 }
 
-// The lines of the open brackets, of which the stack has `count`, as many as the list has room for. Gives how many are open.
+// The lines of the open brackets, of which the stack has `count`, as many as the list has room for. Gives how many are
+// open.
 pub fn list_lines(scratch: &[u8], base: usize, count: usize, list: &mut [u64]) -> usize
     requires { ⌜ base + entrySize * count ≤ length (now scratch) ⌝ }
-    ensures { λ r. ⌜ Listed (openLines (stacked (now (scratch .entry)) base count)) (length (now (list .entry))) r (now (list .exit)) ⌝ }
+    ensures { λ r. ⌜ Listed (openLines (stacked (now (scratch .entry)) base count)) (length (now (list .entry))) r
+        (now (list .exit)) ⌝ }
 {
     let mut i = 0;
     while i < list.len() {

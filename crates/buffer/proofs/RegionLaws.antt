@@ -1,4 +1,5 @@
--- Laws on parts of a buffer: what a region that is written holds, what the other regions then hold, and what comes back of a part that was lent.
+-- Laws on parts of a buffer: what a region that is written holds, what the other regions then hold, and what comes back
+-- of a part that was lent.
 use mathlib.Core.Path.{_≡_, refl, sym, ap, _∙_}
 use mathlib.Core.List.{List, [], _∷_, _++_, append-assoc, append-nil}
 use Prim.Native.Nat.{ℕ, zero, suc, _+_, _-_, _≤_, _<_}

@@ -39,7 +39,8 @@ from-place x l at p e =
     (λ h m. rw (e, m))
     (λ h m. rw (e, m, take-length, take-all at x h, drop-length, drop-of-length-le x {i = at} h))
 
--- what comes back of the part that starts at the place reached, `put_line(&mut out[p..], line)`: y is what it left in the part
+-- what comes back of the part that starts at the place reached, `put_line(&mut out[p..], line)`: y is what it left in
+-- the part
 pub appended-from : (x y l : List ℕ) (at p n : ℕ) → p ≡ min at (length x) → Wrote (take (length x - p) (drop p x)) y l n
     → Appended x (take p x ++ (y ++ drop (length x - p) (drop p x))) at l (at + n)
 appended-from x y l at p n e w =

@@ -30,7 +30,8 @@ pub record Wrote (x x′ l : List ℕ) (r : ℕ) : Type 0 where
   pub size : r ≡ length l
   pub is : x′ ≡ over x l
 
--- x′ is x with l written from the place at on, which may lie past the end; what of l does not fit is left out. r is the next place
+-- x′ is x with l written from the place at on, which may lie past the end; what of l does not fit is left out. r is the
+-- next place
 pub record Appended (x x′ : List ℕ) (at : ℕ) (l : List ℕ) (r : ℕ) : Type 0 where
   pub next : r ≡ at + length l
   pub is : x′ ≡ take at x ++ over (drop at x) l

@@ -97,7 +97,8 @@ fn put_levels(out: &mut [u8], indent: &[u8], levels: usize) -> usize
     all
 }
 
-// Writes the indent, levels times over, over the front of out, and gives the whole length. An indent of one kind of byte is one fill.
+// Writes the indent, levels times over, over the front of out, and gives the whole length. An indent of one kind of
+// byte is one fill.
 pub fn put_indent(out: &mut [u8], indent: &[u8], levels: usize) -> usize
     requires { ⌜ length (times levels (now indent)) < 2 ^ 64 ⌝ }
     ensures { λ r. ⌜ Wrote (now (out .entry)) (now (out .exit)) (times levels (now (indent .entry))) r ⌝ }
@@ -122,7 +123,8 @@ pub fn append_indented(
     line: &[u8],
 ) -> usize
     requires { ⌜ at + (length (times levels (now indent)) + length (now line)) < 2 ^ 64 ⌝ }
-    ensures { λ r. ⌜ Appended (now (out .entry)) (now (out .exit)) at (times levels (now (indent .entry)) ++ now (line .entry)) r ⌝ }
+    ensures { λ r. ⌜ Appended (now (out .entry)) (now (out .exit)) at
+        (times levels (now (indent .entry)) ++ now (line .entry)) r ⌝ }
 {
     let p = place(at, out.len());
     let n = put_indent(&mut out[p..], indent, levels);

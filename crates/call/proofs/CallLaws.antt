@@ -97,7 +97,8 @@ pub all-done : {source indent : List ℕ} {style : Style} {model : List ℕ} {r 
     → AllRead source indent style false model r out scratch → LinesDone source indent style model (r .st) out scratch
 all-done w = w .done (w .all refl)
 
--- out₁ is what `read_lines` leaves of the output, out₂ what `finish_text` leaves of it; list₁ and scratch₂ are what `list_open` leaves
+-- out₁ is what `read_lines` leaves of the output, out₂ what `finish_text` leaves of it; list₁ and scratch₂ are what
+-- `list_open` leaves
 module _
     (source indent : List ℕ) (chosen : FormatOptions) (ending : LineEnding) (last : Bool) (st : Record)
     (out₀ list₀ scratch₀ out₁ scratch₁ out₂ list₁ scratch₂ : List ℕ) (n r : ℕ)

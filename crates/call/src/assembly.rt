@@ -44,17 +44,20 @@ pub fn has_last_ending(newline: FinalNewline, source: &[u8]) -> bool
     }
 }
 
-// The lines of the brackets that are open go to the list, of a stack of this depth from base on, and the scratch is cleared. Gives how many are open.
+// The lines of the brackets that are open go to the list, of a stack of this depth from base on, and the scratch is
+// cleared. Gives how many are open.
 pub fn list_open(opened: &mut [u64], scratch: &mut [u8], base: usize, depth: usize) -> usize
     requires { ⌜ base + entrySize * depth ≤ length (now scratch) ⌝ }
-    ensures { λ r. ⌜ Told (openLines (stacked (now (scratch .entry)) base depth)) (length (now (opened .entry))) (length (now (scratch .entry))) r (now (opened .exit)) (now (scratch .exit)) ⌝ }
+    ensures { λ r. ⌜ Told (openLines (stacked (now (scratch .entry)) base depth)) (length (now (opened .entry)))
+        (length (now (scratch .entry))) r (now (opened .exit)) (now (scratch .exit)) ⌝ }
 {
     let count = brackets::list_lines(scratch, base, depth, opened);
     buffer::zero(scratch);
     count
 }
 
-// The source's text goes to the output, if it fits, and the list gets the open brackets. The indent is lent as the host lends it; the struct's own is the same.
+// The source's text goes to the output, if it fits, and the list gets the open brackets. The indent is lent as the host
+// lends it; the struct's own is the same.
 pub fn format_with(
     source: &[u8],
     indent: &[u8],
@@ -65,7 +68,9 @@ pub fn format_with(
 ) -> Outcome
     requires { ⌜ Passed (now source) (now indent) (now scratch) ⌝ }
     requires { ⌜ chosen .«ruler_tab» ≤ maxRuler ⌝ }
-    ensures { λ r. ⌜ Fitted (formatWith (optionsWith (now (indent .entry)) chosen) (decode (now (source .entry)))) (length (now (output .entry))) (length (now (opened .entry))) (length (now (scratch .entry))) r (now (output .exit)) (now (opened .exit)) (now (scratch .exit)) ⌝ }
+    ensures { λ r. ⌜ Fitted (formatWith (optionsWith (now (indent .entry)) chosen) (decode (now (source .entry))))
+        (length (now (output .entry))) (length (now (opened .entry))) (length (now (scratch .entry))) r
+        (now (output .exit)) (now (opened .exit)) (now (scratch .exit)) ⌝ }
 {
     let width = chosen.print_width;
     let end_of_line = chosen.end_of_line;

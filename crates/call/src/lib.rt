@@ -29,7 +29,8 @@ pub fn test(
     ruler_tab: u64,
     scratch: usize,
 ) -> Verdict
-    ensures { λ r. ⌜ r ≡ tested (formatTests (now (strengths .entry)) (now (source .entry)) «bad_option» «ruler_tab» scratch) ⌝ }
+    ensures { λ r. ⌜ r ≡ tested (formatTests (now (strengths .entry)) (now (source .entry)) «bad_option» «ruler_tab»
+        scratch) ⌝ }
 {
     match answer::test_strengths(strengths) {
         Verdict::Refused(why) => Verdict::Refused(why),
@@ -50,7 +51,8 @@ pub fn test(
 
 // All buffers are cleared.
 fn refuse(output: &mut [u8], opened: &mut [u64], scratch: &mut [u8], why: Refusal) -> Outcome
-    ensures { λ r. ⌜ RefusedCall why (length (now (output .entry))) (length (now (opened .entry))) (length (now (scratch .entry))) r (now (output .exit)) (now (opened .exit)) (now (scratch .exit)) ⌝ }
+    ensures { λ r. ⌜ RefusedCall why (length (now (output .entry))) (length (now (opened .entry)))
+        (length (now (scratch .entry))) r (now (output .exit)) (now (opened .exit)) (now (scratch .exit)) ⌝ }
 {
     buffer::zero(output);
     assembly::list_open(opened, scratch, 0, 0);
@@ -67,7 +69,9 @@ fn run_call(
     opened: &mut [u64],
     scratch: &mut [u8],
 ) -> Outcome
-    ensures { λ r. ⌜ Ran (callOf (now (source .entry)) (now (indent .entry)) numbers (now (strengths .entry)) (length (now (output .entry))) (length (now (opened .entry))) (length (now (scratch .entry)))) r (now (output .exit)) (now (opened .exit)) (now (scratch .exit)) ⌝ }
+    ensures { λ r. ⌜ Ran (callOf (now (source .entry)) (now (indent .entry)) numbers (now (strengths .entry))
+        (length (now (output .entry))) (length (now (opened .entry))) (length (now (scratch .entry)))) r
+        (now (output .exit)) (now (opened .exit)) (now (scratch .exit)) ⌝ }
 {
     let table = options::strengths::read(strengths);
     let named = FormatOptions::from_numbers(indent, numbers, table);
@@ -96,7 +100,9 @@ pub fn format_call(
     opened: &mut [u64],
     scratch: &mut [u8],
 ) -> Answer
-    ensures { λ r. ⌜ FormatAnswered (callOf (now (source .entry)) (now (indent .entry)) numbers (now (strengths .entry)) (length (now (output .entry))) (length (now (opened .entry))) (length (now (scratch .entry)))) r (now (output .exit)) (now (opened .exit)) (now (scratch .exit)) ⌝ }
+    ensures { λ r. ⌜ FormatAnswered (callOf (now (source .entry)) (now (indent .entry)) numbers (now (strengths .entry))
+        (length (now (output .entry))) (length (now (opened .entry))) (length (now (scratch .entry)))) r
+        (now (output .exit)) (now (opened .exit)) (now (scratch .exit)) ⌝ }
 {
     let outcome = run_call(source, indent, numbers, strengths, output, opened, scratch);
     answer::answer_of(outcome)

@@ -1,6 +1,6 @@
 -- What the contracts say of places in bytes.
 use Prim.Native.Nat.{ℕ, _-_, _≤_}
-use mathlib.Core.Bool.{Bool, true, false}
+use mathlib.Core.Bool.{Bool, true}
 use mathlib.Core.List.{List}
 use mathlib.Core.Path.{_≡_}
 use lib.ListN.{length, take, drop}

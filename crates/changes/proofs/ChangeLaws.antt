@@ -1,7 +1,7 @@
 -- What the changes do: carried out, they give the text; they ascend; they remove and put in no kept character; an
 -- unchanged source has none.
-use Prim.Native.Nat.{ℕ, zero, suc, _+_, _-_, _<_, _≤_}
-use mathlib.Core.Bool.{Bool, true, false}
+use Prim.Native.Nat.{ℕ, suc, _+_, _-_, _<_, _≤_}
+use mathlib.Core.Bool.{true, false}
 use mathlib.Core.List.{List, [], _∷_, _++_, append-nil, append-assoc}
 use mathlib.Core.Logic.{_⊎_, inl, inr}
 use mathlib.Core.Path.{_≡_, refl, sym, ap, _∙_, subst}
@@ -9,19 +9,19 @@ use native.Mathlib.Nat.{le-refl}
 use native.Mathlib.Omega.{arith}
 use lib.Dec.{T}
 use lib.ListN.{length, take, drop, length-append, length-drop, take-append-drop}
-use lib.Seq.{take-at, drop-at, drop-drop, drop-length}
-use Rattle.unicode.specs.Unicode.{isScalar, Scalars, encodeChar, encode, size, chars, decode, WellFormed}
+use lib.Seq.{take-at, drop-at, drop-drop}
+use Rattle.unicode.specs.Unicode.{Scalars, encodeChar, encode, size, chars, decode, WellFormed}
 use Rattle.unicode.proofs.Tests.{by-test}
 use Rattle.unicode.proofs.Table.{front}
-use Rattle.unicode.proofs.Decode.{encode-append, encode-cons, encode-one, size-append}
+use Rattle.unicode.proofs.Decode.{encode-append, encode-one}
 use Rattle.unicode.proofs.Decode.{decode-encode, decode-scalars, scalars-left, scalars-right, wf-encode}
 use Rattle.buffer.specs.Buffer.{part}
 use Rattle.buffer.proofs.RegionLaws.{part-join}
 use Rattle.rules.specs.Basics.{same}
-use Rattle.rules.specs.Demand3.{isKept, strike}
+use Rattle.rules.specs.Demand3.{strike}
 use Rattle.rules.proofs.Prefix.{same-eq, same-itself}
 use Rattle.gaps.specs.Gaps.{gap, after, Unkept, Alike}
-use Rattle.gaps.proofs.GapLaws.{Cut, cut-none, cut-some, unkept-gap}
+use Rattle.gaps.proofs.GapLaws.{cut-none, cut-some, unkept-gap}
 use Rattle.changes.specs.Changes.{change, changeAt, changesFrom, changes}
 use Rattle.changes.specs.Changes.{carried, Ascending, UnkeptPart, Harmless, Faithful}
 use Rattle.changes.specs.declared.Change.{Change}

@@ -1,24 +1,24 @@
 -- One gap beside another, and the walk over both texts.
 --     note-same, note-other                 what `note_gap` gives
 --     Walk, walk-begin, walk-turn, walk-end the loop of `write_changes`
-use Prim.Native.Nat.{ℕ, zero, suc, _+_, _*_, _-_, _<_, _≤_, _^_}
+use Prim.Native.Nat.{ℕ, _+_, _*_, _-_, _<_, _≤_, _^_}
 use mathlib.Core.Bool.{Bool, true, false}
 use mathlib.Core.List.{List, [], _∷_, _++_, append-nil, append-assoc, append-cancel-left}
 use mathlib.Core.Logic.{_⊎_, inl, inr}
 use mathlib.Core.Path.{_≡_, refl, sym, ap, _∙_, subst}
 use native.Mathlib.Omega.{arith}
 use lib.Dec.{T}
-use lib.ListN.{length, getD, take, drop, set, length-append, length-drop}
+use lib.ListN.{length, take, drop, set, length-append, length-drop}
 use lib.Seq.{take-at, length-take-le, drop-length}
-use Rattle.unicode.specs.Unicode.{Scalars, encodeChar, encode, size, seqAt, chars, decode, WellFormed, codeAt}
+use Rattle.unicode.specs.Unicode.{Scalars, encodeChar, encode, size, seqAt, chars, decode, codeAt}
 use Rattle.unicode.specs.Places.{Step}
 use Rattle.unicode.proofs.Tests.{split, by-test}
 use Rattle.unicode.proofs.Decode.{decode-encode, decode-scalars, scalars-left}
 use Rattle.unicode.proofs.TrimScan.{first-char}
 use Rattle.buffer.specs.Buffer.{part, put}
 use Rattle.buffer.proofs.RegionLaws.{set-put, put-more, length-put}
-use Rattle.rules.specs.Basics.{choose, same}
-use Rattle.rules.specs.Demand3.{isKept, strike}
+use Rattle.rules.specs.Basics.{same}
+use Rattle.rules.specs.Demand3.{strike}
 use Rattle.rules.proofs.Prefix.{same-eq, same-itself}
 use Rattle.rules.proofs.Choose.{choose-true, choose-false}
 use Rattle.gaps.specs.Gaps.{gap, after, Alike, From, GapEnd}

@@ -1,41 +1,40 @@
 -- What a check comes to, by its tests in their order, and its answer.
-use Prim.Native.Nat.{ℕ, _≤_, _<_}
+use Prim.Native.Nat.{ℕ, _≤_}
 use native.Mathlib.Omega.{arith}
 use mathlib.Core.Bool.{Bool, true, false, not, _||_, true≢false}
-use mathlib.Core.List.{List, [], _∷_, _++_}
+use mathlib.Core.List.{List, [], _++_}
 use mathlib.Core.Path.{_≡_, refl, sym, ap, subst, _∙_}
 use lib.Dec.{eqb}
 use lib.ListN.{length, replicate}
-use Rattle.unicode.specs.Unicode.{Scalars, encode, decode, size, WellFormed}
+use Rattle.unicode.specs.Unicode.{Scalars, encode, decode}
 use Rattle.rules.specs.Basics.{choose, same}
 use Rattle.rules.specs.Lines.{asStr, linesOf}
 use Rattle.rules.specs.Options.{Options, maxRuler}
 use Rattle.rules.specs.Strengths.{tableLength}
-use Rattle.rules.specs.Line.{Formatter, start}
+use Rattle.rules.specs.Line.{start}
 use Rattle.rules.specs.Assembly.{endingOf, dropEmpty, joined, lastEnding, finish, formatLines, formatWith}
 use Rattle.rules.specs.Choices.{Choices, validOptions, optionsOf}
-use Rattle.rules.specs.Refusals.{tested, numberOf}
+use Rattle.rules.specs.Refusals.{tested}
 use Rattle.rules.specs.Call.{Call, formatted, textOf, formatTests}
 use Rattle.rules.specs.declared.LineEnding.{LineEnding}
 use Rattle.rules.specs.declared.OptionNumbers.{OptionNumbers}
 use Rattle.rules.specs.declared.Refusal.{Refusal}
 use Rattle.rules.specs.declared.Verdict.{Verdict}
-use Rattle.rules.specs.declared.Outcome.{Outcome}
 use Rattle.rules.specs.declared.Strengths.{Strengths}
 use Rattle.rules.proofs.RefusalLaws.{numbered, option-good, head-passed, tail-passed}
-use Rattle.rules.proofs.CallLaws.{Admitted, Accepted, text-scalars}
-use Rattle.options.specs.Held.{heldNamed, held}
+use Rattle.rules.proofs.CallLaws.{Accepted, text-scalars}
+use Rattle.options.specs.Held.{heldNamed}
 use Rattle.options.specs.declared.FormatOptions.{FormatOptions}
 use Rattle.options.specs.declared.Changed.{Changed}
 use Rattle.options.proofs.NumbersLaws.{named-valid-is}
 use Rattle.text.specs.Text.{Ended}
-use Rattle.line.specs.Holds.{Record, Holds, Uses}
-use Rattle.lines.specs.Lines.{Passed, LinesDone, wholeText, answerAt, AllRead}
+use Rattle.line.specs.Holds.{Uses}
+use Rattle.lines.specs.Lines.{Passed, wholeText, answerAt, AllRead}
 use Rattle.lines.specs.declared.LinesRead.{LinesRead}
 use Rattle.call.specs.Formatted.{optionsWith}
 use Rattle.call.specs.Ran.{callOf}
 use Rattle.call.proofs.CallLaws.{passed, ruler-small, admits, options-held}
-use Rattle.check_rules.specs.Check.{Checked, checkLines, isFormatted}
+use Rattle.check_rules.specs.Check.{Checked, isFormatted}
 use Rattle.check_rules.specs.declared.CheckAnswer.{CheckAnswer}
 use Rattle.check_rules.proofs.CheckLaws.{yes-then, yes-if, yes-read}
 use Rattle.check_call.specs.declared.Finding.{Finding}

@@ -1,10 +1,10 @@
 -- A text that was compared with the source, and whether it is the source.
-use Prim.Native.Nat.{ℕ, _≤_}
+use Prim.Native.Nat.{ℕ}
 use native.Mathlib.Omega.{arith}
 use mathlib.Core.Bool.{Bool, true, false, true≢false}
 use mathlib.Core.List.{List, [], _∷_, _++_, append-nil}
-use mathlib.Core.Path.{_≡_, refl, sym, ap, _∙_}
-use lib.ListN.{length, take, length-append}
+use mathlib.Core.Path.{_≡_, sym, ap, _∙_}
+use lib.ListN.{length, length-append}
 use lib.Seq.{take-all}
 use Rattle.unicode.specs.Unicode.{Scalars, encode, decode, WellFormed}
 use Rattle.unicode.proofs.Decode.{decode-encode}

@@ -1,6 +1,6 @@
 -- A call that asks whether a source is formatted already: its tests, what it comes to, and its answer in numbers.
 use Prim.Native.Nat.{ℕ}
-use mathlib.Core.Bool.{Bool, true, false, not, _||_}
+use mathlib.Core.Bool.{Bool, not, _||_}
 use mathlib.Core.List.{List}
 use mathlib.Core.Path.{_≡_}
 use lib.Dec.{eqb}
@@ -14,7 +14,6 @@ use Rattle.rules.specs.Assembly.{formatWith}
 use Rattle.rules.specs.Refusals.{tested, numberOf, placeOf}
 use Rattle.rules.specs.Call.{formatTests}
 use Rattle.rules.specs.declared.Verdict.{Verdict}
-use Rattle.rules.specs.declared.Refusal.{Refusal}
 use Rattle.check_rules.specs.Check.{Checked, isFormatted}
 use Rattle.check_rules.specs.declared.CheckAnswer.{CheckAnswer}
 use Rattle.check_call.specs.declared.Finding.{Finding}

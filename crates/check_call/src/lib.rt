@@ -120,7 +120,8 @@ fn run_check(
     strengths: &[u8],
     scratch: &mut [u8],
 ) -> CheckOutcome
-    ensures { λ r. ⌜ Found (choicesOf (now (indent .entry)) numbers (now (strengths .entry))) (now (source .entry)) (length (now (scratch .entry))) r ⌝ }
+    ensures { λ r. ⌜ Found (choicesOf (now (indent .entry)) numbers (now (strengths .entry))) (now (source .entry))
+        (length (now (scratch .entry))) r ⌝ }
 {
     let table = options::strengths::read(strengths);
     let named = FormatOptions::from_numbers(indent, numbers, table);
@@ -140,7 +141,8 @@ pub fn check_call(
     strengths: &[u8],
     scratch: &mut [u8],
 ) -> CheckAnswer
-    ensures { λ r. ⌜ CheckAnswered (choicesOf (now (indent .entry)) numbers (now (strengths .entry))) (now (source .entry)) (length (now (scratch .entry))) r (now (scratch .exit)) ⌝ }
+    ensures { λ r. ⌜ CheckAnswered (choicesOf (now (indent .entry)) numbers (now (strengths .entry)))
+        (now (source .entry)) (length (now (scratch .entry))) r (now (scratch .exit)) ⌝ }
 {
     let outcome = run_check(source, indent, numbers, strengths, scratch);
     buffer::zero(scratch);

@@ -1,17 +1,17 @@
 -- What is settled stays: after each line it is a beginning of what is settled later, and of the finished text.
 use Prim.Native.Nat.{ℕ}
-use mathlib.Core.Bool.{Bool, true, false, true≢false, _&&_, _||_}
-use mathlib.Core.List.{List, [], _∷_, _++_, reverseAux, append-assoc, append-nil, foldl}
+use mathlib.Core.Bool.{Bool, true, false, true≢false}
+use mathlib.Core.List.{List, [], _∷_, _++_, reverseAux, append-assoc, append-nil}
 use mathlib.Core.Path.{_≡_, refl, sym, ap, _∙_}
-use Rattle.unicode.specs.Unicode.{isWhite, trim, trimEnd}
+use Rattle.unicode.specs.Unicode.{trim, trimEnd}
 use Rattle.unicode.proofs.Trim.{White, trim-none, trim-empty, end-none, end-twice}
 use Rattle.unicode.proofs.Tests.{and-left, and-right}
-use Rattle.rules.specs.Basics.{choose, is, isEmpty, lastIs}
+use Rattle.rules.specs.Basics.{is, isEmpty, lastIs}
 use Rattle.rules.specs.Options.{Options}
 use Rattle.rules.specs.Else.{isPlainElse, joinable, canJoin, joinElse}
 use Rattle.rules.specs.Line.{Formatter, formatLine, anyLine, keptLine, blankLine, codeLine, spacedLine, elseLine, placedLine, laid, linesBefore, dropBlank}
 use Rattle.rules.specs.Assembly.{joined, dropEmpty, finish, formatLines}
-use Rattle.rules.proofs.Choose.{choose-case, choose-true, choose-false}
+use Rattle.rules.proofs.Choose.{choose-case, choose-true}
 use Rattle.check_rules.specs.Check.{settledLines, closed, settled}
 
 -- b is a, with more behind it; lines stand newest first, so there more stands in front

@@ -124,7 +124,8 @@ fn track(model: &[u8], cell: &mut [u8], at: usize, line: &[u8]) -> usize
 fn track_levels(model: &[u8], cell: &mut [u8], at: usize, indent: &[u8], levels: usize) -> usize
     requires { ⌜ at + length (times levels (now indent)) < 2 ^ 64 ⌝ }
     requires { ⌜ 0 < length (now model) ⌝ }
-    ensures { λ r. ⌜ Compared (now (model .entry)) (now (cell .entry)) (now (cell .exit)) at (times levels (now (indent .entry))) r ⌝ }
+    ensures { λ r. ⌜ Compared (now (model .entry)) (now (cell .entry)) (now (cell .exit)) at
+        (times levels (now (indent .entry))) r ⌝ }
 {
     let next = at + levels * indent.len();
     if cell.len() < CELL {
@@ -160,7 +161,8 @@ pub fn append_indented(
     line: &[u8],
 ) -> usize
     requires { ⌜ at + (length (times levels (now indent)) + length (now line)) < 2 ^ 64 ⌝ }
-    ensures { λ r. ⌜ Compared (now (model .entry)) (now (out .entry)) (now (out .exit)) at (times levels (now (indent .entry)) ++ now (line .entry)) r ⌝ }
+    ensures { λ r. ⌜ Compared (now (model .entry)) (now (out .entry)) (now (out .exit)) at
+        (times levels (now (indent .entry)) ++ now (line .entry)) r ⌝ }
 {
     if model.len() == 0 {
         return buffer::append_indented(out, at, indent, levels, line);

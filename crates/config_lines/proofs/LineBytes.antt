@@ -2,12 +2,10 @@
 --     lower-encode, word-encode     a word without regard to case
 --     has-encode, key-encode, setting-encode     what stands before and after the first `=`
 use Prim.Native.Nat.{ℕ, _+_, _≤_, _<_}
-use mathlib.Core.Bool.{Bool, true, false, _||_, and-false}
+use mathlib.Core.Bool.{Bool, true, _||_}
 use mathlib.Core.List.{List, [], _∷_, _++_}
-use mathlib.Core.Path.{_≡_, refl, sym, ap, _∙_}
+use mathlib.Core.Path.{_≡_, refl, ap, _∙_}
 use native.Mathlib.Omega.{arith}
-use borrow.Author.Tests.{lt-leb, lt-ltb}
-use lib.Dec.{leb, ltb}
 use Rattle.unicode.specs.Unicode.{encodeChar, encode, decode, WellFormed, within}
 use Rattle.unicode.proofs.Table.{High, none, also, Bytes, single, several, bytes, encodeChar-1}
 use Rattle.unicode.proofs.Tests.{by-test, in-range}

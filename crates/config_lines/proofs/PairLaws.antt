@@ -1,17 +1,17 @@
 -- What a pair means, by bytes and by characters.
-use Prim.Native.Nat.{ℕ, zero, suc, _+_, _≤_, _<_}
-use mathlib.Core.Bool.{Bool, true, false, and-false}
-use mathlib.Core.List.{List, [], _∷_, _++_}
+use Prim.Native.Nat.{ℕ, suc, _≤_}
+use mathlib.Core.Bool.{true, false, and-false}
+use mathlib.Core.List.{List, [], _∷_}
 use mathlib.Core.Path.{_≡_, refl, sym, ap, _∙_}
 use native.Mathlib.Omega.{arith}
 use borrow.Author.Tests.{lt-leb, ne-eqb, eqb-true, eqb-false}
 use lib.Dec.{eqb, leb}
-use lib.ListN.{length, take, length-append}
-use Rattle.unicode.specs.Unicode.{encodeChar, encode, decode, WellFormed, within}
+use lib.ListN.{length, length-append}
+use Rattle.unicode.specs.Unicode.{encodeChar, encode, decode, WellFormed}
 use Rattle.unicode.proofs.Table.{encodeChar-1}
 use Rattle.unicode.proofs.Tests.{by-test, in-range}
 use Rattle.unicode.proofs.Decode.{encode-nil, encode-cons, encode-one}
-use Rattle.rules.specs.Basics.{choose, codes, same, leading}
+use Rattle.rules.specs.Basics.{choose, codes, leading}
 use Rattle.rules.proofs.Choose.{choose-true, choose-false, choose-case}
 use Rattle.rules.proofs.StartsBytes.{Steady, on-decode, encode-some, leading-encode}
 use Rattle.rules.specs.declared.IndentSize.{IndentSize}

@@ -1,15 +1,14 @@
 -- The first `=`, and a trimmed part.
-use Prim.Native.Nat.{ℕ, zero, suc, _+_, _-_, _≤_, _<_}
-use mathlib.Core.Bool.{Bool, true, false, _||_}
+use Prim.Native.Nat.{ℕ, suc, _+_, _-_, _≤_, _<_}
+use mathlib.Core.Bool.{true, false}
 use mathlib.Core.List.{List, [], _∷_, _++_, append-assoc, append-nil}
 use mathlib.Core.Path.{_≡_, refl, sym, ap, _∙_}
 use native.Mathlib.Numerals.{add-one}
 use native.Mathlib.Omega.{arith}
 use borrow.Author.Tests.{lt-ltb, le-ltb, ne-eqb, eq-eqb}
-use lib.Dec.{ltb, eqb}
 use lib.ListN.{length, take, drop, getD, drop-of-length-le}
-use lib.Seq.{drop-cons, take-suc, take-length, drop-length}
-use Rattle.unicode.specs.Unicode.{decode, WellFormed, trim, trimStart, trimEnd}
+use lib.Seq.{drop-cons, take-suc}
+use Rattle.unicode.specs.Unicode.{WellFormed, trim, trimEnd}
 use Rattle.unicode.specs.Places.{TrimmedStart, TrimmedEnd}
 use Rattle.buffer.proofs.RegionLaws.{part-from}
 use Rattle.rules.specs.Basics.{choose, is}

@@ -1,10 +1,10 @@
 -- Whole numbers have no letters: lower case makes no difference to them.
-use Prim.Native.Nat.{ℕ, zero, suc, _+_, _≤_, _<_}
-use mathlib.Core.Bool.{Bool, true, false, _&&_, and-false, true≢false}
+use Prim.Native.Nat.{ℕ, suc, _+_, _≤_}
+use mathlib.Core.Bool.{Bool, true, false, and-false}
 use mathlib.Core.List.{List, [], _∷_}
 use mathlib.Core.Path.{_≡_, refl, sym, ap, _∙_}
 use native.Mathlib.Omega.{arith}
-use borrow.Author.Tests.{lt-leb, le-leb, eqb-true}
+use borrow.Author.Tests.{lt-leb, eqb-true}
 use lib.Dec.{eqb, leb, ltb}
 use lib.ListN.{length}
 use Rattle.unicode.specs.Unicode.{within}
@@ -20,7 +20,7 @@ use Rattle.config_rules.specs.Values.{isWhole, sizeOf, tabOf, maxOf}
 use Rattle.config_lines.specs.Words.{lowered}
 use Rattle.config_lines.specs.Whole.{WholeOf}
 use Rattle.config_lines.specs.declared.number.Whole.{Whole}
-use Rattle.config_lines.proofs.WordLaws.{low-below, low-letter}
+use Rattle.config_lines.proofs.WordLaws.{low-below}
 
 digit-lower : (c : ℕ) → isDigit (lowered c) ≡ isDigit c
 digit-lower c =

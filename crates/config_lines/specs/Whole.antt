@@ -1,6 +1,5 @@
 -- Whole numbers by bytes.
 use Prim.Native.Nat.{ℕ}
-use mathlib.Core.Bool.{true, false}
 use mathlib.Core.List.{List}
 use mathlib.Core.Path.{_≡_}
 use Rattle.rules.specs.Basics.{choose}

@@ -14,7 +14,8 @@ use rules::Resolved;
 use rules::TabWidth;
 
 fn style(old: IndentStyle, k: &[u8], v: &[u8]) -> IndentStyle
-    ensures { λ r. ⌜ r ≡ choose (same (lower (now (k .entry))) (codes "indent_style")) (styleOf (lower (now (v .entry)))) old ⌝ }
+    ensures { λ r. ⌜ r ≡ choose (same (lower (now (k .entry))) (codes "indent_style"))
+        (styleOf (lower (now (v .entry)))) old ⌝ }
 {
     if is_word(k, b"indent_style") {
         return values::style_of(v);
@@ -23,7 +24,8 @@ fn style(old: IndentStyle, k: &[u8], v: &[u8]) -> IndentStyle
 }
 
 fn size(old: IndentSize, k: &[u8], v: &[u8]) -> IndentSize
-    ensures { λ r. ⌜ r ≡ choose (same (lower (now (k .entry))) (codes "indent_size")) (sizeOf (lower (now (v .entry)))) old ⌝ }
+    ensures { λ r. ⌜ r ≡ choose (same (lower (now (k .entry))) (codes "indent_size")) (sizeOf (lower (now (v .entry))))
+        old ⌝ }
 {
     if is_word(k, b"indent_size") {
         return values::size_of(v);
@@ -32,7 +34,8 @@ fn size(old: IndentSize, k: &[u8], v: &[u8]) -> IndentSize
 }
 
 fn tab(old: TabWidth, k: &[u8], v: &[u8]) -> TabWidth
-    ensures { λ r. ⌜ r ≡ choose (same (lower (now (k .entry))) (codes "tab_width")) (tabOf (lower (now (v .entry)))) old ⌝ }
+    ensures { λ r. ⌜ r ≡ choose (same (lower (now (k .entry))) (codes "tab_width")) (tabOf (lower (now (v .entry)))) old
+        ⌝ }
 {
     if is_word(k, b"tab_width") {
         return values::tab_of(v);
@@ -41,7 +44,8 @@ fn tab(old: TabWidth, k: &[u8], v: &[u8]) -> TabWidth
 }
 
 fn max(old: MaxLineLen, k: &[u8], v: &[u8]) -> MaxLineLen
-    ensures { λ r. ⌜ r ≡ choose (same (lower (now (k .entry))) (codes "max_line_length")) (maxOf (lower (now (v .entry)))) old ⌝ }
+    ensures { λ r. ⌜ r ≡ choose (same (lower (now (k .entry))) (codes "max_line_length"))
+        (maxOf (lower (now (v .entry)))) old ⌝ }
 {
     if is_word(k, b"max_line_length") {
         return values::max_of(v);
@@ -50,7 +54,8 @@ fn max(old: MaxLineLen, k: &[u8], v: &[u8]) -> MaxLineLen
 }
 
 fn ending(old: ConfigEnding, k: &[u8], v: &[u8]) -> ConfigEnding
-    ensures { λ r. ⌜ r ≡ choose (same (lower (now (k .entry))) (codes "end_of_line")) (endingOf (lower (now (v .entry)))) old ⌝ }
+    ensures { λ r. ⌜ r ≡ choose (same (lower (now (k .entry))) (codes "end_of_line"))
+        (endingOf (lower (now (v .entry)))) old ⌝ }
 {
     if is_word(k, b"end_of_line") {
         return values::ending_of(v);
@@ -59,7 +64,8 @@ fn ending(old: ConfigEnding, k: &[u8], v: &[u8]) -> ConfigEnding
 }
 
 fn newline(old: InsertFinalNewline, k: &[u8], v: &[u8]) -> InsertFinalNewline
-    ensures { λ r. ⌜ r ≡ choose (same (lower (now (k .entry))) (codes "insert_final_newline")) (newlineOf (lower (now (v .entry)))) old ⌝ }
+    ensures { λ r. ⌜ r ≡ choose (same (lower (now (k .entry))) (codes "insert_final_newline"))
+        (newlineOf (lower (now (v .entry)))) old ⌝ }
 {
     if is_word(k, b"insert_final_newline") {
         return values::newline_of(v);

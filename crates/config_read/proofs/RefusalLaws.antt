@@ -1,6 +1,6 @@
 -- The refusals of all texts, by the worst rank.
-use Prim.Native.Nat.{ℕ, zero, suc, _-_, _≤_, _<_, max}
-use mathlib.Core.Bool.{Bool, true, false, not, _||_}
+use Prim.Native.Nat.{ℕ, _-_, _≤_, _<_, max}
+use mathlib.Core.Bool.{Bool, true, false, not}
 use mathlib.Core.List.{List, [], _∷_, _++_, map}
 use mathlib.Core.Path.{_≡_, refl, sym, ap, _∙_}
 use native.Mathlib.Omega.{arith}
@@ -8,12 +8,12 @@ use borrow.Author.Tests.{lt-ltb, le-ltb, ltb-true, ltb-false}
 use lib.Dec.{ltb}
 use lib.ListN.{length, take, drop}
 use Rattle.unicode.specs.Unicode.{prefixLen, decode, WellFormed, wellFormed}
-use Rattle.unicode.proofs.Tests.{by-test, neither-left, neither-right}
+use Rattle.unicode.proofs.Tests.{by-test}
 use Rattle.unicode.proofs.Decode.{test-wf, test-whole, test-part, wf-whole}
 use Rattle.buffer.proofs.RegionLaws.{part-from}
 use Rattle.rules.specs.Basics.{choose}
 use Rattle.rules.specs.declared.Resolved.{Resolved}
-use Rattle.rules.proofs.Choose.{choose-case, choose-true, choose-false}
+use Rattle.rules.proofs.Choose.{choose-true, choose-false}
 use Rattle.config_rules.specs.Lines.{linesOf}
 use Rattle.config_rules.specs.Sections.{longName}
 use Rattle.config_rules.specs.Texts.{belowSlashes, resolved, relatives}

@@ -13,7 +13,6 @@ use Rattle.rules.specs.declared.TabWidth.{TabWidth}
 use Rattle.rules.specs.declared.MaxLineLen.{MaxLineLen}
 use Rattle.rules.specs.declared.ConfigEnding.{ConfigEnding}
 use Rattle.rules.specs.declared.InsertFinalNewline.{InsertFinalNewline}
-use Rattle.rules.specs.declared.Resolved.{Resolved}
 use Rattle.config_rules.specs.declared.ConfigOutcome.{ConfigOutcome}
 use Rattle.config_rules.specs.Lines.{Line, linesOf}
 use Rattle.config_rules.specs.Lines.Line.{nothing, header, pair}
@@ -38,7 +37,8 @@ headers : (lines "[]\n[x] ; c\n[x\n[x]=b\n[a=b]\n[ [y] ]\n[" ≡
 unfolding configuring
 headers = refl
 
--- the value may be empty; white space is White_Space; only ASCII letters change their case; a CR at the end is white space
+-- the value may be empty; white space is White_Space; only ASCII letters change their case; a CR at the end is white
+-- space
 pairs : (lines "a=\n=b\n\u{a0}KÉ\u{2003}= V \r" ≡ pair (codes "a") [] ∷ pair [] (codes "b") ∷ pair (codes "kÉ") (codes "v") ∷ [])
 unfolding configuring
 pairs = refl
@@ -81,7 +81,8 @@ roots : (size (read "d/a" ("ROOT = True\n[*.x]\nindent_size=2" ∷ "[*]\nindent_
 unfolding configuring size
 roots = (refl, refl, refl, refl)
 
--- a text above the path's top is unused; a pair before the first header counts nothing; a section whose name does not match neither
+-- a text above the path's top is unused; a pair before the first header counts nothing; a section whose name does not
+-- match neither
 unused : (size (read "a.ws" ("" ∷ "[*]\nindent_size=5" ∷ [])) ≡ IndentSize.Unset) × (size (read "a" ("indent_size=5" ∷ [])) ≡ IndentSize.Unset)
     × (size (read "a" ("[b]\nindent_size=5" ∷ [])) ≡ IndentSize.Unset) × (size (read "a" ("[a]\n[x\nindent_size=5" ∷ [])) ≡ IndentSize.Value 5)
 unfolding configuring size

@@ -1,6 +1,6 @@
 -- Each sentence of docs/EDITORCONFIG.md on globs, computed.
 use Prim.Native.String.{String}
-use mathlib.Core.Bool.{Bool, true, false, not, _&&_}
+use mathlib.Core.Bool.{Bool, true, not, _&&_}
 use mathlib.Core.List.{List, [], _∷_}
 use mathlib.Core.Path.{_≡_, refl}
 use Rattle.rules.specs.Basics.{codes}
@@ -20,7 +20,8 @@ right [] = true
 right (yes name path ∷ cs) = glob name path && right cs
 right (no name path ∷ cs) = not (glob name path) && right cs
 
--- a name with a `/` outside brackets matches the whole relative path, an escaped one counts too; a leading one is dropped first
+-- a name with a `/` outside brackets matches the whole relative path, an escaped one counts too; a leading one is
+-- dropped first
 whole-path :
     right
     (yes "d/a.ws" "d/a.ws" ∷ no "d/a.ws" "e/d/a.ws" ∷ yes "/a.ws" "a.ws" ∷ no "/a.ws" "d/a.ws" ∷ no "d\\/a" "e/d/a" ∷ yes "d\\/a" "d/a"
@@ -53,7 +54,8 @@ stars :
 unfolding configuring right
 stars = refl
 
--- `/**/` is `/`, or `/`, any string, `/`; a leading `**/` has a `/` before it; read from the left, without overlap; neither part escaped or in brackets
+-- `/**/` is `/`, or `/`, any string, `/`; a leading `**/` has a `/` before it; read from the left, without overlap;
+-- neither part escaped or in brackets
 deep :
     right
     (yes "a/**/b" "a/b" ∷ yes "a/**/b" "a/c/b" ∷ yes "a/**/b" "a/c/d/b" ∷ no "a/**/b" "ab" ∷ no "a/**/b" "a/cb" ∷ yes "a/**/b" "a//b"
@@ -71,7 +73,8 @@ one :
 unfolding configuring right
 one = refl
 
--- ranges by code point, from the left; a `-` first or last, or escaped, is itself; ends may be escaped; `[]` and `[c-a]` name none
+-- ranges by code point, from the left; a `-` first or last, or escaped, is itself; ends may be escaped; `[]` and
+-- `[c-a]` name none
 sets :
     right
     (yes "[a-c]x" "bx" ∷ no "[a-c]x" "dx" ∷ yes "[-a]" "-" ∷ yes "[a-]" "-" ∷ yes "[a-]" "a" ∷ no "[a\\-c]" "b" ∷ yes "[a\\-c]" "-"
@@ -98,7 +101,8 @@ braces :
 unfolding configuring right
 braces = refl
 
--- the ends in either order; leading zeros are digits; `-0` is 0; a number of the path may be cut anywhere; any number of digits
+-- the ends in either order; leading zeros are digits; `-0` is 0; a number of the path may be cut anywhere; any number
+-- of digits
 ranges :
     right
     (yes "{1..3}" "2" ∷ yes "{3..1}" "2" ∷ no "{1..3}" "4" ∷ yes "{1..3}" "003" ∷ yes "{-2..2}" "-1" ∷ no "{-2..2}" "-3" ∷ yes "{0..2}" "-0"
@@ -134,7 +138,8 @@ brackets-first :
 unfolding configuring right
 brackets-first = refl
 
--- a bracket or brace never closed, braces with neither a comma of their own nor a range, a closing one with nothing open: themselves
+-- a bracket or brace never closed, braces with neither a comma of their own nor a range, a closing one with nothing
+-- open: themselves
 themselves :
     right
     (yes "[ab" "[ab" ∷ yes "{a,b" "{a,b" ∷ yes "{a?}" "{ab}" ∷ yes "{a{b,c}" "{ac" ∷ yes "a}b,]" "a}b,]" ∷ yes "{{a,b}}" "{b}" ∷ yes "{}" "{}"

@@ -1,6 +1,6 @@
 -- The whole call, on bytes, and its answer in numbers.
 use Prim.Native.Nat.{ℕ}
-use mathlib.Core.Bool.{Bool, true, false, not, _||_}
+use mathlib.Core.Bool.{Bool, false, not, _||_}
 use mathlib.Core.List.{List, [], _∷_, map}
 use lib.Dec.{ltb}
 use lib.ListN.{length}
@@ -12,7 +12,6 @@ use Rattle.rules.specs.declared.TabWidth.{TabWidth}
 use Rattle.rules.specs.declared.MaxLineLen.{MaxLineLen}
 use Rattle.rules.specs.declared.ConfigEnding.{ConfigEnding}
 use Rattle.rules.specs.declared.InsertFinalNewline.{InsertFinalNewline}
-use Rattle.rules.specs.declared.Resolved.{Resolved}
 use Rattle.config_rules.specs.declared.ConfigOutcome.{ConfigOutcome}
 use Rattle.config_rules.specs.declared.ConfigAnswer.{ConfigAnswer}
 use Rattle.config_rules.specs.Lines.{linesOf}

@@ -1,6 +1,6 @@
 -- Which strings a name matches. A place in the name stands for the strings that it matches from there on.
 use Prim.Native.Nat.{ℕ}
-use mathlib.Core.Bool.{Bool, true, false, not, _&&_, _||_}
+use mathlib.Core.Bool.{Bool, true, false, _&&_, _||_}
 use mathlib.Core.List.{List, [], _∷_}
 use lib.Dec.{eqb}
 use lib.ListN.{drop}
@@ -79,7 +79,8 @@ unfoldable pub placeOf : List Token → Place
 placeOf [] = record { here = isEmpty; around = [] }
 placeOf (t ∷ ts) = placeAt t (placeOf ts)
 
--- ---- A name and a path relative to the text's directory, both with a `/` before them: so a name that starts with `**/` has a `/` there.
+-- ---- A name and a path relative to the text's directory, both with a `/` before them: so a name that starts with
+-- `**/` has a `/` there.
 
 unfoldable pub rooted : List ℕ → List ℕ
 rooted name = choose (firstIs (is "/") name) name (47 ∷ name)
@@ -104,7 +105,8 @@ unfoldable pub suffix : Strings → Strings
 suffix k [] = k []
 suffix k (c ∷ s) = k (c ∷ s) || suffix k s
 
--- With a slash of its own the name matches the whole path. Without, the `/` before it may also be any slash of the path.
+-- With a slash of its own the name matches the whole path. Without, the `/` before it may also be any slash of the
+-- path.
 unfoldable pub anchored : List ℕ → List Token → Bool
 anchored name ts = firstIs (is "/") name || hasSlash (drop 1 ts)
 

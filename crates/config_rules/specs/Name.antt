@@ -92,7 +92,8 @@ tokens k deep [] = []
 tokens zero deep (c ∷ s) = readingAt deep c s .token ∷ tokens (readingAt deep c s .more) (readingAt deep c s .deep) s
 tokens (suc k) deep (c ∷ s) = item part ∷ tokens k deep s
 
--- ---- Braces that stand for themselves: never closed, never opened, with no comma of their own. A comma counts between braces only.
+-- ---- Braces that stand for themselves: never closed, never opened, with no comma of their own. A comma counts between
+-- braces only.
 
 -- Braces open on one side of a place, the innermost first, each with whether it has a comma there.
 unfoldable pub withComma : List Bool → List Bool

@@ -1,6 +1,6 @@
 -- Which texts count: the nearest first, each with the path relative to its directory.
 use Prim.Native.Nat.{ℕ}
-use mathlib.Core.Bool.{Bool, true, false}
+use mathlib.Core.Bool.{false}
 use mathlib.Core.List.{List, [], _∷_, _++_}
 use lib.ListN.{drop}
 use Rattle.rules.specs.Basics.{choose, is, firstIs}

@@ -1,7 +1,8 @@
 // The types that the code and the definitions of request C-12 share: our .editorconfig files.
 use rules::Resolved;
 
-// Between brackets, before a character: the one before it, where it may start a range; whether a `-` follows that one; an escape.
+// Between brackets, before a character: the one before it, where it may start a range; whether a `-` follows that one;
+// an escape.
 pub struct Named {
     pub low: u32,
     pub some: bool,
@@ -15,7 +16,8 @@ pub enum ConfigOutcome {
     Given(Resolved),
 }
 
-// The same in numbers, for a host: those that `wirescript_editorconfig` takes. Where a value is unset, the tab width or off, its number is 0.
+// The same in numbers, for a host: those that `wirescript_editorconfig` takes. Where a value is unset, the tab width or
+// off, its number is 0.
 #[repr(C)]
 pub struct ConfigAnswer {
     pub refusal: u64,

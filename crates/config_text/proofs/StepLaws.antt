@@ -1,14 +1,13 @@
 -- What one line does, by its kind.
-use Prim.Native.Nat.{ℕ, suc, _+_, _-_, _≤_, _<_}
+use Prim.Native.Nat.{ℕ, _+_, _-_, _≤_, _<_}
 use mathlib.Core.Bool.{Bool, true, false, _||_}
 use mathlib.Core.List.{List, [], _∷_}
-use mathlib.Core.Path.{_≡_, refl, sym, ap, subst, _∙_}
+use mathlib.Core.Path.{_≡_, refl, sym, ap, _∙_}
 use native.Mathlib.Omega.{arith}
 use borrow.Author.Tests.{ltb-false}
 use lib.Dec.{ltb}
 use lib.ListN.{length, take, drop}
 use Rattle.unicode.specs.Unicode.{decode, WellFormed, trim}
-use Rattle.unicode.proofs.Tests.{neither-left}
 use Rattle.buffer.proofs.RegionLaws.{part-from}
 use Rattle.rules.specs.Basics.{choose, codes, same}
 use Rattle.rules.proofs.Choose.{choose-true, choose-false}
@@ -22,7 +21,7 @@ use Rattle.config_lines.specs.Words.{Trimmed}
 use Rattle.config_lines.specs.declared.kinds.LineKind.{LineKind}
 use Rattle.config_lines.proofs.LineBytes.{word-decode}
 use Rattle.config_lines.proofs.PairLaws.{superseded-decode}
-use Rattle.config_text.specs.Steps.{rootAfter, appliesAfter, valuesAfter, Named}
+use Rattle.config_text.specs.Steps.{rootAfter, appliesAfter, valuesAfter}
 
 -- ---- a header
 

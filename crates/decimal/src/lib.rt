@@ -1,5 +1,4 @@
 // Numbers in decimal digits, written into lent buffers.
-ghost use mathlib.Core.Path.{_≡_};
 ghost use Prim.Native.Nat.{_+_, _≤_, _<_, _^_};
 ghost use lib.ListN.{length};
 ghost use Rattle.decimal.specs.Decimal.{digits, Spelled, DecimalPut};

@@ -1,18 +1,18 @@
 -- The calls with a caret, by what each step gives.
 use Prim.Native.Nat.{ℕ}
 use mathlib.Core.Bool.{Bool, true, false, not}
-use mathlib.Core.List.{List, [], _∷_}
-use mathlib.Core.Path.{_≡_, refl, sym, ap, _∙_}
+use mathlib.Core.List.{List}
+use mathlib.Core.Path.{_≡_, sym, ap, _∙_}
 use lib.ListN.{length, take, replicate}
 use Rattle.unicode.specs.Unicode.{decode}
 use Rattle.rules.specs.Refusals.{numberOf, placeOf, noPlace}
-use Rattle.rules.specs.Call.{Call, formatted}
+use Rattle.rules.specs.Call.{Call}
 use Rattle.rules.specs.declared.Refusal.{Refusal}
 use Rattle.rules.specs.declared.Verdict.{Verdict}
 use Rattle.rules.specs.declared.Answer.{Answer}
 use Rattle.rules.proofs.RefusalLaws.{numbered, test-on, test-off}
 use Rattle.edits.specs.Text.{TextAnswered}
-use Rattle.caret.specs.Caret.{isPlace, movedTo, lineOf, columnOf}
+use Rattle.caret.specs.Caret.{movedTo}
 use Rattle.caret.specs.Moving.{LineColumnOf, CaretMoved}
 use Rattle.caret.proofs.AnswerLaws.{follows-at}
 use Rattle.edits.specs.CaretCall.{caretVerdict, caretIn, refusedCaret}

@@ -1,15 +1,14 @@
 -- The calls with a list of changes, by what each step gives.
 use Prim.Native.Nat.{ℕ, _*_, _/_, _-_, _<_, _≤_}
-use mathlib.Core.Bool.{Bool, true, false}
-use mathlib.Core.List.{List, [], _∷_, _++_}
-use mathlib.Core.Path.{_≡_, refl, sym, ap, _∙_, subst}
+use mathlib.Core.List.{List}
+use mathlib.Core.Path.{_≡_, sym, ap, _∙_, subst}
 use native.Mathlib.Omega.{arith}
 use borrow.Author.Tests.{lt-ltb, le-ltb}
 use lib.ListN.{length, take, replicate}
 use Rattle.unicode.specs.Unicode.{decode}
 use Rattle.buffer.specs.Buffer.{Finishes}
 use Rattle.rules.specs.Refusals.{numberOf, placeOf, shortList}
-use Rattle.rules.specs.Call.{Call, formatted, filled}
+use Rattle.rules.specs.Call.{Call, filled}
 use Rattle.rules.specs.declared.Refusal.{Refusal}
 use Rattle.rules.specs.declared.Verdict.{Verdict}
 use Rattle.rules.specs.declared.Answer.{Answer}
@@ -17,7 +16,6 @@ use Rattle.rules.proofs.RefusalLaws.{numbered, test-on, test-off}
 use Rattle.edits.specs.Text.{TextAnswered}
 use Rattle.changes.specs.Changes.{changes, numbers, changesIn, Faithful}
 use Rattle.changes.specs.Writing.{Written}
-use Rattle.changes.specs.declared.Change.{Change}
 use Rattle.changes.proofs.ChangeLaws.{faithful}
 use Rattle.changes.proofs.ListLaws.{length-numbers, filled-in}
 use Rattle.edits.specs.ChangesCall.{changesOf, changesVerdict, refusedChanges}

@@ -1,6 +1,6 @@
 -- Calls from their source to what they leave, computed.
 use Prim.Native.Nat.{ℕ}
-use mathlib.Core.List.{List, [], _∷_}
+use mathlib.Core.List.{[], _∷_}
 use mathlib.Core.Path.{_≡_, refl}
 use Rattle.rules.specs.Basics.{codes}
 use Rattle.rules.specs.Options.{defaults}
@@ -12,7 +12,7 @@ use Rattle.rules.specs.declared.Verdict.{Verdict}
 use Rattle.caret.proofs.Examples as caretExamples
 use Rattle.changes.proofs.Examples as changesExamples
 use Rattle.edits.specs.CaretCall.{caretVerdict, caretIn, caretAnswer}
-use Rattle.edits.specs.ChangesCall.{changesOf, changesVerdict, changesAnswer, listLeft}
+use Rattle.edits.specs.ChangesCall.{changesOf, changesVerdict, listLeft}
 
 unfoldable opened : Unit {0}
 unfolding caretExamples.opened changesExamples.opened caretVerdict caretIn changesOf changesVerdict

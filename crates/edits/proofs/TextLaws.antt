@@ -1,7 +1,7 @@
 -- What a formatting call leaves for the calls that give more than the text.
 --     passed-by, Stopped, stopped   its verdict, from the answer's number
 --     alike, text-chars, text-fits, text-room   the source and the text of an accepted call
-use Prim.Native.Nat.{ℕ, _-_, _<_, _≤_, _^_}
+use Prim.Native.Nat.{ℕ, _-_, _≤_}
 use mathlib.Core.List.{List, [], _∷_, _++_}
 use mathlib.Core.Path.{_≡_, refl, sym, ap, _∙_}
 use native.Mathlib.Omega.{arith}

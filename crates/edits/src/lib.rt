@@ -17,7 +17,8 @@ pub fn format_text(
     output: &mut [u8],
     scratch: &mut [u8],
 ) -> Answer
-    ensures { λ r. ⌜ TextAnswered (callOf (now (source .entry)) (now (indent .entry)) numbers (now (strengths .entry)) (length (now (output .entry))) 0
+    ensures { λ r. ⌜ TextAnswered (callOf (now (source .entry)) (now (indent .entry)) numbers (now (strengths .entry))
+        (length (now (output .entry))) 0
         (length (now (scratch .entry)))) r (now (output .exit)) (now (scratch .exit)) ⌝ }
 {
     let mut opened = [0u64; 0];

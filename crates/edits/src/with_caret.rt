@@ -49,7 +49,8 @@ pub fn format_caret(
     output: &mut [u8],
     scratch: &mut [u8],
 ) -> CaretAnswer
-    ensures { λ r. ⌜ CaretAnswered (callOf (now (source .entry)) (now (indent .entry)) numbers (now (strengths .entry)) (length (now (output .entry))) 0
+    ensures { λ r. ⌜ CaretAnswered (callOf (now (source .entry)) (now (indent .entry)) numbers (now (strengths .entry))
+        (length (now (output .entry))) 0
         (length (now (scratch .entry)))) (at .line) (at .column) r (now (output .exit)) (now (scratch .exit)) ⌝ }
 {
     let a = crate::format_text(source, indent, numbers, strengths, output, scratch);

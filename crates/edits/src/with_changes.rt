@@ -41,8 +41,10 @@ pub fn format_changes(
     list: &mut [u64],
     scratch: &mut [u8],
 ) -> ChangesAnswer
-    ensures { λ r. ⌜ ChangesAnswered (callOf (now (source .entry)) (now (indent .entry)) numbers (now (strengths .entry)) (length (now (output .entry))) 0
-        (length (now (scratch .entry)))) (length (now (list .entry))) r (now (output .exit)) (now (list .exit)) (now (scratch .exit)) ⌝ }
+    ensures { λ r. ⌜ ChangesAnswered (callOf (now (source .entry)) (now (indent .entry)) numbers
+        (now (strengths .entry)) (length (now (output .entry))) 0
+        (length (now (scratch .entry)))) (length (now (list .entry))) r (now (output .exit)) (now (list .exit))
+        (now (scratch .exit)) ⌝ }
 {
     let a = crate::format_text(source, indent, numbers, strengths, output, scratch);
     if a.refusal == 0 {

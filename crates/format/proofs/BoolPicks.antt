@@ -1,4 +1,5 @@
--- A chain of tests in code against `&&`, `||` and `not` in a definition: each takes off one operand, as the picks of `Choose` do.
+-- A chain of tests in code against `&&`, `||` and `not` in a definition: each takes off one operand, as the picks of
+-- `Choose` do.
 use mathlib.Core.Bool.{Bool, true, false, not, _&&_, _||_, and-false, and-true}
 use mathlib.Core.Path.{_≡_, sym, _∙_}
 

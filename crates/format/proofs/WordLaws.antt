@@ -1,5 +1,5 @@
 -- What a line starts with: white space, operators, words and declarations, found on bytes.
-use Prim.Native.Nat.{ℕ, _+_, _-_, _≤_, _<_}
+use Prim.Native.Nat.{ℕ, _-_, _≤_, _<_}
 use mathlib.Core.Bool.{Bool, true, false, not, _&&_, _||_, and-false, or-false, or-true, or-assoc, false≢true}
 use mathlib.Core.List.{List, [], _∷_}
 use mathlib.Core.Path.{_≡_, refl, sym, _∙_}
@@ -16,7 +16,7 @@ use Rattle.rules.specs.Brackets.{leadingClosers}
 use Rattle.rules.specs.Operators.{operators}
 use Rattle.rules.specs.Words.{startsWithWord, whiteOrParen, startsWithOneOf, startsWithBinaryOp, sameDeclaration}
 use Rattle.rules.specs.Line.{continues}
-use Rattle.rules.proofs.StartsBytes.{on-decode, allAscii, not-ascii, starts-encode, starts-column, first-encode, closers-encode}
+use Rattle.rules.proofs.StartsBytes.{on-decode, allAscii, starts-encode, starts-column, first-encode, closers-encode}
 use Rattle.rules.proofs.WordsBytes.{word-encode}
 use Rattle.rules.proofs.OperatorsBytes.{operator-ascii}
 use Rattle.basics.specs.Closers.{Closers}

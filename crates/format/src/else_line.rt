@@ -88,8 +88,8 @@ pub fn trimmed_takes_else(line: &[u8]) -> bool
     false
 }
 
-// The facts of a line that an `else` may join: its length trimmed at the end, whether it then ends in `}`, and whether, trimmed at the start,
-// it starts with `else`.
+// The facts of a line that an `else` may join: its length trimmed at the end, whether it then ends in `}`, and whether,
+// trimmed at the start, it starts with `else`.
 pub struct LineFacts {
     pub trimmed: usize,
     pub brace: bool,

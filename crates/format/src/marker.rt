@@ -26,7 +26,8 @@ fn is_marker_word(text: &[u8]) -> bool
     is_same(&t[..e], b"fmt-ignore")
 }
 
-// Of a line's `//` comment, or of nothing where it has none. A third slash would be part of the word, so `///` is no marker.
+// Of a line's `//` comment, or of nothing where it has none. A third slash would be part of the word, so `///` is no
+// marker.
 pub fn is_marker(comment: &[u8]) -> bool
     requires { ⌜ WellFormed (now comment) ⌝ }
     ensures { λ r. ⌜ r ≡ isMarkerText (decode (now (comment .entry))) ⌝ }

@@ -57,7 +57,8 @@ fn starts_with_operator(line: &[u8]) -> bool
 // The same of two bytes.
 fn starts_with_operator_pair(line: &[u8]) -> bool
     requires { ⌜ WellFormed (now line) × (1 < length (now line)) ⌝ }
-    ensures { λ r. ⌜ r ≡ (oneOf operators (getD (now (line .entry)) 0 0 ∷ getD (now (line .entry)) 1 0 ∷ []) && follows (now (line .entry)) 2) ⌝ }
+    ensures { λ r. ⌜ r ≡ (oneOf operators (getD (now (line .entry)) 0 0 ∷ getD (now (line .entry)) 1 0 ∷ []) && follows
+        (now (line .entry)) 2) ⌝ }
 {
     if is_two(line[0], line[1]) {
         return starts_white_or(&line[2..], b'(');
@@ -102,7 +103,8 @@ fn continues_with_else(line: &[u8], after_brace: bool) -> bool
     starts_with_word(line, b"else")
 }
 
-// Whether the line continues the one before, which ends in `}` if after_brace says so. The line has this many leading closers.
+// Whether the line continues the one before, which ends in `}` if after_brace says so. The line has this many leading
+// closers.
 pub fn continues(line: &[u8], closers: usize, after_brace: bool) -> bool
     requires { ⌜ WellFormed (now line) × Closers (now line) closers ⌝ }
     ensures { λ r. ⌜ Continues (now (line .entry)) «after_brace» r ⌝ }

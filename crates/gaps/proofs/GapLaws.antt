@@ -1,12 +1,12 @@
 -- Laws of the gap at the start of a text.
 --     cut-none, cut-some   a text is its gap, or its gap, the first kept character, and what is after it
 --     cut-at               that is the only way to take a text apart so
-use Prim.Native.Nat.{ℕ, zero, suc, _+_, _-_, _<_, _≤_}
-use mathlib.Core.Bool.{Bool, true, false, not, _&&_}
-use mathlib.Core.List.{List, [], _∷_, _++_, append-nil, append-assoc, append-cancel-left}
+use Prim.Native.Nat.{ℕ, _+_, _-_}
+use mathlib.Core.Bool.{Bool, true, false}
+use mathlib.Core.List.{List, [], _∷_, _++_, append-cancel-left}
 use mathlib.Core.Path.{_≡_, refl, sym, ap, _∙_, subst}
 use native.Mathlib.Omega.{arith}
-use lib.ListN.{length, length-append}
+use lib.ListN.{length}
 use Rattle.rules.specs.Basics.{choose, consIf, keep}
 use Rattle.rules.specs.Demand3.{isKept, strike}
 use Rattle.gaps.specs.Gaps.{gap, after, Unkept}

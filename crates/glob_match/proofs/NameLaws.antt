@@ -1,24 +1,24 @@
 -- A name: its characters, its slashes.
-use Prim.Native.Nat.{ℕ, zero, suc, _+_, _-_, _≤_, _<_}
+use Prim.Native.Nat.{ℕ, suc, _+_, _-_, _≤_, _<_}
 use mathlib.Core.Bool.{Bool, true, false, not, _||_, true≢false}
 use mathlib.Core.List.{List, [], _∷_, _++_, append-assoc, append-nil}
 use mathlib.Core.Path.{_≡_, refl, sym, ap, _∙_}
 use native.Mathlib.Numerals.{add-one}
 use native.Mathlib.Omega.{arith}
-use borrow.Author.Tests.{ne-eqb, eq-eqb, eqb-true}
+use borrow.Author.Tests.{eqb-true}
 use lib.Dec.{eqb}
 use lib.ListN.{length, drop, take, getD, set, length-set, length-take, length-append, replicate, length-replicate, drop-of-length-le, List·getD-eq-default}
 use lib.Seq.{take-suc-set, drop-cons, getD-drop}
-use Rattle.unicode.specs.Unicode.{decode, WellFormed, codeAt, chars, within}
+use Rattle.unicode.specs.Unicode.{decode, WellFormed, codeAt, chars}
 use Rattle.unicode.specs.Places.{Step}
 use Rattle.unicode.proofs.Tests.{by-test}
 use Rattle.rules.specs.Basics.{choose, is, firstIs}
-use Rattle.rules.proofs.Choose.{choose-case, choose-true, choose-false}
+use Rattle.rules.proofs.Choose.{choose-case}
 use Rattle.rules.proofs.StartsBytes.{on-decode, first-encode, steady-is}
 use Rattle.config_rules.specs.Name.{Item, Token, tokensOf}
-use Rattle.config_rules.specs.Name.Item.{part, same, one, run, ahead, range}
-use Rattle.config_rules.specs.Name.Token.{item, opens, comma, closes}
-use Rattle.config_rules.specs.Globs.{rooted, isSlash, hasSlash, anchored, matches, suffix, placeOf}
+use Rattle.config_rules.specs.Name.Item.{same}
+use Rattle.config_rules.specs.Name.Token.{item}
+use Rattle.config_rules.specs.Globs.{rooted, isSlash, hasSlash, anchored, matches}
 use Rattle.glob_pass.specs.Kinds.{rangeIn, plainAt, braceOf, heldAt, held}
 use Rattle.glob_pass.proofs.TokenLaws.{length-held, held-at}
 use Rattle.glob_name.specs.Read.{Spaced}

@@ -9,10 +9,9 @@ use lib.Seq.{take-length}
 use Rattle.unicode.specs.Unicode.{decode, WellFormed, codeAt, chars}
 use Rattle.unicode.specs.Places.{Back}
 use Rattle.rules.specs.Basics.{choose}
-use Rattle.config_rules.specs.Name.{Token}
 use Rattle.config_rules.specs.Globs.{suffix}
 use Rattle.glob_pass.specs.Kinds.{held}
-use Rattle.glob_pass.specs.Pass.{hereAt, before, Values, Olds, Hits, Given, Passed}
+use Rattle.glob_pass.specs.Pass.{hereAt, before, Values, Passed}
 use Rattle.glob_pass.proofs.TokenLaws.{length-held}
 use Rattle.glob_match.specs.Match.{SlotsAt, RangesNext, matchesAt}
 use Rattle.glob_match.proofs.SlotsLaws.{slots-start, hits-start}

@@ -1,30 +1,29 @@
 -- The loop over the ranges of a name.
 use Prim.Native.Nat.{ℕ, zero, suc, _+_, _-_, _≤_, _<_}
-use mathlib.Core.Bool.{Bool, true, false, _&&_, _||_, true≢false}
+use mathlib.Core.Bool.{Bool, true, false, true≢false}
 use mathlib.Core.List.{List, [], _∷_}
-use mathlib.Core.Logic.{_⊎_, inl, inr, ⊎-elim}
+use mathlib.Core.Logic.{_⊎_, ⊎-elim}
 use mathlib.Core.Path.{_≡_, refl, sym, ap, _∙_}
 use native.Mathlib.Numerals.{add-one}
 use native.Mathlib.Omega.{arith}
-use borrow.Author.Tests.{ne-eqb, eqb-true, eqb-false}
+use borrow.Author.Tests.{eqb-true, eqb-false}
 use lib.Dec.{eqb}
-use lib.ListN.{length, drop, take, getD, set, length-set, drop-of-length-le, replicate}
+use lib.ListN.{length, drop, getD, set, length-set, drop-of-length-le, replicate}
 use lib.Seq.{getD-set-same, getD-set-other, drop-drop}
-use Rattle.unicode.specs.Unicode.{within}
 use Rattle.unicode.proofs.Tests.{split, by-test}
 use Rattle.rules.specs.Basics.{choose, firstIs}
-use Rattle.rules.proofs.Choose.{choose-case, choose-true, choose-false}
+use Rattle.rules.proofs.Choose.{choose-case}
 use Rattle.config_rules.specs.Numbers.{inRange, isNumber, numberLen, sign, digitCount}
 use Rattle.config_rules.specs.Name.{Item, Token}
 use Rattle.config_rules.specs.Name.Item.{part, same, one, run, ahead, range}
 use Rattle.config_rules.specs.Name.Token.{item}
-use Rattle.config_rules.specs.Globs.{Strings, someThen, placeOf}
+use Rattle.config_rules.specs.Globs.{Strings, someThen}
 use Rattle.glob_pass.specs.Kinds.{rangeIn, plainAt, braceOf, heldAt, held}
 use Rattle.glob_pass.specs.Pass.{hereAt, Values, Hits}
 use Rattle.glob_pass.proofs.TokenLaws.{length-held, held-at}
 use Rattle.glob_name.specs.Read.{rangeMore, Spaced}
-use Rattle.ranges.specs.Slots.{valid, from, number, farther}
-use Rattle.ranges.specs.Ranges.{firstEnd, secondEnd, secondAt, rangeFor, RangeOf, slotAt, Kept, RangeNext}
+use Rattle.ranges.specs.Slots.{valid, from}
+use Rattle.ranges.specs.Ranges.{firstEnd, secondEnd, rangeFor, slotAt, Kept, RangeNext}
 use Rattle.ranges.proofs.EndLaws.{range-room}
 use Rattle.glob_match.specs.Match.{SlotsAt, RangesNext}
 

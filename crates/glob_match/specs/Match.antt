@@ -1,9 +1,9 @@
 -- A path read from its end.
-use Prim.Native.Nat.{ℕ, _+_, _<_, _≤_}
-use mathlib.Core.Bool.{Bool, false}
-use mathlib.Core.List.{List, [], _∷_, _++_}
+use Prim.Native.Nat.{ℕ, _+_, _<_}
+use mathlib.Core.Bool.{Bool}
+use mathlib.Core.List.{List, _∷_, _++_}
 use mathlib.Core.Path.{_≡_}
-use lib.ListN.{length, drop, take, getD}
+use lib.ListN.{length, take, getD}
 use Rattle.unicode.specs.Unicode.{decode}
 use Rattle.rules.specs.Basics.{choose, is, firstIs}
 use Rattle.config_rules.specs.Name.{Token}
@@ -35,6 +35,7 @@ pub record Decoded (name : List ℕ) (k : ℕ) (old new : List ℕ) (n : ℕ) : 
 unfoldable pub firstPlace : Bool → ℕ
 firstPlace slash = choose slash 0 1
 
--- r is what a name says of a path, where chars are its characters with a slash before them, which it has itself if `slash` says so
+-- r is what a name says of a path, where chars are its characters with a slash before them, which it has itself if
+-- `slash` says so
 pub record NameMatches (chars : List ℕ) (slash : Bool) (path : List ℕ) (r : Bool) : Type 0 where
   pub is : (name : List ℕ) → chars ≡ rooted name → slash ≡ firstIs (is "/") name → r ≡ matches name path

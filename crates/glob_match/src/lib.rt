@@ -4,7 +4,7 @@ pub mod name;
 ghost use mathlib.Core.Path.{_≡_};
 ghost use mathlib.Core.List.{_∷_};
 ghost use Prim.Native.Nat.{_≤_, _<_};
-ghost use lib.ListN.{length, drop};
+ghost use lib.ListN.{length};
 ghost use Rattle.unicode.specs.Unicode.{WellFormed, decode};
 ghost use Rattle.config_rules.specs.Globs.{matches};
 ghost use Rattle.glob_pass.specs.Kinds.{held};
@@ -24,8 +24,11 @@ fn ranges_next(
     v: &[bool; 1026],
     c: u32,
 )
-    requires { ⌜ (length (now kinds) ≡ length (now chars)) × (length (now chars) < 1026) × Spaced (now chars) (now kinds) × (length (now chars) ≤ length (now slots)) × (length (now chars) < length (now hits)) × (length (now chars) < length (now v)) ⌝ }
-    ensures { λ r. ⌜ RangesNext (now (kinds .entry)) (now (chars .entry)) (now (v .entry)) c (now (slots .entry)) (now (slots .exit)) (now (hits .entry)) (now (hits .exit)) ⌝ }
+    requires { ⌜ (length (now kinds) ≡ length (now chars)) × (length (now chars) < 1026) × Spaced (now chars)
+        (now kinds) × (length (now chars) ≤ length (now slots)) × (length (now chars) < length (now hits)) ×
+        (length (now chars) < length (now v)) ⌝ }
+    ensures { λ r. ⌜ RangesNext (now (kinds .entry)) (now (chars .entry)) (now (v .entry)) c (now (slots .entry))
+        (now (slots .exit)) (now (hits .entry)) (now (hits .exit)) ⌝ }
 {
     let mut p: usize = 0;
     while p < kinds.len() {
@@ -38,10 +41,13 @@ fn ranges_next(
     }
 }
 
-// Whether a name matches the path with a `/` before it, or, where `levels` says so, what follows from some place of it on.
+// Whether a name matches the path with a `/` before it, or, where `levels` says so, what follows from some place of it
+// on.
 fn matches_at(kinds: &[u8], chars: &[u32], path: &[u8], levels: bool) -> bool
-    requires { ⌜ (length (now kinds) ≡ length (now chars)) × (length (now chars) < 1026) × Spaced (now chars) (now kinds) × WellFormed (now path) ⌝ }
-    ensures { λ r. ⌜ r ≡ matchesAt (held (now (kinds .entry)) (now (chars .entry))) levels (47 ∷ decode (now (path .entry))) ⌝ }
+    requires { ⌜ (length (now kinds) ≡ length (now chars)) × (length (now chars) < 1026) × Spaced (now chars)
+        (now kinds) × WellFormed (now path) ⌝ }
+    ensures { λ r. ⌜ r ≡ matchesAt (held (now (kinds .entry)) (now (chars .entry))) levels
+        (47 ∷ decode (now (path .entry))) ⌝ }
 {
     let mut slots: [u8; 1026] = [0; 1026];
     let mut hits: [bool; 1026] = [false; 1026];
@@ -66,7 +72,8 @@ fn matches_at(kinds: &[u8], chars: &[u32], path: &[u8], levels: bool) -> bool
 
 // The same of a name whose characters are given, with a slash before them; `slash` says whether it has that one itself.
 fn matches_name(chars: &[u32], kinds: &mut [u8], slash: bool, path: &[u8]) -> bool
-    requires { ⌜ (length (now kinds) ≡ length (now chars)) × (length (now chars) < 1026) × (0 < length (now chars)) × WellFormed (now path) ⌝ }
+    requires { ⌜ (length (now kinds) ≡ length (now chars)) × (length (now chars) < 1026) × (0 < length (now chars)) ×
+        WellFormed (now path) ⌝ }
     ensures { λ r. ⌜ NameMatches (now (chars .entry)) slash (decode (now (path .entry))) r ⌝ }
 {
     glob_name::kinds_of(chars, kinds);

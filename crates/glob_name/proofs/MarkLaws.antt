@@ -7,9 +7,9 @@ use native.Mathlib.Numerals.{add-one}
 use native.Mathlib.Omega.{arith}
 use borrow.Author.Tests.{ne-eqb}
 use lib.ListN.{length, drop, take, getD, set, length-set, length-take, drop-of-length-le}
-use lib.Seq.{getD-set-same, getD-set-other, getD-append-seam, set-at, drop-cons, take-suc, take-suc-set, drop-set-lt, drop-drop, take-length, drop-length, getD-drop}
-use Rattle.rules.specs.Basics.{choose, isEmpty}
-use Rattle.config_rules.specs.Name.{withComma, outer, innermost}
+use lib.Seq.{getD-set-same, getD-set-other, getD-append-seam, set-at, drop-cons, take-suc, take-suc-set, drop-set-lt, take-length, drop-length}
+use Rattle.rules.specs.Basics.{choose}
+use Rattle.config_rules.specs.Name.{withComma, outer}
 use Rattle.glob_name.specs.declared.braces.Event.{Event}
 use Rattle.glob_name.specs.Braces.{rightEvent, leftEvent, marked, stackAfter, isLone, openRight, markRight, markLeft, flagged, Happened}
 

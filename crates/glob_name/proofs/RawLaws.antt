@@ -1,6 +1,6 @@
 -- The loop over the characters of a name.
 use Prim.Native.Nat.{ℕ, zero, suc, _+_, _-_, _≤_, _<_}
-use mathlib.Core.Bool.{Bool, true, false}
+use mathlib.Core.Bool.{Bool, false}
 use mathlib.Core.List.{List, [], _∷_, _++_, append-assoc, append-nil}
 use mathlib.Core.Logic.{_⊎_, inl, inr, ⊎-elim}
 use mathlib.Core.Path.{_≡_, refl, sym, ap, _∙_}
@@ -10,12 +10,10 @@ use lib.ListN.{length, drop, take, getD, set, length-set, length-take, drop-of-l
 use lib.Seq.{drop-cons, take-suc-set, getD-set-same, getD-set-other, take-length}
 use Rattle.unicode.proofs.Tests.{split}
 use Rattle.rules.specs.Basics.{choose}
-use Rattle.config_rules.specs.Name.{Token, Reading, readingAt, tokens}
-use Rattle.config_rules.specs.Name.Item.{part}
-use Rattle.config_rules.specs.Name.Token.{item}
+use Rattle.config_rules.specs.Name.{Token, Reading, tokens}
 use Rattle.glob_pass.specs.Kinds.{plainAt, heldAt, held}
 use Rattle.glob_name.specs.declared.read.Read.{Read}
-use Rattle.glob_name.specs.Read.{rangeMore, asReading, TokenRead, Raw, Spaced, RawKinds}
+use Rattle.glob_name.specs.Read.{rangeMore, TokenRead, RawKinds}
 
 held-snoc : (l : List ℕ) (k : ℕ) (cs : List ℕ) → length l < length cs → held (l ++ (k ∷ [])) cs ≡ held l cs ++ (heldAt k (drop (length l) cs) ∷ [])
 unfolding held

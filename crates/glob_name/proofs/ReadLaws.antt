@@ -1,24 +1,22 @@
 -- What is read at a character.
 use Prim.Native.Nat.{ℕ, zero, suc, _+_, _-_, _≤_, _<_}
 use mathlib.Core.Bool.{Bool, true, false, not, _&&_, _||_, and-false, and-true, true≢false}
-use mathlib.Core.List.{List, [], _∷_, _++_}
+use mathlib.Core.List.{List, [], _∷_}
 use mathlib.Core.Option.{Option, none, some}
 use mathlib.Core.Path.{_≡_, refl, sym, ap, _∙_}
 use mathlib.Core.Logic.{_⊎_, inl, inr, ⊎-elim}
 use native.Mathlib.Numerals.{add-one}
-use native.Mathlib.Nat.{add-zero}
 use native.Mathlib.Omega.{arith}
-use borrow.Author.Tests.{eq-eqb, ne-eqb, lt-ltb, le-ltb, le-leb, lt-leb, eqb-true, eqb-false, ltb-true}
+use borrow.Author.Tests.{ne-eqb, lt-ltb, le-ltb, le-leb, lt-leb, eqb-true, eqb-false}
 use lib.Dec.{eqb, ltb, leb}
-use lib.ListN.{length, drop, take, getD, set, length-set, drop-of-length-le}
+use lib.ListN.{length, drop, getD, set, length-set, drop-of-length-le}
 use lib.Seq.{drop-cons, drop-drop, drop-length, getD-set-same, getD-set-other}
 use Rattle.unicode.proofs.Tests.{by-test, split, neither-left, neither-right}
 use Rattle.rules.specs.Basics.{choose, is, at, firstIs, startsWith}
 use Rattle.rules.proofs.Choose.{choose-true, choose-false}
 use Rattle.config_rules.specs.Numbers.{isDigit, digitCount, sign, numberLen}
-use Rattle.config_rules.specs.Sets.{inSet}
-use Rattle.config_rules.specs.Name.{Item, Token, Reading, reading, consTo, toBracket, bracketAt, escapeAt, rangeAt, braceAt, starAt, slashAt, readingAt}
-use Rattle.config_rules.specs.Name.Item.{same, one}
+use Rattle.config_rules.specs.Name.{reading, consTo, toBracket, bracketAt, escapeAt, rangeAt, braceAt, starAt, slashAt, readingAt}
+use Rattle.config_rules.specs.Name.Item.{one}
 use Rattle.config_rules.specs.Name.Token.{item, opens}
 use Rattle.glob_pass.specs.Kinds.{upTo, rangeIn, plainAt, braceOf, heldAt}
 use Rattle.glob_name.specs.declared.read.Read.{Read}

@@ -1,19 +1,16 @@
 -- The kinds marked from both sides hold the settled tokens.
-use Prim.Native.Nat.{ℕ, zero, suc, _+_, _≤_, _<_}
-use mathlib.Core.Bool.{Bool, true, false, not, _&&_, _||_, or-true, or-false, true≢false}
+use Prim.Native.Nat.{ℕ, zero, suc, _<_}
+use mathlib.Core.Bool.{Bool, true, false, true≢false}
 use mathlib.Core.List.{List, [], _∷_}
 use mathlib.Core.Path.{_≡_, refl, sym, ap, _∙_}
 use native.Mathlib.Omega.{arith}
-use borrow.Author.Tests.{ne-eqb, le-leb, lt-leb, le-ltb}
+use borrow.Author.Tests.{ne-eqb, le-leb, lt-leb}
 use lib.Dec.{leb, eqb}
 use lib.ListN.{length, getD}
 use Rattle.unicode.specs.Unicode.{within}
 use Rattle.unicode.proofs.Tests.{by-test}
 use Rattle.rules.specs.Basics.{choose, isEmpty}
-use Rattle.rules.proofs.Choose.{choose-true, choose-false}
-use Rattle.config_rules.specs.Name.{Token, withComma, outer, innermost, closers, unopened, openers, settledAt, settled, tokens, tokensOf}
-use Rattle.config_rules.specs.Name.Token.{item, opens, comma, closes}
-use Rattle.config_rules.specs.Name.Item.{same}
+use Rattle.config_rules.specs.Name.{innermost, closers, unopened, openers, settledAt, settled, tokens, tokensOf}
 use Rattle.glob_pass.specs.Kinds.{plainAt, braceOf, heldAt, held}
 use Rattle.glob_name.specs.Read.{Raw, Spaced, RawKinds}
 use Rattle.glob_name.specs.Braces.{rightEvent, leftEvent, marked, stackAfter, isLone, openRight, markRight, markLeft}

@@ -1,10 +1,10 @@
 -- A name read into kinds.
 use Prim.Native.Nat.{ℕ, zero, suc, _+_, _≤_, _<_}
-use mathlib.Core.Bool.{Bool, true, false, not, _&&_, _||_}
-use mathlib.Core.List.{List, [], _∷_, _++_}
+use mathlib.Core.Bool.{Bool, true, false}
+use mathlib.Core.List.{List, _∷_}
 use mathlib.Core.Path.{_≡_}
 use lib.Dec.{eqb, ltb}
-use lib.ListN.{length, getD, drop, take}
+use lib.ListN.{length, getD, drop}
 use Rattle.rules.specs.Basics.{choose, is, at, firstIs}
 use Rattle.config_rules.specs.Numbers.{numberLen}
 use Rattle.config_rules.specs.Name.{Reading, toBracket, bracketAt, readingAt, tokens}

@@ -1,4 +1,5 @@
-// The name of a section in kinds, one for each of its characters: how it is read, and which of its braces stand for themselves.
+// The name of a section in kinds, one for each of its characters: how it is read, and which of its braces stand for
+// themselves.
 pub mod braces;
 pub mod read;
 
@@ -12,7 +13,9 @@ ghost use Rattle.glob_name.specs.Read.{Spaced};
 // The kinds of a name.
 pub fn kinds_of(chars: &[u32], kinds: &mut [u8])
     requires { ⌜ (length (now kinds) ≡ length (now chars)) × (length (now chars) < 1026) ⌝ }
-    ensures { λ r. ⌜ (length (now (kinds .exit)) ≡ length (now (chars .entry))) × (held (now (kinds .exit)) (now (chars .entry)) ≡ tokensOf (now (chars .entry))) × Spaced (now (chars .entry)) (now (kinds .exit)) ⌝ }
+    ensures { λ r. ⌜ (length (now (kinds .exit)) ≡ length (now (chars .entry))) ×
+        (held (now (kinds .exit)) (now (chars .entry)) ≡ tokensOf (now (chars .entry))) × Spaced (now (chars .entry))
+        (now (kinds .exit)) ⌝ }
 {
     read::raw_kinds(chars, kinds);
     braces::mark_right(kinds);

@@ -1,6 +1,6 @@
 -- Braces and commas: the stack of open braces, the innermost first.
 use Prim.Native.Nat.{ℕ, zero, suc, _+_, _-_, _≤_, _<_}
-use mathlib.Core.Bool.{Bool, true, false, _||_}
+use mathlib.Core.Bool.{Bool, false, _||_}
 use mathlib.Core.List.{List, [], _∷_}
 use mathlib.Core.Path.{_≡_, refl, sym, ap, _∙_}
 use native.Mathlib.Numerals.{add-one}
@@ -14,7 +14,6 @@ use Rattle.rules.proofs.Choose.{choose-case}
 use Rattle.config_rules.specs.Name.{Token}
 use Rattle.config_rules.specs.Name.Token.{opens, comma, closes}
 use Rattle.config_rules.specs.Globs.{Strings, Place, Around, placeAt, closing, between, opening}
-use Rattle.glob_pass.specs.declared.Level.{Level}
 use Rattle.glob_pass.specs.Kinds.{braceOf}
 use Rattle.glob_pass.specs.Pass.{Sides, stacked, seen, Turn, Braced}
 

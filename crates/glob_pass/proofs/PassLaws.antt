@@ -1,25 +1,23 @@
 -- One pass: from the end of the name to its start, each place's value at s, and the stack of open braces.
 use Prim.Native.Nat.{ℕ, zero, suc, _+_, _-_, _≤_, _<_}
 use mathlib.Core.Bool.{Bool, true, false, _&&_, and-false}
-use mathlib.Core.List.{List, [], _∷_}
+use mathlib.Core.List.{List, _∷_}
 use mathlib.Core.Logic.{_⊎_, inl, inr, ⊎-elim}
 use mathlib.Core.Path.{_≡_, refl, sym, ap, _∙_}
 use native.Mathlib.Omega.{arith}
-use borrow.Author.Tests.{le-leb, lt-leb, lt-ltb, le-ltb}
-use lib.Dec.{eqb, leb, ltb}
+use borrow.Author.Tests.{lt-leb, le-ltb}
+use lib.Dec.{leb, ltb}
 use lib.ListN.{length, drop, getD, set, length-set}
 use lib.Seq.{getD-set-same, getD-set-other, drop-length, set-set, set-getD}
-use Rattle.rules.specs.Basics.{isEmpty, choose}
+use Rattle.rules.specs.Basics.{isEmpty}
 use Rattle.rules.proofs.Choose.{choose-true, choose-false}
 use Rattle.unicode.specs.Unicode.{within}
-use Rattle.unicode.proofs.Tests.{by-test}
 use Rattle.config_rules.specs.Name.{Item, Token}
 use Rattle.config_rules.specs.Name.Token.{item}
 use Rattle.config_rules.specs.Globs.{Place, placeAt, placeOf}
-use Rattle.glob_pass.specs.declared.Known.{Known}
 use Rattle.glob_pass.specs.declared.Level.{Level}
 use Rattle.glob_pass.specs.Kinds.{plainAt, braceOf, heldAt, held}
-use Rattle.glob_pass.specs.Pass.{hereAt, before, valueAt, stacked, seen, Turn, Braced, Values, Olds, Hits, Given, Passed}
+use Rattle.glob_pass.specs.Pass.{hereAt, before, valueAt, stacked, seen, Turn, Braced, Given, Passed}
 use Rattle.glob_pass.proofs.TokenLaws.{known, item-first, length-held, held-at}
 
 pub record GoingAt (ts : List Token) (s : List ℕ) (p : ℕ) (v : List Bool) (prior : Bool) (o a : List Bool) (d : ℕ) (x : Bool) : Type 0 where

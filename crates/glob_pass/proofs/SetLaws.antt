@@ -1,18 +1,17 @@
 -- Sets: the loop over what stands between the brackets.
-use Prim.Native.Nat.{ℕ, zero, suc, _+_, _-_, _≤_, _<_}
+use Prim.Native.Nat.{ℕ, suc, _+_, _-_, _≤_, _<_}
 use mathlib.Core.Bool.{Bool, true, false, not, _&&_, _||_}
 use mathlib.Core.List.{List, [], _∷_}
-use mathlib.Core.Path.{_≡_, refl, sym, ap, _∙_}
+use mathlib.Core.Path.{_≡_, refl, sym, _∙_}
 use native.Mathlib.Numerals.{add-one}
 use native.Mathlib.Omega.{arith}
-use borrow.Author.Tests.{eq-eqb, ne-eqb}
-use lib.Dec.{eqb}
+use borrow.Author.Tests.{ne-eqb}
 use lib.ListN.{length, drop, getD, drop-of-length-le}
 use lib.Seq.{drop-cons}
 use Rattle.rules.specs.Basics.{choose, is, firstIs}
 use Rattle.rules.proofs.Choose.{choose-case, choose-true, choose-false}
 use Rattle.config_rules.specs.declared.Named.{Named}
-use Rattle.config_rules.specs.Sets.{fresh, escapes, dashes, namedAfter, itself, namesAt, names, inSet}
+use Rattle.config_rules.specs.Sets.{fresh, escapes, namedAfter, namesAt, names, inSet}
 use Rattle.glob_pass.specs.Kinds.{upTo, lastNames, Naming}
 
 esc-after : (n : Named) (d : ℕ) → namedAfter n d .esc ≡ (not (n .esc) && is "\\" d)

@@ -1,14 +1,14 @@
 -- What one item says of a string, by its first character; and the tokens that code holds.
-use Prim.Native.Nat.{ℕ, zero, suc, _+_, _-_, _≤_, _<_}
-use mathlib.Core.Bool.{Bool, true, false, not, _&&_, _||_, and-false, or-false}
+use Prim.Native.Nat.{ℕ, zero, suc, _-_, _<_}
+use mathlib.Core.Bool.{Bool, _&&_, _||_, and-false, or-false}
 use mathlib.Core.List.{List, [], _∷_}
-use mathlib.Core.Path.{_≡_, refl, sym, ap, _∙_}
+use mathlib.Core.Path.{_≡_, refl, sym, ap}
 use native.Mathlib.Omega.{arith}
 use lib.Dec.{eqb}
 use lib.ListN.{length, drop, getD}
 use Rattle.rules.specs.Basics.{is, firstIs}
 use Rattle.config_rules.specs.Numbers.{inRange}
-use Rattle.config_rules.specs.Name.{Item, Token}
+use Rattle.config_rules.specs.Name.{Item}
 use Rattle.config_rules.specs.Name.Item.{part, same, one, run, ahead, range}
 use Rattle.config_rules.specs.Globs.{Strings, oneThen, runThen, someThen, aheadThen, itemThen}
 use Rattle.glob_pass.specs.declared.Known.{Known}

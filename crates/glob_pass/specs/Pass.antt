@@ -1,6 +1,6 @@
 -- What one pass over a name finds.
 use Prim.Native.Nat.{ℕ, zero, suc, _+_, _-_, _≤_, _<_}
-use mathlib.Core.Bool.{Bool, true, false, not, _&&_, _||_}
+use mathlib.Core.Bool.{Bool, false, _&&_, _||_}
 use mathlib.Core.List.{List, [], _∷_}
 use mathlib.Core.Path.{_≡_}
 use lib.Dec.{eqb}
@@ -64,7 +64,8 @@ pub record Braced (k : ℕ) (o a : List Bool) (depth : ℕ) (next : Bool) (o' a'
   pub turn : (p : Place) (s : List ℕ) → Turn p s next (stacked o a depth)
       → Turn (placeAt (braceOf k) p) s (r .next) (stacked o' a' (r .depth))
 
--- ---- v holds the value of each place of the name at s; the values without the first character; the values of the ranges
+-- ---- v holds the value of each place of the name at s; the values without the first character; the values of the
+-- ranges
 
 pub record Values (ts : List Token) (s : List ℕ) (v : List Bool) : Type 0 where
   pub at : (j : ℕ) → j ≤ length ts → getD v j false ≡ hereAt ts j s

@@ -1,9 +1,10 @@
-// One pass over a name that is held as a kind and a character for each place: which of its places match a string, read from its end.
+// One pass over a name that is held as a kind and a character for each place: which of its places match a string, read
+// from its end.
 pub mod set;
 
 ghost use mathlib.Core.Path.{_≡_};
 ghost use mathlib.Core.Bool.{false, _&&_};
-ghost use Prim.Native.Nat.{_≤_, _<_};
+ghost use Prim.Native.Nat.{_<_};
 ghost use lib.Dec.{ltb};
 ghost use lib.ListN.{length, drop};
 ghost use Rattle.glob_pass.specs.Kinds.{plainAt, held};
@@ -76,7 +77,8 @@ fn value_at(k: u8, chars: &[u32], p: usize, c: u32, known: Known) -> bool
     rare_value(k, chars, p, c, known)
 }
 
-// The braces around the place before a brace or a comma, and its value. `after` has what follows each, `others` its alternatives to the right.
+// The braces around the place before a brace or a comma, and its value. `after` has what follows each, `others` its
+// alternatives to the right.
 fn brace_step(
     k: u8,
     after: &mut [bool; 1026],
@@ -85,7 +87,8 @@ fn brace_step(
     next: bool,
 ) -> Level
     requires { ⌜ (depth < length (now after)) × (depth < length (now others)) × (depth < 1026) ⌝ }
-    ensures { λ r. ⌜ Braced k (now (others .entry)) (now (after .entry)) depth next (now (others .exit)) (now (after .exit)) r ⌝ }
+    ensures { λ r. ⌜ Braced k (now (others .entry)) (now (after .entry)) depth next (now (others .exit))
+        (now (after .exit)) r ⌝ }
 {
     if k == 1 {
         after[depth] = next;
@@ -112,7 +115,8 @@ fn brace_step(
     }
 }
 
-// One character more of the path: v holds the values without it, and then with it. For the end of the path, base is true and c is 0.
+// One character more of the path: v holds the values without it, and then with it. For the end of the path, base is
+// true and c is 0.
 pub fn pass(
     kinds: &[u8],
     chars: &[u32],
@@ -121,8 +125,10 @@ pub fn pass(
     hits: &[bool; 1026],
     v: &mut [bool; 1026],
 )
-    requires { ⌜ (length (now kinds) ≡ length (now chars)) × (length (now chars) < 1026) × (length (now chars) < length (now v)) ⌝ }
-    ensures { λ r. ⌜ Passed (held (now (kinds .entry)) (now (chars .entry))) c base (now (hits .entry)) (now (v .entry)) (now (v .exit)) ⌝ }
+    requires { ⌜ (length (now kinds) ≡ length (now chars)) × (length (now chars) < 1026) ×
+        (length (now chars) < length (now v)) ⌝ }
+    ensures { λ r. ⌜ Passed (held (now (kinds .entry)) (now (chars .entry))) c base (now (hits .entry)) (now (v .entry))
+        (now (v .exit)) ⌝ }
 {
     let mut after: [bool; 1026] = [false; 1026];
     let mut others: [bool; 1026] = [false; 1026];

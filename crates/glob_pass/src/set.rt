@@ -4,7 +4,7 @@ ghost use mathlib.Core.Bool.{false, not, _&&_};
 ghost use Prim.Native.Nat.{_≤_};
 ghost use lib.ListN.{length, drop};
 ghost use Rattle.rules.specs.Basics.{is};
-ghost use Rattle.config_rules.specs.Sets.{escapes, dashes, namedAfter, itself, namesAt, names, fresh, inSet};
+ghost use Rattle.config_rules.specs.Sets.{escapes, dashes, namedAfter, namesAt, names, fresh, inSet};
 ghost use Rattle.glob_pass.specs.Kinds.{upTo, lastNames};
 use config_rules::Named;
 

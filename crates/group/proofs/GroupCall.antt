@@ -2,27 +2,27 @@
 --     codes-ready, text-short, text-fits           the text of the codes in the output
 --     show-refused, show-text                      a source without the first refusals
 --     too-long, scratch-short, not-utf8, done      the outcome of a call; answered the answer
-use Prim.Native.Nat.{ℕ, _+_, _*_, _-_, _≤_, _<_, _^_}
+use Prim.Native.Nat.{ℕ, _+_, _*_, _-_, _≤_, _<_}
 use native.Mathlib.Omega.{arith}
-use mathlib.Core.Bool.{Bool, true, false, not}
-use mathlib.Core.List.{List, [], _∷_, _++_}
+use mathlib.Core.Bool.{not}
+use mathlib.Core.List.{List, [], _++_}
 use mathlib.Core.Path.{_≡_, refl, sym, ap, _∙_, subst}
-use borrow.Author.Tests.{lt-ltb, le-ltb, ltb-true, ltb-false}
+use borrow.Author.Tests.{lt-ltb, le-ltb}
 use lib.Dec.{ltb}
 use lib.ListN.{length, take, replicate}
 use lib.Seq.{take-at}
-use Rattle.unicode.specs.Unicode.{size, decode, encode, prefixLen, wellFormed, WellFormed}
+use Rattle.unicode.specs.Unicode.{size, decode, encode, prefixLen, wellFormed}
 use Rattle.unicode.proofs.Decode.{wf-whole, test-whole, test-part}
 use Rattle.buffer.specs.Buffer.{part, Appended, Finishes, Agree}
 use Rattle.buffer.proofs.AgreeLaws.{agree-nil, appended-agree, finishes-text}
 use Rattle.rules.specs.Basics.{choose}
-use Rattle.rules.specs.Refusals.{maxSource, numberOf}
+use Rattle.rules.specs.Refusals.{maxSource}
 use Rattle.rules.specs.Call.{filled}
 use Rattle.rules.specs.declared.Refusal.{Refusal}
 use Rattle.rules.proofs.Choose.{choose-true, choose-false, choose-case}
 use Rattle.group_rules.specs.Expression.{Token, Reading, read, refusedAt, reading}
-use Rattle.group_rules.specs.Grouping.{Grouping, text, noText, groupingOf, grouping, treeOf, written}
-use Rattle.group_rules.specs.Passes.{coded, openedText, closedText}
+use Rattle.group_rules.specs.Grouping.{text, groupingOf, grouping, treeOf, written}
+use Rattle.group_rules.specs.Passes.{openedText, closedText}
 use Rattle.group_rules.specs.Promises.{Groups, Longest}
 use Rattle.group_rules.specs.Outcome.{groupScratch, groupingIn, groupOutcome, groupAnswer, groupedText, groupOutputFor, groupOutput}
 use Rattle.group_rules.specs.Answered.{GroupAnswered}

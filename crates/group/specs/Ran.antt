@@ -1,15 +1,15 @@
 -- What a grouping call leaves in its buffers, step by step.
-use Prim.Native.Nat.{ℕ, _+_, _*_, _≤_}
+use Prim.Native.Nat.{ℕ, _*_, _≤_}
 use mathlib.Core.List.{List}
 use mathlib.Core.Path.{_≡_}
 use lib.Dec.{ltb}
 use lib.ListN.{length, take, replicate}
-use Rattle.unicode.specs.Unicode.{decode, WellFormed}
+use Rattle.unicode.specs.Unicode.{WellFormed}
 use Rattle.rules.specs.Basics.{choose}
 use Rattle.rules.specs.declared.Refusal.{Refusal}
 use Rattle.group_rules.specs.Grouping.{Grouping, grouping}
 use Rattle.group_rules.specs.Passes.{openedText, closedText}
-use Rattle.group_rules.specs.Outcome.{groupScratch, groupingIn, groupOutcome, groupAnswer, groupedText, groupOutputFor, groupOutput}
+use Rattle.group_rules.specs.Outcome.{groupScratch, groupingIn, groupOutcome, groupedText, groupOutputFor, groupOutput}
 use Rattle.group_rules.specs.declared.GroupOutcome.{GroupOutcome}
 
 -- refusals 1, 3 and 4 do not apply

@@ -1,12 +1,12 @@
 -- Laws of the pass in scratch and output.
-use Prim.Native.Nat.{ℕ, zero, suc, _+_, _*_, _-_, _≤_, _<_, _^_}
+use Prim.Native.Nat.{ℕ, zero, suc, _+_, _-_, _≤_, _<_}
 use mathlib.Core.Bool.{Bool, true, false, _&&_}
 use mathlib.Core.List.{List, [], _∷_, _++_, append-assoc, append-nil}
 use mathlib.Core.Path.{_≡_, refl, ap, sym, _∙_, subst}
 use native.Mathlib.Omega.{arith}
 use native.Mathlib.Nat.{sub-self}
 use native.Mathlib.Numerals.{add-one}
-use lib.Dec.{eqb, leb, ltb}
+use lib.Dec.{eqb, ltb}
 use lib.ListN.{length, take, drop, getD, set, length-set, length-append, length-take, length-drop, drop-of-length-le}
 use lib.Seq.{take-all, drop-cons, set-split, getD-set-same, getD-set-other, drop-set-lt}
 use borrow.Author.Tests.{eq-eqb, ne-eqb, le-leb, lt-leb, ltb-true}

@@ -1,11 +1,11 @@
--- The pass from the first byte of the opened text to the last: the bytes from a place up to `end` are left to read, the spine stands in front of them
--- in the same buffer, and the text goes to an output that may be too short.
+-- The pass from the first byte of the opened text to the last: the bytes from a place up to `end` are left to read, the
+-- spine stands in front of them in the same buffer, and the text goes to an output that may be too short.
 use Prim.Native.Nat.{ℕ, zero, suc, _+_, _*_, _≤_, _<_, _^_}
 use mathlib.Core.List.{List, [], _∷_, _++_}
 use mathlib.Core.Path.{_≡_}
-use lib.ListN.{length, take, drop, getD, set}
+use lib.ListN.{length, getD}
 use Rattle.buffer.specs.Buffer.{part, Appended}
-use Rattle.group_rules.specs.Passes.{Pass, pass, closesBefore, closeEnd, forthStep, closeForth}
+use Rattle.group_rules.specs.Passes.{Pass, pass, forthStep, closeForth}
 use Rattle.group_close.specs.declared.Spot.{Spot}
 use Rattle.group_close.specs.declared.Forth.{Forth}
 

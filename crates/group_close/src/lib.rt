@@ -1,13 +1,12 @@
-// From the first byte of the opened text to its last: where operations end. The operators whose right operand still goes on stand on a stack in
-// front of the bytes that are left, the nearest on top, 0 for a bracket.
+// From the first byte of the opened text to its last: where operations end. The operators whose right operand still
+// goes on stand on a stack in front of the bytes that are left, the nearest on top, 0 for a bracket.
 ghost use mathlib.Core.Path.{_≡_};
 ghost use mathlib.Core.List.{_∷_, []};
-ghost use mathlib.Core.Bool.{true};
-ghost use Prim.Native.Nat.{_+_, _*_, _-_, _≤_, _<_, _^_};
-ghost use lib.ListN.{length, take, getD};
+ghost use Prim.Native.Nat.{_+_, _-_, _≤_, _<_, _^_};
+ghost use lib.ListN.{length};
 ghost use Rattle.buffer.specs.Buffer.{part, Appended};
-ghost use Rattle.group_rules.specs.Passes.{pass, closesBefore, closeEnd, closedText};
-ghost use Rattle.group_close.specs.Forth.{stackOf, Room, Closed, Stepped, Ready, ForthTo};
+ghost use Rattle.group_rules.specs.Passes.{closesBefore, closeEnd, closedText};
+ghost use Rattle.group_close.specs.Forth.{Room, Closed, Stepped, Ready, ForthTo};
 use group_open::enters;
 use group_open::lower;
 use group_open::second_takes;

@@ -1,7 +1,7 @@
 -- Laws of the pass in scratch.
 use Prim.Native.Nat.{ℕ, zero, suc, _+_, _*_, _-_, _≤_, _<_}
 use mathlib.Core.Bool.{Bool, true, false, _&&_}
-use mathlib.Core.List.{List, [], _∷_, _++_}
+use mathlib.Core.List.{List, [], _∷_}
 use mathlib.Core.Path.{_≡_, refl, ap, sym, _∙_, subst}
 use native.Mathlib.Omega.{arith}
 use native.Mathlib.Numerals.{add-one}
@@ -11,7 +11,6 @@ use lib.Seq.{drop-cons, getD-set-same, getD-set-other, take-set-le, drop-set-lt,
 use borrow.Author.Tests.{eq-eqb, ne-eqb, le-ltb, lt-ltb, ltb-true}
 use Rattle.buffer.specs.Buffer.{part}
 use Rattle.buffer.proofs.RegionLaws.{drop-take}
-use Rattle.rules.specs.Basics.{choose}
 use Rattle.rules.proofs.Choose.{choose-true, choose-false}
 use Rattle.group_rules.specs.Grouping.{takes}
 use Rattle.group_rules.proofs.TakesLaws.{star-is, takes-lt, takes-not}

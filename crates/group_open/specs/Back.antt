@@ -1,10 +1,11 @@
--- The pass from the last code to the first, as it stands in scratch: n codes from 0 on, the opened text up to 3 × n, the spine from there on.
-use Prim.Native.Nat.{ℕ, zero, suc, _+_, _*_, _≤_, _<_}
+-- The pass from the last code to the first, as it stands in scratch: n codes from 0 on, the opened text up to 3 × n,
+-- the spine from there on.
+use Prim.Native.Nat.{ℕ, zero, suc, _+_, _*_, _≤_}
 use mathlib.Core.List.{List, [], _∷_}
 use mathlib.Core.Path.{_≡_}
 use lib.ListN.{length, take, drop, getD, set}
 use Rattle.buffer.specs.Buffer.{part}
-use Rattle.group_rules.specs.Passes.{Pass, pass, opensAfter, openBack, backStep, openedText}
+use Rattle.group_rules.specs.Passes.{Pass, pass, opensAfter, openBack, openedText}
 use Rattle.group_open.specs.declared.Spot.{Spot}
 use Rattle.group_open.specs.declared.Back.{Back}
 

@@ -1,11 +1,12 @@
-// From the last code to the first: where operations start. The operators whose left operand still goes on stand on a stack in scratch after the
-// opened text, the nearest on top, 0 for a bracket. Of n codes, the opened text ends at 3 × n.
+// From the last code to the first: where operations start. The operators whose left operand still goes on stand on a
+// stack in scratch after the opened text, the nearest on top, 0 for a bracket. Of n codes, the opened text ends at 3 ×
+// n.
 ghost use mathlib.Core.Path.{_≡_};
 ghost use mathlib.Core.List.{_∷_};
 ghost use mathlib.Core.Bool.{_&&_};
 ghost use lib.Dec.{eqb, ltb};
 ghost use Prim.Native.Nat.{_+_, _*_, _-_, _≤_, _<_};
-ghost use lib.ListN.{length, take, getD};
+ghost use lib.ListN.{length, take};
 ghost use Rattle.buffer.specs.Buffer.{part};
 ghost use Rattle.group_rules.specs.Grouping.{takes};
 ghost use Rattle.group_rules.specs.Passes.{pass, opensAfter, openBracket, openOperator, backStep, isRightCode};
@@ -51,7 +52,8 @@ fn push_back(scratch: &mut [u8], at: usize, b: u8) -> usize
     p
 }
 
-// Operations that start after an operator of strength s, or after a bracket or nothing where s is 0: `(` for each, off the stack.
+// Operations that start after an operator of strength s, or after a bracket or nothing where s is 0: `(` for each, off
+// the stack.
 fn open_after(scratch: &mut [u8], n: usize, s: u8, at: usize, top: usize) -> Spot
     requires { ⌜ Room (now scratch) n at top 0 ⌝ }
     ensures { λ r. ⌜ Opened (now (scratch .entry)) (now (scratch .exit)) n s at top r ⌝ }

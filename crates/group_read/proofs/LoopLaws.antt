@@ -11,9 +11,9 @@ use Rattle.buffer.specs.Buffer.{part}
 use Rattle.rules.specs.Basics.{choose, oneOf}
 use Rattle.rules.specs.SplitOperation.{keywords}
 use Rattle.rules.proofs.Choose.{choose-true, choose-false}
-use Rattle.group_rules.specs.Expression.{maxDepth, Token, word, Stage, due, inName, inNumber, after, inOperator, State, state, Step, next, refused, dueStep, afterStep, stageStep, step, Reading, read, refusedAt, ended, ending, onStep, readFrom, readingTo, reading}
+use Rattle.group_rules.specs.Expression.{maxDepth, Token, word, Stage, due, inName, inNumber, after, inOperator, State, Step, dueStep, afterStep, stageStep, step, read, refusedAt, ended, ending, onStep, readFrom, readingTo, reading}
 use Rattle.group_rules.specs.Passes.{coded}
-use Rattle.group_read.specs.Read.{onward, refusedBy, refusedAs, stageOf, stateOf, wordOf, roomOf, Holds, Went, StepIs, Steps, ReaderRoom, DueRoom, DueSteps, AfterSteps, ByteRoom, WordSteps, nameStep, numberStep, OperatorRoom, OperatorSteps, Codes, CodedIs, EndAs, SourceFits, CodedAs}
+use Rattle.group_read.specs.Read.{refusedAs, stageOf, stateOf, wordOf, roomOf, Holds, Went, StepIs, Steps, ReaderRoom, DueRoom, DueSteps, AfterSteps, ByteRoom, WordSteps, nameStep, numberStep, OperatorRoom, OperatorSteps, CodedIs, EndAs, SourceFits, CodedAs}
 use Rattle.group_read.specs.declared.Phase.{Phase}
 use Rattle.group_read.specs.declared.Phase.the-variants.{Due, Name, Number, After, Operator}
 use Rattle.group_read.specs.declared.Reader.{Reader}

@@ -1,6 +1,6 @@
 -- Laws of the operators: their strengths, and the codes that they get.
-use Prim.Native.Nat.{ℕ, zero, suc, _+_, _*_, _≤_, _<_}
-use mathlib.Core.Bool.{Bool, true, false, not, _&&_, _||_}
+use Prim.Native.Nat.{ℕ, zero, suc, _+_, _≤_, _<_}
+use mathlib.Core.Bool.{Bool, true, false, _||_}
 use mathlib.Core.List.{List, [], _∷_, _++_, reverse, append-assoc, append-nil}
 use mathlib.Core.Path.{_≡_, refl, ap, sym, _∙_, subst}
 use native.Mathlib.Omega.{arith}
@@ -12,10 +12,10 @@ use Rattle.rules.specs.Operators.{operators, strengths, indexIn}
 use Rattle.rules.specs.Strengths.{strengthsIn, builtIn}
 use Rattle.rules.proofs.OperatorReadings.{built-in-read}
 use Rattle.rules.specs.SplitOperation.{precedence}
-use Rattle.rules.proofs.Choose.{choose-true, choose-false, choose-case}
-use Rattle.group_rules.specs.Expression.{maxDepth, Token, word, sign, operator, opener, closer, due, inOperator, state, Step, next, refused, dueStep, stageStep}
+use Rattle.rules.proofs.Choose.{choose-true, choose-false}
+use Rattle.group_rules.specs.Expression.{maxDepth, Token, operator, inOperator, stageStep}
 use Rattle.group_rules.specs.Grouping.{strengthOf}
-use Rattle.group_rules.specs.Passes.{codesOf, coded}
+use Rattle.group_rules.specs.Passes.{coded}
 use Rattle.group_rules.proofs.PlainLaws.{operator-plain}
 use Rattle.group_read.specs.Read.{onward, refusedBy, StepIs, DueRoom, DueSteps, Written, OperatorRoom, OperatorSteps}
 use Rattle.group_read.specs.declared.Phase.the-variants.{Due}

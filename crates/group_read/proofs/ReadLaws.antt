@@ -1,6 +1,6 @@
 -- Laws of the reader's steps.
-use Prim.Native.Nat.{ℕ, zero, suc, _+_, _*_, _-_, _≤_, _<_, _^_}
-use mathlib.Core.Bool.{Bool, true, false, not, _&&_, _||_}
+use Prim.Native.Nat.{ℕ, suc, _+_, _-_, _≤_, _<_}
+use mathlib.Core.Bool.{Bool, true, false, not}
 use mathlib.Core.List.{List, [], _∷_, _++_, reverse, reverse-cons, append-assoc, append-nil}
 use mathlib.Core.Path.{_≡_, refl, ap, sym, _∙_, subst}
 use native.Mathlib.Omega.{arith}
@@ -8,19 +8,17 @@ use native.Mathlib.Numerals.{add-one}
 use lib.Dec.{eqb, leb}
 use lib.ListN.{length, take, drop, getD, set, length-set}
 use lib.Seq.{take-suc-set, drop-cons}
-use borrow.Author.Tests.{eq-eqb, ne-eqb, le-leb, lt-leb, eqb-true, eqb-false}
+use borrow.Author.Tests.{eq-eqb, ne-eqb, le-leb, lt-leb}
 use Rattle.buffer.specs.Buffer.{part}
 use Rattle.buffer.proofs.RegionLaws.{part-more}
-use Rattle.rules.specs.Basics.{choose, is, oneOf, isBlank, isIdent}
+use Rattle.rules.specs.Basics.{is, oneOf, isBlank, isIdent}
 use Rattle.rules.specs.SplitOperation.{isSign, keywords}
-use Rattle.rules.proofs.Computing.{computing}
 use Rattle.rules.proofs.Choose.{choose-true, choose-false}
-use Rattle.group_rules.specs.Expression.{Token, word, sign, operator, opener, closer, Stage, due, inName, inNumber, after, inOperator, State, state, Step, next, refused, maxDepth, isDigit, openStep, dueStep, closeStep, afterStep, stageStep, startsOperator}
+use Rattle.group_rules.specs.Expression.{Token, word, sign, opener, closer, due, inName, inNumber, after, inOperator, state, Step, next, refused, maxDepth, isDigit, openStep, dueStep, closeStep, afterStep, stageStep, startsOperator}
 use Rattle.rules.specs.Operators as F
 use Rattle.group_rules.specs.Passes.{codesOf, coded}
 use Rattle.group_read.proofs.FirstLaws.{starts-same}
-use Rattle.group_read.specs.Read.{stageOf, stateOf, wordOf, roomOf, Holds, Went, StepIs, DueRoom, onward, refusedBy, DueSteps, AfterSteps, ByteRoom, WordSteps, nameStep, numberStep}
-use Rattle.group_read.specs.declared.Phase.{Phase}
+use Rattle.group_read.specs.Read.{stateOf, Holds, StepIs, DueRoom, onward, refusedBy, DueSteps, AfterSteps, ByteRoom, WordSteps, nameStep, numberStep}
 use Rattle.group_read.specs.declared.Phase.the-variants.{Due, Name, Number, After, Operator}
 use Rattle.group_read.specs.declared.Reader.{Reader}
 use Rattle.group_read.specs.declared.Next.{Next}

@@ -1,11 +1,11 @@
--- The reader as the code holds it: the tokens are codes in the scratch, the word and the operator's first character stand in the
--- source.
-use Prim.Native.Nat.{ℕ, zero, suc, _+_, _*_, _≤_, _<_, _^_}
-use mathlib.Core.List.{List, [], _∷_, _++_, reverse}
+-- The reader as the code holds it: the tokens are codes in the scratch, the word and the operator's first character
+-- stand in the source.
+use Prim.Native.Nat.{ℕ, suc, _+_, _*_, _≤_, _<_, _^_}
+use mathlib.Core.List.{List, [], _++_, reverse}
 use mathlib.Core.Path.{_≡_}
-use lib.ListN.{length, take, drop, getD}
+use lib.ListN.{length, take, getD}
 use Rattle.buffer.specs.Buffer.{part}
-use Rattle.group_rules.specs.Expression.{maxDepth, Token, word, sign, operator, opener, closer, Stage, due, inName, inNumber, after, inOperator, State, state, Step, next, refused, dueStep, afterStep, stageStep, Reading, read, refusedAt, ending, readFrom, reading}
+use Rattle.group_rules.specs.Expression.{maxDepth, Token, word, operator, Stage, due, inName, inNumber, after, inOperator, State, state, Step, next, refused, dueStep, afterStep, stageStep, Reading, read, refusedAt, ending, reading}
 use Rattle.group_rules.specs.Passes.{coded}
 use Rattle.group_read.specs.declared.Phase.{Phase}
 use Rattle.group_read.specs.declared.Phase.the-variants.{Due, Name, Number, After, Operator}

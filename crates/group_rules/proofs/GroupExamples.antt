@@ -1,12 +1,12 @@
 -- Readings of C-21, one list of the definitions' results.
 use Prim.Native.Nat.{ℕ}
 use Prim.Native.String.{String}
-use mathlib.Core.List.{List, [], _∷_, _++_, map, foldl}
+use mathlib.Core.List.{List, [], _∷_, _++_, map}
 use mathlib.Core.Path.{_≡_, refl}
 use lib.ListN.{replicate}
 use Rattle.rules.specs.Basics.{codes}
 use Rattle.rules.proofs.Computing.{computing}
-use Rattle.group_rules.specs.Expression.{maxDepth, startsOperator, openStep, closeStep, dueStep, afterStep, stageStep, ended, ending, onStep, readFrom, readingTo, reading}
+use Rattle.group_rules.specs.Expression.{startsOperator, openStep, closeStep, dueStep, afterStep, stageStep, ended, ending, onStep, readFrom, readingTo}
 use Rattle.group_rules.specs.Grouping.{takes, extend, withSigns, joinLeft, feedDue, feedClosed, feedDone, feedAt, treeOf, written, Grouping, text, noText, groupingOf, grouping}
 
 unfoldable pub opened : Unit {0}

@@ -1,16 +1,15 @@
 -- C-21's laws of a source that has a text: striking brackets and white space from both leaves the same characters.
-use Prim.Native.Nat.{ℕ, zero, suc}
-use mathlib.Core.Bool.{Bool, true, false}
+use Prim.Native.Nat.{ℕ}
 use mathlib.Core.List.{List, [], _∷_, _++_, reverse, reverse-cons, reverse-reverse, append-assoc, append-nil}
 use mathlib.Core.Path.{_≡_, refl, ap, sym, _∙_, subst}
 use Rattle.unicode.specs.Unicode.{isWhite, encode, decode}
 use Rattle.unicode.proofs.Decode.{decode-ascii}
 use Rattle.rules.specs.Basics.{codes, keep}
 use Rattle.rules.proofs.Struck.{keep-append}
-use Rattle.group_rules.specs.Expression.{maxDepth, Token, word, sign, operator, opener, closer, Reading, read, refusedAt, readingTo, reading}
+use Rattle.group_rules.specs.Expression.{maxDepth, Token, operator, closer, Reading, read, refusedAt, reading}
 use Rattle.group_rules.specs.Grouping.{Tree, operand, signed, bracketed, operation, treeOf, written, Grouping, text, noText, groupingOf, grouping}
 use Rattle.group_rules.specs.Promises.{isBare, strikeBrackets, Groups}
-use Rattle.group_rules.proofs.TokenLaws.{Good, tokensOf, tokens-tree}
+use Rattle.group_rules.proofs.TokenLaws.{tokensOf, tokens-tree}
 use Rattle.group_rules.proofs.ReadingLaws.{chars, bare, Whole, WholeOf, whole}
 use Rattle.group_rules.specs.Passes.{coded, openedText, closedText}
 use Rattle.group_rules.proofs.PlainLaws.{AllPlain}

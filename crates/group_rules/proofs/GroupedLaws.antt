@@ -7,10 +7,10 @@ use native.Mathlib.Omega.{arith}
 use native.Mathlib.Nat.{le-of-eq}
 use borrow.Author.Tests.{eqb-true, eqb-false, ltb-false, eq-eqb, le-ltb, lt-ltb}
 use lib.Dec.{eqb, ltb}
-use Rattle.rules.specs.Basics.{choose, codes}
+use Rattle.rules.specs.Basics.{codes}
 use Rattle.rules.proofs.Choose.{choose-case}
-use Rattle.group_rules.specs.Expression.{maxDepth, Token, word, sign, operator, opener, closer}
-use Rattle.group_rules.specs.Grouping.{Tree, operand, signed, bracketed, operation, strengthOf, takes, extend, Left, nothing, leftOf, Frame, withSigns, joinLeft, join, Spot, dueIn, done, Parse, parse, feed, feedAt, feedDue, feedDone, feedClosed, start, treeAt, treeOf}
+use Rattle.group_rules.specs.Expression.{Token, word, sign, operator, opener, closer}
+use Rattle.group_rules.specs.Grouping.{Tree, operand, signed, bracketed, operation, strengthOf, takes, extend, Left, nothing, leftOf, Frame, withSigns, joinLeft, Spot, dueIn, done, Parse, parse, feed, feedAt, feedDue, feedDone, feedClosed, start, treeAt, treeOf}
 use Rattle.group_rules.specs.Promises.{onLeft, onRight, underSign, Grouped, toRight}
 
 -- no operation, so it may stand anywhere
@@ -133,7 +133,8 @@ unfolding GroupedSpot Grouped
 grouped-tree (dueIn f) g = tt
 grouped-tree (done e) g = g
 
--- an operation standing as an operand, unbracketed in the source, binds tighter than its operator, or equally on the left (for `**` on the right)
+-- an operation standing as an operand, unbracketed in the source, binds tighter than its operator, or equally on the
+-- left (for `**` on the right)
 pub grouped : (ts : List Token) → Grouped (treeOf ts)
 unfolding treeOf GroupedSpot GroupedFrames GroupedLeft
 grouped ts = grouped-tree (foldl feed (parse (dueIn start) []) ts .spot) (grouped-feed ts (parse (dueIn start) []) (record { spot = tt; outer = tt }) .spot)

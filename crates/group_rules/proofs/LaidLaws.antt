@@ -1,19 +1,17 @@
 -- How an accepted source is laid out: its tokens one after another, with blanks between, and what may stand after each.
 use Prim.Native.Nat.{ℕ, zero, suc}
-use mathlib.Core.Bool.{Bool, true, false, not, _&&_, _||_}
+use mathlib.Core.Bool.{Bool, true, false, not}
 use mathlib.Core.List.{List, [], _∷_, _++_, reverse}
-use mathlib.Core.Path.{_≡_, refl, ap, sym, _∙_, subst}
+use mathlib.Core.Path.{_≡_, refl}
 use native.Mathlib.Omega.{arith}
 use lib.Dec.{eqb}
-use borrow.Author.Tests.{eqb-true}
-use Rattle.rules.specs.Basics.{choose, is, same, oneOf, isBlank, isIdent}
+use Rattle.rules.specs.Basics.{is, oneOf, isBlank, isIdent}
 use Rattle.rules.specs.Operators.{operators}
 use Rattle.rules.specs.SplitOperation.{isSign, keywords}
 use Rattle.rules.proofs.Choose.{choose-case}
-use Rattle.rules.proofs.Prefix.{same-eq}
-use Rattle.group_rules.specs.Expression.{Token, word, sign, operator, opener, closer, Stage, due, inName, inNumber, after, inOperator, State, state, Step, next, refused, isDigit, startsOperator, openStep, closeStep, dueStep, afterStep, stageStep, step, Reading, read, refusedAt, ended, ending, onStep, readFrom, readingTo}
-use Rattle.group_rules.proofs.TableLaws.{or-cases, or-false, and-first, and-second, and-none, not-of, unlike, allOf, found}
-use Rattle.group_rules.proofs.SpelledLaws.{digit-ident, AllAre, NameSoFar, name, NumberSoFar, number, SpelledStage, name-more, number-more}
+use Rattle.group_rules.specs.Expression.{Token, word, sign, operator, opener, closer, Stage, due, inName, inNumber, after, inOperator, State, state, Step, next, refused, isDigit, openStep, closeStep, dueStep, afterStep, stageStep, read, refusedAt, ended, ending, onStep, readFrom, readingTo}
+use Rattle.group_rules.proofs.TableLaws.{unlike, allOf, found}
+use Rattle.group_rules.proofs.SpelledLaws.{digit-ident, AllAre, name, NumberSoFar, number, SpelledStage, name-more, number-more}
 
 -- a character that makes no other token of what stands before it
 pub record CalmChar (x : ℕ) : Type 0 where

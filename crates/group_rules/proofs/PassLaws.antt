@@ -1,21 +1,20 @@
 -- The two passes write the tree.
-use Prim.Native.Nat.{ℕ, zero, suc, _+_, _-_, _≤_, _<_}
-use mathlib.Core.Bool.{Bool, true, false, not, _&&_, _||_}
-use mathlib.Core.List.{List, [], _∷_, _++_, foldl, foldl-append, append-assoc, append-nil}
+use Prim.Native.Nat.{ℕ, _+_, _-_, _≤_, _<_}
+use mathlib.Core.Bool.{true, false}
+use mathlib.Core.List.{List, [], _∷_, _++_, append-assoc, append-nil}
 use mathlib.Core.Path.{_≡_, refl, ap, sym, _∙_}
 use native.Mathlib.Omega.{arith}
-use lib.Dec.{eqb, ltb, leb, lit≤}
-use lib.ListN.{drop}
+use lib.Dec.{eqb, lit≤}
 use borrow.Author.Tests.{eq-eqb, ne-eqb, le-ltb, lt-ltb, le-leb, lt-leb}
 use Rattle.rules.specs.Basics.{choose, codes}
 use Rattle.rules.proofs.Choose.{choose-true, choose-false}
-use Rattle.group_rules.specs.Expression.{maxDepth, Token, word, sign, operator, opener, closer}
+use Rattle.group_rules.specs.Expression.{Token, operator, closer}
 use Rattle.group_rules.specs.Grouping.{Tree, operand, signed, bracketed, operation, strengthOf, takes, written}
-use Rattle.group_rules.specs.Promises.{onLeft, onRight, underSign, Grouped, toRight}
-use Rattle.group_rules.specs.Passes.{codesOf, coded, Pass, pass, opensAfter, openBracket, openOperator, isRightCode, backStep, openBack, openedText, closesBefore, closeEnd, closeBracket, closeOperator, forthStep, closeForth, closedText}
+use Rattle.group_rules.specs.Promises.{onLeft, onRight, underSign, Grouped}
+use Rattle.group_rules.specs.Passes.{codesOf, coded, Pass, pass, opensAfter, openBracket, openOperator, backStep, openBack, openedText, closesBefore, closeEnd, closeBracket, closeOperator, forthStep, closeForth, closedText}
 use Rattle.group_rules.proofs.TokenLaws.{tokensOf}
-use Rattle.group_rules.proofs.PlainLaws.{Plain, PlainOperator, PlainToken, AllPlain, all-first, all-second}
-use Rattle.group_rules.proofs.TakesLaws.{star, leftTest, left-stays, left-le, right-takes, right-le, not-taken-up, taken-left, takes-zero, takes-lt}
+use Rattle.group_rules.proofs.PlainLaws.{Plain, PlainToken, AllPlain, all-first, all-second}
+use Rattle.group_rules.proofs.TakesLaws.{leftTest, left-stays, right-takes, right-le, not-taken-up, taken-left, takes-zero, takes-lt}
 
 -- ---- bytes that are written as they are
 
@@ -62,7 +61,8 @@ codes-with (operation op l r) m =
     regroup : (a : List ℕ) (s : ℕ) (b c : List ℕ) → ((a ++ s ∷ []) ++ b) ++ c ≡ a ++ s ∷ (b ++ c)
     regroup a s b c = simp append-assoc
 
--- ---- back: the opened text of a tree, with what follows; the strengths of the operations that it starts with, the innermost first
+-- ---- back: the opened text of a tree, with what follows; the strengths of the operations that it starts with, the
+-- innermost first
 
 lefts : Tree → List ℕ
 lefts (operand w) = []
@@ -235,7 +235,8 @@ back-tree (operation op l r) g p m t sp h k =
     ∙ back-left (strengthOf op) (pass (op ++ 32 ∷ parens (lefts r) (half r t)) (strengthOf op ∷ sp)) (p .2))
     ∙ ap (λ x. pass (half l (strengthOf op ∷ (op ++ 32 ∷ parens (lefts r) (half r t)))) x) (sym (append-assoc (lefts l) (strengthOf op ∷ []) sp))
 
--- ---- forth: a tree's text up to its last operand; the strengths of the operations that end with it, the innermost first
+-- ---- forth: a tree's text up to its last operand; the strengths of the operations that end with it, the innermost
+-- first
 
 rights : Tree → List ℕ
 rights (operand w) = []

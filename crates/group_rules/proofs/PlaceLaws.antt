@@ -1,22 +1,21 @@
 -- The place of refusal 14: what stands before it begins an expression, and with the character there nothing does.
 use Prim.Native.Nat.{ℕ, zero, suc, _+_, _<_, _≤_}
 use mathlib.Core.Bool.{Bool, true, false, not, _&&_, _||_}
-use mathlib.Core.List.{List, [], _∷_, _++_, map, reverse, append-assoc, append-nil}
+use mathlib.Core.List.{List, [], _∷_, _++_, map, append-assoc, append-nil}
 use mathlib.Core.Logic.{_⊎_, inl, inr, ⊎-elim}
 use mathlib.Core.Path.{_≡_, refl, ap, sym, _∙_, subst}
 use native.Mathlib.Omega.{arith}
 use lib.Dec.{eqb, leb}
 use lib.ListN.{length, take, replicate, length-append}
 use lib.Seq.{take-at}
-use borrow.Author.Tests.{eqb-true}
-use Rattle.rules.specs.Basics.{choose, is, codes, same, oneOf, isBlank, isIdent}
+use Rattle.rules.specs.Basics.{choose, is, same, oneOf, isBlank, isIdent}
 use Rattle.rules.specs.Operators.{operators}
 use Rattle.rules.specs.SplitOperation.{isSign, keywords}
 use Rattle.group_rules.specs.Promises.{IsRead, Begins, Longest}
 use Rattle.rules.proofs.Computing.{computing}
 use Rattle.rules.proofs.Choose.{choose-case, choose-true, choose-false}
 use Rattle.group_rules.proofs.TableLaws.{or-cases, and-first, and-second, and-none, not-of, allOf, found}
-use Rattle.group_rules.specs.Expression.{maxDepth, Token, word, sign, operator, opener, closer, Stage, due, inName, inNumber, after, inOperator, State, state, Step, next, refused, startsOperator, openStep, closeStep, dueStep, afterStep, stageStep, step, Reading, read, refusedAt, ended, ending, onStep, readFrom, readingTo, reading}
+use Rattle.group_rules.specs.Expression.{maxDepth, Token, word, operator, opener, closer, Stage, due, inName, inNumber, after, inOperator, State, state, Step, next, refused, startsOperator, openStep, closeStep, dueStep, afterStep, stageStep, step, Reading, read, refusedAt, ended, ending, onStep, readFrom, readingTo, reading}
 
 -- what goes on so that an expression is read
 pub record Completed (i : ℕ) (s : State) : Type 0 where

@@ -1,17 +1,17 @@
 -- What an expression's tokens are made of: bytes that are written as they are, operators of strengths 1 to 12.
-use Prim.Native.Nat.{ℕ, zero, suc, _≤_, _<_}
-use mathlib.Core.Bool.{Bool, true, false, not, _&&_, _||_}
+use Prim.Native.Nat.{ℕ, _≤_, _<_}
+use mathlib.Core.Bool.{Bool, true, _&&_, _||_}
 use mathlib.Core.List.{List, [], _∷_, _++_}
-use mathlib.Core.Path.{_≡_, refl, ap, sym, _∙_, subst}
+use mathlib.Core.Path.{_≡_, refl}
 use native.Mathlib.Omega.{arith}
-use lib.Dec.{eqb, leb, ltb, lit≤, lit<}
+use lib.Dec.{eqb, leb, ltb, lit≤}
 use borrow.Author.Tests.{eqb-true, leb-true}
 use Rattle.unicode.specs.Unicode.{within}
-use Rattle.rules.specs.Basics.{is, same, oneOf, isIdent}
+use Rattle.rules.specs.Basics.{is, oneOf, isIdent}
 use Rattle.rules.specs.Operators.{operators}
 use Rattle.rules.specs.SplitOperation.{isSign}
 use Rattle.rules.proofs.Computing.{computing}
-use Rattle.group_rules.specs.Expression.{maxDepth, Token, word, sign, operator, opener, closer, isDigit}
+use Rattle.group_rules.specs.Expression.{Token, word, sign, operator, opener, closer, isDigit}
 use Rattle.group_rules.specs.Grouping.{strengthOf}
 use Rattle.group_rules.proofs.TableLaws.{or-cases, and-first, and-second, allOf, found}
 

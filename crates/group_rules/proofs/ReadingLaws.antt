@@ -1,21 +1,21 @@
--- A source that is read: its tokens stand in an expression's order, and hold its characters but for blanks and brackets.
+-- A source that is read: its tokens stand in an expression's order, and hold its characters but for blanks and
+-- brackets.
 use Prim.Native.Nat.{ℕ, zero, suc}
-use mathlib.Core.Bool.{Bool, true, false, not, _&&_, _||_}
+use mathlib.Core.Bool.{Bool, true, false, _||_}
 use mathlib.Core.List.{List, [], _∷_, _++_, reverse, reverse-reverse, append-assoc, append-nil}
-use mathlib.Core.Path.{_≡_, refl, ap, sym, _∙_, subst}
-use lib.Dec.{eqb, leb}
+use mathlib.Core.Path.{_≡_, refl, ap, sym, _∙_}
+use lib.Dec.{eqb}
 use borrow.Author.Tests.{eqb-true}
 use Rattle.unicode.specs.Unicode.{isWhite}
-use Rattle.rules.specs.Basics.{choose, is, codes, oneOf, keep, isBlank, isIdent}
+use Rattle.rules.specs.Basics.{is, keep, isBlank}
 use Rattle.rules.specs.Operators.{operators}
-use Rattle.rules.specs.SplitOperation.{isSign, keywords}
 use Rattle.rules.proofs.Choose.{choose-case}
 use Rattle.rules.proofs.Struck.{keep-append}
-use Rattle.group_rules.specs.Expression.{Token, word, sign, operator, opener, closer, Stage, due, inName, inNumber, after, inOperator, State, state, Step, next, refused, maxDepth, isDigit, startsOperator, openStep, closeStep, dueStep, afterStep, stageStep, step, Reading, read, refusedAt, ended, ending, onStep, readFrom, readingTo, reading}
+use Rattle.group_rules.specs.Expression.{Token, word, sign, operator, opener, closer, Stage, due, inName, inNumber, after, inOperator, State, state, Step, next, refused, maxDepth, openStep, closeStep, dueStep, afterStep, stageStep, step, Reading, read, refusedAt, ended, ending, onStep, readFrom, readingTo, reading}
 use Rattle.group_rules.specs.Promises.{isBare, strikeBrackets}
 use Rattle.group_rules.proofs.TokenLaws as T
 use Rattle.group_rules.proofs.TokenLaws.{Good}
-use Rattle.group_rules.proofs.SpelledLaws.{SpelledToken, AllSpelled, SpelledStage, AllAre, NameSoFar, name, NumberSoFar, number, name-more, number-more, isName, isNumber, one, two}
+use Rattle.group_rules.proofs.SpelledLaws.{SpelledToken, AllSpelled, SpelledStage, AllAre, name, number, name-more, number-more, isName, isNumber, one, two}
 
 -- the characters of a token that the text keeps; of tokens, newest first
 abbrev pub chars : Token → List ℕ

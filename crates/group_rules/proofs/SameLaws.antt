@@ -1,5 +1,5 @@
 -- The written text has the same tree as the source.
-use Prim.Native.Nat.{ℕ, zero, suc, _+_, _≤_, _<_}
+use Prim.Native.Nat.{ℕ, suc, _+_, _≤_, _<_}
 use mathlib.Core.Bool.{Bool, true, false, not, _&&_, _||_}
 use mathlib.Core.List.{List, [], _∷_, _++_, foldl, foldl-append, reverse, reverse-cons, reverse-reverse, append-assoc, append-nil}
 use mathlib.Core.Path.{_≡_, refl, ap, sym, _∙_, subst}
@@ -8,17 +8,16 @@ use lib.Dec.{eqb, leb}
 use lib.ListN.{length, length-append}
 use borrow.Author.Tests.{lt-leb, ne-eqb, eqb-true, leb-true}
 use Rattle.unicode.specs.Unicode.{within}
-use Rattle.rules.specs.Basics.{choose, is, codes, same, oneOf, isBlank, isIdent}
-use Rattle.rules.proofs.Prefix.{same-eq}
+use Rattle.rules.specs.Basics.{choose, is, same, oneOf, isBlank, isIdent}
 use Rattle.rules.specs.Operators.{operators}
 use Rattle.rules.specs.SplitOperation.{isSign, keywords}
 use Rattle.rules.proofs.Computing.{computing}
 use Rattle.rules.proofs.Choose.{choose-true, choose-false}
-use Rattle.group_rules.specs.Expression.{Token, word, sign, operator, opener, closer, Stage, due, inName, inNumber, after, inOperator, State, state, Step, next, refused, isDigit, startsOperator, openStep, closeStep, dueStep, afterStep, stageStep, step, Reading, read, refusedAt, ended, ending, onStep, readFrom, readingTo}
-use Rattle.group_rules.specs.Grouping.{Tree, operand, signed, bracketed, operation, extend, Left, leftOf, Frame, start, withSigns, joinLeft, join, dueIn, done, Parse, parse, feed, feedAt, feedDue, feedDone, feedClosed, treeAt, treeOf, written}
+use Rattle.group_rules.specs.Expression.{Token, word, sign, operator, opener, closer, due, inName, inNumber, after, inOperator, State, state, Step, next, isDigit, startsOperator, openStep, closeStep, dueStep, afterStep, stageStep, step, read, ended, ending, onStep, readFrom, readingTo}
+use Rattle.group_rules.specs.Grouping.{Tree, operand, signed, bracketed, operation, extend, leftOf, Frame, start, withSigns, joinLeft, join, dueIn, done, parse, feed, feedAt, feedDue, feedDone, feedClosed, treeAt, treeOf, written}
 use Rattle.group_rules.proofs.TokenLaws.{tokensOf}
-use Rattle.group_rules.proofs.TableLaws.{or-cases, or-false, and-first, and-second, and-none, not-of, unlike, allOf, found}
-use Rattle.group_rules.proofs.SpelledLaws.{digit-ident, AllSpelled, SpelledToken, AllAre, NameSoFar, name, NumberSoFar, number, IsWord, isName, isNumber, IsOperator, one, two, spelled-first, spelled-second}
+use Rattle.group_rules.proofs.TableLaws.{or-cases, and-first, and-second, not-of, allOf, found}
+use Rattle.group_rules.proofs.SpelledLaws.{digit-ident, AllSpelled, SpelledToken, AllAre, name, number, IsWord, isName, isNumber, IsOperator, one, two, spelled-first, spelled-second}
 use Rattle.group_rules.specs.Promises.{unbracketed, SameTree}
 
 -- every operation bracketed, and nothing else

@@ -2,18 +2,17 @@
 use Prim.Native.Nat.{ℕ, _≤_, _<_}
 use mathlib.Core.Bool.{Bool, true, false, _&&_, _||_}
 use mathlib.Core.List.{List, [], _∷_, _++_, reverse, reverse-cons}
-use mathlib.Core.Path.{_≡_, refl, ap, sym, _∙_}
+use mathlib.Core.Path.{_≡_, refl}
 use native.Mathlib.Omega.{arith}
 use lib.Dec.{eqb, leb, ltb, lit<}
 use borrow.Author.Tests.{eqb-true, leb-true, ltb-true}
 use Rattle.unicode.specs.Unicode.{within}
-use Rattle.unicode.proofs.Decode.{Ascii, ascii-append}
-use Rattle.rules.specs.Basics.{is, same, oneOf, isIdent}
+use Rattle.unicode.proofs.Decode.{Ascii}
+use Rattle.rules.specs.Basics.{is, oneOf, isIdent}
 use Rattle.rules.specs.Operators.{operators}
 use Rattle.rules.specs.SplitOperation.{isSign, keywords}
-use Rattle.rules.proofs.Computing.{computing}
 use Rattle.group_rules.specs.Expression.{Token, word, sign, operator, opener, closer, Stage, due, inName, inNumber, after, inOperator, isDigit, startsOperator}
-use Rattle.group_rules.proofs.PlainLaws.{Plain, PlainToken, AllPlain, plain-append, plain-one, digit-plain, ident-plain, sign-plain, operator-plain}
+use Rattle.group_rules.proofs.PlainLaws.{Plain, PlainToken, AllPlain, digit-plain, ident-plain, sign-plain, operator-plain}
 use Rattle.group_rules.proofs.TableLaws.{or-cases, and-first, and-second, allOf, found}
 
 -- every character passes the test

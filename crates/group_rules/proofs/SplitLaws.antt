@@ -1,29 +1,29 @@
 -- split_once breaks an accepted source at its loosest operators outside brackets.
-use Prim.Native.Nat.{ℕ, zero, suc, _+_, _-_, min}
+use Prim.Native.Nat.{ℕ, zero, suc, _+_, _-_}
 use mathlib.Core.Bool.{Bool, true, false, not, _&&_, _||_}
 use mathlib.Core.List.{List, [], _∷_, _++_, foldl, reverse, reverse-cons, reverse-reverse, append-assoc, append-nil}
 use mathlib.Core.Option.{Option, none, some}
-use mathlib.Core.Path.{_≡_, refl, ap, sym, _∙_, subst}
+use mathlib.Core.Path.{_≡_, refl, ap, sym, _∙_}
 use native.Mathlib.Omega.{arith}
 use lib.Dec.{eqb}
 use lib.ListN.{length, take, drop}
-use borrow.Author.Tests.{eqb-true, eq-eqb, ne-eqb, eqb-false}
+use borrow.Author.Tests.{eqb-true, eq-eqb, ne-eqb}
 use Rattle.rules.specs.Basics.{choose, is, codes, at, same, oneOf, startsWith, firstIs, isBlank, isOpener, isCloser, isIdent}
 use Rattle.rules.specs.Operators.{operators}
-use Rattle.rules.specs.Scan.{Cell, cell, charsOf, classify, scan, inCode, long}
+use Rattle.rules.specs.Scan.{Cell, cell, charsOf, classify, scan, inCode}
 use Rattle.rules.specs.Scan as Scan
 use Rattle.rules.specs.declared.Class.{Class}
 use Rattle.rules.specs.declared.Mode.{Mode}
 use Rattle.rules.specs.declared.Carry.{Carry}
 use Rattle.rules.specs.SplitOperation as SO
 use Rattle.rules.specs.Operators.{strengths}
-use Rattle.rules.specs.SplitOperation.{precedence, endsOperand, atomLen, Ops, OpStep, isSign, oneCharStep, twoCharStep, codeStep, freshStep, opStepAt, opStep, OpMark, opMark, marksFrom, noOps, topLevelOps, deeper, shallower, balanceStep, isZero, isBalanced, inWord, wordOn, hasWordFrom, hasWord, keywords, looser, loosest, breakAt, splitOnce}
+use Rattle.rules.specs.SplitOperation.{endsOperand, atomLen, Ops, OpStep, isSign, oneCharStep, twoCharStep, codeStep, freshStep, opStepAt, opStep, OpMark, opMark, marksFrom, noOps, topLevelOps, deeper, shallower, balanceStep, isZero, isBalanced, wordOn, hasWordFrom, hasWord, keywords, looser, loosest, breakAt, splitOnce}
 use Rattle.rules.proofs.Computing.{computing}
 use Rattle.rules.proofs.Choose.{choose-true, choose-false, choose-case}
-use Rattle.group_rules.specs.Expression.{Token, word, sign, operator, opener, closer, Stage, due, inName, inNumber, after, inOperator, isDigit, read, readingTo}
+use Rattle.group_rules.specs.Expression.{Token, word, operator, Stage, due, inName, inNumber, after, inOperator, read, readingTo}
 use Rattle.group_rules.specs.Grouping.{strengthOf}
-use Rattle.group_rules.proofs.TableLaws.{or-cases, or-false, and-first, and-second, and-none, not-of, unlike, allOf, found}
-use Rattle.group_rules.specs.Split.{plainMarks, operatorMarks, tokenMarks, depthAfter, depthOf, marksBack, marksOf, inked, SplitsAlike}
+use Rattle.group_rules.proofs.TableLaws.{or-cases, or-false, and-none, not-of, unlike, allOf, found}
+use Rattle.group_rules.specs.Split.{plainMarks, operatorMarks, depthOf, marksBack, marksOf, inked, SplitsAlike}
 use Rattle.group_rules.proofs.LaidLaws.{CalmChar, Calm, Laid, ends, blankDue, signDue, openDue, numberDue, nameDue, moreNumber, moreName, endNumber, endName, blankAfter, closeAfter, operatorOne, operatorTwo, laid}
 
 -- ---- the characters of operators: tests that are computed for each

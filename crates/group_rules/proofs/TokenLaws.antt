@@ -1,14 +1,13 @@
 -- The tree of an expression's tokens has these tokens, in their order.
-use Prim.Native.Nat.{ℕ, zero, suc}
+use Prim.Native.Nat.{ℕ, suc}
 use mathlib.Core.Bool.{Bool, true, false}
 use mathlib.Core.List.{List, [], _∷_, _++_, foldl, foldl-append, reverse, reverse-cons, append-assoc, append-nil}
 use mathlib.Core.Path.{_≡_, refl, ap, sym, _∙_}
 use native.Mathlib.Omega.{arith}
 use lib.ListN.{length}
-use Rattle.rules.specs.Basics.{choose}
 use Rattle.rules.proofs.Choose.{choose-case}
-use Rattle.group_rules.specs.Expression.{maxDepth, Token, word, sign, operator, opener, closer}
-use Rattle.group_rules.specs.Grouping.{Tree, operand, signed, bracketed, operation, strengthOf, takes, extend, Left, nothing, leftOf, Frame, withSigns, joinLeft, join, Spot, dueIn, done, Parse, parse, feed, feedAt, feedDue, feedDone, feedClosed, start, treeAt, treeOf}
+use Rattle.group_rules.specs.Expression.{Token, word, sign, operator, opener, closer}
+use Rattle.group_rules.specs.Grouping.{Tree, operand, signed, bracketed, operation, extend, Left, nothing, leftOf, Frame, withSigns, joinLeft, join, dueIn, done, Parse, parse, feed, feedAt, feedDue, feedDone, feedClosed, start, treeAt, treeOf}
 
 unfoldable pub tokensOf : Tree → List Token
 tokensOf (operand w) = word w ∷ []

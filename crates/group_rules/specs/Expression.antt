@@ -1,8 +1,8 @@
 -- C-21: an expression on one line, read character by character into its tokens, or refused at a place.
 use Prim.Native.Nat.{ℕ, zero, suc}
-use mathlib.Core.Bool.{Bool, true, false, not, _&&_, _||_}
+use mathlib.Core.Bool.{Bool}
 use mathlib.Core.List.{List, [], _∷_, _++_, map, reverse}
-use lib.Dec.{eqb, leb}
+use lib.Dec.{leb}
 use lib.ListN.{take}
 use Rattle.unicode.specs.Unicode.{within}
 use Rattle.rules.specs.Basics.{choose, is, oneOf, isBlank, isIdent}
@@ -17,8 +17,8 @@ pub data Token : Type 0 where
   opener : Token
   closer : Token
 
--- What the characters so far leave: an operand is due; a name or a number that may go on; an operand has ended; an operator's
--- first character.
+-- What the characters so far leave: an operand is due; a name or a number that may go on; an operand has ended; an
+-- operator's first character.
 pub data Stage : Type 0 where
   due : Stage
   inName : List ℕ → Stage
@@ -76,7 +76,8 @@ afterStep d ts c =
     (choose (startsOperator c) (next (state (inOperator c) d ts))
     (refused 14)))
 
--- A name ends where no letter, digit or underscore follows, and is none of 01's five words. An operator is as long as it can be.
+-- A name ends where no letter, digit or underscore follows, and is none of 01's five words. An operator is as long as
+-- it can be.
 unfoldable pub stageStep : ℕ → Stage → ℕ → List Token → ℕ → Step
 stageStep limit due d ts c = dueStep limit d ts c
 stageStep limit (inName w) d ts c =

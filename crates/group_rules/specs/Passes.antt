@@ -1,7 +1,8 @@
--- How the code finds the text: the tokens as codes; a pass from the last code to the first that puts `(` where operations start; a pass from the
--- first to the last that puts `)` where they end. proofs/PassLaws.antt: together they write the tree.
-use Prim.Native.Nat.{ℕ, zero, suc, _+_, _-_}
-use mathlib.Core.Bool.{Bool, true, false, not, _&&_, _||_}
+-- How the code finds the text: the tokens as codes; a pass from the last code to the first that puts `(` where
+-- operations start; a pass from the first to the last that puts `)` where they end. proofs/PassLaws.antt: together they
+-- write the tree.
+use Prim.Native.Nat.{ℕ, _+_, _-_}
+use mathlib.Core.Bool.{Bool, _&&_}
 use mathlib.Core.List.{List, [], _∷_, _++_, foldl}
 use lib.Dec.{eqb, leb, ltb}
 use lib.ListN.{drop}
@@ -21,7 +22,8 @@ unfoldable pub coded : List Token → List ℕ
 coded [] = []
 coded (t ∷ ts) = codesOf t ++ coded ts
 
--- a text, and the strengths of the operators whose operand on this side still goes on, the nearest first, 0 for a bracket
+-- a text, and the strengths of the operators whose operand on this side still goes on, the nearest first, 0 for a
+-- bracket
 pub record Pass : Type 0 where
   pub text : List ℕ
   pub spine : List ℕ

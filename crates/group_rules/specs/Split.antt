@@ -1,5 +1,5 @@
 -- The operators outside the source's brackets, and those that split_once breaks at.
-use Prim.Native.Nat.{ℕ, zero, suc, _-_}
+use Prim.Native.Nat.{ℕ, suc, _-_}
 use mathlib.Core.List.{List, [], _∷_, _++_, reverse}
 use mathlib.Core.Path.{_≡_}
 use lib.Dec.{eqb}
@@ -52,7 +52,8 @@ unfoldable pub inked : List OpMark → List OpMark
 inked [] = []
 inked (m ∷ ms) = let r = inked ms in choose (isBlank (m .ch)) r (m ∷ r)
 
--- split_once finds the operators outside the source's brackets, and breaks before those of the loosest strength among them
+-- split_once finds the operators outside the source's brackets, and breaks before those of the loosest strength among
+-- them
 pub record SplitsAlike (source : List ℕ) (ts : List Token) : Type 0 where
   pub operators : inked (topLevelOps strengths (classify Carry.Code source)) ≡ marksOf ts
   pub breaks : splitOnce strengths (classify Carry.Code source)

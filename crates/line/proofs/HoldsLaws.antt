@@ -12,10 +12,10 @@
 use Prim.Native.Nat.{ℕ, zero, suc, _+_, _-_, _*_, _^_, _≤_, _<_}
 use native.Mathlib.Omega.{arith}
 use mathlib.Core.Bool.{Bool, true, false, not, _&&_}
-use mathlib.Core.List.{List, [], _∷_, _++_, append-nil}
+use mathlib.Core.List.{List, [], _++_, append-nil}
 use mathlib.Core.Path.{_≡_, refl, sym, ap, _∙_, subst}
 use lib.ListN.{length, take, drop, length-append, length-drop, drop-of-length-le}
-use lib.Seq.{take-at, drop-at, take-nil, length-take-le}
+use lib.Seq.{take-at, drop-at, length-take-le}
 use Rattle.unicode.specs.Unicode.{encode, chars, decode, trimStart, trimEnd, trim, WellFormed}
 use Rattle.unicode.specs.Places.{TrimmedStart, TrimmedEnd}
 use Rattle.unicode.proofs.Trim.{trim-swap}

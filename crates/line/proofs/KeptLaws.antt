@@ -1,18 +1,17 @@
 -- Lines that go out as they are: what each makes of the formatter's record.
-use Prim.Native.Nat.{ℕ, _+_, _-_, _*_, _≤_}
+use Prim.Native.Nat.{ℕ, _+_, _-_, _≤_}
 use native.Mathlib.Omega.{arith}
 use mathlib.Core.Bool.{Bool, true, false, not, _||_}
 use mathlib.Core.List.{List, [], _++_}
 use mathlib.Core.Path.{_≡_, refl, sym, ap, _∙_, subst}
 use lib.ListN.{length, take, drop}
 use lib.Seq.{take-length, length-take-le}
-use Rattle.unicode.specs.Unicode.{encode, chars, decode, trim, WellFormed}
-use Rattle.unicode.specs.Places.{TrimmedStart, TrimmedEnd}
-use Rattle.unicode.proofs.Trim.{trim-twice}
+use Rattle.unicode.specs.Unicode.{encode, chars, decode, WellFormed}
+use Rattle.unicode.specs.Places.{TrimmedEnd}
 use Rattle.buffer.specs.Buffer.{part}
 use Rattle.buffer.specs.Repeat.{times}
 use Rattle.rules.specs.Basics.{choose, isEmpty}
-use Rattle.rules.specs.Scan.{classify, carryAfter}
+use Rattle.rules.specs.Scan.{classify}
 use Rattle.rules.specs.ClassBytes.{cellsOf}
 use Rattle.rules.specs.Brackets.{Entry, scanBrackets, countBrackets, levels}
 use Rattle.rules.specs.Line.{Formatter, inCodeNow, scannedPart, closersIn, keptStack, blockAfter, protectedAfter, keptLine, asWritten, blankLine}
@@ -23,7 +22,6 @@ use Rattle.scan.specs.Classified.{Classified}
 use Rattle.basics.specs.Closers.{Closers}
 use Rattle.brackets.specs.Stack.{stacked, Popped, BracketsDone}
 use Rattle.brackets.specs.declared.Nesting.{Nesting}
-use Rattle.brackets.proofs.StackLaws.{stacked-past}
 use Rattle.text.specs.Text.{isFirst, Adds}
 use Rattle.text.specs.declared.Written.{Written}
 use Rattle.text.proofs.StepLaws.{grown-ordered}

@@ -48,7 +48,8 @@ initial =
       blanks = 0;
     }
 
--- The code's state st, the output or what a comparison with the model keeps, and the scratch hold the definition's record f.
+-- The code's state st, the output or what a comparison with the model keeps, and the scratch hold the definition's
+-- record f.
 pub record Holds (model eol : List ℕ) (unit : ℕ) (f : Formatter) (st : Record) (out scratch : List ℕ) : Type 0 where
   pub text : Text model eol (f .lines) (st .text) out
   pub stack : stacked scratch (stackAt unit) (st .nesting .depth) ≡ f .stack
@@ -126,7 +127,8 @@ pub record Classes (y : Carry) (line scratch : List ℕ) (at : ℕ) (after : Car
   pub leaves : after ≡ carryAfter y line
   pub depth : carryDepth after ≤ carryDepth y + length line
 
--- how much of a kept line is written: all of it, or, where it isn't protected and starts inside a comment, as far as its end is trimmed to
+-- how much of a kept line is written: all of it, or, where it isn't protected and starts inside a comment, as far as
+-- its end is trimmed to
 abbrev pub shownLen : Bool → Carry → ℕ → ℕ → ℕ
 shownLen true y tail len = len
 shownLen false Carry.Code tail len = len

@@ -1,5 +1,6 @@
--- Scratch, for a source of `unit` bytes: the classes of the line from 0 on, the respaced line, its classes, the stack of open brackets. A respaced line
--- has at most twice the bytes, and the stack, while such a line is scanned, room for twice the entries.
+-- Scratch, for a source of `unit` bytes: the classes of the line from 0 on, the respaced line, its classes, the stack
+-- of open brackets. A respaced line has at most twice the bytes, and the stack, while such a line is scanned, room for
+-- twice the entries.
 use Prim.Native.Nat.{ℕ, _*_}
 
 abbrev pub respacedAt : ℕ → ℕ

@@ -21,9 +21,9 @@ pub fn prev_of(line: &[u8]) -> Prev
     Prev { declares, brace }
 }
 
-// Of the open brackets it keeps how many there are and how many of them added a level, with the number of the line that is read; they lie in scratch.
-// Of the previous line it keeps what later lines ask. carry stands before ignore, since the gap after the three bytes
-// is then one byte, and is copied in a register.
+// Of the open brackets it keeps how many there are and how many of them added a level, with the number of the line that
+// is read; they lie in scratch. Of the previous line it keeps what later lines ask. carry stands before ignore, since
+// the gap after the three bytes is then one byte, and is copied in a register.
 pub struct Formatter {
     pub text: Written,
     pub nesting: Nesting,

@@ -25,7 +25,8 @@ fn takes_else(facts: LineFacts) -> bool
     facts.brace
 }
 
-// How much of a kept line is written: all of it, or, where it isn't protected and starts inside a comment, as far as its end is trimmed to.
+// How much of a kept line is written: all of it, or, where it isn't protected and starts inside a comment, as far as
+// its end is trimmed to.
 fn shown_len(guarded: bool, carry: Carry, tail: usize, len: usize) -> usize
     ensures { λ r. ⌜ r ≡ shownLen guarded carry tail len ⌝ }
 {
@@ -72,7 +73,8 @@ pub fn in_block(ignore: Ignore) -> bool
     }
 }
 
-// Whether a line goes out without being looked at: it is one of a protected block, or starts inside a comment or a prefab.
+// Whether a line goes out without being looked at: it is one of a protected block, or starts inside a comment or a
+// prefab.
 pub fn is_raw(guarded: bool, carry: Carry) -> bool
     ensures { λ r. ⌜ r ≡ (guarded || not (inCodeNow carry)) ⌝ }
 {
@@ -128,7 +130,8 @@ pub fn kept_line<'a>(
     requires { ⌜ TrimmedLine (now raw) (now line) ⌝ }
     requires { ⌜ Classes (st .carry) (partOf (st .carry) (now raw) (now line)) (now scratch) 0 (k .after) ⌝ }
     requires { ⌜ ShownPart (now raw) (k .shown) ⌝ }
-    ensures { λ r. ⌜ Stepped (keptBy (decode (take (k .shown) (now (raw .entry)))) (decode (now (raw .entry)))) (length (now (raw .entry))) (k .unit) (now (model .entry)) (asStr (k .ending)) st
+    ensures { λ r. ⌜ Stepped (keptBy (decode (take (k .shown) (now (raw .entry)))) (decode (now (raw .entry))))
+        (length (now (raw .entry))) (k .unit) (now (model .entry)) (asStr (k .ending)) st
         (now (out .entry)) (now (scratch .entry)) r (now (out .exit)) (now (scratch .exit)) ⌝ }
 {
     let t = st.text;
@@ -180,7 +183,8 @@ pub fn raw_line(
 ) -> Formatter
     requires { ⌜ Ready st (now scratch) unit (length (now raw)) ⌝ }
     requires { ⌜ WellFormed (now raw) ⌝ }
-    ensures { λ r. ⌜ Stepped (rawBy (inBlock (st .ignore)) (decode (now (raw .entry)))) (length (now (raw .entry))) unit (now (model .entry)) (asStr ending) st (now (out .entry)) (now (scratch .entry)) r
+    ensures { λ r. ⌜ Stepped (rawBy (inBlock (st .ignore)) (decode (now (raw .entry)))) (length (now (raw .entry))) unit
+        (now (model .entry)) (asStr ending) st (now (out .entry)) (now (scratch .entry)) r
         (now (out .exit)) (now (scratch .exit)) ⌝ }
 {
     let carry = st.carry;

@@ -1,4 +1,5 @@
-// format.rs, one line: the formatter's record before and after it. The bracket stack and the line's classes lie in scratch.
+// format.rs, one line: the formatter's record before and after it. The bracket stack and the line's classes lie in
+// scratch.
 pub mod formatter;
 pub mod kept;
 pub mod scratch;

@@ -6,7 +6,7 @@ use mathlib.Core.List.{List, [], _∷_, _++_, map}
 use mathlib.Core.Path.{_≡_, refl, sym, ap, subst, _∙_}
 use lib.ListN.{length, take, length-append}
 use lib.Seq.{take-append-seam}
-use Rattle.unicode.specs.Unicode.{Scalars, encode, decode, size, WellFormed}
+use Rattle.unicode.specs.Unicode.{Scalars, encode, decode, WellFormed}
 use Rattle.unicode.proofs.Decode.{encode-append, decode-scalars, scalars-left}
 use Rattle.buffer.specs.Buffer.{part}
 use Rattle.rules.specs.Basics.{choose, same, startsWith}
@@ -25,8 +25,7 @@ use Rattle.line.specs.Holds.{Record, Holds, Stepped, Uses, initial}
 use Rattle.line.proofs.HoldsLaws.{initial-holds}
 use Rattle.line.specs.declared.style.Style.{Style}
 use Rattle.line_ends.specs.LineEnds.{LineEnd}
-use Rattle.lines.specs.Lines.{Passed, Starts, LinesDone, wholeText, answerAt, Differs, AllRead}
-use Rattle.lines.specs.declared.LinesRead.{LinesRead}
+use Rattle.lines.specs.Lines.{Passed, Starts, wholeText, answerAt, Differs, AllRead}
 use Rattle.lines.proofs.LineChars.{lines-decode}
 use Rattle.lines.proofs.LoopLaws.{nextLine, Reached, reached-start, reached-end, next-line, lines-left, read-on, stepped, next-reached, next-left}
 

@@ -9,7 +9,7 @@ use Rattle.rules.specs.Basics.{choose, same}
 use Rattle.rules.specs.Lines.{asStr, linesOf}
 use Rattle.rules.specs.Options.{Options}
 use Rattle.rules.specs.Refusals.{maxSource}
-use Rattle.rules.specs.Line.{Formatter, start}
+use Rattle.rules.specs.Line.{start}
 use Rattle.rules.specs.Assembly.{finish, formatLines}
 use Rattle.brackets.specs.Stack.{entrySize}
 use Rattle.compare.specs.Common.{Keeps, Tells}
@@ -44,13 +44,14 @@ wholeText o source eol = finish o source eol (formatLines o (linesOf source) sta
 abbrev pub answerAt : Options → List ℕ → List ℕ → Bool → ℕ → Checked
 answerAt o source eol all read = record { yes = choose all (same (wholeText o source eol) source) false; read = read }
 
--- r tells whether the first k bytes of a text that is compared with the model differ from it; without a comparison they don't
+-- r tells whether the first k bytes of a text that is compared with the model differ from it; without a comparison they
+-- don't
 pub record Differs (checks : Bool) (model out : List ℕ) (k : ℕ) (r : Bool) : Type 0 where
   pub off : checks ≡ false → r ≡ false
   pub told : checks ≡ true → Tells model out k (not r)
 
--- The lines of the source were read: all of them, or, where the text is compared with the source, up to the first whose settled text differs.
--- Then the definition's answer is known but for the finished text.
+-- The lines of the source were read: all of them, or, where the text is compared with the source, up to the first whose
+-- settled text differs. Then the definition's answer is known but for the finished text.
 pub record AllRead (source indent : List ℕ) (style : Style) (checks : Bool) (model : List ℕ) (r : LinesRead) (out scratch : List ℕ) : Type 0 where
   pub done : r .all ≡ true → LinesDone source indent style model (r .st) out scratch
   pub all : checks ≡ false → r .all ≡ true

@@ -35,7 +35,8 @@ pub fn read_lines(
 ) -> LinesRead
     requires { ⌜ Passed (now source) (now indent) (now scratch) ⌝ }
     requires { ⌜ Starts (now model) (now out) ⌝ }
-    ensures { λ r. ⌜ AllRead (now (source .entry)) (now (indent .entry)) style checks (now (model .entry)) r (now (out .exit)) (now (scratch .exit)) ⌝ }
+    ensures { λ r. ⌜ AllRead (now (source .entry)) (now (indent .entry)) style checks (now (model .entry)) r
+        (now (out .exit)) (now (scratch .exit)) ⌝ }
 {
     let unit = source.len();
     let mut st = Formatter::new();

@@ -63,7 +63,8 @@ fn ordinary_byte(m: Mode) -> u8
     }
 }
 
-// Whether a mark is at its end and of the class that such a character has after it: it stays as it is where one follows.
+// Whether a mark is at its end and of the class that such a character has after it: it stays as it is where one
+// follows.
 fn at_rest(t: Mark) -> bool
     ensures { λ r. ⌜ r ≡ atRest t ⌝ }
 {

@@ -1,4 +1,5 @@
--- The loops over the bytes of a line that start no operator: before-start, before-one, before-block, before-found, before-end.
+-- The loops over the bytes of a line that start no operator: before-start, before-one, before-block, before-found,
+-- before-end.
 use Prim.Native.Nat.{ℕ, zero, suc, _+_, _≤_, _<_, zero-le}
 use native.Mathlib.Omega.{arith}
 use native.Mathlib.Nat.{add-zero}

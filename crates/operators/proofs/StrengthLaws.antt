@@ -1,10 +1,9 @@
 -- A strength, read from the table by its place.
 use Prim.Native.Nat.{ℕ, zero, suc, _+_, _/_, _%_, _<_}
 use mathlib.Core.List.{List, [], _∷_}
-use mathlib.Core.Path.{_≡_, refl, sym, ap, _∙_}
+use mathlib.Core.Path.{_≡_, refl, sym, _∙_}
 use native.Mathlib.Omega.{arith}
-use lib.ListN.{length, take, getD}
-use Rattle.rules.specs.Operators.{operators}
+use lib.ListN.{take, getD}
 use Rattle.rules.specs.Strengths.{fieldsOf, strengthsIn, lastBits}
 
 -- the fields of the byte j

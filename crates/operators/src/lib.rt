@@ -1,5 +1,6 @@
-// The operators: which they are, by their places in document 01's tightness list, and their strengths in a table. The places stand here alone;
-// the list of the rules has the same order, and the contracts say so. They are found by comparing bytes: a table that is indexed would be slower.
+// The operators: which they are, by their places in document 01's tightness list, and their strengths in a table. The
+// places stand here alone; the list of the rules has the same order, and the contracts say so. They are found by
+// comparing bytes: a table that is indexed would be slower.
 pub mod first;
 
 ghost use mathlib.Core.Path.{_≡_};

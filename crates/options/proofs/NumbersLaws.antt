@@ -16,7 +16,6 @@ use Rattle.rules.specs.declared.PrintWidth.{PrintWidth}
 use Rattle.rules.specs.declared.FinalNewline.{FinalNewline}
 use Rattle.rules.proofs.Choose.{choose-true}
 use Rattle.options.specs.Held.{optionsIn, held, heldNamed, widthIn, endingIn, newlineIn}
-use Rattle.options.specs.declared.FormatOptions.{FormatOptions}
 use Rattle.options.specs.declared.Changed.{Changed}
 use Rattle.options.specs.declared.numbers.WidthNamed.{WidthNamed}
 use Rattle.options.specs.declared.numbers.EndingNamed.{EndingNamed}

@@ -12,7 +12,8 @@ pub record Block (n from end : ℕ) : Type 0 where
   pub fits : end ≤ n
   pub short : end ≤ from + 255
 
--- From `from` up to i stand lf line feeds, crlf of them after a carriage return; the byte before `from` is first, that before i is last.
+-- From `from` up to i stand lf line feeds, crlf of them after a carriage return; the byte before `from` is first, that
+-- before i is last.
 pub record Counted (s : List ℕ) (from first lf crlf last i : ℕ) : Type 0 where
   pub within : i ≤ length s
   pub lfs : count (is "\n") (drop from s) ≡ lf + count (is "\n") (drop i s)

@@ -75,7 +75,12 @@ impl FormatOptions {
 
     // The options that an indent, numbers and strengths name; refused, with the defaults, where they name none.
     pub fn from_numbers(indent: &[u8], numbers: OptionNumbers, strengths: Strengths) -> Changed
-        ensures { λ r. ⌜ r ≡ heldNamed (record { indent = now (indent .entry); numbers = numbers; strengths = strengths .table }) ⌝ }
+        ensures { λ r. ⌜ r ≡ heldNamed (record {
+          indent = now (indent .entry);
+          numbers = numbers;
+          strengths = strengths
+              .table;
+        }) ⌝ }
     {
         let width = numbers::print_width_named(numbers.width_set, numbers.width);
         let WidthNamed::Choice(print_width) = width else {

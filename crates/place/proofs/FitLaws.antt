@@ -14,7 +14,7 @@ use Rattle.rules.specs.ClassBytes.{cellsOf}
 use Rattle.rules.specs.Options.{Options, indentOf, measure, overWide}
 use Rattle.rules.specs.Refusals.{maxSource}
 use Rattle.rules.specs.SplitImport.{Laid}
-use Rattle.rules.specs.Line.{dropBlank, orOperation, broken, oneLine, splitWide}
+use Rattle.rules.specs.Line.{dropBlank, broken, oneLine, splitWide}
 use Rattle.rules.specs.declared.Carry.{Carry}
 use Rattle.rules.specs.declared.PrintWidth.{PrintWidth}
 use Rattle.rules.specs.declared.Strengths.{Strengths}

@@ -1,12 +1,11 @@
 -- What putting a line into the text does.
 use Prim.Native.Nat.{ℕ, _+_, _*_, _≤_, _<_, _^_}
 use mathlib.Core.Bool.{Bool, false}
-use mathlib.Core.List.{List, _++_, reverseAux}
+use mathlib.Core.List.{List, reverseAux}
 use mathlib.Core.Path.{_≡_}
 use lib.Dec.{eqb, ltb}
 use lib.ListN.{length, drop}
 use Rattle.unicode.specs.Unicode.{decode, trimEnd, WellFormed}
-use Rattle.buffer.specs.Repeat.{times}
 use Rattle.rules.specs.Basics.{choose, isEmpty}
 use Rattle.rules.specs.Scan.{classify}
 use Rattle.rules.specs.ClassBytes.{classBytes}
@@ -37,7 +36,8 @@ pub record GoesOn (line class : List ℕ) : Type 0 where
   pub trimmed : trimEnd (decode line) ≡ decode line
   pub classes : class ≡ classBytes (classify Carry.Code line)
 
--- what the code knows before the line: the text, whether a bracket is open, the levels left after the leading closers, the previous line's facts
+-- what the code knows before the line: the text, whether a bracket is open, the levels left after the leading closers,
+-- the previous line's facts
 pub record Knows (model eol : List ℕ) (f : Formatter) (b : Before) (out : List ℕ) : Type 0 where
   pub text : Text model eol (f .lines) (b .text) out
   pub empty : isEmpty (f .stack) ≡ eqb (b .depth) 0
@@ -55,7 +55,8 @@ pub record Asks (b : Before) : Type 0 where
   pub small : b .text .at .0 ≤ farPlace
   pub few : b .levels < maxSource
 
--- a line that goes on, of n bytes, adds at most (n + 1) × respacedGrowth bytes to the text; respaced it may have twice the bytes of the source's
+-- a line that goes on, of n bytes, adds at most (n + 1) × respacedGrowth bytes to the text; respaced it may have twice
+-- the bytes of the source's
 abbrev pub respacedGrowth : ℕ
 respacedGrowth = 2 ^ 28
 
@@ -84,7 +85,8 @@ pub record LaidBy (o : Options) (indent : List ℕ) (ruler : ℕ) (st : Strength
   pub used : InUse o indent ruler
   pub strengths : o .strengths ≡ st
 
--- the line of characters l was laid out at a level as `splitWide` says for the width w, after an empty newest line was dropped if `drops` says so
+-- the line of characters l was laid out at a level as `splitWide` says for the width w, after an empty newest line was
+-- dropped if `drops` says so
 pub record Lays (ruler : ℕ) (w : PrintWidth) (indent : List ℕ) (st : Strengths) (l : List ℕ) (level : ℕ) (model eol : List ℕ) (drops : Bool) (n : ℕ) (out : List ℕ) (t : Written) (r : Placed) (out′ : List ℕ) : Type 0 where
   pub text : (o : Options) (ls : List (List ℕ)) → LaidBy o indent ruler st → Text model eol ls t out → Text model eol (reverseAux (splitWide w o level l .lines) (choose drops (dropBlank ls) ls)) (r .text) out′
   pub imports : (o : Options) → LaidBy o indent ruler st → r .imports ≡ splitWide w o level l .importsSplit

@@ -101,7 +101,9 @@ fn push_one(
     requires { ⌜ WellFormed (now line) × (length (now line) ≤ 2 * maxSource) ⌝ }
     requires { ⌜ trimEnd (decode (now line)) ≡ decode (now line) ⌝ }
     requires { ⌜ Ordered (slot .text) × (slot .text .at .0 ≤ farPlace) ⌝ }
-    ensures { λ r. ⌜ Adds (asStr ending) (slot .drops) (times (slot .level) (now (indent .entry)) ++ decode (now (line .entry))) (now (model .entry)) (now (out .entry)) (slot .text) (now (out .exit)) r ⌝ }
+    ensures { λ r. ⌜ Adds (asStr ending) (slot .drops)
+        (times (slot .level) (now (indent .entry)) ++ decode (now (line .entry))) (now (model .entry))
+        (now (out .entry)) (slot .text) (now (out .exit)) r ⌝ }
 {
     let joins = format::else_line::trimmed_takes_else(line);
     let t = slot.text;
@@ -136,8 +138,8 @@ fn alone(text: Written) -> Placed
     }
 }
 
-// The width that a line may be broken at, before its classes are looked at: a marker, a line that continues another and one with leading
-// closers are not broken.
+// The width that a line may be broken at, before its classes are looked at: a marker, a line that continues another and
+// one with leading closers are not broken.
 fn break_width(width: PrintWidth, marker: bool, continued: bool, closers: usize) -> PrintWidth
     ensures { λ r. ⌜ r ≡ breakWidth width marker continued closers ⌝ }
 {
@@ -158,7 +160,9 @@ fn fit_of(line: &[u8], class: &[u8], indent: &[u8], style: Style, level: usize) 
     requires { ⌜ ValidIndent (now indent) ⌝ }
     requires { ⌜ level ≤ maxSource ⌝ }
     requires { ⌜ GoesOn (now line) (now class) ⌝ }
-    ensures { λ r. ⌜ r ≡ fitBy (style .width) (measure (style .ruler) 0 (times level (now (indent .entry)) ++ decode (now (line .entry)))) (allCodeOrStr (classify Carry.Code (now (line .entry)))) ⌝ }
+    ensures { λ r. ⌜ r ≡ fitBy (style .width) (measure (style .ruler) 0
+        (times level (now (indent .entry)) ++ decode (now (line .entry))))
+        (allCodeOrStr (classify Carry.Code (now (line .entry)))) ⌝ }
 {
     let width = style.width;
     let ending = style.ending;
@@ -199,7 +203,10 @@ fn fit_line(
     requires { ⌜ slot .level ≤ maxSource ⌝ }
     requires { ⌜ GoesOn (now line) (now class) ⌝ }
     requires { ⌜ Ordered (slot .text) × (slot .text .at .0 ≤ farPlace) ⌝ }
-    ensures { λ r. ⌜ Lays (style .ruler) (choose (allCodeOrStr (classify Carry.Code (decode (now (line .entry))))) (style .width) PrintWidth.Off) (now (indent .entry)) (style .strengths) (decode (now (line .entry))) (slot .level) (now (model .entry)) (asStr (style .ending)) (slot .drops) (length (now (line .entry))) (now (out .entry)) (slot .text) r (now (out .exit)) ⌝ }
+    ensures { λ r. ⌜ Lays (style .ruler) (choose (allCodeOrStr (classify Carry.Code (decode (now (line .entry)))))
+        (style .width) PrintWidth.Off) (now (indent .entry)) (style .strengths) (decode (now (line .entry)))
+        (slot .level) (now (model .entry)) (asStr (style .ending)) (slot .drops) (length (now (line .entry)))
+        (now (out .entry)) (slot .text) r (now (out .exit)) ⌝ }
 {
     let ending = style.ending;
     let strengths = style.strengths;
@@ -232,7 +239,9 @@ fn lay_line(
     requires { ⌜ GoesOn (now line) (now class) ⌝ }
     requires { ⌜ Heads (now line) b ⌝ }
     requires { ⌜ Asks b ⌝ }
-    ensures { λ r. ⌜ Puts (placedBy (b .marker) (decode (now (line .entry)))) (now (indent .entry)) style (now (model .entry)) (asStr (style .ending)) (length (now (line .entry))) b (now (out .entry)) r (now (out .exit)) ⌝ }
+    ensures { λ r. ⌜ Puts (placedBy (b .marker) (decode (now (line .entry)))) (now (indent .entry)) style
+        (now (model .entry)) (asStr (style .ending)) (length (now (line .entry))) b (now (out .entry)) r
+        (now (out .exit)) ⌝ }
 {
     let t = b.text;
     let depth = b.depth;
@@ -287,7 +296,9 @@ pub fn place_line(
     requires { ⌜ GoesOn (now line) (now class) ⌝ }
     requires { ⌜ Heads (now line) b ⌝ }
     requires { ⌜ Asks b ⌝ }
-    ensures { λ r. ⌜ Puts (spacedBy (b .marker) (decode (now (line .entry)))) (now (indent .entry)) style (now (model .entry)) (asStr (style .ending)) (length (now (line .entry))) b (now (out .entry)) r (now (out .exit)) ⌝ }
+    ensures { λ r. ⌜ Puts (spacedBy (b .marker) (decode (now (line .entry)))) (now (indent .entry)) style
+        (now (model .entry)) (asStr (style .ending)) (length (now (line .entry))) b (now (out .entry)) r
+        (now (out .exit)) ⌝ }
 {
     let t = b.text;
     let last = t.last;
@@ -312,7 +323,8 @@ fn break_line(
     requires { ⌜ GoesOn (now line) (now class) ⌝ }
     requires { ⌜ Ordered (slot .text) × (slot .text .at .0 ≤ farPlace) ⌝ }
     requires { ⌜ allCodeOrStr (classify Carry.Code (now line)) ≡ true ⌝ }
-    ensures { λ r. ⌜ Breaks (s .ruler) (s .max .0) (now (indent .entry)) (s .strengths) (decode (now (line .entry))) (s .level) (now (model .entry)) (asStr (s .ending)) (slot .drops) (length (now (line .entry)))
+    ensures { λ r. ⌜ Breaks (s .ruler) (s .max .0) (now (indent .entry)) (s .strengths) (decode (now (line .entry)))
+        (s .level) (now (model .entry)) (asStr (s .ending)) (slot .drops) (length (now (line .entry)))
         (now (out .entry)) (slot .text) r (now (out .exit)) ⌝ }
 {
     let ending = s.ending;

@@ -4,7 +4,7 @@ use mathlib.Core.Path.{_≡_, refl}
 use Prim.Native.Nat.{ℕ}
 use Rattle.rules.specs.Basics.{codes}
 use Rattle.rules.specs.Assembly.{formatWith}
-use Rattle.rules.specs.Quoted.{Quoted, quotedOf}
+use Rattle.rules.specs.Quoted.{quotedOf}
 use Rattle.rules.specs.declared.PrintWidth.{PrintWidth}
 use Rattle.rules.proofs.Computing.{computing}
 use Rattle.rules.proofs.Examples.{withWidth}

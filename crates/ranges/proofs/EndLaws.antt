@@ -1,22 +1,22 @@
 -- The ends of a range: their digits, and the zeros before them.
 use Prim.Native.Nat.{ℕ, zero, suc, _+_, _-_, _*_, _≤_, _<_}
-use mathlib.Core.Bool.{Bool, true, false, _&&_, true≢false}
+use mathlib.Core.Bool.{Bool, true, false, true≢false}
 use mathlib.Core.List.{List, [], _∷_, _++_, foldl}
-use mathlib.Core.Logic.{_⊎_, inl, inr, ⊎-elim}
+use mathlib.Core.Logic.{_⊎_, ⊎-elim}
 use mathlib.Core.Path.{_≡_, refl, sym, ap, _∙_}
 use native.Mathlib.Numerals.{add-one}
 use native.Mathlib.Omega.{arith}
-use borrow.Author.Tests.{lt-ltb, le-ltb, ltb-true, eq-eqb, ne-eqb, eqb-true, eqb-false}
-use lib.Dec.{eqb, ltb, leb}
+use borrow.Author.Tests.{lt-ltb, le-ltb, eq-eqb, ne-eqb, eqb-false}
+use lib.Dec.{eqb, ltb}
 use lib.ListN.{length, drop, take, getD, length-drop, drop-of-length-le}
 use lib.Seq.{drop-cons, take-suc, getD-drop, drop-drop}
-use Rattle.unicode.proofs.Tests.{split, by-test, in-range, and-left, and-right}
+use Rattle.unicode.proofs.Tests.{split, by-test, in-range}
 use Rattle.rules.specs.Basics.{choose, is, firstIs}
 use Rattle.rules.proofs.Choose.{choose-case, choose-true, choose-false}
 use Rattle.config_rules.specs.Numbers.{isDigit, digitCount, sign, numberLen, value}
 use Rattle.glob_name.specs.Read.{restMore, rangeMore, Counted}
 use Rattle.ranges.specs.Slots.{digit, allDigits, all, minus, size}
-use Rattle.ranges.specs.Ranges.{lows, lowsOf, EndAt, RangeOf, PastZeros, pastZeros, endOf, widthOf, rangeFor, WidthOf, firstEnd, secondEnd, secondAt}
+use Rattle.ranges.specs.Ranges.{lows, EndAt, RangeOf, PastZeros, pastZeros, endOf, widthOf, rangeFor, WidthOf, secondAt}
 use Rattle.ranges.specs.declared.End.{End}
 use Rattle.ranges.specs.declared.Range.{Range}
 

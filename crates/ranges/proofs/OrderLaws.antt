@@ -1,18 +1,17 @@
--- Ranges without large numbers: a number of the path is compared with an end of the range digit by digit, from the lowest on. Reading the path from its
--- end, each digit is put before the ones read: the new digit decides, and where it equals the end's digit of that place the order so far stays.
+-- Ranges without large numbers: a number of the path is compared with an end of the range digit by digit, from the
+-- lowest on. Reading the path from its end, each digit is put before the ones read: the new digit decides, and where it
+-- equals the end's digit of that place the order so far stays.
 use Prim.Native.Nat.{ℕ, zero, suc, _+_, _-_, _*_, _≤_, _<_}
 use mathlib.Core.Bool.{Bool, true, false, not, _&&_, _||_, and-false, and-true, or-false, true≢false}
-use mathlib.Core.List.{List, [], _∷_, _++_, foldl}
-use mathlib.Core.Logic.{_⊎_, inl, inr, ⊎-elim}
+use mathlib.Core.List.{List, [], _∷_, foldl}
+use mathlib.Core.Logic.{_⊎_, ⊎-elim}
 use mathlib.Core.Path.{_≡_, refl, sym, ap, _∙_}
 use native.Mathlib.Omega.{arith}
-use borrow.Author.Tests.{lt-ltb, le-ltb, le-leb, lt-leb, eq-eqb, ne-eqb}
-use lib.Dec.{eqb, ltb, leb}
+use borrow.Author.Tests.{lt-ltb, le-ltb}
+use lib.Dec.{ltb}
 use lib.ListN.{length, drop, take, getD}
-use Rattle.unicode.specs.Unicode.{within}
 use Rattle.unicode.proofs.Tests.{split, in-range, and-left, and-right}
 use Rattle.rules.specs.Basics.{choose, is}
-use Rattle.rules.proofs.Choose.{choose-case, choose-true, choose-false}
 use Rattle.config_rules.specs.Numbers.{isDigit, value}
 use Rattle.config_rules.specs.Globs.{Strings, someThen, never}
 use Rattle.ranges.specs.Slots.{digit, orderThen, valid, orderAt, allDigits, all, order, number, from}
@@ -151,7 +150,8 @@ order-step j d e x y h k =
     (λ (u : d ≤ e). let q : d ≡ e = omega arith in rw (le-ltb d e t, le-ltb e d u, q) (order-shift (scale j e) x y)) (split e d))
     (split d e)
 
--- ---- what is kept for the number that ends j characters on: whether it is one, and its order against an end's lowest j digits
+-- ---- what is kept for the number that ends j characters on: whether it is one, and its order against an end's lowest
+-- j digits
 
 valid-length : (k : Strings) (j : ℕ) (s : List ℕ) → valid k j s ≡ true → length (take j s) ≡ j
 unfolding valid

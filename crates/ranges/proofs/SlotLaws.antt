@@ -1,7 +1,7 @@
 -- Slots: what one of them holds, and the loops over them.
 use Prim.Native.Nat.{ℕ, zero, suc, _+_, _-_, _*_, _/_, _%_, _≤_, _<_}
-use mathlib.Core.Bool.{Bool, true, false, not, _&&_, _||_, and-false}
-use mathlib.Core.List.{List, [], _∷_}
+use mathlib.Core.Bool.{Bool, false, _&&_, _||_, and-false}
+use mathlib.Core.List.{List}
 use mathlib.Core.Logic.{_⊎_, inl, inr, ⊎-elim}
 use mathlib.Core.Path.{_≡_, refl, sym, ap, _∙_}
 use native.Mathlib.Numerals.{add-one}
@@ -10,9 +10,8 @@ use borrow.Author.Tests.{lt-ltb, le-ltb, le-leb, lt-leb, ne-eqb}
 use lib.Dec.{eqb, ltb, leb}
 use lib.ListN.{length, getD, set, length-set, List·getD-eq-default}
 use lib.Seq.{getD-set-same, getD-set-other}
-use Rattle.unicode.proofs.Tests.{split, by-test}
+use Rattle.unicode.proofs.Tests.{split}
 use Rattle.rules.specs.Basics.{choose}
-use Rattle.config_rules.specs.Numbers.{isDigit}
 use Rattle.ranges.specs.Slots.{orderThen, insideOf, wholeOf}
 use Rattle.ranges.specs.Ranges.{lows, lowsOf, Ordered, slotStep, slotIn, anySlot, turned, opposite, Moved, RangeOf, FarNext}
 use Rattle.ranges.specs.declared.End.{End}

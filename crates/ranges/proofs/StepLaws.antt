@@ -1,26 +1,25 @@
 -- A range, one character more: all that its value at c ∷ s needs of s.
 use Prim.Native.Nat.{ℕ, zero, suc, _+_, _-_, _*_, _/_, _%_, _≤_, _<_}
-use mathlib.Core.Bool.{Bool, true, false, not, _&&_, _||_, and-false}
+use mathlib.Core.Bool.{Bool, true, false, _&&_, _||_, and-false}
 use mathlib.Core.List.{List, [], _∷_}
 use mathlib.Core.Logic.{_⊎_, inl, inr, ⊎-elim}
 use mathlib.Core.Path.{_≡_, refl, sym, ap, _∙_}
 use native.Mathlib.Omega.{arith}
 use borrow.Author.Tests.{eq-eqb, ne-eqb, eqb-true, eqb-false, lt-leb, lt-ltb, le-ltb, ltb-true, ltb-false}
-use lib.Dec.{eqb, ltb, leb}
-use lib.ListN.{length, drop, take, getD, set, length-set, List·getD-eq-default}
+use lib.Dec.{eqb, ltb}
+use lib.ListN.{length, drop, take, getD, set, length-set}
 use lib.Seq.{drop-length, getD-set-same, getD-set-other}
 use Rattle.unicode.proofs.Tests.{split, by-test, in-range, and-left, and-right}
-use Rattle.rules.specs.Basics.{choose, firstIs}
-use Rattle.rules.proofs.Choose.{choose-true, choose-false}
-use Rattle.config_rules.specs.Numbers.{isDigit, value, sign, digitCount, numberLen, isNumber, inRange}
+use Rattle.rules.specs.Basics.{choose}
+use Rattle.config_rules.specs.Numbers.{isDigit, value, sign, inRange}
 use Rattle.config_rules.specs.Globs.{Strings, someThen}
 use Rattle.glob_name.specs.Read.{rangeMore}
-use Rattle.ranges.specs.Slots.{digit, orderThen, valid, orderAt, inside, insideOf, wholeOf, near, allDigits, all, order, number, from, farther, minus, size, inPlain, inMinus}
-use Rattle.ranges.specs.Ranges.{lows, lowsOf, EndAt, RangeOf, firstEnd, secondEnd, slotStep, slotIn, anySlot, turned, opposite, slotAt, flagOf, firstSlot, farAt, withFlags, FarNext, Moved, Kept, RangeNext}
+use Rattle.ranges.specs.Slots.{digit, orderThen, valid, orderAt, inside, insideOf, near, allDigits, all, number, from, farther, minus, size, inPlain, inMinus}
+use Rattle.ranges.specs.Ranges.{lows, lowsOf, EndAt, RangeOf, firstEnd, secondEnd, slotStep, slotIn, anySlot, opposite, slotAt, flagOf, firstSlot, farAt, withFlags, FarNext, Moved, Kept, RangeNext}
 use Rattle.ranges.specs.declared.End.{End}
 use Rattle.ranges.specs.declared.Range.{Range}
 use Rattle.ranges.specs.declared.Near.{Near}
-use Rattle.ranges.proofs.OrderLaws.{scale, scale-zero, low, low-split, low-small, from-next, at-number, far-zero, far-large, far-other, wholeAt}
+use Rattle.ranges.proofs.OrderLaws.{scale, scale-zero, low-split, low-small, from-next, at-number, far-zero, far-large, far-other, wholeAt}
 use Rattle.ranges.proofs.InRange.{kept-plain, kept-minus, some-number, range-else, range-after-minus, large-plain, large-minus}
 
 -- ---- slots

@@ -1,12 +1,12 @@
--- Ranges: what is kept, for each j, of the number that the first j characters of a string are. A slot j + 1 comes from slot j by one character more.
-use Prim.Native.Nat.{ℕ, zero, suc, _+_, _-_, _*_, _/_, _%_, _≤_, _<_}
+-- Ranges: what is kept, for each j, of the number that the first j characters of a string are. A slot j + 1 comes from
+-- slot j by one character more.
+use Prim.Native.Nat.{ℕ, zero, suc, _+_, _-_, _*_}
 use mathlib.Core.Bool.{Bool, true, false, not, _&&_, _||_}
 use mathlib.Core.List.{List, [], _∷_}
-use mathlib.Core.Path.{_≡_}
 use lib.Dec.{ltb, leb, eqb}
 use lib.ListN.{length, getD, take, drop}
 use Rattle.rules.specs.Basics.{choose, is, firstIs}
-use Rattle.config_rules.specs.Numbers.{isDigit, value, sign, inRange}
+use Rattle.config_rules.specs.Numbers.{isDigit, value, sign}
 use Rattle.config_rules.specs.Globs.{Strings, someThen}
 
 unfoldable pub digit : ℕ → ℕ
@@ -16,7 +16,8 @@ digit c = c - 48
 unfoldable pub orderThen : ℕ → ℕ → ℕ → ℕ
 orderThen d e o = choose (ltb d e) 0 (choose (ltb e d) 2 o)
 
--- whether the first j characters are digits and k holds of the rest; the order of their value against the lowest j digits of an end, r
+-- whether the first j characters are digits and k holds of the rest; the order of their value against the lowest j
+-- digits of an end, r
 unfoldable pub valid : Strings → ℕ → List ℕ → Bool
 valid k zero s = k s
 valid k (suc j) [] = false

@@ -8,7 +8,8 @@ ghost use Rattle.ranges.specs.Slots.{notAbove, notBelow, wholeOf, inside
 ghost use Rattle.ranges.specs.Ranges.{lows, EndAt, RangeOf, endOf, Ordered, slotStep, slotIn, flagOf, firstSlot, farAt, withFlags, FarNext, PastZeros, WidthOf, turned, opposite, anySlot, Moved, RangeNext};
 use glob_name::read::number_len;
 
-// An end of a range: whether a minus stands before it, where its digits end, and how many there are without leading zeros.
+// An end of a range: whether a minus stands before it, where its digits end, and how many there are without leading
+// zeros.
 pub struct End {
     pub minus: bool,
     pub end: usize,
@@ -59,7 +60,8 @@ fn not_below(minus: bool, order: u8) -> bool
     1 <= order
 }
 
-// Whether a number is in a range, by its orders o and q against the ends, of signs a and b; x and y say which of them is 0.
+// Whether a number is in a range, by its orders o and q against the ends, of signs a and b; x and y say which of them
+// is 0.
 fn inside(a: bool, x: bool, b: bool, y: bool, o: u8, q: u8) -> bool
     ensures { λ r. ⌜ r ≡ insideOf a x b y o q ⌝ }
 {
@@ -228,8 +230,10 @@ fn past_zeros(chars: &[u32], from: usize, end: usize) -> usize
 
 // The end of a range that stands at `from` and is n characters long.
 fn end_at(chars: &[u32], from: usize, n: usize) -> End
-    requires { ⌜ (n ≡ numberLen (drop from (now chars))) × (0 < n) × (from + n ≤ length (now chars)) × (length (now chars) < 1026) ⌝ }
-    ensures { λ r. ⌜ EndAt (now (chars .entry)) (take n (drop from (now (chars .entry)))) r × (r .digits ≤ n) × (r ≡ endOf (now (chars .entry)) from n) ⌝ }
+    requires { ⌜ (n ≡ numberLen (drop from (now chars))) × (0 < n) × (from + n ≤ length (now chars)) ×
+        (length (now chars) < 1026) ⌝ }
+    ensures { λ r. ⌜ EndAt (now (chars .entry)) (take n (drop from (now (chars .entry)))) r × (r .digits ≤ n) ×
+        (r ≡ endOf (now (chars .entry)) from n) ⌝ }
 {
     let end = from + n;
     if chars[from] == 45 {
@@ -328,7 +332,8 @@ fn range_step(
 }
 
 pub fn range_next(chars: &[u32], slots: &mut [u8; 1026], p: usize, next: bool, c: u32) -> bool
-    requires { ⌜ (0 < rangeMore (now chars) (p + 1)) × (p < length (now chars)) × (length (now chars) < 1026) × (length (now chars) ≤ length (now slots)) ⌝ }
+    requires { ⌜ (0 < rangeMore (now chars) (p + 1)) × (p < length (now chars)) × (length (now chars) < 1026) ×
+        (length (now chars) ≤ length (now slots)) ⌝ }
     ensures { λ r. ⌜ RangeNext (now (chars .entry)) p next c (now (slots .entry)) (now (slots .exit)) r ⌝ }
 {
     let range = range_at(chars, p);

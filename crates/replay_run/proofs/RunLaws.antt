@@ -4,23 +4,21 @@
 --     Replaying                         the loop of `replay`
 use Prim.Native.Nat.{ℕ, zero, suc, _+_, _-_, _<_, _≤_}
 use native.Mathlib.Omega.{arith}
-use native.Mathlib.Numerals.{add-one}
-use mathlib.Core.Bool.{Bool, true, false, _&&_}
-use mathlib.Core.List.{List, [], _∷_}
+use mathlib.Core.Bool.{Bool, true, false}
+use mathlib.Core.List.{List}
 use mathlib.Core.Path.{_≡_, refl, sym, ap, _∙_}
 use borrow.Author.Tests.{lt-ltb, le-ltb, le-leb, lt-leb, eq-eqb, ne-eqb}
-use lib.Dec.{eqb}
 use lib.ListN.{length, getD, take, length-take}
 use Rattle.unicode.proofs.Tests.{by-test}
 use Rattle.rules.proofs.Prefix.{same-eq, same-itself}
 use Rattle.buffer.specs.Buffer.{part}
 use Rattle.rules.specs.Basics.{choose, same}
-use Rattle.rules.specs.Call.{Call, outcomeOf, answerOf, outputOf, textOf}
+use Rattle.rules.specs.Call.{Call, outcomeOf, answerOf, textOf}
 use Rattle.rules.specs.declared.Answer.{Answer}
 use Rattle.rules.proofs.CallLaws.{Delivered, delivered}
 use Rattle.call.specs.FormatAnswered.{FormatAnswered}
 use Rattle.line_ends.specs.LineEnds.{LineEnd}
-use Rattle.replay_run.specs.Stored.{caseAt, CaseRead, answerAt, endOf}
+use Rattle.replay_run.specs.Stored.{CaseRead, answerAt, endOf}
 use Rattle.replay_run.specs.Replay.{callIn, agrees, agreed, differed, caseSize, counted, stepped, replayed, fromStart, CountsFit, StepReady, Advanced}
 use Rattle.replay_run.specs.declared.list.Case.{Case}
 use Rattle.replay_run.specs.declared.Progress.{Progress}

@@ -1,9 +1,9 @@
 -- A number that is spelled in decimal digits is read back: `number-back`.
-use Prim.Native.Nat.{ℕ, zero, suc, _+_, _*_, _-_, _/_, _%_, _^_, _<_, _≤_}
+use Prim.Native.Nat.{ℕ, zero, suc, _+_, _*_, _-_, _/_, _%_, _^_, _<_}
 use native.Mathlib.Omega.{arith}
 use native.Mathlib.Nat.{mod-lt, div-add-mod', div-lt-iff-lt-mul, pow-suc}
 use mathlib.Core.List.{List, _∷_, _++_, append-assoc}
-use mathlib.Core.Path.{_≡_, refl, _∙_}
+use mathlib.Core.Path.{_≡_, _∙_}
 use borrow.Author.Tests.{lt-ltb, le-ltb, lt-leb}
 use Rattle.io.specs.Digits.{digits, glyph}
 use Rattle.rules.specs.Basics.{choose}

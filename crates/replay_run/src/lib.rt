@@ -3,7 +3,7 @@ ghost use mathlib.Core.Path.{_≡_};
 ghost use Prim.Native.Nat.{_+_, _≤_, _<_};
 ghost use lib.ListN.{length};
 ghost use Rattle.replay_run.specs.Stored.{CaseIn};
-ghost use Rattle.replay_run.specs.Replay.{agrees as agreesWith, agreed, differed, CountsFit, StepReady, Advanced, fromStart, replayed};
+ghost use Rattle.replay_run.specs.Replay.{agreed, differed, CountsFit, StepReady, Advanced, fromStart, replayed};
 use crate::list::Case;
 use crate::list::case_at;
 use libc::STDOUT_FILENO;
@@ -53,7 +53,8 @@ impl Progress {
 // Whether the case's source gives its answer.
 fn agrees(list: &[u8], c: Case, output: &mut [u8], scratch: &mut [u8]) -> bool
     requires { ⌜ CaseIn (now list) c ⌝ }
-    ensures { λ r. ⌜ r ≡ agreesWith (now (list .entry)) c (length (now (output .entry))) (length (now (scratch .entry))) ⌝ }
+    ensures { λ r. ⌜ r ≡ agreesWith (now (list .entry)) c (length (now (output .entry))) (length (now (scratch .entry)))
+        ⌝ }
 {
     let source = c.from;
     let indent = source + c.source;
@@ -113,7 +114,8 @@ fn step(list: &[u8], p: Progress, output: &mut [u8], scratch: &mut [u8]) -> Prog
 
 pub fn replay(list: &[u8], output: &mut [u8], scratch: &mut [u8]) -> Progress
     requires { ⌜ length (now list) ≤ 4294967296 ⌝ }
-    ensures { λ r. ⌜ r ≡ replayed (length (now (list .entry))) (now (list .entry)) (length (now (output .entry))) (length (now (scratch .entry))) fromStart ⌝ }
+    ensures { λ r. ⌜ r ≡ replayed (length (now (list .entry))) (now (list .entry)) (length (now (output .entry)))
+        (length (now (scratch .entry))) fromStart ⌝ }
 {
     let mut p = Progress {
         at: 0,

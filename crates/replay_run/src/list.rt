@@ -1,5 +1,6 @@
-// The cases of a stored list. A case is seven decimal numbers, each with one byte after it: the lengths of source, indent and answer, then `width_set`,
-// `width`, `line_ending` and `final_newline`. After them stand the source, the indent, the answer and LF.
+// The cases of a stored list. A case is seven decimal numbers, each with one byte after it: the lengths of source,
+// indent and answer, then `width_set`, `width`, `line_ending` and `final_newline`. After them stand the source, the
+// indent, the answer and LF.
 ghost use Prim.Native.Nat.{_≤_};
 ghost use lib.ListN.{length};
 ghost use Rattle.replay_run.specs.Stored.{NumberRead, CaseRead};
@@ -20,7 +21,8 @@ pub struct Case {
     pub final_newline: usize,
 }
 
-// The number whose digits start at `at`, and the place after the byte that ends it. A number takes no digit from 100,000,000 on.
+// The number whose digits start at `at`, and the place after the byte that ends it. A number takes no digit from
+// 100,000,000 on.
 fn number_at(list: &[u8], at: usize) -> Number
     requires { ⌜ at ≤ length (now list) ⌝ }
     ensures { λ r. ⌜ NumberRead (now (list .entry)) at r ⌝ }

@@ -3,7 +3,7 @@ use mathlib.Core.Path.{_≡_, refl}
 use mathlib.Core.List.{List, [], _∷_, map}
 use Rattle.rules.specs.Options.{defaults}
 use Rattle.rules.proofs.Computing.{computing}
-use Rattle.rules.proofs.Examples.{Case, Shown, atWidth, expected, given}
+use Rattle.rules.proofs.Examples.{Case, atWidth, expected, given}
 
 abbrev pub blocks : List Case
 blocks =

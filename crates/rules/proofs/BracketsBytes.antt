@@ -1,5 +1,5 @@
--- The brackets of a line's bytes are those of its characters. An escape is used up by the first byte of a longer character, and its other bytes do
--- nothing.
+-- The brackets of a line's bytes are those of its characters. An escape is used up by the first byte of a longer
+-- character, and its other bytes do nothing.
 --     brackets-encode          scanBrackets on bytes
 --     drop-encode              as many bytes as characters, where those dropped are ASCII
 --     count-encode             countBrackets after an ASCII start; count-closers after the leading closers

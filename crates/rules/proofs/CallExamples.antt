@@ -5,7 +5,7 @@ use mathlib.Core.Bool.{true, false}
 use mathlib.Core.List.{List, [], _∷_, _++_, map}
 use mathlib.Core.Path.{_≡_, refl}
 use lib.ListN.{length, take, replicate}
-use Rattle.rules.specs.Basics.{choose, codes}
+use Rattle.rules.specs.Basics.{codes}
 use Rattle.rules.specs.Strengths.{builtIn}
 use Rattle.rules.specs.Options.{Options, SettingStep, defaults, withIndent, indentWith, spaces, tab}
 use Rattle.rules.specs.Assembly.{formatWith, formatWirescript}

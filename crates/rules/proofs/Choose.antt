@@ -1,6 +1,7 @@
--- By cases on `choose`; and a chain of tests in code, `if a { return x; } if b { return y; } ..`, against the chain of `choose` that its definition is.
--- Each test takes off one `choose`: a call that gives the test's value, with its outcome (pick-true, pick-false), a bool variable (pick-on, pick-off),
--- or a comparison of numbers (pick-le, pick-gt, pick-lt, pick-ge, pick-eq, pick-ne). `search picks depth 20` closes a return at the end of a chain.
+-- By cases on `choose`; and a chain of tests in code, `if a { return x; } if b { return y; } ..`, against the chain of
+-- `choose` that its definition is. Each test takes off one `choose`: a call that gives the test's value, with its
+-- outcome (pick-true, pick-false), a bool variable (pick-on, pick-off), or a comparison of numbers (pick-le, pick-gt,
+-- pick-lt, pick-ge, pick-eq, pick-ne). `search picks depth 20` closes a return at the end of a chain.
 use Prim.Native.Nat.{ℕ, _≤_, _<_}
 use mathlib.Core.Bool.{Bool, true, false}
 use mathlib.Core.Path.{_≡_, refl}

@@ -10,9 +10,9 @@ use Prim.Native.Nat.{ℕ, zero, suc, _+_, _-_, _*_, _/_, _%_, _≤_, _<_}
 use mathlib.Core.Bool.{Bool, true, false, _&&_, _||_}
 use mathlib.Core.List.{List, [], _∷_, _++_}
 use mathlib.Core.Logic.{_⊎_, inl, inr}
-use mathlib.Core.Path.{_≡_, refl, sym, ap, _∙_, subst}
+use mathlib.Core.Path.{_≡_, refl, sym, ap, _∙_}
 use native.Mathlib.Omega.{arith}
-use native.Mathlib.Nat.{zero-add, add-mul, mul-add, one-mul, suc-mul, mul-le-mul-left, mul-comm, mul-assoc, mod-lt, div-add-mod', add-mul-div-right, mul-sub}
+use native.Mathlib.Nat.{zero-add, add-mul, mul-add, one-mul, mul-le-mul-left, mul-comm, mul-assoc, mod-lt, div-add-mod', add-mul-div-right, mul-sub}
 use lib.Dec.{eqb, ltb}
 use lib.ListN.{length, length-append}
 use borrow.Author.Tests.{eqb-true, lt-ltb, le-ltb, ltb-true}
@@ -21,7 +21,7 @@ use Rattle.unicode.specs.Unicode.{encodeChar, encode, size, units, width}
 use Rattle.unicode.proofs.Tests.{by-test, and-left, and-right}
 use Rattle.unicode.proofs.Table.{Shape, one, two, three, four, shape}
 use Rattle.unicode.proofs.Bytewise.{width-nil, width-cons}
-use Rattle.unicode.proofs.Decode.{encode-nil, encode-cons}
+use Rattle.unicode.proofs.Decode.{encode-cons}
 use Rattle.rules.specs.Basics.{choose, is, isBlank, count}
 use Rattle.rules.specs.Options.{allBlank, nextStop, columnAfter, measure}
 use Rattle.rules.proofs.Choose.{choose-case, choose-true, choose-false}
@@ -173,7 +173,8 @@ module _ (r : ℕ) (h : 0 < r) where
   measure-shift from k [] = refl
   measure-shift from k (c ∷ l) = ap (λ (n : ℕ). measure r n l) (after-shift from k c) ∙ measure-shift (columnAfter r from c) k l
 
-  -- ---- an indent: without a tab it adds its length from any column; with one it ends, from any column, a fixed rest after a multiple
+  -- ---- an indent: without a tab it adds its length from any column; with one it ends, from any column, a fixed rest
+  -- after a multiple
   abbrev Adds : List ℕ → Type 0
   Adds l = (from : ℕ) → measure r from l ≡ from + length l
 

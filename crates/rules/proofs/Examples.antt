@@ -98,7 +98,8 @@ pub further : map given others ≡ map expected others
 unfolding computing
 further = refl
 
--- the lines of the brackets that are still open: a closer that isn't its line's first character pops the newest one, and the others keep their lines
+-- the lines of the brackets that are still open: a closer that isn't its line's first character pops the newest one,
+-- and the others keep their lines
 abbrev openAfter : String → List ℕ
 openAfter s = formatWith defaults (codes s) .openBrackets
 

@@ -1,13 +1,13 @@
 -- Each line of the source is kept: the invariant of the formatter's record.
 use Prim.Native.Nat.{ℕ}
 use native.Mathlib.Omega.{arith}
-use mathlib.Core.Bool.{Bool, true, false}
+use mathlib.Core.Bool.{Bool, true}
 use mathlib.Core.List.{List, [], _∷_, _++_, flatten, foldl, append-assoc, append-nil}
 use mathlib.Core.Option.{Option, none, some}
 use mathlib.Core.Path.{_≡_, refl, sym}
 use Rattle.unicode.specs.Unicode.{isWhite, trim}
 use Rattle.unicode.proofs.Trim.{White}
-use Rattle.rules.specs.Basics.{choose, codes, isEmpty}
+use Rattle.rules.specs.Basics.{codes, isEmpty}
 use Rattle.rules.specs.Demand3.{Kept}
 use Rattle.rules.specs.Options.{Options, indentOf}
 use Rattle.rules.specs.Scan.{classify}
@@ -16,10 +16,8 @@ use Rattle.rules.specs.Words.{isMarker}
 use Rattle.rules.specs.Else.{joinElse}
 use Rattle.rules.specs.SplitImport.{Laid, splitImport}
 use Rattle.rules.specs.Line.{Formatter, asWritten, keptLine, insideLine, blankLine, protectedLine, elseLine, dropBlank, linesBefore, levelOf, oneLine, orOperation, broken, splitWide, laid, placedLine, spacedLine, codeLine, anyLine, formatLine}
-use Rattle.rules.specs.Brackets.{leadingClosers}
 use Rattle.rules.specs.Strengths.{strengthsIn}
 use Rattle.rules.specs.declared.Carry.{Carry}
-use Rattle.rules.specs.declared.Ignore.{Ignore}
 use Rattle.rules.specs.declared.PrintWidth.{PrintWidth}
 use Rattle.rules.proofs.Choose.{choose-case}
 use Rattle.rules.proofs.Struck.{Like, like-eq, like-refl, _then_, like-append, like-before, like-trim, like-trimEnd, flattenBack, flattenBack-reverse, kept-like, kept-append, kept-from, kept-to, kept-counts}

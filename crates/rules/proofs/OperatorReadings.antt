@@ -1,4 +1,5 @@
--- Each of the operators, read: an operator of the list that `top_level_ops` didn't know would fail here. Tables of strengths, read.
+-- Each of the operators, read: an operator of the list that `top_level_ops` didn't know would fail here. Tables of
+-- strengths, read.
 use mathlib.Core.List.{List, [], _∷_, map, _++_}
 use mathlib.Core.Path.{_≡_, refl}
 use Prim.Native.Nat.{ℕ}
@@ -8,7 +9,7 @@ use Rattle.rules.specs.Basics.{codes}
 use Rattle.rules.specs.Scan.{classify}
 use Rattle.rules.specs.Operators.{operators, strengths}
 use Rattle.rules.specs.Strengths.{tableLength, strengthsIn, lastBits, builtIn}
-use Rattle.rules.specs.Options.{Options, defaults}
+use Rattle.rules.specs.Options.{defaults}
 use Rattle.rules.specs.SplitOperation.{topLevelOps, loosest}
 use Rattle.rules.specs.Assembly.{formatWith}
 use Rattle.rules.specs.declared.Carry.{Carry}

@@ -10,13 +10,13 @@ use mathlib.Core.Path.{_≡_, refl, sym, ap, _∙_}
 use lib.Dec.{eqb, ltb}
 use lib.ListN.{length, take, drop, getD}
 use lib.Seq.{getD-take}
-use borrow.Author.Tests.{eqb-true, le-leb, lt-leb, ne-eqb, le-ltb}
+use borrow.Author.Tests.{eqb-true, ne-eqb, le-ltb}
 use Rattle.unicode.specs.Unicode.{tail, encodeChar, encode}
 use Rattle.unicode.proofs.Tests.{and-left, and-right, by-test}
 use Rattle.unicode.proofs.Machine.{not-tail-low, not-tail-high}
 use Rattle.unicode.proofs.Table.{Shape, one, two, three, four, shape, tail-make, Bytes, single, several, bytes}
 use Rattle.rules.specs.declared.Class.{Class}
-use Rattle.rules.specs.Basics.{choose, is, codes, at, same, oneOf, leading, startsWith, firstIs, Pieces}
+use Rattle.rules.specs.Basics.{choose, is, codes, at, same, oneOf, startsWith, firstIs, Pieces}
 use Rattle.rules.specs.Scan.{Cell, cell, charsOf, isStr}
 use Rattle.rules.specs.Operators.{operators}
 use Rattle.rules.specs.SplitOperation.{endsOperand, atomChar, atomLen, startsPair, Ops, OpStep, token, operator, escape, bracket, oneCharStep, twoCharStep, codeStep, freshStep, opStepAt, opStep, OpMark, opMark, marksFrom, noOps, topLevelOps, looser, loosest, atMark, cutBefore}

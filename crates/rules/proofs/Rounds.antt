@@ -1,4 +1,5 @@
--- The rounds that `splitOperation` gives `breakFirst` are enough: it meets the equation of the loop "while the first line is too wide, break it".
+-- The rounds that `splitOperation` gives `breakFirst` are enough: it meets the equation of the loop "while the first
+-- line is too wide, break it".
 --     rounds-enough     more rounds than the first piece's length change nothing
 --     loop-equation     one turn of the loop
 use Prim.Native.Nat.{ℕ, zero, suc, _+_, _≤_, _<_, _-_, zero-le, suc-le-suc}

@@ -1,5 +1,5 @@
--- A line's UTF-8 bytes have the classes of their characters, and leave the same open: every test of a mark is on characters below 80 hex, and a
--- character from 80 hex on leaves a mode as it is.
+-- A line's UTF-8 bytes have the classes of their characters, and leave the same open: every test of a mark is on
+-- characters below 80 hex, and a character from 80 hex on leaves a mode as it is.
 --     label, encodeCells          each character's bytes, with its class
 --     classify-encode             classify on bytes
 --     carry-encode                what is open after a line's bytes
@@ -65,8 +65,8 @@ mark-encode Mode.Line s = refl
 mark-encode (Mode.Block d) s = simp starts-encode
 mark-encode Mode.Prefab s = simp starts-encode
 
--- What is left of a mark, n characters of class k with the mode m after it, stands before s: a character from 80 hex on is its last one, and has
--- m's own class
+-- What is left of a mark, n characters of class k with the mode m after it, stands before s: a character from 80 hex on
+-- is its last one, and has m's own class
 pub Ready : ℕ → Class → Mode → List ℕ → Type 0
 Ready zero k m s = Unit {0}
 Ready (suc n) k m [] = Unit {0}
@@ -234,8 +234,8 @@ chars-encodeCells (x ∷ xs) = rw (chars-append (label (x .class) (encodeChar (x
 
 -- ---- a pass over cells
 
--- A pass f over cells and a pass g over the cells of their bytes keep a relation R of their states, if they keep it at a character below 80 hex,
--- which is its own byte, and at any other, all of whose bytes are 80 hex or more.
+-- A pass f over cells and a pass g over the cells of their bytes keep a relation R of their states, if they keep it at
+-- a character below 80 hex, which is its own byte, and at any other, all of whose bytes are 80 hex or more.
 module _
     {ℓ κ μ} {S : Type ℓ} {U : Type κ} (f : S → Cell → S) (g : U → Cell → U) (R : S → U → Type μ)
     (low : (t : S) (u : U) (c : ℕ) (k : Class) → c < 0x80 → R t u → R (f t (cell c k)) (g u (cell c k)))
@@ -257,7 +257,8 @@ module _
         rw (foldl-append g u (label (x .class) (encodeChar (x .ch))) (encodeCells xs))
         (fold-encode xs (f t x) _ (one-char (x .ch) (x .class) t u r))
 
--- ---- before the first cell that passes a test, and from it on: codePart and commentPart, and an import's parts, are this for a test each
+-- ---- before the first cell that passes a test, and from it on: codePart and commentPart, and an import's parts, are
+-- this for a test each
 
 -- the test gives one answer for all characters of a class from 80 hex on
 abbrev pub SteadyCell : (Cell → Bool) → (Class → Bool) → Type 0

@@ -1,5 +1,5 @@
--- How many bytes the lines take that one line becomes, with indents of at most 64 bytes at 1,048,577 levels and endings of at most 2: for each
--- byte of the line, and one more, at most 67,108,932.
+-- How many bytes the lines take that one line becomes, with indents of at most 64 bytes at 1,048,577 levels and endings
+-- of at most 2: for each byte of the line, and one more, at most 67,108,932.
 --     Fit                         the lines, joined in order, or put onto others
 --     import-fits                 an import that is split, and its blank names
 --     operation-fits              an expression

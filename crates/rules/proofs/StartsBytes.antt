@@ -1,4 +1,5 @@
--- Tests of a text, made on its UTF-8 bytes: a character below 80 hex is its own byte, and every byte of another is 80 hex or more.
+-- Tests of a text, made on its UTF-8 bytes: a character below 80 hex is its own byte, and every byte of another is 80
+-- hex or more.
 --     on-decode                     a law on encode l, for a well-formed list of bytes
 --     Steady                        a test that tells no two characters from 80 hex on apart
 --     starts-encode, starts-cons    startsWith, for an ASCII text; and after a first character of its own

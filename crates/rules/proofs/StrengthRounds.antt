@@ -1,5 +1,5 @@
--- No more rounds than strengths are needed to break a line of code and strings: the first piece of a break holds operators that bind tighter than
--- the one it was broken at.
+-- No more rounds than strengths are needed to break a line of code and strings: the first piece of a break holds
+-- operators that bind tighter than the one it was broken at.
 --     Plain                  a line of code and strings whose operators bind tighter than p
 --     plain-first            so is the first piece of a break, for the strength of the break
 --     rounds-known           k rounds are enough where no strength of the table is over k

@@ -1,5 +1,5 @@
--- A chain of tests in code, `if a { return true; } .. b`, against `a || .. || b` or `a && b`: `search bools depth 20` closes its returns.
--- A test is a call that gives its value, with its outcome, or a comparison of numbers.
+-- A chain of tests in code, `if a { return true; } .. b`, against `a || .. || b` or `a && b`: `search bools depth 20`
+-- closes its returns. A test is a call that gives its value, with its outcome, or a comparison of numbers.
 use Prim.Native.Nat.{ℕ}
 use mathlib.Core.Bool.{Bool, true, false, _&&_, _||_, or-false}
 use mathlib.Core.Path.{_≡_, sym, _∙_}

@@ -1,11 +1,11 @@
--- The lines that the stack's entries hold change nothing else: formatting with every one of them struck gives the same record but for them.
+-- The lines that the stack's entries hold change nothing else: formatting with every one of them struck gives the same
+-- record but for them.
 --     unaffected               of all lines of a source
 --     text-unaffected          of the finished text and both counts
 use Prim.Native.Nat.{ℕ, zero, suc, _+_}
 use mathlib.Core.Bool.{Bool, true, false, not, _&&_, _||_}
 use mathlib.Core.List.{List, [], _∷_, foldl, map}
 use mathlib.Core.Path.{_≡_, refl, sym, ap, _∙_}
-use lib.Dec.{leb}
 use lib.ListN.{length, drop, length-map}
 use Rattle.unicode.specs.Unicode.{trim}
 use Rattle.rules.specs.Basics.{choose, is, isEmpty, isOpener, isCloser}
@@ -16,10 +16,9 @@ use Rattle.rules.specs.Else.{isPlainElse, canJoin}
 use Rattle.rules.specs.Options.{Options}
 use Rattle.rules.specs.Lines.{asStr, linesOf}
 use Rattle.rules.specs.Brackets.{Entry, Open, opened, leadingClosers, push, popFrom, bracketStep, scanBrackets, levels, countBrackets}
-use Rattle.rules.specs.Line.{Formatter, start, asWritten, scannedPart, closersIn, keptStack, keptLine, protectedAfter, inBlock, blankLine, elseLine, linesBefore, levelOf, maySplit, laid, placedLine, spacedLine, protects, codeLine, inCodeNow, anyLine, formatLine}
+use Rattle.rules.specs.Line.{Formatter, start, asWritten, scannedPart, closersIn, keptStack, keptLine, blankLine, elseLine, linesBefore, levelOf, maySplit, laid, placedLine, spacedLine, protects, codeLine, inCodeNow, anyLine, formatLine}
 use Rattle.rules.specs.Assembly.{Formatted, endingOf, finish, formatLines, formatWith}
 use Rattle.rules.specs.declared.Carry.{Carry}
-use Rattle.rules.specs.declared.Ignore.{Ignore}
 
 -- an entry without its line
 abbrev bare : Entry → Entry

@@ -1,6 +1,5 @@
 -- Assembly: lines in, lines out; empty lines at the end go; the rest joined by the ending.
 use Prim.Native.Nat.{ℕ}
-use mathlib.Core.Bool.{Bool, true, false}
 use mathlib.Core.List.{List, [], _∷_, _++_, foldl}
 use Rattle.unicode.specs.Unicode.{encode, decode}
 use Rattle.rules.specs.Basics.{choose}

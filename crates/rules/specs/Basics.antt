@@ -1,10 +1,10 @@
 -- Lists of code points: quoted texts, tests, prefixes, pieces. No rule of the formatter is here.
-use Prim.Native.Nat.{ℕ, zero, suc, _+_}
+use Prim.Native.Nat.{ℕ, suc, _+_}
 use Prim.Native.Char.{Char, code}
 use Prim.Native.String.{String}
 use Prim.Native.String as S
-use mathlib.Core.Bool.{Bool, true, false, not, _&&_, _||_}
-use mathlib.Core.List.{List, [], _∷_, _++_}
+use mathlib.Core.Bool.{Bool, true, false, _&&_, _||_}
+use mathlib.Core.List.{List, [], _∷_}
 use lib.Dec.{eqb}
 use lib.ListN.{length, drop}
 use Rattle.unicode.specs.Unicode.{within}
@@ -13,7 +13,8 @@ use Rattle.unicode.specs.Unicode.{within}
 abbrev pub codes : String → List ℕ
 codes = elim [ S.[] ↦ [] | S._∷_ c (s → r) ↦ code c ∷ r ]
 
--- the first where the test passes, else the second: `cond`, but shut, so that a proof goes by cases on it without naming the test
+-- the first where the test passes, else the second: `cond`, but shut, so that a proof goes by cases on it without
+-- naming the test
 unfoldable pub choose {ℓ} : {A : Type ℓ} → Bool → A → A → A
 choose true x y = x
 choose false x y = y

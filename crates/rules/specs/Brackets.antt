@@ -33,7 +33,8 @@ push o =
     let adds = leb (o .added) (o .popped) in
     opened (o .line) (o .added + choose adds 1 0) (o .popped) false (record { adds = adds; line = o .line } ∷ o .stack)
 
--- a closer pops any opener, from any line, and the count falls by one if that added a level; on an empty stack it does nothing
+-- a closer pops any opener, from any line, and the count falls by one if that added a level; on an empty stack it does
+-- nothing
 unfoldable pub popFrom : List Entry → Open → Open
 popFrom [] o = opened (o .line) (o .added) (o .popped) false []
 popFrom (e ∷ stack) o = opened (o .line) (o .added) (o .popped + choose (e .adds) 1 0) false stack

@@ -1,4 +1,5 @@
--- A formatting call on bytes: what it gives back, and what the output, the list of open brackets and the scratch hold after it.
+-- A formatting call on bytes: what it gives back, and what the output, the list of open brackets and the scratch hold
+-- after it.
 use Prim.Native.Nat.{ℕ, _-_}
 use mathlib.Core.Bool.{Bool, not}
 use mathlib.Core.List.{List, [], _∷_, _++_}
@@ -33,7 +34,8 @@ textOf c = encode (formatted c .text)
 abbrev pub formatScratch : ℕ
 formatScratch = 12
 
--- 12, 13, 1, 2, 11, 3 and 4, of a table of strengths, a source, whether an option is bad, the ruler tab, and the scratch's length
+-- 12, 13, 1, 2, 11, 3 and 4, of a table of strengths, a source, whether an option is bad, the ruler tab, and the
+-- scratch's length
 abbrev pub formatTests : List ℕ → List ℕ → Bool → ℕ → ℕ → List Verdict
 formatTests table source bad ruler scratch =
     wrongLength table

@@ -1,4 +1,5 @@
--- Options as a host gives them: the bytes of an indent and of a table of strengths, and numbers. A number names a choice, or none.
+-- Options as a host gives them: the bytes of an indent and of a table of strengths, and numbers. A number names a
+-- choice, or none.
 use Prim.Native.Nat.{ℕ, zero, suc}
 use mathlib.Core.Bool.{Bool, true, false, _&&_}
 use mathlib.Core.List.{List}

@@ -20,7 +20,8 @@ use Rattle.rules.specs.declared.Carry.{Carry}
 use Rattle.rules.specs.declared.Ignore.{Ignore}
 use Rattle.rules.specs.declared.PrintWidth.{PrintWidth}
 
--- `number` is of the source line that is read, from 0; `lines` has the newest line first; `prev` is the previous line that is not blank
+-- `number` is of the source line that is read, from 0; `lines` has the newest line first; `prev` is the previous line
+-- that is not blank
 pub record Formatter : Type 0 where
   pub number : ℕ
   pub lines : List (List ℕ)
@@ -46,7 +47,8 @@ start =
       blankNames = 0;
     }
 
--- The record after a line that was written: the lines, the stack, the line as the previous one, what its marker protects, what it leaves open.
+-- The record after a line that was written: the lines, the stack, the line as the previous one, what its marker
+-- protects, what it leaves open.
 abbrev pub after : Formatter → List (List ℕ) → List Entry → List ℕ → Ignore → Carry → Formatter
 after f lines stack prev ignore carry =
     record {
@@ -61,7 +63,8 @@ after f lines stack prev ignore carry =
       blankNames = f .blankNames;
     }
 
--- A line that starts in code is scanned without the white space around it; one that starts inside a comment or a prefab has no leading closers.
+-- A line that starts in code is scanned without the white space around it; one that starts inside a comment or a prefab
+-- has no leading closers.
 unfoldable pub scannedPart : Carry → List ℕ → List ℕ
 scannedPart Carry.Code raw = trim raw
 scannedPart (Carry.Block d) raw = raw
@@ -76,8 +79,9 @@ closersIn Carry.Prefab raw = 0
 unfoldable pub keptStack : Formatter → List ℕ → List Entry
 keptStack f raw = countBrackets (f .number) (closersIn (f .carry) raw) (classify (f .carry) (scannedPart (f .carry) raw)) (f .stack)
 
--- A lone marker protects the next line that is not blank and, if that leaves more brackets open than before it, every line up to and with
--- the first that ends with the earlier count or below. A marker on a protected line protects nothing.
+-- A lone marker protects the next line that is not blank and, if that leaves more brackets open than before it, every
+-- line up to and with the first that ends with the earlier count or below. A marker on a protected line protects
+-- nothing.
 unfoldable pub blockAfter : ℕ → ℕ → Ignore
 blockAfter earlier now = choose (ltb earlier now) (Ignore.Block earlier) Ignore.Nothing
 
@@ -136,8 +140,8 @@ dropBlank ((c ∷ cs) ∷ ls) = (c ∷ cs) ∷ ls
 unfoldable pub linesBefore : Formatter → List ℕ → List (List ℕ)
 linesBefore f line = choose (isEmpty (f .stack) && sameDeclaration line (f .prev)) (dropBlank (f .lines)) (f .lines)
 
--- The line continues the one before: it has no leading closers, and starts with the word `then`, with `else` after a line not ending in `}`,
--- with a binary operator, or with `.` but not `...`.
+-- The line continues the one before: it has no leading closers, and starts with the word `then`, with `else` after a
+-- line not ending in `}`, with a binary operator, or with `.` but not `...`.
 unfoldable pub continues : List ℕ → List ℕ → Bool
 continues prev line =
     eqb (leadingClosers line) 0

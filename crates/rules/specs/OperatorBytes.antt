@@ -1,5 +1,5 @@
--- Operators, as the code finds them on a line's bytes. `topLevelOps` itself would take the tail bytes of an escaped longer character for
--- ordinary characters, so a byte that is a tail changes nothing here.
+-- Operators, as the code finds them on a line's bytes. `topLevelOps` itself would take the tail bytes of an escaped
+-- longer character for ordinary characters, so a byte that is a tail changes nothing here.
 use Prim.Native.Nat.{ℕ}
 use mathlib.Core.List.{List, [], _∷_}
 use Rattle.unicode.specs.Unicode.{tail}

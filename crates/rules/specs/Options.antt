@@ -85,8 +85,8 @@ maxRuler = 16
 abbrev pub nextStop : ℕ → ℕ → ℕ
 nextStop ruler from = (from / ruler + 1) * ruler
 
--- The column after a character that stands at column `from`: a tab goes to the next multiple of the ruler. At ruler 0 it adds its UTF-16 units,
--- as every other character does.
+-- The column after a character that stands at column `from`: a tab goes to the next multiple of the ruler. At ruler 0
+-- it adds its UTF-16 units, as every other character does.
 unfoldable pub columnAfter : ℕ → ℕ → ℕ → ℕ
 columnAfter ruler from c = choose (ltb 0 ruler && is "\t" c) (nextStop ruler from) (from + units c)
 

@@ -1,4 +1,5 @@
--- Who can get a call turned away: the refusals' numbers and places, how they are tested, and the tests that several calls share.
+-- Who can get a call turned away: the refusals' numbers and places, how they are tested, and the tests that several
+-- calls share.
 use Prim.Native.Nat.{ℕ, _+_, _*_}
 use mathlib.Core.Bool.{Bool, not}
 use mathlib.Core.List.{List, [], _∷_}

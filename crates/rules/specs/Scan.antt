@@ -1,5 +1,5 @@
--- scan.rs: what each character of a line is part of, and what is still open after the line.
--- A line is read as a row of marks, from left to right. `markAt m s` is the mark at the head of s in mode m: how many characters it has after its
+-- scan.rs: what each character of a line is part of, and what is still open after the line. A line is read as a row of
+-- marks, from left to right. `markAt m s` is the mark at the head of s in mode m: how many characters it has after its
 -- first, what they are part of, and the mode after it.
 use Prim.Native.Nat.{ℕ, zero, suc, _+_, _-_}
 use mathlib.Core.Bool.{Bool, true, false, _&&_}

@@ -1,7 +1,7 @@
--- Spacing (normalize_spacing): one step for each character. In code, spaces and tabs before a comma go, after it stands one space, but none before
--- a closer or at the end; runs of spaces become one; an escaped pair is copied.
+-- Spacing (normalize_spacing): one step for each character. In code, spaces and tabs before a comma go, after it stands
+-- one space, but none before a closer or at the end; runs of spaces become one; an escaped pair is copied.
 use Prim.Native.Nat.{ℕ}
-use mathlib.Core.Bool.{Bool, true, false, _&&_}
+use mathlib.Core.Bool.{_&&_}
 use mathlib.Core.List.{List, [], _∷_, _++_, foldl}
 use Rattle.rules.specs.Basics.{choose, is, codes, isBlank, isCloser}
 use Rattle.rules.specs.Scan.{Cell, isCode, classify}

@@ -1,7 +1,7 @@
 -- split_import: the names of an over-wide import, refilled over lines.
 use Prim.Native.Nat.{ℕ, suc, _+_}
 use Prim.Native.Char.{Char}
-use mathlib.Core.Bool.{Bool, true, false, not, _&&_}
+use mathlib.Core.Bool.{Bool, true, not, _&&_}
 use mathlib.Core.List.{List, [], _∷_, _++_, foldl, reverse}
 use mathlib.Core.Option.{Option, none, some}
 use lib.Dec.{leb}

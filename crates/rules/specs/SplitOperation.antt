@@ -12,7 +12,8 @@ use Rattle.rules.specs.Operators.{operators, indexIn}
 use Rattle.rules.specs.Options.{Options, indentOf, overWide}
 use Rattle.rules.specs.declared.Carry.{Carry}
 
--- A table has a strength for each of the operators, in their order; 0 means never break there. The rules take it as given.
+-- A table has a strength for each of the operators, in their order; 0 means never break there. The rules take it as
+-- given.
 unfoldable pub precedence : List ℕ → List ℕ → ℕ
 precedence table op = getD table (indexIn operators op) 0
 
@@ -28,8 +29,8 @@ atomChar c = isIdent c || is "-" c
 abbrev pub atomLen : List ℕ → ℕ
 atomLen l = leading atomChar l
 
--- Before a character: brackets opened and closed so far, whether an operand ends here, an escape, and how many more characters belong to the
--- token before.
+-- Before a character: brackets opened and closed so far, whether an operand ends here, an escape, and how many more
+-- characters belong to the token before.
 pub record Ops : Type 0 where
   pub opened : ℕ
   pub closed : ℕ
@@ -65,8 +66,9 @@ bracket opened closed operand =
 unfoldable pub isSign : ℕ → Bool
 isSign c = is "+" c || is "-" c
 
--- An operator of one character: one of `+ - * / % & | ^`, and also `<` and `>`, whose `=` 01 doesn't name: `<=` and `>=` are operators of
--- two characters, and were read before. With `=` after it, it is none; nor is a sign where no operand ends.
+-- An operator of one character: one of `+ - * / % & | ^`, and also `<` and `>`, whose `=` 01 doesn't name: `<=` and
+-- `>=` are operators of two characters, and were read before. With `=` after it, it is none; nor is a sign where no
+-- operand ends.
 unfoldable pub oneCharStep : List ℕ → Ops → ℕ → List ℕ → OpStep
 oneCharStep table s c cs =
     choose (not (oneOf operators (c ∷ []))) (token s (endsOperand c) 0)

@@ -43,8 +43,8 @@ pub enum Gap {
     Space,
 }
 
-// What a marker protects: nothing, the next line that is not blank, or a block up to and with the first line that leaves so many brackets open or
-// fewer.
+// What a marker protects: nothing, the next line that is not blank, or a block up to and with the first line that
+// leaves so many brackets open or fewer.
 pub enum Ignore {
     Nothing,
     NextLine,
@@ -85,8 +85,8 @@ pub enum FinalNewline {
     Never,
 }
 
-// The strengths of the operators, 4 bits for each, the most significant of a byte first, in the order of document 01's tightness list; then four
-// zero bits. 0 means never break there.
+// The strengths of the operators, 4 bits for each, the most significant of a byte first, in the order of document 01's
+// tightness list; then four zero bits. 0 means never break there.
 pub struct Strengths {
     pub table: [u8; Strengths::LENGTH],
 }
@@ -112,9 +112,9 @@ impl Strengths {
     };
 }
 
-// Options as a host gives them in numbers, beside the bytes of its indent. width_set: 0 no print width, 1 the width given.
-// line_ending: 0 kept, 1 LF, 2 CRLF. final_newline: 0 as the source, 1 always, 2 never. ruler_tab: 0 a tab is one column,
-// else how far apart the ruler's tab stops are.
+// Options as a host gives them in numbers, beside the bytes of its indent. width_set: 0 no print width, 1 the width
+// given. line_ending: 0 kept, 1 LF, 2 CRLF. final_newline: 0 as the source, 1 always, 2 never. ruler_tab: 0 a tab is
+// one column, else how far apart the ruler's tab stops are.
 pub struct OptionNumbers {
     pub width_set: u64,
     pub width: u64,

@@ -1,6 +1,6 @@
 -- What a line's class bytes say of it: the code's way to ask for `codePart`, `commentPart` and `allCodeOrStr`.
-use Prim.Native.Nat.{ℕ, suc, _+_, _<_}
-use mathlib.Core.Bool.{Bool, true, false, _&&_}
+use Prim.Native.Nat.{ℕ, suc}
+use mathlib.Core.Bool.{Bool, true, _&&_}
 use mathlib.Core.List.{List, [], _∷_}
 use mathlib.Core.Path.{_≡_}
 use lib.Dec.{eqb}

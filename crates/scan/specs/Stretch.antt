@@ -1,6 +1,6 @@
 -- What the functions that read a stretch of a line ask of their caller, and what they do.
 use Prim.Native.Nat.{ℕ, _+_, _^_, _<_, _≤_}
-use mathlib.Core.Bool.{Bool, true, false, _||_}
+use mathlib.Core.Bool.{Bool, _||_}
 use mathlib.Core.Path.{_≡_}
 use mathlib.Core.List.{List, _++_}
 use lib.ListN.{length, take, drop, getD}
@@ -53,8 +53,9 @@ pub record Moved (line : List ℕ) (a : ℕ) (before : List ℕ) (e : ℕ) (afte
   pub within : e ≤ length line
   pub as-long : length after ≡ length before
 
--- The mark t stands before place a of the line. From there to place e the class bytes were written, and u is the mark before e: the classes of the
--- rest of the line, and what is open after it, are those that follow u. Nothing is written past the line.
+-- The mark t stands before place a of the line. From there to place e the class bytes were written, and u is the mark
+-- before e: the classes of the rest of the line, and what is open after it, are those that follow u. Nothing is written
+-- past the line.
 pub record Scanned (line : List ℕ) (t : Mark) (a : ℕ) (before : List ℕ) (u : Mark) (e : ℕ) (after : List ℕ) : Type 0 where
   pub moved : Moved line a before e after
   pub bytes : take a before ++ classBytes (scan t (drop a line)) ≡ take e after ++ classBytes (scan u (drop e line))
@@ -81,7 +82,8 @@ pub record DollarRead (line : List ℕ) (a : ℕ) (before : List ℕ) (e : ℕ) 
   pub moved : Moved line (a + 1) before e after
   pub scanned : (q : Bool) → Scanned line (fresh (Mode.Quoted q)) a before (fresh (Mode.Quoted q)) e after
 
--- The same between places where code, a comment or a prefab begins or goes on; and no more comments are opened than there are bytes.
+-- The same between places where code, a comment or a prefab begins or goes on; and no more comments are opened than
+-- there are bytes.
 pub record Stretch (line : List ℕ) (y : Carry) (a : ℕ) (before : List ℕ) (r : Stop) (after : List ℕ) : Type 0 where
   pub scanned : Scanned line (begin y) a before (begin (r .carry)) (r .at) after
   pub further : a < r .at

@@ -1,6 +1,6 @@
-// What each byte of a line is part of: code, a string, a comment, or a prefab.
-// Code, a block comment and a prefab have a function each, which reads on until another of them begins or the line ends. Strings and `//` comments
-// end with their line, so they are read within code.
+// What each byte of a line is part of: code, a string, a comment, or a prefab. Code, a block comment and a prefab have
+// a function each, which reads on until another of them begins or the line ends. Strings and `//` comments end with
+// their line, so they are read within code.
 ghost use mathlib.Core.Path.{_≡_};
 ghost use mathlib.Core.Bool.{not};
 ghost use mathlib.Core.List.{_∷_, []};
@@ -41,7 +41,8 @@ fn starts_in_code(b: u8) -> bool
     (b == b'\\') | (b == b'"') | (b == b'\'') | (b == b'/') | (b == b'$')
 }
 
-// Whether none of the eight bytes from `at` on can start something in code. It makes no branch, so that the eight are tested at once.
+// Whether none of the eight bytes from `at` on can start something in code. It makes no branch, so that the eight are
+// tested at once.
 fn quiet(line: &[u8], at: usize) -> bool
     requires { ⌜ at + 8 ≤ length (now line) ⌝ }
     ensures { λ r. ⌜ NoneAmong (startsAt (now (line .entry))) at 8 (not r) ⌝ }
@@ -182,7 +183,8 @@ fn dollar(line: &[u8], at: usize, class: &mut [u8]) -> usize
 // In a string: past the quote that ends it.
 fn quoted(line: &[u8], at: usize, q: bool, class: &mut [u8]) -> usize
     requires { ⌜ Room (now line) at (now class) ⌝ }
-    ensures { λ r. ⌜ Scanned (now (line .entry)) (fresh (Mode.Quoted q)) at (now (class .entry)) (fresh Mode.Code) r (now (class .exit)) ⌝ }
+    ensures { λ r. ⌜ Scanned (now (line .entry)) (fresh (Mode.Quoted q)) at (now (class .entry)) (fresh Mode.Code) r
+        (now (class .exit)) ⌝ }
 {
     let end = quote_of(q);
     let mut i = at;
@@ -297,7 +299,8 @@ fn start(line: &[u8], at: usize, class: &mut [u8]) -> Stop
 // Bytes of code that start nothing, eight at a time.
 fn eights(line: &[u8], at: usize, class: &mut [u8]) -> usize
     requires { ⌜ Room (now line) at (now class) ⌝ }
-    ensures { λ r. ⌜ Scanned (now (line .entry)) (fresh Mode.Code) at (now (class .entry)) (fresh Mode.Code) r (now (class .exit)) ⌝ }
+    ensures { λ r. ⌜ Scanned (now (line .entry)) (fresh Mode.Code) at (now (class .entry)) (fresh Mode.Code) r
+        (now (class .exit)) ⌝ }
 {
     let mut i = at;
     while line.len() - i >= 8 {
@@ -315,7 +318,8 @@ fn eights(line: &[u8], at: usize, class: &mut [u8]) -> usize
 // Bytes of code that start nothing, one at a time.
 fn ones(line: &[u8], at: usize, class: &mut [u8]) -> usize
     requires { ⌜ Room (now line) at (now class) ⌝ }
-    ensures { λ r. ⌜ Scanned (now (line .entry)) (fresh Mode.Code) at (now (class .entry)) (fresh Mode.Code) r (now (class .exit)) ⌝ }
+    ensures { λ r. ⌜ Scanned (now (line .entry)) (fresh Mode.Code) at (now (class .entry)) (fresh Mode.Code) r
+        (now (class .exit)) ⌝ }
 {
     let mut i = at;
     while i < line.len() {

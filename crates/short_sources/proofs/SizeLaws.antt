@@ -33,7 +33,7 @@ use Rattle.rules.proofs.Choose.{choose-case, choose-false}
 use Rattle.rules.proofs.CellsLaws.{length-classify}
 use Rattle.rules.proofs.ScanBytes.{chars-classify}
 use Rattle.rules.proofs.SpacingBytes.{spacing-bound}
-use Rattle.rules.proofs.SpacedLine.{brackets-height, count-height, count-length, height-spaced}
+use Rattle.rules.proofs.SpacedLine.{count-height, count-length, height-spaced}
 use Rattle.line_ends.proofs.LineCuts.{cr-fits}
 
 -- ---- characters, units and bytes

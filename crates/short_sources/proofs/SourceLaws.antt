@@ -4,7 +4,7 @@
 use Prim.Native.Nat.{ℕ, zero, suc, _≤_, _<_}
 use native.Mathlib.Nat.{not-suc-le-zero, le-of-suc-le-suc}
 use native.Mathlib.Omega.{arith}
-use mathlib.Core.Bool.{true, not}
+use mathlib.Core.Bool.{true}
 use mathlib.Core.List.{List, [], _∷_}
 use mathlib.Core.Path.{_≡_, refl, ap, _∙_}
 use lib.ListN.{length, getD, take}
@@ -23,9 +23,7 @@ use Rattle.rules.specs.Refusals.{maxSource, scratchNeeded, refuseIf, tested, wr
 use Rattle.rules.specs.Strengths.{builtIn, fieldsOf, lastBits}
 use Rattle.rules.specs.Choices.{defaultNumbers, printWidthNamed, endOfLineNamed, finalNewlineNamed, isNamed, validOptions, optionsOf}
 use Rattle.rules.specs.Call.{Call, formatScratch, formatted, textOf, verdictOf, outcomeOf, answerOf}
-use Rattle.rules.specs.declared.Outcome.{Outcome}
 use Rattle.rules.specs.declared.Answer.{Answer}
-use Rattle.rules.proofs.Choose.{choose-false}
 use Rattle.rules.proofs.StartsBytes.{allAscii}
 use Rattle.rules.proofs.CallLaws.{delivered}
 use Rattle.call.specs.Ran.{callOf}

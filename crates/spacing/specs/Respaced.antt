@@ -89,9 +89,10 @@ pub record Keeping (line ks : List ℕ) (i : ℕ) : Type 0 where
   pub within : i ≤ length line
   pub same : normalizeSpacing (cellsOf line ks) ≡ respacedFrom line ks i
 
--- The tests of a byte of which spacing may change something: a blank before a comma; in code a backslash, two spaces, or a comma without a space of
--- code and something after it that is no blank and no closer. b, s, c, e: the byte is a blank, a space, a comma, a backslash; n, d: the next is a space,
--- a comma; m: the one after that is a blank or a closer; k, l: the byte, and the next, are of code.
+-- The tests of a byte of which spacing may change something: a blank before a comma; in code a backslash, two spaces,
+-- or a comma without a space of code and something after it that is no blank and no closer. b, s, c, e: the byte is a
+-- blank, a space, a comma, a backslash; n, d: the next is a space, a comma; m: the one after that is a blank or a
+-- closer; k, l: the byte, and the next, are of code.
 unfoldable pub sieve : Bool → Bool → Bool → Bool → Bool → Bool → Bool → Bool → Bool → Bool
 sieve b d k e s n c l m = (b && d) || (k && ((e || (s && n)) || (c && ((not n || not l) || m))))
 

@@ -52,7 +52,8 @@ fn trim_blanks(scratch: &[u8], at: usize, n: usize) -> usize
 // One byte more after the text's n bytes.
 fn put(c: u8, gap: Gap, scratch: &mut [u8], at: usize, n: usize) -> Respaced
     requires { ⌜ at + n < length (now scratch) ⌝ }
-    ensures { λ r. ⌜ Wrote (spaced (textAt (now (scratch .entry)) at n ++ (c ∷ [])) gap) 1 (now (scratch .entry)) at n (now (scratch .exit)) r ⌝ }
+    ensures { λ r. ⌜ Wrote (spaced (textAt (now (scratch .entry)) at n ++ (c ∷ [])) gap) 1 (now (scratch .entry)) at n
+        (now (scratch .exit)) r ⌝ }
 {
     scratch[at + n] = c;
     Respaced { len: n + 1, gap }
@@ -61,7 +62,8 @@ fn put(c: u8, gap: Gap, scratch: &mut [u8], at: usize, n: usize) -> Respaced
 // A byte c of class k before which nothing is added or left out, but that blanks go before a comma.
 fn put_plain(c: u8, k: u8, scratch: &mut [u8], at: usize, n: usize) -> Respaced
     requires { ⌜ at + n < length (now scratch) ⌝ }
-    ensures { λ r. ⌜ Wrote (putPlain (textAt (now (scratch .entry)) at n) (cell c (classOf k))) 1 (now (scratch .entry)) at n (now (scratch .exit)) r ⌝ }
+    ensures { λ r. ⌜ Wrote (putPlain (textAt (now (scratch .entry)) at n) (cell c (classOf k))) 1 (now (scratch .entry))
+        at n (now (scratch .exit)) r ⌝ }
 {
     if k != 0 {
         return put(c, Gap::Nothing, scratch, at, n);
@@ -82,7 +84,8 @@ fn put_plain(c: u8, k: u8, scratch: &mut [u8], at: usize, n: usize) -> Respaced
 // A space, and then the byte.
 fn put_apart(c: u8, k: u8, scratch: &mut [u8], at: usize, n: usize) -> Respaced
     requires { ⌜ at + n + 1 < length (now scratch) ⌝ }
-    ensures { λ r. ⌜ Wrote (putPlain (textAt (now (scratch .entry)) at n ++ (32 ∷ [])) (cell c (classOf k))) 2 (now (scratch .entry)) at n (now (scratch .exit)) r ⌝ }
+    ensures { λ r. ⌜ Wrote (putPlain (textAt (now (scratch .entry)) at n ++ (32 ∷ [])) (cell c (classOf k))) 2
+        (now (scratch .entry)) at n (now (scratch .exit)) r ⌝ }
 {
     scratch[at + n] = b' ';
     put_plain(c, k, scratch, at, n + 1)
@@ -91,7 +94,8 @@ fn put_apart(c: u8, k: u8, scratch: &mut [u8], at: usize, n: usize) -> Respaced
 // After a comma: blanks of code go, and one space stands before anything but a closer.
 fn put_after_comma(c: u8, k: u8, scratch: &mut [u8], at: usize, n: usize) -> Respaced
     requires { ⌜ at + n + 1 < length (now scratch) ⌝ }
-    ensures { λ r. ⌜ Wrote (putAfterComma (textAt (now (scratch .entry)) at n) (cell c (classOf k))) 2 (now (scratch .entry)) at n (now (scratch .exit)) r ⌝ }
+    ensures { λ r. ⌜ Wrote (putAfterComma (textAt (now (scratch .entry)) at n) (cell c (classOf k))) 2
+        (now (scratch .entry)) at n (now (scratch .exit)) r ⌝ }
 {
     if is_code_blank(c, k) {
         return Respaced {
@@ -108,7 +112,8 @@ fn put_after_comma(c: u8, k: u8, scratch: &mut [u8], at: usize, n: usize) -> Res
 // After a space: another goes.
 fn put_after_space(c: u8, k: u8, scratch: &mut [u8], at: usize, n: usize) -> Respaced
     requires { ⌜ at + n + 1 < length (now scratch) ⌝ }
-    ensures { λ r. ⌜ Wrote (putAt Gap.Space (textAt (now (scratch .entry)) at n) (cell c (classOf k))) 2 (now (scratch .entry)) at n (now (scratch .exit)) r ⌝ }
+    ensures { λ r. ⌜ Wrote (putAt Gap.Space (textAt (now (scratch .entry)) at n) (cell c (classOf k))) 2
+        (now (scratch .entry)) at n (now (scratch .exit)) r ⌝ }
 {
     if c == b' ' {
         return Respaced {
@@ -122,7 +127,8 @@ fn put_after_space(c: u8, k: u8, scratch: &mut [u8], at: usize, n: usize) -> Res
 // A byte c of class k after the text t.
 fn put_next(c: u8, k: u8, scratch: &mut [u8], at: usize, t: Respaced) -> Respaced
     requires { ⌜ at + t .len + 1 < length (now scratch) ⌝ }
-    ensures { λ r. ⌜ Wrote (putAt (t .gap) (textAt (now (scratch .entry)) at (t .len)) (cell c (classOf k))) 2 (now (scratch .entry)) at (t .len) (now (scratch .exit)) r ⌝ }
+    ensures { λ r. ⌜ Wrote (putAt (t .gap) (textAt (now (scratch .entry)) at (t .len)) (cell c (classOf k))) 2
+        (now (scratch .entry)) at (t .len) (now (scratch .exit)) r ⌝ }
 {
     let n = t.len;
     let gap = t.gap;
@@ -134,7 +140,8 @@ fn put_next(c: u8, k: u8, scratch: &mut [u8], at: usize, t: Respaced) -> Respace
     }
 }
 
-// Whether c goes on as it is, whatever its class: nothing is remembered, and c is none of the bytes that spacing is about.
+// Whether c goes on as it is, whatever its class: nothing is remembered, and c is none of the bytes that spacing is
+// about.
 fn is_plain(c: u8, gap: Gap) -> bool
     ensures { λ r. ⌜ Plain c gap r ⌝ }
 {
@@ -202,10 +209,13 @@ fn is_dropped(c: u8, gap: Gap) -> bool
     }
 }
 
-// Writes the respaced line into scratch from out_at on, and gives its length. The line's class bytes stand in scratch from class_at on.
+// Writes the respaced line into scratch from out_at on, and gives its length. The line's class bytes stand in scratch
+// from class_at on.
 pub fn normalize_spacing(line: &[u8], scratch: &mut [u8], class_at: usize, out_at: usize) -> usize
     requires { ⌜ Place (now scratch) (length (now line)) «class_at» «out_at» ⌝ }
-    ensures { λ r. ⌜ Normalized (cellsOf (now (line .entry)) (part (now (scratch .entry)) «class_at» («class_at» + length (now (line .entry))))) (now (scratch .entry)) (now (scratch .exit)) «out_at» (length (now (line .entry))) r ⌝ }
+    ensures { λ r. ⌜ Normalized (cellsOf (now (line .entry))
+        (part (now (scratch .entry)) «class_at» («class_at» + length (now (line .entry))))) (now (scratch .entry))
+        (now (scratch .exit)) «out_at» (length (now (line .entry))) r ⌝ }
 {
     let mut t = Respaced {
         len: 0,
@@ -231,7 +241,8 @@ pub fn normalize_spacing(line: &[u8], scratch: &mut [u8], class_at: usize, out_a
     t.len
 }
 
-// ---- a line that is spaced already. Each function tells how many bytes from i on stand as spacing leaves them, given that those before do;
+// ---- a line that is spaced already. Each function tells how many bytes from i on stand as spacing leaves them, given
+// that those before do;
 // 0 if it can't tell.
 
 // A space of code: no space follows.
@@ -353,8 +364,8 @@ fn kept_at(line: &[u8], class: &[u8], i: usize) -> usize
     1
 }
 
-// Whether spacing may change something of the byte x of class k, which y of class l and z follow. It makes no branch, so that many bytes are tested
-// at once.
+// Whether spacing may change something of the byte x of class k, which y of class l and z follow. It makes no branch,
+// so that many bytes are tested at once.
 fn is_odd(x: u8, y: u8, z: u8, k: u8, l: u8) -> bool
     ensures { λ r. ⌜ r ≡ odd x y z k l ⌝ }
 {

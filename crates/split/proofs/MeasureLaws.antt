@@ -1,6 +1,6 @@
 -- Laws on columns and on parts of a line.
 use Prim.Native.Nat.{ℕ, zero, suc, _+_, _-_, _*_, _%_, _^_, _≤_, _<_}
-use mathlib.Core.Bool.{true, false}
+use mathlib.Core.Bool.{false}
 use mathlib.Core.List.{List, [], _∷_, _++_, append-nil}
 use mathlib.Core.Path.{_≡_, refl, sym, ap, _∙_, subst}
 use native.Mathlib.Numerals.{add-one}
@@ -18,13 +18,12 @@ use Rattle.unicode.specs.Unicode.{isScalar, Scalars, encodeChar, encode, decode
 use Rattle.unicode.specs.Places.{unitsOf, TrimmedStart, TrimmedEnd}
 use Rattle.unicode.proofs.Tests.{by-test}
 use Rattle.unicode.proofs.Table.{High, also, Bytes, single, several}
-use Rattle.unicode.proofs.Table.{bytes as bytes-of}
 use Rattle.unicode.proofs.Bytewise.{total, width-bytes, width-nil, width-cons}
 use Rattle.unicode.proofs.Decode.{Ascii, ascii-append, encode-nil, encode-cons, encode-ascii, size-append, decode-ascii, decode-encode, decode-scalars, wf-ascii, wf-encode}
 use Rattle.rules.proofs.Choose.{choose-true, choose-false}
 use Rattle.rules.proofs.Columns.{stop-left-over, after-tab, after-other, measure-append, measure-zero, measure-short, measure-grows, indent-levels}
 use Rattle.rules.proofs.SplitSizes.{blank-ascii}
-use Rattle.rules.specs.Options.{allBlank, nextStop, columnAfter, measure}
+use Rattle.rules.specs.Options.{columnAfter, measure}
 use Rattle.split.specs.Measure.{byteAfter, ByteMeasured, Measurable, Measured, Indent, IndentMeasured, Wide, Within, Trimmed}
 
 -- ---- columns, byte by byte

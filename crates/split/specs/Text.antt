@@ -59,12 +59,14 @@ pub record LineWritten (eol l model out out′ : List ℕ) (at : ℕ) (r : NewLi
   pub text : Compared model out out′ at (eol ++ l) (r .next)
   pub start : r .start + length l ≡ r .next
 
--- the lines stand in the text from the place `at` on, joined in order; the last of them starts at the place `last`, and `next` is the next place
+-- the lines stand in the text from the place `at` on, joined in order; the last of them starts at the place `last`, and
+-- `next` is the next place
 pub record Written (eol : List ℕ) (lines : List (List ℕ)) (model out out′ : List ℕ) (at last next : ℕ) : Type 0 where
   pub text : Compared model out out′ at (encode (joined eol (reverse lines))) next
   pub ends : last + size (firstOf (reverse lines)) ≡ next
 
--- what a line's text can take, for each of its bytes and one more: an indent of 64 bytes at 1,048,577 levels and a line ending are less
+-- what a line's text can take, for each of its bytes and one more: an indent of 64 bytes at 1,048,577 levels and a line
+-- ending are less
 abbrev pub lineRoom : ℕ
 lineRoom = 134217728
 

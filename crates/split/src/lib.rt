@@ -1,5 +1,5 @@
-// What the splits by import and by operators share: columns, parts without the white space around them, a line written after others.
-ghost use mathlib.Core.Path.{_≡_};
+// What the splits by import and by operators share: columns, parts without the white space around them, a line written
+// after others.
 ghost use Prim.Native.Nat.{_+_, _<_, _^_};
 ghost use lib.ListN.{length};
 ghost use Rattle.unicode.specs.Unicode.{WellFormed};
@@ -10,7 +10,8 @@ use rules::LineEnding;
 use rules::Strengths;
 use unicode::Utf16Column;
 
-// How a line is laid out: at which level, in which width, with which ruler tab, and where it is broken the line ending and the strengths of the operators.
+// How a line is laid out: at which level, in which width, with which ruler tab, and where it is broken the line ending
+// and the strengths of the operators.
 pub struct Layout {
     pub level: usize,
     pub max: Utf16Column,
@@ -19,7 +20,8 @@ pub struct Layout {
     pub strengths: Strengths,
 }
 
-// The column after a byte, at a ruler above 0: a tab goes to the next multiple, other bytes add the units of the character that they start.
+// The column after a byte, at a ruler above 0: a tab goes to the next multiple, other bytes add the units of the
+// character that they start.
 fn column_after(ruler: u8, from: usize, b: u8) -> usize
     requires { ⌜ (0 < ruler) × (from + 256 < 2 ^ 64) ⌝ }
     ensures { λ r. ⌜ ByteMeasured ruler from b r ⌝ }
@@ -57,7 +59,8 @@ pub fn measure_from(ruler: u8, from: Utf16Column, part: &[u8]) -> Utf16Column
     measure_tabs(ruler, from, part)
 }
 
-// The column after an indent of so many levels, at a ruler above 0: each level after the first adds what the second adds.
+// The column after an indent of so many levels, at a ruler above 0: each level after the first adds what the second
+// adds.
 fn indent_tabs(ruler: u8, indent: &[u8], levels: usize) -> Utf16Column
     requires { ⌜ (0 < ruler) × Indent (now indent) levels ⌝ }
     ensures { λ r. ⌜ IndentMeasured ruler (now (indent .entry)) levels (r .0) ⌝ }
@@ -92,7 +95,8 @@ fn measured_wide(s: Layout, indent: &[u8], line: &[u8]) -> bool
     s.max.0 < end.0
 }
 
-// The same. A character takes no more columns than bytes, a tab at most the ruler more, so that most lines are not measured.
+// The same. A character takes no more columns than bytes, a tab at most the ruler more, so that most lines are not
+// measured.
 pub fn over_wide(s: Layout, indent: &[u8], line: &[u8]) -> bool
     requires { ⌜ Indent (now indent) (s .level) ⌝ }
     requires { ⌜ WellFormed (now line) × (length (now line) < 2 ^ 31) ⌝ }
@@ -141,7 +145,8 @@ pub fn write_line(
     line: &[u8],
 ) -> NewLine
     requires { ⌜ LineRoom (asStr (s .ending)) (now indent) (s .level) (now line) at ⌝ }
-    ensures { λ r. ⌜ LineWritten (asStr (s .ending)) (lay (now (indent .entry)) (s .level) (now (line .entry))) (now (model .entry)) (now (out .entry)) (now (out .exit)) at r ⌝ }
+    ensures { λ r. ⌜ LineWritten (asStr (s .ending)) (lay (now (indent .entry)) (s .level) (now (line .entry)))
+        (now (model .entry)) (now (out .entry)) (now (out .exit)) at r ⌝ }
 {
     let ending = s.ending;
     let start = text::append_ending(model, out, at, ending);

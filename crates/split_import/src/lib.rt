@@ -27,7 +27,8 @@ use split::trim_part;
 use split::write_line;
 use unicode::Utf16Column;
 
-// The lines that an import is split into, written: the next place, where the last line starts, and how many blank names are dropped.
+// The lines that an import is split into, written: the next place, where the last line starts, and how many blank names
+// are dropped.
 pub struct ImportLines {
     pub next: usize,
     pub last: usize,
@@ -124,7 +125,8 @@ fn count_names(s: &[u8]) -> Names
 // A name, and its comma, after others on its line.
 fn put_name(model: &[u8], out: &mut [u8], at: usize, name: &[u8]) -> usize
     requires { ⌜ at + (length (now name) + 2) < 2 ^ 64 ⌝ }
-    ensures { λ r. ⌜ Compared (now (model .entry)) (now (out .entry)) (now (out .exit)) at (32 ∷ (now (name .entry) ++ 44 ∷ [])) r ⌝ }
+    ensures { λ r. ⌜ Compared (now (model .entry)) (now (out .entry)) (now (out .exit)) at
+        (32 ∷ (now (name .entry) ++ 44 ∷ [])) r ⌝ }
 {
     let n = compare::append(model, out, at, b" ");
     let m = compare::append(model, out, n, name);
@@ -134,7 +136,8 @@ fn put_name(model: &[u8], out: &mut [u8], at: usize, name: &[u8]) -> usize
 // A name, and its comma, on a line of its own.
 fn put_line(model: &[u8], out: &mut [u8], at: usize, s: Layout, indent: &[u8], name: &[u8]) -> usize
     requires { ⌜ NamePlace (asStr (s .ending)) (now indent) (s .level) (now name) at ⌝ }
-    ensures { λ r. ⌜ Compared (now (model .entry)) (now (out .entry)) (now (out .exit)) at (asStr (s .ending) ++ lay (now (indent .entry)) (s .level) (now (name .entry) ++ 44 ∷ [])) r ⌝ }
+    ensures { λ r. ⌜ Compared (now (model .entry)) (now (out .entry)) (now (out .exit)) at
+        (asStr (s .ending) ++ lay (now (indent .entry)) (s .level) (now (name .entry) ++ 44 ∷ [])) r ⌝ }
 {
     let ending = s.ending;
     let n = text::append_ending(model, out, at, ending);
@@ -166,7 +169,8 @@ fn new_line(
     name: &[u8],
 ) -> Filled
     requires { ⌜ NameFits (now indent) (s .level) (asStr (s .ending)) (now name) f ⌝ }
-    ensures { λ r. ⌜ OnNewLine (s .ruler) (now (indent .entry)) (s .level) (asStr (s .ending)) (now (name .entry)) (now (model .entry)) (now (out .entry)) (now (out .exit)) f r ⌝ }
+    ensures { λ r. ⌜ OnNewLine (s .ruler) (now (indent .entry)) (s .level) (asStr (s .ending)) (now (name .entry))
+        (now (model .entry)) (now (out .entry)) (now (out .exit)) f r ⌝ }
 {
     let column = name_column(s.ruler, indent_column(s.ruler, indent, s.level), name);
     Filled {
@@ -186,7 +190,8 @@ fn add_name(
     name: &[u8],
 ) -> Filled
     requires { ⌜ NameFits (now indent) (s .level) (asStr (s .ending)) (now name) f ⌝ }
-    ensures { λ r. ⌜ Added (s .ruler) (now (indent .entry)) (s .level) (asStr (s .ending)) (s .max .0) (now (name .entry)) (now (model .entry)) (now (out .entry)) (now (out .exit)) f r ⌝ }
+    ensures { λ r. ⌜ Added (s .ruler) (now (indent .entry)) (s .level) (asStr (s .ending)) (s .max .0)
+        (now (name .entry)) (now (model .entry)) (now (out .entry)) (now (out .exit)) f r ⌝ }
 {
     if name.len() == 0 {
         return f;
@@ -216,7 +221,8 @@ fn write_names(
     at: usize,
 ) -> usize
     requires { ⌜ NamesFit (now names) (now indent) (s .level) (asStr (s .ending)) at ⌝ }
-    ensures { λ r. ⌜ NamesWritten (s .ruler) (now (names .entry)) (now (indent .entry)) (s .level) (asStr (s .ending)) (s .max .0) (now (model .entry)) (now (out .entry)) (now (out .exit)) at r ⌝ }
+    ensures { λ r. ⌜ NamesWritten (s .ruler) (now (names .entry)) (now (indent .entry)) (s .level) (asStr (s .ending))
+        (s .max .0) (now (model .entry)) (now (out .entry)) (now (out .exit)) at r ⌝ }
 {
     let mut f = Filled {
         at,
@@ -245,7 +251,8 @@ fn write_head(
     head: &[u8],
 ) -> usize
     requires { ⌜ HeadFits (now head) (now indent) level at ⌝ }
-    ensures { λ r. ⌜ HeadWritten (now (head .entry)) (now (indent .entry)) level (now (model .entry)) (now (out .entry)) (now (out .exit)) at r ⌝ }
+    ensures { λ r. ⌜ HeadWritten (now (head .entry)) (now (indent .entry)) level (now (model .entry)) (now (out .entry))
+        (now (out .exit)) at r ⌝ }
 {
     let n = unicode::trim_end(head);
     let m = compare::append_indented(model, out, at, indent, level, &head[..n]);
@@ -264,7 +271,8 @@ fn write_import(
 ) -> ImportSplit
     requires { ⌜ Braces (now line) (braces .start) (braces .end) (now indent) (s .level) (asStr (s .ending)) at ⌝ }
     ensures { λ r. ⌜ ((o : Options) → InUse o (now (indent .entry)) (s .ruler)
-        → Given (partsOf o (s .max .0) (s .level) (now (line .entry)) (braces .start) (braces .end)) (asStr (s .ending)) (now (model .entry)) (now (out .entry)) (now (out .exit)) at r) ⌝ }
+        → Given (partsOf o (s .max .0) (s .level) (now (line .entry)) (braces .start) (braces .end)) (asStr (s .ending))
+        (now (model .entry)) (now (out .entry)) (now (out .exit)) at r) ⌝ }
 {
     let start = braces.start;
     let end = braces.end;
@@ -293,7 +301,8 @@ fn write_import(
     })
 }
 
-// An over-wide line, if it is an import with braces and at least two names: its names refilled over lines, written from the place at on.
+// An over-wide line, if it is an import with braces and at least two names: its names refilled over lines, written from
+// the place at on.
 pub fn split_import(
     line: &[u8],
     class: &[u8],
@@ -305,7 +314,8 @@ pub fn split_import(
 ) -> ImportSplit
     requires { ⌜ ImportFits (now line) (now class) (now indent) (s .level) (asStr (s .ending)) at ⌝ }
     ensures { λ r. ⌜ ((o : Options) → InUse o (now (indent .entry)) (s .ruler)
-        → Given (splitImport o (s .max .0) (s .level) (classify Carry.Code (decode (now (line .entry))))) (asStr (s .ending)) (now (model .entry)) (now (out .entry)) (now (out .exit)) at r) ⌝ }
+        → Given (splitImport o (s .max .0) (s .level) (classify Carry.Code (decode (now (line .entry)))))
+        (asStr (s .ending)) (now (model .entry)) (now (out .entry)) (now (out .exit)) at r) ⌝ }
 {
     if starts_import(line) {
         let start = find_code(line, class, b'{');

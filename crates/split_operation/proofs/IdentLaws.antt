@@ -1,4 +1,5 @@
--- Laws of a run of letters, digits and underscores in code: it leaves the marks as they are, and an operand ends with it.
+-- Laws of a run of letters, digits and underscores in code: it leaves the marks as they are, and an operand ends with
+-- it.
 use Prim.Native.Nat.{ℕ, zero, suc, _+_, _-_, _≤_, _<_}
 use mathlib.Core.Bool.{Bool, true, false, and-false, true≢false}
 use mathlib.Core.List.{List, [], _∷_}

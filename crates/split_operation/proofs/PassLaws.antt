@@ -17,7 +17,7 @@ use mathlib.Core.Logic.{_⊎_, inl, inr}
 use Rattle.unicode.proofs.Tests.{by-test, split}
 use Rattle.split.proofs.MeasureLaws.{part-length}
 use Rattle.rules.specs.Basics.{choose, same, oneOf, startsWith, Pieces, isOpener, isCloser}
-use Rattle.rules.specs.Scan.{Cell, cell, charsOf, isCode}
+use Rattle.rules.specs.Scan.{Cell, charsOf, isCode}
 use Rattle.rules.specs.ClassBytes.{classOf, cellsOf, cellAt}
 use Rattle.rules.specs.SplitOperation.{Ops, OpStep, OpMark, opMark, noOps, token, operator, escape, bracket, oneCharStep, twoCharStep, codeStep, freshStep, opStepAt, deeper, shallower, balanceStep, isZero, isBalanced, inWord, wordOn, hasWordFrom, hasWord, keywords, looser, loosest, atMark, cutBefore}
 use Rattle.rules.proofs.Choose.{choose-true, choose-false}

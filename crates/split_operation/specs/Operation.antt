@@ -5,7 +5,6 @@ use mathlib.Core.List.{List, [], _++_, map}
 use mathlib.Core.Path.{_≡_}
 use lib.Dec.{ltb, eqb}
 use lib.ListN.{length}
-use Rattle.buffer.specs.Buffer.{part}
 use Rattle.compare.specs.Common.{Compared}
 use Rattle.unicode.specs.Unicode.{encode, decode, WellFormed, trim}
 use Rattle.rules.specs.declared.Carry.{Carry}

@@ -152,7 +152,8 @@ pub record OpsAt (table line class : List ℕ) (b : Loosest) (i : ℕ) : Type 0 
   pub clear : (p : ℕ) → 0 < p → (0 < b .strength → p < b .strength) → Seeking table p line class 0 lineStart (b .ops) i
   pub found : 0 < b .strength → NextOp table (b .strength) line class 0 lineStart (b .cut)
 
--- what a pass knows before a byte: the operators, where the word that ends there starts, and the depth of brackets and 1
+-- what a pass knows before a byte: the operators, where the word that ends there starts, and the depth of brackets and
+-- 1
 pub record Pass : Type 0 where
   pub ops : Loosest
   pub start : ℕ

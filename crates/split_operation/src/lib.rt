@@ -61,8 +61,10 @@ fn write_rest(
     out: &mut [u8],
     first: NewLine,
 ) -> NewLine
-    requires { ⌜ RestFits (strengthsIn (s .table)) (b .strength) (now line) (now class) (b .cut) (now indent) (s .level + 1) (asStr (s .ending)) first ⌝ }
-    ensures { λ r. ⌜ RestWritten (strengthsIn (s .table)) (b .strength) (now (line .entry)) (now (class .entry)) (b .cut) (now (indent .entry)) (s .level + 1) (asStr (s .ending))
+    requires { ⌜ RestFits (strengthsIn (s .table)) (b .strength) (now line) (now class) (b .cut) (now indent)
+        (s .level + 1) (asStr (s .ending)) first ⌝ }
+    ensures { λ r. ⌜ RestWritten (strengthsIn (s .table)) (b .strength) (now (line .entry)) (now (class .entry))
+        (b .cut) (now (indent .entry)) (s .level + 1) (asStr (s .ending))
         (now (model .entry)) (now (out .entry)) (now (out .exit)) first r ⌝ }
 {
     let ending = s.ending;
@@ -89,10 +91,12 @@ fn write_rest(
     r
 }
 
-// Where a first line is broken: nowhere if it fits, if no rounds are left, or if none of its bytes starts an operator, which is told at once.
+// Where a first line is broken: nowhere if it fits, if no rounds are left, or if none of its bytes starts an operator,
+// which is told at once.
 fn round_break(line: &[u8], class: &[u8], s: Breaking, indent: &[u8]) -> Break
     requires { ⌜ LineFits (now line) (now class) (now indent) (s .level) ⌝ }
-    ensures { λ r. ⌜ RoundBreak (strengthsIn (s .table)) (s .ruler) (now (indent .entry)) (s .level) (s .max .0) (s .rounds) (now (line .entry)) (now (class .entry)) r ⌝ }
+    ensures { λ r. ⌜ RoundBreak (strengthsIn (s .table)) (s .ruler) (now (indent .entry)) (s .level) (s .max .0)
+        (s .rounds) (now (line .entry)) (now (class .entry)) r ⌝ }
 {
     if s.rounds == 0 {
         return unbroken();
@@ -126,7 +130,8 @@ fn break_first(
     at: usize,
 ) -> OperationSplit
     requires { ⌜ OperationFits (now line) (now class) (now indent) (s .level) (asStr (s .ending)) at ⌝ }
-    ensures { λ r. ⌜ FirstBroken (strengthsIn (s .table)) (s .ruler) (now (line .entry)) (now (indent .entry)) (s .level) (asStr (s .ending)) (s .max .0) (s .rounds)
+    ensures { λ r. ⌜ FirstBroken (strengthsIn (s .table)) (s .ruler) (now (line .entry)) (now (indent .entry))
+        (s .level) (asStr (s .ending)) (s .max .0) (s .rounds)
         (now (model .entry)) (now (out .entry)) (now (out .exit)) at r ⌝ }
 {
     let b = round_break(line, class, s, indent);
@@ -146,8 +151,9 @@ fn break_first(
     OperationSplit::Broken(write_rest(line, class, b, s, indent, model, out, first))
 }
 
-// An over-wide line of code and strings with its class bytes, broken before its loosest operators. Where there is nothing to break at, that is
-// the line alone. The first piece of a break has only tighter operators, so there are no more rounds than strengths.
+// An over-wide line of code and strings with its class bytes, broken before its loosest operators. Where there is
+// nothing to break at, that is the line alone. The first piece of a break has only tighter operators, so there are no
+// more rounds than strengths.
 pub fn split_operation(
     line: &[u8],
     class: &[u8],
@@ -159,7 +165,8 @@ pub fn split_operation(
 ) -> OperationSplit
     requires { ⌜ OperationFits (now line) (now class) (now indent) (s .level) (asStr (s .ending)) at ⌝ }
     ensures { λ r. ⌜ ((o : Options) → InUse o (now (indent .entry)) (s .ruler)
-        → Broken (asStr (s .ending)) (splitOperation (strengthsIn (s .strengths .table)) o (s .max .0) (s .level) (decode (now (line .entry)))) (now (model .entry)) (now (out .entry)) (now (out .exit)) at r) ⌝ }
+        → Broken (asStr (s .ending)) (splitOperation (strengthsIn (s .strengths .table)) o (s .max .0) (s .level)
+        (decode (now (line .entry)))) (now (model .entry)) (now (out .entry)) (now (out .exit)) at r) ⌝ }
 {
     let ending = s.ending;
     let strengths = s.strengths;

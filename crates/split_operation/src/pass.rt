@@ -1,4 +1,5 @@
-// The passes over a line's bytes and their classes: where the line is broken first, and its next operator of a strength.
+// The passes over a line's bytes and their classes: where the line is broken first, and its next operator of a
+// strength.
 ghost use mathlib.Core.Path.{_≡_};
 ghost use Prim.Native.Nat.{_≤_, _<_, _^_};
 ghost use lib.ListN.{length, getD};
@@ -311,7 +312,8 @@ pub fn next_op(
     start: OpState,
 ) -> Cut
     requires { ⌜ Cutting strength (now line) (now class) from start ⌝ }
-    ensures { λ c. ⌜ NextOp (strengthsIn (now (table .entry))) strength (now (line .entry)) (now (class .entry)) from start c ⌝ }
+    ensures { λ c. ⌜ NextOp (strengthsIn (now (table .entry))) strength (now (line .entry)) (now (class .entry)) from
+        start c ⌝ }
 {
     let mut s = start;
     let mut i = from;

@@ -1,5 +1,5 @@
 -- The step of a line in code, and of any line.
-use Prim.Native.Nat.{ℕ, _+_, _-_, _*_, _≤_}
+use Prim.Native.Nat.{ℕ, _+_, _-_, _≤_}
 use native.Mathlib.Omega.{arith}
 use mathlib.Core.Bool.{Bool, true, false, not, _&&_, _||_, or-true, true≢false, false≢true}
 use mathlib.Core.List.{List, _++_}
@@ -27,11 +27,11 @@ use Rattle.basics.specs.Region.{Only}
 use Rattle.basics.proofs.OnlyLaws.{only-same}
 use Rattle.brackets.specs.Stack.{stacked}
 use Rattle.brackets.specs.declared.Nesting.{Nesting}
-use Rattle.brackets.proofs.StackLaws.{stacked-past, stacked-drop}
+use Rattle.brackets.proofs.StackLaws.{stacked-drop}
 use Rattle.rules.proofs.StartsBytes.{closers-encode}
 use Rattle.line.specs.Scratch.{stackAt}
 use Rattle.format.proofs.ElseLaws.{decode-some}
-use Rattle.line.specs.Holds.{Record, prevOf, Holds, Runs, Ready, Stepped, TrimmedLine, Classes, Uses, keptBy, rawBy}
+use Rattle.line.specs.Holds.{Record, prevOf, Holds, Ready, Stepped, TrimmedLine, Classes, Uses, keptBy, rawBy}
 use Rattle.line.specs.declared.style.Style.{Style}
 use Rattle.line.proofs.HoldsLaws.{ready-as, holds-past, stepped-as, carry-bytes, classes-front, front-only, line-room, trimmed-line, start-within}
 use Rattle.place.specs.Placing.{spacedBy}

@@ -39,7 +39,8 @@ pub enum Marker {
     AfterCode,
 }
 
-// The line that goes on: the source's own, or the respaced one, `len` bytes in scratch; where its class bytes start, and what it leaves open.
+// The line that goes on: the source's own, or the respaced one, `len` bytes in scratch; where its class bytes start,
+// and what it leaves open.
 pub struct Going {
     pub own: bool,
     pub len: usize,
@@ -47,7 +48,8 @@ pub struct Going {
     pub carry: Carry,
 }
 
-// The text after the line, what the line adds to the counts, its leading closers, what is open after these popped, and what the next line asks of it.
+// The text after the line, what the line adds to the counts, its leading closers, what is open after these popped, and
+// what the next line asks of it.
 pub struct Put {
     pub text: Written,
     pub imports: usize,
@@ -100,7 +102,8 @@ fn count_going(
     requires { ⌜ Closers (encode (respaced (decode (now line)))) closers ⌝ }
     requires { ⌜ left .depth + length (now line) ≤ unit ⌝ }
     requires { ⌜ Nested (now scratch) (stackAt unit) left ⌝ }
-    ensures { λ r. ⌜ BracketsCounted (respaced (decode (now (line .entry)))) (now (scratch .entry)) (now (scratch .exit)) (stackAt unit) left (length (now (line .entry))) r ⌝ }
+    ensures { λ r. ⌜ BracketsCounted (respaced (decode (now (line .entry)))) (now (scratch .entry))
+        (now (scratch .exit)) (stackAt unit) left (length (now (line .entry))) r ⌝ }
 {
     let len = g.len;
     let class_at = g.class_at;
@@ -147,7 +150,9 @@ fn put_going<'a>(
     requires { ⌜ SolidLine (now line) ⌝ }
     requires { ⌜ Goes (now line) (now scratch) unit g ⌝ }
     requires { ⌜ ValidIndent (now indent) ⌝ }
-    ensures { λ r. ⌜ PutOn marker (respaced (decode (now (line .entry)))) (now (indent .entry)) style (now (model .entry)) (asStr (style .ending)) (length (now (line .entry))) unit st (now (out .entry)) (now (scratch .entry)) r (now (out .exit)) ⌝ }
+    ensures { λ r. ⌜ PutOn marker (respaced (decode (now (line .entry)))) (now (indent .entry)) style
+        (now (model .entry)) (asStr (style .ending)) (length (now (line .entry))) unit st (now (out .entry))
+        (now (scratch .entry)) r (now (out .exit)) ⌝ }
 {
     let own = g.own;
     let len = g.len;
@@ -184,7 +189,8 @@ fn ignore_of(marker: bool) -> Ignore
     Ignore::Nothing
 }
 
-// The record after a line that was put into the text, with the brackets `deep` open, that protects `ignore` and leaves `carry` open.
+// The record after a line that was put into the text, with the brackets `deep` open, that protects `ignore` and leaves
+// `carry` open.
 fn after_line(st: Formatter, p: Put, deep: Nesting, ignore: Ignore, carry: Carry) -> Formatter
     requires { ⌜ st .imports + p .imports < 2 ^ 64 ⌝ }
     requires { ⌜ st .blanks + p .blanks < 2 ^ 64 ⌝ }
@@ -222,7 +228,10 @@ fn spaced_line(
     requires { ⌜ Marks marker (now line) ⌝ }
     requires { ⌜ Classes Carry.Code (now line) (now scratch) 0 after ⌝ }
     requires { ⌜ ValidIndent (now indent) ⌝ }
-    ensures { λ r. ⌜ ((o : Options) → Uses o (now (indent .entry)) style → Stepped (spacedBy marker (respaced (decode (now (line .entry)))) o) (length (now (line .entry))) unit (now (model .entry)) (asStr (style .ending)) st (now (out .entry)) (now (scratch .entry)) r (now (out .exit)) (now (scratch .exit))) ⌝ }
+    ensures { λ r. ⌜ ((o : Options) → Uses o (now (indent .entry)) style → Stepped
+        (spacedBy marker (respaced (decode (now (line .entry)))) o) (length (now (line .entry))) unit
+        (now (model .entry)) (asStr (style .ending)) st (now (out .entry)) (now (scratch .entry)) r (now (out .exit))
+        (now (scratch .exit))) ⌝ }
 {
     let g = go_on(line, scratch, unit, after);
     let p = put_going(
@@ -310,7 +319,10 @@ fn code_line<'a>(
     requires { ⌜ TrimmedLine (now raw) (now line) ⌝ }
     requires { ⌜ isEmpty (decode (now line)) ≡ false ⌝ }
     requires { ⌜ ValidIndent (now indent) ⌝ }
-    ensures { λ r. ⌜ ((o : Options) → Uses o (now (indent .entry)) style → Stepped (codeLineBy o (decode (now (raw .entry)))) (length (now (raw .entry))) unit (now (model .entry)) (asStr (style .ending)) st (now (out .entry)) (now (scratch .entry)) r (now (out .exit)) (now (scratch .exit))) ⌝ }
+    ensures { λ r. ⌜ ((o : Options) → Uses o (now (indent .entry)) style → Stepped
+        (codeLineBy o (decode (now (raw .entry)))) (length (now (raw .entry))) unit (now (model .entry))
+        (asStr (style .ending)) st (now (out .entry)) (now (scratch .entry)) r (now (out .exit)) (now (scratch .exit)))
+        ⌝ }
 {
     let n = line.len();
     let after = scan::classify(line, Carry::Code, &mut scratch[..n]);
@@ -358,7 +370,10 @@ pub fn line_step(
     requires { ⌜ Ready st (now scratch) unit (length (now raw)) ⌝ }
     requires { ⌜ WellFormed (now raw) ⌝ }
     requires { ⌜ ValidIndent (now indent) ⌝ }
-    ensures { λ r. ⌜ ((o : Options) → Uses o (now (indent .entry)) style → Stepped (anyLineBy o (decode (now (raw .entry)))) (length (now (raw .entry))) unit (now (model .entry)) (asStr (style .ending)) st (now (out .entry)) (now (scratch .entry)) r (now (out .exit)) (now (scratch .exit))) ⌝ }
+    ensures { λ r. ⌜ ((o : Options) → Uses o (now (indent .entry)) style → Stepped
+        (anyLineBy o (decode (now (raw .entry)))) (length (now (raw .entry))) unit (now (model .entry))
+        (asStr (style .ending)) st (now (out .entry)) (now (scratch .entry)) r (now (out .exit)) (now (scratch .exit)))
+        ⌝ }
 {
     let pending = st.ignore;
     let carry = st.carry;

@@ -5,13 +5,13 @@ use mathlib.Core.Path.{_≡_, refl, sym, ap, _∙_}
 use mathlib.Core.List.{List, [], _∷_, _++_, append-assoc}
 use native.Mathlib.Omega.{arith}
 use lib.Dec.{eqb}
-use lib.ListN.{length, take, replicate, length-append}
+use lib.ListN.{length, replicate, length-append}
 use lib.Seq.{length-take-le}
 use Rattle.unicode.specs.Unicode.{encode, decode, size, trimEnd}
 use Rattle.unicode.proofs.Trim.{White, white-append, end-none, end-split}
 use borrow.Author.Tests.{eq-eqb, eqb-true}
 use Rattle.unicode.proofs.Decode.{encode-nil, encode-append, encode-ascii, size-append}
-use Rattle.buffer.specs.Buffer.{Agree, Finishes}
+use Rattle.buffer.specs.Buffer.{Finishes}
 use Rattle.buffer.specs.Repeat.{times}
 use Rattle.buffer.proofs.AgreeLaws.{finishes-text}
 use Rattle.compare.specs.Common.{Keeps, Compared}
@@ -95,7 +95,8 @@ none-size : (l : List ℕ) → size l ≡ 0 → l ≡ []
 none-size [] e = refl
 none-size (c ∷ cs) e = absurd (let h = some-size c cs in omega arith)
 
--- what the text is written after: its lines, the place, the place without its last empty lines, and whether there is no line
+-- what the text is written after: its lines, the place, the place without its last empty lines, and whether there is no
+-- line
 record Stem (model eol : List ℕ) (ls : List (List ℕ)) (from full settled : ℕ) (first : Bool) (out : List ℕ) : Type 0 where
   pub place : from ≡ size (joined eol ls)
   pub holds : Keeps model out (encode (joined eol ls))

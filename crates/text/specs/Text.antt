@@ -88,7 +88,8 @@ pub record ElseLine (line : List ℕ) (joins : Bool) : Type 0 where
   pub some : 1 ≤ length line
   pub takes : joins ≡ lastIs (is "}") (decode line)
 
--- The code's record t and `out`, an output or what a comparison with the model keeps, hold the text whose lines are ls: lengths are in bytes.
+-- The code's record t and `out`, an output or what a comparison with the model keeps, hold the text whose lines are ls:
+-- lengths are in bytes.
 pub record Text (model eol : List ℕ) (ls : List (List ℕ)) (t : Written) (out : List ℕ) : Type 0 where
   pub at : t .at .0 ≡ size (joined eol ls)
   pub holds : Keeps model out (encode (joined eol ls))
@@ -140,7 +141,8 @@ pub record Ended (eol rest model out : List ℕ) (t : Written) (out′ : List �
   pub text : (ls : List (List ℕ)) → Text model eol ls t out → Keeps model out′ (encode (joined eol (dropEmpty ls) ++ rest))
   pub room : length out′ ≡ length out
 
--- the text is finished: its length, and the output, which is the text and then zeros, or all zeros where it does not fit
+-- the text is finished: its length, and the output, which is the text and then zeros, or all zeros where it does not
+-- fit
 pub record Finished (eol rest out : List ℕ) (t : Written) (out′ : List ℕ) (r : ℕ) : Type 0 where
   pub long : (ls : List (List ℕ)) → Text [] eol ls t out → r ≡ size (joined eol (dropEmpty ls) ++ rest)
   pub text : (ls : List (List ℕ)) → Text [] eol ls t out → r ≤ length out → out′ ≡ filled (length out) (encode (joined eol (dropEmpty ls) ++ rest))

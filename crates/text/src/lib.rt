@@ -23,8 +23,9 @@ pub enum Last {
     Other,
 }
 
-// Lengths of the text: as it is (the place reached), with its newest line trimmed at its end, without its last empty lines, and without its newest
-// line if that is empty; whether no line is left then; and the length of what is settled: no later line changes it.
+// Lengths of the text: as it is (the place reached), with its newest line trimmed at its end, without its last empty
+// lines, and without its newest line if that is empty; whether no line is left then; and the length of what is settled:
+// no later line changes it.
 pub struct Written {
     pub at: ByteOffset,
     pub cut: usize,
@@ -88,7 +89,8 @@ pub fn append_ending(model: &[u8], out: &mut [u8], at: usize, ending: LineEnding
 // The line ending before a line, but not before the first.
 fn separate(model: &[u8], out: &mut [u8], at: usize, ending: LineEnding, first: bool) -> usize
     requires { ⌜ at + 2 < 2 ^ 64 ⌝ }
-    ensures { λ r. ⌜ Compared (now (model .entry)) (now (out .entry)) (now (out .exit)) at (sepBy (asStr ending) first) r ⌝ }
+    ensures { λ r. ⌜ Compared (now (model .entry)) (now (out .entry)) (now (out .exit)) at (sepBy (asStr ending) first)
+        r ⌝ }
 {
     if first {
         return at;
@@ -180,7 +182,9 @@ pub fn push_line(
     requires { ⌜ Line (now line) (how .tail) (how .joins) ⌝ }
     requires { ⌜ Ordered t ⌝ }
     requires { ⌜ t .at .0 + 2 + (length (times (how .levels) (now indent)) + length (now line)) < 2 ^ 64 ⌝ }
-    ensures { λ r. ⌜ Adds (asStr (how .ending)) (how .drops) (times (how .levels) (now (indent .entry)) ++ decode (now (line .entry))) (now (model .entry)) (now (out .entry)) t (now (out .exit)) r ⌝ }
+    ensures { λ r. ⌜ Adds (asStr (how .ending)) (how .drops)
+        (times (how .levels) (now (indent .entry)) ++ decode (now (line .entry))) (now (model .entry))
+        (now (out .entry)) t (now (out .exit)) r ⌝ }
 {
     let full = t.full;
     let settled = t.settled;
@@ -271,7 +275,8 @@ pub fn end_text(
     newline: bool,
 ) -> usize
     requires { ⌜ t .full + 2 < 2 ^ 64 ⌝ }
-    ensures { λ r. ⌜ Ended (asStr ending) (choose newline (asStr ending) []) (now (model .entry)) (now (out .entry)) t (now (out .exit)) r ⌝ }
+    ensures { λ r. ⌜ Ended (asStr ending) (choose newline (asStr ending) []) (now (model .entry)) (now (out .entry)) t
+        (now (out .exit)) r ⌝ }
 {
     let full = t.full;
     separate(model, out, full, ending, !newline)
@@ -280,7 +285,8 @@ pub fn end_text(
 // The same in an output: zeros after the text, or all zeros where it does not fit.
 pub fn finish_text(out: &mut [u8], t: Written, ending: LineEnding, newline: bool) -> usize
     requires { ⌜ t .full + 2 < 2 ^ 64 ⌝ }
-    ensures { λ r. ⌜ Finished (asStr ending) (choose newline (asStr ending) []) (now (out .entry)) t (now (out .exit)) r ⌝ }
+    ensures { λ r. ⌜ Finished (asStr ending) (choose newline (asStr ending) []) (now (out .entry)) t (now (out .exit)) r
+        ⌝ }
 {
     let n = end_text(b"", out, t, ending, newline);
     let room = out.len();

@@ -6,7 +6,7 @@ use native.Mathlib.Omega.{arith}
 use mathlib.Core.Bool.{true, false}
 use mathlib.Core.List.{List, [], _∷_, _++_, map}
 use mathlib.Core.Path.{_≡_, refl, sym, ap, _∙_}
-use lib.ListN.{length, getD}
+use lib.ListN.{length}
 use Rattle.unicode.specs.Unicode.{encodeChar, encode, tail, decode, WellFormed}
 use Rattle.unicode.proofs.Table.{Shape, one, two, three, four, shape, tail-view, tail-make}
 use Rattle.unicode.proofs.Decode.{encode-cons}

@@ -1,4 +1,5 @@
--- The loop of `kind_in_line`: before byte i of the line, with the mark t, the character asked for is the one after `left` more.
+-- The loop of `kind_in_line`: before byte i of the line, with the mark t, the character asked for is the one after
+-- `left` more.
 use Prim.Native.Nat.{ℕ, suc, _+_, _-_, _<_, _≤_, zero-le}
 use native.Mathlib.Omega.{arith}
 use native.Mathlib.Numerals.{add-one}

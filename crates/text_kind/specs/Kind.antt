@@ -1,7 +1,6 @@
 -- Text kinds read off a line's bytes, and what their reading asks of a source.
 use Prim.Native.Nat.{ℕ, zero, suc, _+_, _≤_, _<_, _^_}
 use mathlib.Core.List.{List, [], _∷_}
-use mathlib.Core.Path.{_≡_}
 use lib.ListN.{length, getD}
 use Rattle.unicode.specs.Unicode.{tail, WellFormed}
 use Rattle.split.specs.Text.{firstOf}
@@ -33,7 +32,8 @@ kindFrom y s n col = byteKindIn y (rustLines (pieces (splitOn "\n" s))) n col
 unfoldable pub lineAt : List ℕ → List ℕ
 lineAt s = firstOf (rustLines (pieces (splitOn "\n" s)))
 
--- a well-formed source: the classes of its lines fit into the scratch, and the depth of its comments and braces into 32 bits
+-- a well-formed source: the classes of its lines fit into the scratch, and the depth of its comments and braces into 32
+-- bits
 pub record SourceFits (source scratch : List ℕ) : Type 0 where
   pub well : WellFormed source
   pub room : length source ≤ length scratch

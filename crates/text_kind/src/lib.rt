@@ -1,6 +1,7 @@
-// text_kind_at: a source's lines are read for what they leave open, up to the line asked for, and that line for its marks, up to the column.
+// text_kind_at: a source's lines are read for what they leave open, up to the line asked for, and that line for its
+// marks, up to the column.
 ghost use mathlib.Core.Path.{_≡_};
-ghost use Prim.Native.Nat.{_+_, _≤_, _<_, _^_};
+ghost use Prim.Native.Nat.{_+_, _<_, _^_};
 ghost use lib.ListN.{length, getD, drop};
 ghost use Rattle.unicode.specs.Unicode.{decode};
 ghost use Rattle.rules.specs.Scan.{begin};
@@ -58,8 +59,8 @@ pub fn class_kind(class: Class, inside: bool) -> TextKind
     }
 }
 
-// The kind of the character at a column of a line, by its first byte: what the mark there is part of, and whether the mode before it is inside `${..}`.
-// A line has no more characters than bytes.
+// The kind of the character at a column of a line, by its first byte: what the mark there is part of, and whether the
+// mode before it is inside `${..}`. A line has no more characters than bytes.
 fn kind_in_line(line: &[u8], carry: Carry, column: CharColumn) -> TextKind
     requires { ⌜ carryDepth carry + length (now line) + 1 < 2 ^ 32 ⌝ }
     ensures { λ r. ⌜ r ≡ getD (byteKinds (begin carry) (now (line .entry))) (column .0) TextKind.Code ⌝ }
@@ -169,7 +170,8 @@ fn kind_answer(o: KindOutcome) -> Kind
 
 // What a host is told.
 pub fn answer(source: &[u8], line: usize, column: CharColumn, scratch: &mut [u8]) -> Kind
-    ensures { λ r. ⌜ r ≡ kindAnswer (kindOutcomeOf (now (source .entry)) line (column .0) (length (now (scratch .entry)))) ⌝ }
+    ensures { λ r. ⌜ r ≡ kindAnswer (kindOutcomeOf (now (source .entry)) line (column .0)
+        (length (now (scratch .entry)))) ⌝ }
 {
     kind_answer(outcome_of(source, line, column, scratch))
 }

@@ -2,11 +2,10 @@
 use Prim.Native.Nat.{ℕ, _/_, _<_, _≤_}
 use native.Mathlib.Omega.{arith}
 use mathlib.Core.Bool.{Bool, true, false}
-use mathlib.Core.List.{List, [], _∷_, _++_}
+use mathlib.Core.List.{List, _++_}
 use mathlib.Core.Path.{_≡_, refl, sym, ap, _∙_}
 use borrow.Author.Tests.{lt-ltb, le-ltb}
 use lib.ListN.{length, replicate}
-use Rattle.unicode.specs.Unicode.{decode}
 use Rattle.rules.specs.declared.Refusal.{Refusal}
 use Rattle.rules.specs.declared.Verdict.{Verdict}
 use Rattle.rules.specs.Refusals.{numberOf, placeOf, refuseIf, tested, unordered, shortKinds}
@@ -15,7 +14,7 @@ use Rattle.rules.specs.TextKind.{kindTests}
 use Rattle.rules.proofs.RefusalLaws.{places-ordered, kinds-fit, head-passed, tail-passed, goes-on, ends, front-passed, back-passed}
 use Rattle.text_kind.specs.Kind.{SourceFits}
 use Rattle.text_kind.proofs.KindCall.{source-fits}
-use Rattle.text_kinds.specs.Places.{placesIn, ascending, linesClassified, listTests, kindsVerdict, kindsAnswer, kindsLeft, kindsOf}
+use Rattle.text_kinds.specs.Places.{placesIn, ascending, listTests, kindsVerdict}
 use Rattle.text_kinds.specs.Reading.{placeCount, Listed, KindsFound, RefusedKinds, KindsGiven}
 use Rattle.text_kinds.specs.KindsAnswered.{KindsAnswered}
 use Rattle.text_kinds.specs.declared.Kinds.{Kinds}

@@ -1,5 +1,5 @@
 -- The loop of `kinds_in_line`: before byte i of the line, with the mark t, so many characters are read.
-use Prim.Native.Nat.{ℕ, zero, suc, _+_, _-_, _<_, _≤_, _^_, zero-le}
+use Prim.Native.Nat.{ℕ, suc, _+_, _-_, _<_, _≤_, zero-le}
 use native.Mathlib.Omega.{arith}
 use native.Mathlib.Numerals.{add-one}
 use mathlib.Core.Bool.{Bool, true, false}
@@ -15,14 +15,14 @@ use Rattle.rules.specs.declared.Mark.{Mark}
 use Rattle.rules.specs.declared.TextKind.{TextKind}
 use Rattle.rules.specs.Scan.{next, final, begin, openAfter, carryAfter}
 use Rattle.rules.specs.TextKind.{inInterpolation, classKind, kindNumber}
-use Rattle.basics.specs.Depth.{depthOf, carryDepth}
+use Rattle.basics.specs.Depth.{depthOf}
 use Rattle.basics.proofs.ScanSteps.{final-more}
 use Rattle.marks.proofs.NextLaws.{next-shallow}
 use Rattle.marks.proofs.ReachedLaws.{open-depth}
 use Rattle.text_kind.specs.Kind.{byteKinds}
 use Rattle.text_kind.proofs.KindBytes.{bytes-tail, bytes-first}
-use Rattle.text_kinds.specs.Places.{Place, placeAt, placesIn}
-use Rattle.text_kinds.specs.Reading.{Ahead, Filled, Listed, Answered, PassedOver, Shallow, LineAnswered}
+use Rattle.text_kinds.specs.Places.{Place, placeAt}
+use Rattle.text_kinds.specs.Reading.{Ahead, Filled, Answered, PassedOver, LineAnswered}
 
 abbrev KindsAt : Mark → List ℕ → ℕ → (Place → ℕ) → Type 0
 KindsAt t line number f = (c : ℕ) → f (placeAt number c) ≡ kindNumber (getD (byteKinds t line) c TextKind.Code)

@@ -1,14 +1,13 @@
 -- The lines of a source, one after the other: the loop of `text_kinds`.
-use Prim.Native.Nat.{ℕ, zero, suc, _+_, _-_, _/_, _<_, _≤_, _^_, zero-le, min, max}
+use Prim.Native.Nat.{ℕ, zero, suc, _+_, _-_, _/_, _<_, _≤_, _^_, zero-le}
 use native.Mathlib.Omega.{arith}
-use native.Mathlib.Nat.{le-refl}
 use native.Mathlib.Numerals.{add-one}
 use mathlib.Core.Bool.{Bool, true, false}
-use mathlib.Core.List.{List, [], _∷_, _++_, map}
+use mathlib.Core.List.{List, [], _∷_, map}
 use mathlib.Core.Logic.{_⊎_, inl, inr}
 use mathlib.Core.Path.{_≡_, refl, sym, ap, _∙_}
 use lib.ListN.{length, getD, take, drop, replicate, length-take, length-drop, length-map, length-replicate, drop-of-length-le, take-append-drop}
-use lib.Seq.{drop-drop, take-all, take-length}
+use lib.Seq.{drop-drop, take-length}
 use Rattle.unicode.specs.Unicode.{encode, decode, WellFormed}
 use Rattle.unicode.proofs.Tests.{split}
 use Rattle.rules.specs.declared.Carry.{Carry}
@@ -22,10 +21,10 @@ use Rattle.rules.proofs.StartsBytes.{on-decode}
 use Rattle.basics.specs.Depth.{carryDepth}
 use Rattle.scan.specs.Classified.{Classified}
 use Rattle.line_ends.specs.LineEnds.{LineEnd}
-use Rattle.line_ends.proofs.LineCuts.{Last, More, whole, part-of, cr-fits}
+use Rattle.line_ends.proofs.LineCuts.{Last, whole, part-of, cr-fits}
 use Rattle.text_kind.specs.Kind.{byteKinds, byteKindIn, kindFrom, lineAt, SourceFits}
 use Rattle.text_kind.proofs.KindBytes.{kind-bytes}
-use Rattle.text_kind.proofs.KindLines.{rust-none, line-last, line-more, kind-past, kind-more, kind-here, line-fits}
+use Rattle.text_kind.proofs.KindLines.{rust-none, line-more, kind-past, kind-more, kind-here, line-fits}
 use Rattle.text_kinds.specs.Places.{Place, placeAt, placesIn, ascending, kindOfPlace, linesAsked, linesClassified, kindsOf}
 use Rattle.text_kinds.specs.Reading.{lineOf, columnOf, placeCount, From, IsOn, Ahead, Filled, Listed, Shallow, LineAnswered, lineCount, Read, KindsFound}
 use Rattle.text_kinds.specs.declared.Progress.{Progress}

@@ -51,7 +51,8 @@ From line column l c = (line < l) ⊎ ((line ≡ l) × (column ≤ c))
 pub record Ahead (list : List ℕ) (line column k : ℕ) : Type 0 where
   pub from : k < placeCount list → From line column (lineOf list k) (columnOf list k)
 
--- The first k places have their kinds, the rest of the answers is zeros; the lines of these places are fewer than `lines`.
+-- The first k places have their kinds, the rest of the answers is zeros; the lines of these places are fewer than
+-- `lines`.
 pub record Filled (f : Place → ℕ) (list : List ℕ) (lines k : ℕ) (kinds : List ℕ) : Type 0 where
   pub within : k ≤ placeCount list
   pub room : placeCount list ≤ length kinds

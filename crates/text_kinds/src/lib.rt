@@ -1,9 +1,8 @@
 // text_kinds: the text kinds of a list of places, in one reading of the source.
 ghost use mathlib.Core.Path.{_≡_};
 ghost use mathlib.Core.Bool.{true};
-ghost use Prim.Native.Nat.{_+_, _≤_, _<_, _^_};
-ghost use lib.ListN.{length, drop};
-ghost use Rattle.unicode.specs.Unicode.{decode};
+ghost use Prim.Native.Nat.{_+_, _<_};
+ghost use lib.ListN.{length};
 ghost use Rattle.rules.specs.TextKind.{kindNumber};
 ghost use Rattle.text_kinds.specs.Places.{placeAt, placesIn, notAfter, ascending, listTests, kindsVerdict};
 ghost use Rattle.text_kinds.specs.Reading.{IsPlace, IsOn, Listed, Answered, PassedOver, Ahead, Shallow, LineAnswered, placeCount, Read, KindsFound, RefusedKinds, KindsGiven};
@@ -35,8 +34,8 @@ pub struct LineRead {
     pub next: usize,
 }
 
-// How far a source is read: where the next line starts, how many lines stand before it, what is open there, and the first entry of the list that has no
-// answer yet.
+// How far a source is read: where the next line starts, how many lines stand before it, what is open there, and the
+// first entry of the list that has no answer yet.
 pub struct Progress {
     pub at: usize,
     pub lines: u64,
@@ -153,7 +152,8 @@ fn kinds_in_line(
     requires { ⌜ Shallow carry (length (now line)) ⌝ }
     requires { ⌜ Listed (now places) (now kinds) ⌝ }
     requires { ⌜ Ahead (now places) number 0 k ⌝ }
-    ensures { λ r. ⌜ LineAnswered (now (line .entry)) carry number (now (places .entry)) k (now (kinds .entry)) (r .carry) (r .next) (now (kinds .exit)) ⌝ }
+    ensures { λ r. ⌜ LineAnswered (now (line .entry)) carry number (now (places .entry)) k (now (kinds .entry))
+        (r .carry) (r .next) (now (kinds .exit)) ⌝ }
 {
     let mut t = marks::begin(carry);
     let mut next = k;
@@ -222,7 +222,8 @@ fn read_line(
 pub fn text_kinds(source: &[u8], places: &[u64], kinds: &mut [u8], scratch: &mut [u8]) -> u64
     requires { ⌜ SourceFits (now source) (now scratch) ⌝ }
     requires { ⌜ Listed (now places) (now kinds) ⌝ }
-    ensures { λ r. ⌜ KindsFound (now (source .entry)) (now (places .entry)) (length (now (kinds .entry))) r (now (kinds .exit)) ⌝ }
+    ensures { λ r. ⌜ KindsFound (now (source .entry)) (now (places .entry)) (length (now (kinds .entry))) r
+        (now (kinds .exit)) ⌝ }
 {
     buffer::zero(kinds);
     let n = places.len() / 2;
@@ -278,7 +279,8 @@ fn refuse(kinds: &mut [u8], why: Refusal) -> Kinds
 
 // The kinds of all places, or the first refusal that applies.
 pub fn answer(source: &[u8], places: &[u64], kinds: &mut [u8], scratch: &mut [u8]) -> Kinds
-    ensures { λ r. ⌜ KindsGiven (now (source .entry)) (now (places .entry)) (length (now (kinds .entry))) (length (now (scratch .entry))) r (now (kinds .exit)) ⌝ }
+    ensures { λ r. ⌜ KindsGiven (now (source .entry)) (now (places .entry)) (length (now (kinds .entry)))
+        (length (now (scratch .entry))) r (now (kinds .exit)) ⌝ }
 {
     match test(source, places, kinds.len(), scratch.len()) {
         Verdict::Refused(why) => refuse(kinds, why),

@@ -1,13 +1,13 @@
 -- A line without a byte that starts an operator has none: no byte of it has a strength.
 use Prim.Native.Nat.{ℕ, zero, suc}
-use mathlib.Core.Bool.{Bool, true, false, not, _&&_, _||_, true≢false}
+use mathlib.Core.Bool.{true, false, not, true≢false}
 use mathlib.Core.List.{List, [], _∷_}
 use mathlib.Core.Path.{_≡_, refl, sym, ap, _∙_}
 use lib.Dec.{eqb}
 use lib.ListN.{length, take}
 use borrow.Author.Tests.{eq-eqb, eqb-true}
 use Rattle.unicode.proofs.Tests.{by-test, and-right, neither-left, neither-right}
-use Rattle.rules.specs.Basics.{choose, same, oneOf, firstIs}
+use Rattle.rules.specs.Basics.{same, oneOf, firstIs}
 use Rattle.rules.specs.Scan.{Cell, charsOf}
 use Rattle.rules.specs.Operators.{operators, startsOne, startsOperator}
 use Rattle.rules.specs.SplitOperation.{Ops, OpStep, token, escape, bracket, oneCharStep, codeStep, freshStep, opStepAt, looser, loosest}

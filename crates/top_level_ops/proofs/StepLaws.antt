@@ -1,15 +1,14 @@
 -- Laws of one step of top_level_ops.
-use Prim.Native.Nat.{ℕ, zero, suc, _+_, _-_, _≤_, _<_, zero-le}
+use Prim.Native.Nat.{ℕ, zero, suc, _+_, _-_, _≤_, _<_}
 use mathlib.Core.Bool.{Bool, true, false, not, _&&_, _||_, and-true, and-false}
 use mathlib.Core.List.{List, [], _∷_}
 use mathlib.Core.Path.{_≡_, refl, sym, ap, _∙_}
 use native.Mathlib.Omega.{arith}
 use native.Mathlib.Numerals.{add-one}
 use lib.Dec.{eqb, ltb}
-use lib.ListN.{length, getD, take, drop, length-drop, drop-of-length-le}
-use lib.Seq.{drop-cons}
-use borrow.Author.Tests.{ne-eqb, eq-eqb, eqb-true, le-ltb, lt-ltb, ltb-true, ltb-false}
-use Rattle.rules.specs.Basics.{choose, is, codes, at, same, oneOf, startsWith, firstIs}
+use lib.ListN.{length, getD, take, drop, length-drop}
+use borrow.Author.Tests.{ne-eqb, eq-eqb, eqb-true, le-ltb, lt-ltb}
+use Rattle.rules.specs.Basics.{choose, is, codes, at, same, startsWith, firstIs}
 use Rattle.rules.specs.ClassBytes.{classOf}
 use Rattle.rules.specs.Scan.{Cell, isStr}
 use Rattle.rules.specs.Operators.{operators, indexIn}

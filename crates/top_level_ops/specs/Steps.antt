@@ -1,7 +1,7 @@
 -- The state and the step of top_level_ops as the code holds them.
 use Prim.Native.Nat.{ℕ, zero, suc, _<_, _≤_, _^_}
 use mathlib.Core.Bool.{Bool, true, false, not, _&&_, _||_}
-use mathlib.Core.List.{List, [], _∷_}
+use mathlib.Core.List.{List}
 use mathlib.Core.Path.{_≡_}
 use lib.Dec.{eqb}
 use lib.ListN.{length, take, drop, getD}

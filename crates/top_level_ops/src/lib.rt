@@ -1,11 +1,10 @@
 // top_level_ops: where the binary operators outside every bracket are, byte by byte.
 ghost use mathlib.Core.Path.{_≡_};
 ghost use mathlib.Core.Bool.{not, _&&_, _||_};
-ghost use mathlib.Core.List.{[], _∷_};
 ghost use Prim.Native.Nat.{_<_};
 ghost use lib.Dec.{eqb};
 ghost use lib.ListN.{length, getD, drop, take};
-ghost use Rattle.rules.specs.Basics.{choose, is, at, firstIs, isBlank, isOpener, isCloser};
+ghost use Rattle.rules.specs.Basics.{choose, is, at, firstIs};
 ghost use Rattle.rules.specs.Scan.{cell};
 ghost use Rattle.rules.specs.ClassBytes.{classOf};
 ghost use Rattle.rules.specs.Operators.{operators, indexIn};
@@ -24,7 +23,8 @@ use operators::strength_at;
 use operators::two_index;
 use rules::Strengths;
 
-// Before a byte: the brackets opened and closed so far, whether an operand ends here, an escape, and how many more bytes belong to the token before.
+// Before a byte: the brackets opened and closed so far, whether an operand ends here, an escape, and how many more
+// bytes belong to the token before.
 pub struct OpState {
     pub opened: usize,
     pub closed: usize,
@@ -39,7 +39,8 @@ pub struct OpFound {
     pub after: OpState,
 }
 
-// A token of code: its strength if it is an operator, else 0; whether an operand ends with it; and how many more bytes it has.
+// A token of code: its strength if it is an operator, else 0; whether an operand ends with it; and how many more bytes
+// it has.
 pub struct Token {
     pub strength: u8,
     pub operand: bool,
@@ -107,7 +108,8 @@ fn plain_token(operand: bool, n: usize) -> Token
 
 // The place of the operator that s starts with, if it has two bytes, or COUNT.
 fn two_at(s: &[u8]) -> usize
-    ensures { λ r. ⌜ r ≡ choose (eqb (length (take 2 (now (s .entry)))) 2) (indexIn operators (take 2 (now (s .entry)))) 21 ⌝ }
+    ensures { λ r. ⌜ r ≡ choose (eqb (length (take 2 (now (s .entry)))) 2) (indexIn operators (take 2 (now (s .entry))))
+        21 ⌝ }
 {
     if s.len() < 2 {
         return COUNT;
@@ -169,7 +171,8 @@ fn is_unary(operand: bool, c: u8) -> bool
 
 fn one_char_step(table: &[u8; Strengths::LENGTH], operand: bool, l: &[u8]) -> Token
     requires { ⌜ 0 < length (now l) ⌝ }
-    ensures { λ r. ⌜ ((s : Ops) → s .operand ≡ operand → stepWith s r ≡ oneCharStep (strengthsIn (now (table .entry))) s (getD (now (l .entry)) 0 0) (drop 1 (now (l .entry)))) ⌝ }
+    ensures { λ r. ⌜ ((s : Ops) → s .operand ≡ operand → stepWith s r ≡ oneCharStep (strengthsIn (now (table .entry))) s
+        (getD (now (l .entry)) 0 0) (drop 1 (now (l .entry)))) ⌝ }
 {
     let c = l[0];
     let k = one_index(c);
@@ -191,7 +194,8 @@ fn one_char_step(table: &[u8; Strengths::LENGTH], operand: bool, l: &[u8]) -> To
 
 fn sign_step(table: &[u8; Strengths::LENGTH], operand: bool, l: &[u8]) -> Token
     requires { ⌜ 0 < length (now l) ⌝ }
-    ensures { λ r. ⌜ ((s : Ops) → s .operand ≡ operand → stepWith s r ≡ signStep (strengthsIn (now (table .entry))) s (now (l .entry))) ⌝ }
+    ensures { λ r. ⌜ ((s : Ops) → s .operand ≡ operand → stepWith s r ≡ signStep (strengthsIn (now (table .entry))) s
+        (now (l .entry))) ⌝ }
 {
     if starts_with(l, b"...") {
         return plain_token(false, 2);
@@ -216,7 +220,8 @@ fn sign_step(table: &[u8; Strengths::LENGTH], operand: bool, l: &[u8]) -> Token
 // The token at the head of l, which is code and neither blank nor a bracket.
 pub fn token_at(table: &[u8; Strengths::LENGTH], operand: bool, l: &[u8]) -> Token
     requires { ⌜ 0 < length (now l) ⌝ }
-    ensures { λ r. ⌜ ((s : Ops) → s .operand ≡ operand → stepWith s r ≡ tokenStep (strengthsIn (now (table .entry))) s (now (l .entry))) ⌝ }
+    ensures { λ r. ⌜ ((s : Ops) → s .operand ≡ operand → stepWith s r ≡ tokenStep (strengthsIn (now (table .entry))) s
+        (now (l .entry))) ⌝ }
 {
     let n = atom_at(operand, l);
     if 0 < n {

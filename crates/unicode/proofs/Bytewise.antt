@@ -1,5 +1,5 @@
--- Sums over characters, counted byte by byte: where the bytes of each character add up to what the character counts, so do those of a text.
--- No place of the scan need be the start of a character.
+-- Sums over characters, counted byte by byte: where the bytes of each character add up to what the character counts, so
+-- do those of a text. No place of the scan need be the start of a character.
 --     unitsOf, width-bytes     the UTF-16 units that a byte stands for, and their sum
 --     leadOf, count-bytes      1 for a byte that starts a character, and their sum
 --     total-drop               one byte of a sum

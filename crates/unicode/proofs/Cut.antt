@@ -1,4 +1,5 @@
--- A well-formed list may be cut before any byte that is no tail: each side is well-formed, and the characters are those of the two sides.
+-- A well-formed list may be cut before any byte that is no tail: each side is well-formed, and the characters are those
+-- of the two sides.
 --     Cut, cut        the cut before a byte that starts a character
 --     ascii-cut       the cut around a byte below 80 hex, as a line feed or a comma: that byte is a character
 --     join            two well-formed lists make one

@@ -49,7 +49,8 @@ accepted = refl
 after : List ℕ → ℕ
 after s = prefixLen (0x61 ∷ s)
 
--- a tail alone, FF, F5; overlong forms of two, three and four bytes; a surrogate, which UTF-16 needs and UTF-8 has none of; past U+10FFFF
+-- a tail alone, FF, F5; overlong forms of two, three and four bytes; a surrogate, which UTF-16 needs and UTF-8 has none
+-- of; past U+10FFFF
 refused : map after
     ((0x80 ∷ []) ∷ (0xFF ∷ []) ∷ (0xF5 ∷ 0x80 ∷ 0x80 ∷ 0x80 ∷ []) ∷ (0xC0 ∷ 0x80 ∷ []) ∷ (0xC1 ∷ 0xBF ∷ []) ∷ (0xE0 ∷ 0x80 ∷ 0x80 ∷ [])
     ∷ (0xE0 ∷ 0x9F ∷ 0xBF ∷ []) ∷ (0xF0 ∷ 0x80 ∷ 0x80 ∷ 0x80 ∷ []) ∷ (0xF0 ∷ 0x8F ∷ 0xBF ∷ 0xBF ∷ []) ∷ (0xED ∷ 0xA0 ∷ 0x80 ∷ [])

@@ -1,5 +1,6 @@
--- A machine that reads characters, run on bytes: it looks only at a character's first byte, and passes over tails.
--- This fits where all characters from 80 hex on are alike to the machine, as for a scan that looks for quotes, brackets and backslashes.
+-- A machine that reads characters, run on bytes: it looks only at a character's first byte, and passes over tails. This
+-- fits where all characters from 80 hex on are alike to the machine, as for a scan that looks for quotes, brackets and
+-- backslashes.
 --     run             the state after a list
 --     bytewise        the machine on bytes: a tail changes nothing
 --     run-bytes       on a well-formed list it ends where the machine on characters ends

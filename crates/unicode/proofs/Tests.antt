@@ -1,7 +1,7 @@
--- Tests, and the cases that they make.
--- `search tests` answers a `return` where the specification picks by the same tests as the code: it rewrites each test by the fact that the
--- branches on the way give, found by itself in the record of what is known there. A test that a call makes, as `is_tail(b)`, is handed over as an
--- equation: `search (tests, sym (c .before .is-tail .ensures) ∙ c .if4 .taken)`.
+-- Tests, and the cases that they make. `search tests` answers a `return` where the specification picks by the same
+-- tests as the code: it rewrites each test by the fact that the branches on the way give, found by itself in the record
+-- of what is known there. A test that a call makes, as `is_tail(b)`, is handed over as an equation: `search (tests, sym
+-- (c .before .is-tail .ensures) ∙ c .if4 .taken)`.
 use Prim.Native.Nat.{ℕ, _<_, _≤_}
 use mathlib.Core.Bool.{Bool, true, false, cond, _&&_, _||_}
 use mathlib.Core.Logic.{_⊎_, inl, inr}

@@ -1,4 +1,5 @@
--- Unicode: scalar values, UTF-8, UTF-16 lengths and White_Space. A character is its code point, a text a list of them; a byte is a number too.
+-- Unicode: scalar values, UTF-8, UTF-16 lengths and White_Space. A character is its code point, a text a list of them;
+-- a byte is a number too.
 use Prim.Native.Nat.{ℕ, zero, suc, pred, _+_, _*_, _/_, _%_}
 use mathlib.Core.Bool.{Bool, false, cond, _&&_, _||_}
 use mathlib.Core.List.{List, [], _∷_, _++_}
@@ -51,7 +52,8 @@ second b0 b1 =
     (cond (eqb b0 0xF4) (within 0x80 0x8F b1)
     (within 0x80 0xBF b1))))
 
--- the length of the well-formed sequence that four bytes start with, or 0. A byte past the end is given as 0, which is no tail.
+-- the length of the well-formed sequence that four bytes start with, or 0. A byte past the end is given as 0, which is
+-- no tail.
 unfoldable pub seqLen : ℕ → ℕ → ℕ → ℕ → ℕ
 seqLen b0 b1 b2 b3 =
     cond (ltb b0 0x80) 1

@@ -1,6 +1,7 @@
-// Unicode by bytes: UTF-8, White_Space and UTF-16 lengths. What a slice's characters are is the specification's `decode` (specs/Unicode.antt).
+// Unicode by bytes: UTF-8, White_Space and UTF-16 lengths. What a slice's characters are is the specification's
+// `decode` (specs/Unicode.antt).
 ghost use mathlib.Core.Path.{_≡_};
-ghost use Prim.Native.Nat.{ℕ, _+_, _-_, _≤_, _<_};
+ghost use Prim.Native.Nat.{_+_, _-_, _≤_, _<_};
 ghost use lib.ListN.{length, getD, take, drop};
 ghost use Rattle.unicode.specs.Unicode.{within, tail, second, seqLen, prefixLen, codeOf, codeAt, decode, WellFormed, width, isWhite, firstIsWhite};
 ghost use Rattle.unicode.specs.Places.{SeqAt, NoneAmong, highAt, AsciiRun, Step, Back, WhiteAt, WhiteBefore, TrimmedStart, TrimmedEnd, Column, unitsOf, leadOf};
@@ -105,7 +106,8 @@ pub fn seq_at(s: &[u8], i: usize) -> usize
     seq_len(b0, b1, b2, b3)
 }
 
-// Whether a byte that is not ASCII stands among the 16 bytes from `at` on. It makes no branch, so that the 16 are tested at once.
+// Whether a byte that is not ASCII stands among the 16 bytes from `at` on. It makes no branch, so that the 16 are
+// tested at once.
 fn has_high(s: &[u8], at: usize) -> bool
     requires { ⌜ at + 16 ≤ length (now s) ⌝ }
     ensures { λ r. ⌜ NoneAmong (highAt (now (s .entry))) at 16 r ⌝ }

@@ -149,7 +149,8 @@ module _ (c : Choices) (old : Changed) (e : old ≡ heldNamed c) {a : Settings} 
       (change-setting (old .options) _ new (length x) m ∙ rw (named-stands c old e f, named-valid c old e f, ← p, q, g))
       d
 
--- ---- the numbers of an answer and the old ruler tab name its options: a host hands them on to its next call, with its own table of strengths
+-- ---- the numbers of an answer and the old ruler tab name its options: a host hands them on to its next call, with its
+-- own table of strengths
 
 width-back : (w : PrintWidth) → printWidthNamed (widthSetNumber w) (widthNumber w) ≡ some w
 unfolding printWidthNamed widthSetNumber widthNumber

@@ -34,10 +34,10 @@ pub extern "C" fn wirescript_text_kind_at(
     answer
 }
 
-// The text of a source. width_set: 0 no width, 1 the width given. line_ending: 0 kept, 1 LF, 2 CRLF. final_newline: 0 as the source, 1 always, 2 never.
-// ruler_tab: 0 a tab is one column, else how far apart the ruler's tab stops are.
-// strengths: 11 bytes, as `Strengths` of crate rules says.
-// opened gets the source lines, from 0, of the brackets that are still open at the end, the oldest first, as many as it has room for.
+// The text of a source. width_set: 0 no width, 1 the width given. line_ending: 0 kept, 1 LF, 2 CRLF. final_newline: 0
+// as the source, 1 always, 2 never. ruler_tab: 0 a tab is one column, else how far apart the ruler's tab stops are.
+// strengths: 11 bytes, as `Strengths` of crate rules says. opened gets the source lines, from 0, of the brackets that
+// are still open at the end, the oldest first, as many as it has room for.
 #[no_mangle]
 pub extern "C" fn wirescript_format(
     source: &[u8],
@@ -52,7 +52,10 @@ pub extern "C" fn wirescript_format(
     opened: &mut [u64],
     scratch: &mut [u8],
 ) -> Answer
-    ensures { λ r. ⌜ FormatAnswered (callOf (now (source .entry)) (now (indent .entry)) (numbersOf «width_set» width «line_ending» «final_newline» «ruler_tab») (now (strengths .entry)) (length (now (output .entry))) (length (now (opened .entry))) (length (now (scratch .entry)))) r (now (output .exit)) (now (opened .exit)) (now (scratch .exit)) ⌝ }
+    ensures { λ r. ⌜ FormatAnswered (callOf (now (source .entry)) (now (indent .entry))
+        (numbersOf «width_set» width «line_ending» «final_newline» «ruler_tab») (now (strengths .entry))
+        (length (now (output .entry))) (length (now (opened .entry))) (length (now (scratch .entry)))) r
+        (now (output .exit)) (now (opened .exit)) (now (scratch .exit)) ⌝ }
 {
     let numbers = OptionNumbers {
         width_set,

@@ -1,4 +1,5 @@
-// The setting steps over numbers and bytes, for a host. They leave its ruler tab and its table of strengths as they are, and so are told neither.
+// The setting steps over numbers and bytes, for a host. They leave its ruler tab and its table of strengths as they
+// are, and so are told neither.
 ghost use mathlib.Core.Path.{_≡_};
 ghost use Rattle.rules.specs.Strengths.{builtIn};
 ghost use Rattle.call.specs.Ran.{numbersOf};
@@ -16,8 +17,8 @@ use rules::OptionNumbers;
 use rules::Refusal;
 use rules::Strengths;
 
-// What a setting step gives: refusal 0 and the changed options, their indent's bytes in the lent output; or a refusal with its
-// place, the other numbers 0 and the output all zeros.
+// What a setting step gives: refusal 0 and the changed options, their indent's bytes in the lent output; or a refusal
+// with its place, the other numbers 0 and the output all zeros.
 #[repr(C)]
 pub struct Settings {
     pub refusal: u64,
@@ -30,7 +31,8 @@ pub struct Settings {
 }
 
 fn refuse(refusal: Refusal, output: &mut [u8]) -> Settings
-    ensures { λ r. ⌜ SettingsAnswered (λ _. SettingOutcome.Refused refusal) r (now (output .entry)) (now (output .exit)) ⌝ }
+    ensures { λ r. ⌜ SettingsAnswered (λ _. SettingOutcome.Refused refusal) r (now (output .entry)) (now (output .exit))
+        ⌝ }
 {
     buffer::zero(output);
     Settings {
@@ -94,7 +96,12 @@ pub extern "C" fn wirescript_indent_with(
     size: u64,
     output: &mut [u8],
 ) -> Settings
-    ensures { λ r. ⌜ SettingsAnswered (indentOutcome (record { indent = now (indent .entry); numbers = numbersOf «width_set» width «line_ending» «final_newline» 0; strengths = builtIn }) tabs size) r (now (output .entry)) (now (output .exit)) ⌝ }
+    ensures { λ r. ⌜ SettingsAnswered (indentOutcome
+        (record {
+          indent = now (indent .entry);
+          numbers = numbersOf «width_set» width «line_ending» «final_newline» 0;
+          strengths = builtIn;
+        }) tabs size) r (now (output .entry)) (now (output .exit)) ⌝ }
 {
     let numbers = OptionNumbers {
         width_set,
@@ -122,7 +129,9 @@ fn configure(
     values: ConfigNumbers,
     output: &mut [u8],
 ) -> Settings
-    ensures { λ r. ⌜ SettingsAnswered (configOutcome (record { indent = now (indent .entry); numbers = numbers; strengths = builtIn }) values) r (now (output .entry)) (now (output .exit)) ⌝ }
+    ensures { λ r. ⌜ SettingsAnswered (configOutcome
+        (record { indent = now (indent .entry); numbers = numbers; strengths = builtIn }) values) r
+        (now (output .entry)) (now (output .exit)) ⌝ }
 {
     let old = FormatOptions::from_numbers(indent, numbers, Strengths::BUILT_IN);
     let options = old.options;
@@ -155,7 +164,23 @@ pub extern "C" fn wirescript_editorconfig(
     newline: u64,
     output: &mut [u8],
 ) -> Settings
-    ensures { λ r. ⌜ SettingsAnswered (configOutcome (record { indent = now (indent .entry); numbers = numbersOf «width_set» width «line_ending» «final_newline» 0; strengths = builtIn }) (record { style = style; «size_kind» = «size_kind»; size = size; «tab_set» = «tab_set»; tab = tab; «max_kind» = «max_kind»; max = max; ending = ending; newline = newline })) r (now (output .entry)) (now (output .exit)) ⌝ }
+    ensures { λ r. ⌜ SettingsAnswered (configOutcome
+        (record {
+          indent = now (indent .entry);
+          numbers = numbersOf «width_set» width «line_ending» «final_newline» 0;
+          strengths = builtIn;
+        }) (record {
+          style = style;
+          «size_kind» = «size_kind»;
+          size = size;
+          «tab_set» = «tab_set»;
+          tab = tab;
+          «max_kind» = «max_kind»;
+          max = max;
+          ending = ending;
+          newline = newline;
+        })) r (now (output .entry))
+        (now (output .exit)) ⌝ }
 {
     let numbers = OptionNumbers {
         width_set,

@@ -1,5 +1,5 @@
-// Inner functions for the runs beside the Rust's own: no part of what a host links. Each checks what the function asks, and answers zeros
-// where it does not hold.
+// Inner functions for the runs beside the Rust's own: no part of what a host links. Each checks what the function asks,
+// and answers zeros where it does not hold.
 ghost use mathlib.Core.Path.{_≡_};
 ghost use Prim.Native.Nat.{_+_, _*_, _≤_};
 ghost use lib.ListN.{length};
@@ -61,7 +61,8 @@ pub extern "C" fn wirescript_test_classify(
     open_of(scan::classify(line, carry_named(carry, depth), classes))
 }
 
-// The respaced line: scratch holds the line's n class bytes, and after them takes the text, of which the length is given.
+// The respaced line: scratch holds the line's n class bytes, and after them takes the text, of which the length is
+// given.
 #[no_mangle]
 pub extern "C" fn wirescript_test_normalize_spacing(line: &[u8], scratch: &mut [u8]) -> u64 {
     let n = line.len();
@@ -101,7 +102,8 @@ fn levels_in(scratch: &[u8], base: usize, depth: usize) -> usize
     levels
 }
 
-// The brackets of the line, the source's first: scratch holds its n class bytes, and after them the stack of `depth` entries; the new depth is given.
+// The brackets of the line, the source's first: scratch holds its n class bytes, and after them the stack of `depth`
+// entries; the new depth is given.
 #[no_mangle]
 pub extern "C" fn wirescript_test_scan_brackets(
     line: &[u8],

@@ -1,4 +1,5 @@
--- What the program writes, computed: a text, an empty source, a source that is not UTF-8; and the lines for the two limits.
+-- What the program writes, computed: a text, an empty source, a source that is not UTF-8; and the lines for the two
+-- limits.
 use mathlib.Core.List.{[], _∷_}
 use mathlib.Core.Path.{_≡_, refl}
 use Rattle.decimal.specs.Decimal.{digits, digitsWithin}

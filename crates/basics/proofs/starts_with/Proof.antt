@@ -41,15 +41,5 @@ returns-3 c = search (needs, left-end)
 pub starts-with-spec : {M : Type 1} → statement M
 starts-with-spec =
     tie.close
-    (tie.spec
-    Inv-loop
-    μ-loop
-    loop-holds
-    returns
-    shared-slice-read-if2
-    shared-slice-read-if2-2
-    returns-2
-    add-k
-    loop-less
-    loop-again
-    returns-3)
+    (tie.spec Inv-loop μ-loop loop-holds returns shared-slice-read-if2 shared-slice-read-if2-2 returns-2 add-k
+    loop-less loop-again returns-3)

@@ -40,14 +40,5 @@ returns c = among-all _ _ _ _ _ (c .before .loop .inv) (omega arith)
 pub any-turn-spec : {M : Type 1} → statement M
 any-turn-spec =
     tie.close
-    (tie.spec
-    Inv-loop
-    μ-loop
-    loop-holds
-    add-may-turn
-    shared-slice-read-may-turn
-    may-turn-requires
-    add-k
-    loop-less
-    loop-again
-    returns)
+    (tie.spec Inv-loop μ-loop loop-holds add-may-turn shared-slice-read-may-turn may-turn-requires add-k loop-less
+    loop-again returns)

@@ -52,16 +52,5 @@ returns-6 c = turn-by _ _ _ (turn-same _ _ _ (c .before .before .before .before 
 pub bracket-step-spec : {M : Type 1} → statement M
 bracket-step-spec =
     tie.close
-    (tie.spec
-    returns
-    returns-2
-    returns-3
-    is-opener-requires
-    push-requires
-    same-length
-    returns-4
-    is-closer-requires
-    pop-requires
-    same-length-2
-    returns-5
-    returns-6)
+    (tie.spec returns returns-2 returns-3 is-opener-requires push-requires same-length returns-4 is-closer-requires
+    pop-requires same-length-2 returns-5 returns-6)

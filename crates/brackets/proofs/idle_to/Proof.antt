@@ -1,6 +1,5 @@
 use Prim.Native.Nat.{_-_}
 use borrow.Author.Needs.{needs}
-use native.Mathlib.Omega.{arith}
 use lib.ListN.{length}
 use Rattle.brackets.specs.Stack.{IdleRun}
 use Rattle.brackets.proofs.StackLaws.{idle-one}
@@ -43,15 +42,5 @@ returns-2 c = search needs
 pub idle-to-spec : {M : Type 1} → statement M
 idle-to-spec =
     tie.close
-    (tie.spec
-    Inv-loop
-    μ-loop
-    idle-eights-requires
-    loop-holds
-    shared-slice-read-may-turn
-    may-turn-requires
-    returns
-    add-i
-    loop-less
-    loop-again
-    returns-2)
+    (tie.spec Inv-loop μ-loop idle-eights-requires loop-holds shared-slice-read-may-turn may-turn-requires returns
+    add-i loop-less loop-again returns-2)

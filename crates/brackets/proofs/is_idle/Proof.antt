@@ -1,5 +1,3 @@
-use mathlib.Core.Bool.{not, _||_}
-use mathlib.Core.Path.{ap}
 use borrow.Author.Needs.{needs}
 use Rattle.brackets.proofs.is_idle.Statement.{statement}
 use Rattle.brackets.proofs.is_idle.Tie as tie

@@ -38,14 +38,5 @@ returns-2 c = search (needs, closing-end)
 pub leading-closers-spec : {M : Type 1} → statement M
 leading-closers-spec =
     tie.close
-    (tie.spec
-    Inv-loop
-    μ-loop
-    loop-holds
-    shared-slice-read-is-closer
-    is-closer-requires
-    add-i
-    loop-less
-    loop-again
-    returns
-    returns-2)
+    (tie.spec Inv-loop μ-loop loop-holds shared-slice-read-is-closer is-closer-requires add-i loop-less loop-again
+    returns returns-2)

@@ -42,15 +42,5 @@ same-length c = search needs
 pub list-lines-spec : {M : Type 1} → statement M
 list-lines-spec =
     tie.close
-    (tie.spec
-    Inv-loop
-    μ-loop
-    loop-holds
-    line-at-requires
-    mul-list
-    slice-write-list
-    add-i
-    loop-less
-    loop-again
-    same-length
-    returns)
+    (tie.spec Inv-loop μ-loop loop-holds line-at-requires mul-list slice-write-list add-i loop-less loop-again
+    same-length returns)

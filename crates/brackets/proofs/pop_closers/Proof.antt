@@ -45,17 +45,5 @@ returns c = search (needs, popping-end)
 pub pop-closers-spec : {M : Type 1} → statement M
 pop-closers-spec =
     tie.close
-    (tie.spec
-    Inv-loop
-    μ-loop
-    depth-after-requires
-    loop-holds
-    sub-depth
-    mul-level-of
-    add-level-of
-    shared-slice-read-level-of
-    level-of-requires
-    sub-levels
-    loop-less
-    loop-again
-    returns)
+    (tie.spec Inv-loop μ-loop depth-after-requires loop-holds sub-depth mul-level-of add-level-of
+    shared-slice-read-level-of level-of-requires sub-levels loop-less loop-again returns)

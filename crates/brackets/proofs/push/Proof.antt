@@ -40,15 +40,5 @@ returns-2 c = search (needs, push-level)
 pub push-spec : {M : Type 1} → statement M
 push-spec =
     tie.close
-    (tie.spec
-    mul-p
-    add-p
-    put-entry-requires
-    add-t14
-    same-length
-    returns
-    put-entry-requires-2
-    add-t9
-    add-t18
-    same-length-2
-    returns-2)
+    (tie.spec mul-p add-p put-entry-requires add-t14 same-length returns put-entry-requires-2 add-t9 add-t18
+    same-length-2 returns-2)

@@ -44,16 +44,5 @@ returns c = search (needs, entry-put)
 pub put-entry-spec : {M : Type 1} → statement M
 put-entry-spec =
     tie.close
-    (tie.spec
-    mul-scratch
-    add-scratch
-    cast-scratch
-    slice-write-scratch
-    cast-scratch-2
-    add-scratch-2
-    slice-write-scratch-2
-    cast-scratch-3
-    add-scratch-3
-    slice-write-scratch-3
-    same-length
-    returns)
+    (tie.spec mul-scratch add-scratch cast-scratch slice-write-scratch cast-scratch-2 add-scratch-2
+    slice-write-scratch-2 cast-scratch-3 add-scratch-3 slice-write-scratch-3 same-length returns)

@@ -45,17 +45,5 @@ returns c = search (needs, line-read)
 pub read-line-spec : {M : Type 1} → statement M
 read-line-spec =
     tie.close
-    (tie.spec
-    shared-slice-read-wide
-    wide-requires
-    mul-result
-    add-wide
-    shared-slice-read-wide-2
-    wide-requires-2
-    add-result
-    add-wide-2
-    shared-slice-read-wide-3
-    wide-requires-3
-    mul-result-2
-    add-result-2
-    returns)
+    (tie.spec shared-slice-read-wide wide-requires mul-result add-wide shared-slice-read-wide-2 wide-requires-2
+    add-result add-wide-2 shared-slice-read-wide-3 wide-requires-3 mul-result-2 add-result-2 returns)

@@ -61,21 +61,6 @@ returns c = search (needs, scan-end)
 pub scan-brackets-spec : {M : Type 1} → statement M
 scan-brackets-spec =
     tie.close
-    (tie.spec
-    Inv-loop
-    μ-loop
-    loop-holds
-    shared-slice-read-c
-    is-idle-requires
-    add-idle-to
-    idle-to-requires
-    loop-less
-    loop-again
-    add-bracket-step
-    slice-read-bracket-step
-    bracket-step-requires
-    add-i
-    loop-less-2
-    loop-again-2
-    same-length
-    returns)
+    (tie.spec Inv-loop μ-loop loop-holds shared-slice-read-c is-idle-requires add-idle-to idle-to-requires loop-less
+    loop-again add-bracket-step slice-read-bracket-step bracket-step-requires add-i loop-less-2 loop-again-2
+    same-length returns)

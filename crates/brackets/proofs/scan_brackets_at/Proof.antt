@@ -60,21 +60,6 @@ returns c = search (needs, scan-at-end)
 pub scan-brackets-at-spec : {M : Type 1} → statement M
 scan-brackets-at-spec =
     tie.close
-    (tie.spec
-    Inv-loop
-    μ-loop
-    loop-holds
-    add-c
-    slice-read-c
-    is-idle-requires
-    add-i
-    loop-less
-    loop-again
-    add-bracket-step
-    slice-read-bracket-step
-    bracket-step-requires
-    add-i-2
-    loop-less-2
-    loop-again-2
-    same-length
+    (tie.spec Inv-loop μ-loop loop-holds add-c slice-read-c is-idle-requires add-i loop-less loop-again
+    add-bracket-step slice-read-bracket-step bracket-step-requires add-i-2 loop-less-2 loop-again-2 same-length
     returns)

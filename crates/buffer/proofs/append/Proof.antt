@@ -30,12 +30,5 @@ returns c = search (needs, appended-from)
 pub append-spec : {M : Type 1} → statement M
 append-spec =
     tie.close
-    (tie.spec
-    place-requires
-    sub-put-line
-    part-put-line-start
-    part-put-line-end
-    put-line-requires
-    add-result
-    same-length
-    returns)
+    (tie.spec place-requires sub-put-line part-put-line-start part-put-line-end put-line-requires add-result
+    same-length returns)

@@ -33,13 +33,5 @@ returns c = search (needs, appended-append, appended-from)
 pub append-indented-spec : {M : Type 1} → statement M
 append-indented-spec =
     tie.close
-    (tie.spec
-    place-requires
-    sub-put-indent
-    part-put-indent-start
-    part-put-indent-end
-    put-indent-requires
-    add-append
-    append-requires
-    same-length
-    returns)
+    (tie.spec place-requires sub-put-indent part-put-indent-start part-put-indent-end put-indent-requires add-append
+    append-requires same-length returns)

@@ -38,14 +38,5 @@ returns-3 c = search needs
 pub put-indent-spec : {M : Type 1} → statement M
 put-indent-spec =
     tie.close
-    (tie.spec
-    returns
-    shared-slice-read-b
-    all-are-requires
-    mul-put-run
-    put-run-requires
-    same-length
-    returns-2
-    put-levels-requires
-    same-length-2
-    returns-3)
+    (tie.spec returns shared-slice-read-b all-are-requires mul-put-run put-run-requires same-length returns-2
+    put-levels-requires same-length-2 returns-3)

@@ -57,20 +57,5 @@ returns-2 c = search (needs, indenting-end)
 pub put-levels-spec : {M : Type 1} → statement M
 put-levels-spec =
     tie.close
-    (tie.spec
-    Inv-loop
-    μ-loop
-    mul-all
-    loop-holds
-    same-length
-    returns
-    sub-put-line
-    part-put-line-start
-    part-put-line-end
-    put-line-requires
-    add-at
-    add-level
-    loop-less
-    loop-again
-    same-length-2
-    returns-2)
+    (tie.spec Inv-loop μ-loop mul-all loop-holds same-length returns sub-put-line part-put-line-start
+    part-put-line-end put-line-requires add-at add-level loop-less loop-again same-length-2 returns-2)

@@ -40,15 +40,5 @@ returns c = search (needs, copying-end)
 pub put-line-spec : {M : Type 1} → statement M
 put-line-spec =
     tie.close
-    (tie.spec
-    Inv-loop
-    μ-loop
-    place-requires
-    loop-holds
-    shared-slice-read-out
-    slice-write-out
-    add-i
-    loop-less
-    loop-again
-    same-length
-    returns)
+    (tie.spec Inv-loop μ-loop place-requires loop-holds shared-slice-read-out slice-write-out add-i loop-less
+    loop-again same-length returns)

@@ -27,10 +27,4 @@ returns c = search (needs, wrote-run)
 pub put-run-spec : {M : Type 1} → statement M
 put-run-spec =
     tie.close
-    (tie.spec
-    place-requires
-    slice-relend-prefix-fill
-    slice-aggregate-fill
-    fill-requires
-    same-length
-    returns)
+    (tie.spec place-requires slice-relend-prefix-fill slice-aggregate-fill fill-requires same-length returns)

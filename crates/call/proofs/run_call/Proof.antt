@@ -73,19 +73,6 @@ returns-2 c =
 pub run-call-spec : {M : Type 1} → statement M
 run-call-spec =
     tie.close
-    (tie.spec
-    read-requires
-    from-numbers-requires
-    test-requires
-    enum-known-why
-    refuse-requires
-    enum-told
-    format-with-requires
-    same-length
-    same-length-2
-    same-length-3
-    returns
-    same-length-4
-    same-length-5
-    same-length-6
+    (tie.spec read-requires from-numbers-requires test-requires enum-known-why refuse-requires enum-told
+    format-with-requires same-length same-length-2 same-length-3 returns same-length-4 same-length-5 same-length-6
     returns-2)

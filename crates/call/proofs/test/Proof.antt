@@ -57,16 +57,5 @@ returns-5 c =
 pub test-spec : {M : Type 1} → statement M
 test-spec =
     tie.close
-    (tie.spec
-    test-strengths-requires
-    enum-known-why
-    enum-told
-    test-length-requires
-    enum-known-why-2
-    enum-told-2
-    returns
-    returns-2
-    test-bytes-requires
-    returns-3
-    returns-4
-    returns-5)
+    (tie.spec test-strengths-requires enum-known-why enum-told test-length-requires enum-known-why-2 enum-told-2
+    returns returns-2 test-bytes-requires returns-3 returns-4 returns-5)

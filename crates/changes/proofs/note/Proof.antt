@@ -56,20 +56,5 @@ returns-2 c = search (needs, noted-none)
 pub note-spec : {M : Type 1} → statement M
 note-spec =
     tie.close
-    (tie.spec
-    mul-k
-    add-if1
-    mul-list
-    slice-write-list
-    add-list
-    mul-list-2
-    slice-write-list-2
-    add-list-2
-    mul-list-3
-    slice-write-list-3
-    add-list-3
-    mul-list-4
-    slice-write-list-4
-    same-length
-    returns
-    returns-2)
+    (tie.spec mul-k add-if1 mul-list slice-write-list add-list mul-list-2 slice-write-list-2 add-list-2 mul-list-3
+    slice-write-list-3 add-list-3 mul-list-4 slice-write-list-4 same-length returns returns-2)

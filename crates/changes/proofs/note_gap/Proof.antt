@@ -48,18 +48,5 @@ returns-2 c = search (needs, note-other)
 pub note-gap-spec : {M : Type 1} → statement M
 note-gap-spec =
     tie.close
-    (tie.spec
-    add-a
-    add-b
-    sub-same
-    part-same-start
-    part-same-end
-    sub-same-2
-    part-same-start-2
-    part-same-end-2
-    same-requires
-    returns
-    note-requires
-    add-result
-    same-length
-    returns-2)
+    (tie.spec add-a add-b sub-same part-same-start part-same-end sub-same-2 part-same-start-2 part-same-end-2
+    same-requires returns note-requires add-result same-length returns-2)

@@ -1,7 +1,6 @@
 use borrow.Author.Needs.{needs}
-use native.Mathlib.Omega.{arith}
 use Rattle.changes.proofs.WalkLaws.{walk-source, walk-text, walk-source-on, walk-text-on}
-use Rattle.changes.proofs.WalkLaws.{Walk, walk-begin, walk-pair, walk-both, walk-turn, walk-end}
+use Rattle.changes.proofs.WalkLaws.{Walk, walk-begin, walk-pair, walk-turn, walk-end}
 use Prim.Native.Nat.{_-_}
 use lib.ListN.{length}
 use Rattle.changes.proofs.write_changes.Statement.{statement}
@@ -70,24 +69,6 @@ returns c = search (needs, walk-end)
 pub write-changes-spec : {M : Type 1} → statement M
 write-changes-spec =
     tie.close
-    (tie.spec
-    Inv-loop
-    μ-loop
-    gap-end-requires
-    gap-end-requires-2
-    loop-holds
-    sub-t10
-    sub-t14
-    note-gap-requires
-    size-at-requires
-    add-i
-    add-j
-    gap-end-requires-3
-    gap-end-requires-4
-    loop-less
-    loop-again
-    sub-t18
-    sub-t19
-    note-gap-requires-2
-    same-length
-    returns)
+    (tie.spec Inv-loop μ-loop gap-end-requires gap-end-requires-2 loop-holds sub-t10 sub-t14 note-gap-requires
+    size-at-requires add-i add-j gap-end-requires-3 gap-end-requires-4 loop-less loop-again sub-t18 sub-t19
+    note-gap-requires-2 same-length returns)

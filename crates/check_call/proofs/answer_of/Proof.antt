@@ -26,11 +26,4 @@ returns-2 c = rw (c .before .before .before .o2 .given .1, c .before .number-of 
 pub answer-of-spec : {M : Type 1} → statement M
 answer-of-spec =
     tie.close
-    (tie.spec
-    enum-known-o
-    one-if-requires
-    enum-known-o-2
-    number-of-requires
-    place-of-requires
-    returns
-    returns-2)
+    (tie.spec enum-known-o one-if-requires enum-known-o-2 number-of-requires place-of-requires returns returns-2)

@@ -56,17 +56,6 @@ returns-2 c =
 pub check-with-spec : {M : Type 1} → statement M
 check-with-spec =
     tie.close
-    (tie.spec
-    ending-of-requires
-    cast-t19
-    slice-aggregate-read-lines
-    read-lines-requires
-    has-last-ending-requires
-    slice-aggregate-end-text
-    end-text-requires
-    slice-aggregate-equals
-    equals-requires
-    same-length
-    returns
-    same-length-2
-    returns-2)
+    (tie.spec ending-of-requires cast-t19 slice-aggregate-read-lines read-lines-requires has-last-ending-requires
+    slice-aggregate-end-text end-text-requires slice-aggregate-equals equals-requires same-length returns
+    same-length-2 returns-2)

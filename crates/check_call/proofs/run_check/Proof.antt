@@ -44,14 +44,5 @@ returns-2 c =
 pub run-check-spec : {M : Type 1} → statement M
 run-check-spec =
     tie.close
-    (tie.spec
-    read-requires
-    from-numbers-requires
-    refuses-requires
-    test-requires
-    enum-known-why
-    enum-told
-    check-with-requires
-    returns
-    same-length
-    returns-2)
+    (tie.spec read-requires from-numbers-requires refuses-requires test-requires enum-known-why enum-told
+    check-with-requires returns same-length returns-2)

@@ -38,14 +38,4 @@ returns-2 c = search needs
 pub agree-blocks-spec : {M : Type 1} → statement M
 agree-blocks-spec =
     tie.close
-    (tie.spec
-    Inv-loop
-    μ-loop
-    loop-holds
-    sub-loop
-    differ-among-requires
-    returns
-    add-i
-    loop-less
-    loop-again
-    returns-2)
+    (tie.spec Inv-loop μ-loop loop-holds sub-loop differ-among-requires returns add-i loop-less loop-again returns-2)

@@ -27,11 +27,5 @@ returns-2 c = search (needs, compared-append)
 pub append-indented-spec : {M : Type 1} → statement M
 append-indented-spec =
     tie.close
-    (tie.spec
-    append-indented-requires
-    same-length
-    returns
-    track-levels-requires
-    track-requires
-    same-length-2
+    (tie.spec append-indented-requires same-length returns track-levels-requires track-requires same-length-2
     returns-2)

@@ -44,15 +44,5 @@ returns c = among-all _ _ _ _ _ (c .before .loop .inv) (omega arith)
 pub differ-among-spec : {M : Type 1} → statement M
 differ-among-spec =
     tie.close
-    (tie.spec
-    Inv-loop
-    μ-loop
-    loop-holds
-    add-any
-    shared-slice-read-any
-    add-any-2
-    shared-slice-read-any-2
-    add-k
-    loop-less
-    loop-again
-    returns)
+    (tie.spec Inv-loop μ-loop loop-holds add-any shared-slice-read-any add-any-2 shared-slice-read-any-2 add-k
+    loop-less loop-again returns)

@@ -32,12 +32,5 @@ returns c = search (needs, cell-put)
 pub put-cell-spec : {M : Type 1} → statement M
 put-cell-spec =
     tie.close
-    (tie.spec
-    cast-cell
-    slice-write-cell
-    cast-cell-2
-    slice-write-cell-2
-    cast-cell-3
-    slice-write-cell-3
-    same-length
+    (tie.spec cast-cell slice-write-cell cast-cell-2 slice-write-cell-2 cast-cell-3 slice-write-cell-3 same-length
     returns)

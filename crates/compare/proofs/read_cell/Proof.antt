@@ -39,15 +39,5 @@ returns c = search (needs, cell-read)
 pub read-cell-spec : {M : Type 1} → statement M
 read-cell-spec =
     tie.close
-    (tie.spec
-    shared-slice-read-wide
-    wide-requires
-    shared-slice-read-wide-2
-    wide-requires-2
-    mul-result
-    add-result
-    shared-slice-read-wide-3
-    wide-requires-3
-    mul-result-2
-    add-result-2
-    returns)
+    (tie.spec shared-slice-read-wide wide-requires shared-slice-read-wide-2 wide-requires-2 mul-result add-result
+    shared-slice-read-wide-3 wide-requires-3 mul-result-2 add-result-2 returns)

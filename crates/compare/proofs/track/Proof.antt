@@ -49,18 +49,5 @@ returns-3 c = search (needs, track-on)
 pub track-spec : {M : Type 1} → statement M
 track-spec =
     tie.close
-    (tie.spec
-    add-next
-    returns
-    read-cell-requires
-    same-length
-    returns-2
-    place-requires
-    sub-agree
-    part-agree-start
-    part-agree-end
-    agree-requires
-    add-put-cell
-    put-cell-requires
-    same-length-2
-    returns-3)
+    (tie.spec add-next returns read-cell-requires same-length returns-2 place-requires sub-agree part-agree-start
+    part-agree-end agree-requires add-put-cell put-cell-requires same-length-2 returns-3)

@@ -53,19 +53,6 @@ returns-3 c = search (needs, levels-on)
 pub track-levels-spec : {M : Type 1} → statement M
 track-levels-spec =
     tie.close
-    (tie.spec
-    mul-next
-    add-next
-    returns
-    read-cell-requires
-    same-length
-    returns-2
-    place-requires
-    sub-agree-levels
-    part-agree-levels-start
-    part-agree-levels-end
-    agree-levels-requires
-    add-put-cell
-    put-cell-requires
-    same-length-2
+    (tie.spec mul-next add-next returns read-cell-requires same-length returns-2 place-requires sub-agree-levels
+    part-agree-levels-start part-agree-levels-end agree-levels-requires add-put-cell put-cell-requires same-length-2
     returns-3)

@@ -1,5 +1,4 @@
 use borrow.Author.Needs.{needs}
-use native.Mathlib.Omega.{arith}
 use Prim.Native.Nat.{_-_}
 use lib.ListN.{length}
 use Rattle.config_lines.proofs.WordLaws.{Comparing, comparing-start, comparing-other, comparing-more, comparing-end, word-longer}
@@ -45,16 +44,5 @@ returns-3 c = search (needs, comparing-end)
 pub is-word-spec : {M : Type 1} → statement M
 is-word-spec =
     tie.close
-    (tie.spec
-    Inv-loop
-    μ-loop
-    returns
-    loop-holds
-    shared-slice-read-lowered
-    lowered-requires
-    shared-slice-read-if2
-    returns-2
-    add-i
-    loop-less
-    loop-again
-    returns-3)
+    (tie.spec Inv-loop μ-loop returns loop-holds shared-slice-read-lowered lowered-requires shared-slice-read-if2
+    returns-2 add-i loop-less loop-again returns-3)

@@ -1,5 +1,4 @@
 use borrow.Author.Needs.{needs}
-use native.Mathlib.Omega.{arith}
 use Rattle.config_lines.proofs.WordLaws.{low-below, low-above, low-letter}
 use Rattle.config_lines.proofs.lowered.Statement.{statement}
 use Rattle.config_lines.proofs.lowered.Tie as tie

@@ -36,14 +36,5 @@ returns c = search (needs, trimmed-is)
 pub trimmed-spec : {M : Type 1} → statement M
 trimmed-spec =
     tie.close
-    (tie.spec
-    trim-start-requires
-    sub-trim-end
-    part-trim-end-start
-    part-trim-end-end
-    trim-end-requires
-    add-result
-    sub-result
-    part-result-start
-    part-result-end
-    returns)
+    (tie.spec trim-start-requires sub-trim-end part-trim-end-start part-trim-end-end trim-end-requires add-result
+    sub-result part-result-start part-result-end returns)

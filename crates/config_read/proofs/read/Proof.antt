@@ -49,18 +49,5 @@ returns-4 c = read-given _ _ _ (worst-of-all _ _ _ _ _ _ _ _ (c .before .before 
 pub read-spec : {M : Type 1} → statement M
 read-spec =
     tie.close
-    (tie.spec
-    worst-of-requires
-    worst-of-requires-2
-    path-rank-requires
-    worse-requires
-    worse-requires-2
-    returns
-    returns-2
-    returns-3
-    top-requires
-    sub-resolve
-    part-resolve-start
-    part-resolve-end
-    resolve-requires
-    returns-4)
+    (tie.spec worst-of-requires worst-of-requires-2 path-rank-requires worse-requires worse-requires-2 returns
+    returns-2 returns-3 top-requires sub-resolve part-resolve-start part-resolve-end resolve-requires returns-4)

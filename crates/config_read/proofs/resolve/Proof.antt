@@ -57,21 +57,6 @@ apply-requires-8 c κs = (c .before .before .before .before .before .before .bef
 pub resolve-spec : {M : Type 1} → statement M
 resolve-spec =
     tie.close
-    (tie.spec
-    nearest-requires
-    above-requires
-    above-requires-2
-    above-requires-3
-    above-requires-4
-    above-requires-5
-    above-requires-6
-    above-requires-7
-    apply-requires
-    apply-requires-2
-    apply-requires-3
-    apply-requires-4
-    apply-requires-5
-    apply-requires-6
-    apply-requires-7
-    apply-requires-8
-    returns)
+    (tie.spec nearest-requires above-requires above-requires-2 above-requires-3 above-requires-4 above-requires-5
+    above-requires-6 above-requires-7 apply-requires apply-requires-2 apply-requires-3 apply-requires-4
+    apply-requires-5 apply-requires-6 apply-requires-7 apply-requires-8 returns)

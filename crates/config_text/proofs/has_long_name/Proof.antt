@@ -57,20 +57,5 @@ returns-2 c = search (needs, names-end)
 pub has-long-name-spec : {M : Type 1} → statement M
 has-long-name-spec =
     tie.close
-    (tie.spec
-    Inv-loop
-    μ-loop
-    start-of-requires
-    loop-holds
-    line-end-requires
-    sub-trimmed
-    part-trimmed-start
-    part-trimmed-end
-    trimmed-requires
-    kind-of-requires
-    is-long-requires
-    returns
-    add-at
-    loop-less
-    loop-again
-    returns-2)
+    (tie.spec Inv-loop μ-loop start-of-requires loop-holds line-end-requires sub-trimmed part-trimmed-start
+    part-trimmed-end trimmed-requires kind-of-requires is-long-requires returns add-at loop-less loop-again returns-2)

@@ -60,21 +60,6 @@ returns-2 c = search (needs, root-end)
 pub is-root-spec : {M : Type 1} → statement M
 is-root-spec =
     tie.close
-    (tie.spec
-    Inv-loop
-    μ-loop
-    start-of-requires
-    loop-holds
-    line-end-requires
-    sub-trimmed
-    part-trimmed-start
-    part-trimmed-end
-    trimmed-requires
-    kind-of-requires
-    starts-section-requires
-    returns
-    root-after-requires
-    add-at
-    loop-less
-    loop-again
-    returns-2)
+    (tie.spec Inv-loop μ-loop start-of-requires loop-holds line-end-requires sub-trimmed part-trimmed-start
+    part-trimmed-end trimmed-requires kind-of-requires starts-section-requires returns root-after-requires add-at
+    loop-less loop-again returns-2)

@@ -57,20 +57,6 @@ returns c = search (needs, setting-end)
 pub settings-spec : {M : Type 1} → statement M
 settings-spec =
     tie.close
-    (tie.spec
-    Inv-loop
-    μ-loop
-    start-of-requires
-    loop-holds
-    line-end-requires
-    sub-trimmed
-    part-trimmed-start
-    part-trimmed-end
-    trimmed-requires
-    kind-of-requires
-    applies-after-requires
-    values-after-requires
-    add-at
-    loop-less
-    loop-again
-    returns)
+    (tie.spec Inv-loop μ-loop start-of-requires loop-holds line-end-requires sub-trimmed part-trimmed-start
+    part-trimmed-end trimmed-requires kind-of-requires applies-after-requires values-after-requires add-at loop-less
+    loop-again returns)

@@ -30,12 +30,5 @@ returns c = decimal-put _ _ _ _ 20 _ _ _ (search needs) (c .before .before .befo
 pub put-decimal-spec : {M : Type 1} → statement M
 put-decimal-spec =
     tie.close
-    (tie.spec
-    slice-aggregate-spell
-    spell-requires
-    sub-append
-    part-append-start
-    part-append-end
-    append-requires
-    same-length
-    returns)
+    (tie.spec slice-aggregate-spell spell-requires sub-append part-append-start part-append-end append-requires
+    same-length returns)

@@ -53,19 +53,5 @@ returns c = search (needs, spelling-end)
 pub spell-spec : {M : Type 1} → statement M
 spell-spec =
     tie.close
-    (tie.spec
-    Inv-loop
-    μ-loop
-    loop-holds
-    sub-i
-    cast-room
-    add-room
-    slice-write-room
-    loop-less
-    loop-again
-    sub-i-2
-    cast-room-2
-    add-room-2
-    slice-write-room-2
-    same-length
-    returns)
+    (tie.spec Inv-loop μ-loop loop-holds sub-i cast-room add-room slice-write-room loop-less loop-again sub-i-2
+    cast-room-2 add-room-2 slice-write-room-2 same-length returns)

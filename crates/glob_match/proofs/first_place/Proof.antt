@@ -1,5 +1,3 @@
-use borrow.Author.Needs.{needs}
-use native.Mathlib.Omega.{arith}
 use Rattle.glob_match.proofs.NameLaws.{place-first, place-second}
 use Rattle.glob_match.proofs.first_place.Statement.{statement}
 use Rattle.glob_match.proofs.first_place.Tie as tie

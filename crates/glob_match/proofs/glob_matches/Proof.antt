@@ -38,14 +38,6 @@ returns c = c .before .matches-name .ensures .is _ (rooted-are _ _ _ _ _ (c .bef
 pub glob-matches-spec : {M : Type 1} → statement M
 glob-matches-spec =
     tie.close
-    (tie.spec
-    array-write-chars
-    starts-with-slash-requires
-    first-place-requires
-    decode-into-requires
-    array-share-prefix-chars
-    slice-aggregate-matches-name
-    array-borrow-prefix-kinds
-    slice-aggregate-matches-name-2
-    matches-name-requires
-    returns)
+    (tie.spec array-write-chars starts-with-slash-requires first-place-requires decode-into-requires
+    array-share-prefix-chars slice-aggregate-matches-name array-borrow-prefix-kinds slice-aggregate-matches-name-2
+    matches-name-requires returns)

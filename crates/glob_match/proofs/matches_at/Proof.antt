@@ -1,6 +1,6 @@
 use borrow.Author.Needs.{needs}
 use native.Mathlib.Omega.{arith}
-use Rattle.glob_match.proofs.PathLaws.{Reading, reading-start, reading-more, reading-room, reading-levels, reading-whole}
+use Rattle.glob_match.proofs.PathLaws.{Reading, reading-start, reading-more, reading-levels, reading-whole}
 use Rattle.glob_match.proofs.matches_at.Statement.{statement}
 use Rattle.glob_match.proofs.matches_at.Tie as tie
 
@@ -64,23 +64,6 @@ returns-2 c = search (needs, reading-whole)
 pub matches-at-spec : {M : Type 1} → statement M
 matches-at-spec =
     tie.close
-    (tie.spec
-    Inv-loop
-    μ-loop
-    pass-requires
-    array-read-found
-    loop-holds
-    size-before-requires
-    sub-e
-    code-at-requires
-    ranges-next-requires
-    pass-requires-2
-    array-read-found-2
-    loop-less
-    loop-again
-    ranges-next-requires-2
-    pass-requires-3
-    array-read-result
-    returns
-    array-read-result-2
-    returns-2)
+    (tie.spec Inv-loop μ-loop pass-requires array-read-found loop-holds size-before-requires sub-e code-at-requires
+    ranges-next-requires pass-requires-2 array-read-found-2 loop-less loop-again ranges-next-requires-2
+    pass-requires-3 array-read-result returns array-read-result-2 returns-2)

@@ -1,5 +1,4 @@
 use borrow.Author.Needs.{needs}
-use native.Mathlib.Omega.{arith}
 use Rattle.glob_match.proofs.NameLaws.{name-is}
 use Rattle.glob_match.proofs.matches_name.Statement.{statement}
 use Rattle.glob_match.proofs.matches_name.Tie as tie

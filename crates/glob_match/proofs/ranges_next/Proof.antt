@@ -54,19 +54,5 @@ returns c = search (needs, ranging-end)
 pub ranges-next-spec : {M : Type 1} → statement M
 ranges-next-spec =
     tie.close
-    (tie.spec
-    Inv-loop
-    μ-loop
-    loop-holds
-    shared-slice-read-if1
-    add-range-next
-    element-copy-out-range-next
-    range-next-requires
-    element-write-hits
-    add-p
-    loop-less
-    loop-again
-    add-p-2
-    loop-less-2
-    loop-again-2
-    returns)
+    (tie.spec Inv-loop μ-loop loop-holds shared-slice-read-if1 add-range-next element-copy-out-range-next
+    range-next-requires element-write-hits add-p loop-less loop-again add-p-2 loop-less-2 loop-again-2 returns)

@@ -1,5 +1,4 @@
 use borrow.Author.Needs.{needs}
-use native.Mathlib.Omega.{arith}
 use Rattle.glob_name.proofs.SettledLaws.{right-short, settled-held}
 use Rattle.glob_name.proofs.kinds_of.Statement.{statement}
 use Rattle.glob_name.proofs.kinds_of.Tie as tie

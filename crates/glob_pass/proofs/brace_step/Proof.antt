@@ -1,5 +1,4 @@
 use borrow.Author.Needs.{needs}
-use native.Mathlib.Omega.{arith}
 use Rattle.glob_pass.proofs.BraceLaws.{braced-closes, braced-none, braced-comma, braced-opens}
 use Rattle.glob_pass.proofs.brace_step.Statement.{statement}
 use Rattle.glob_pass.proofs.brace_step.Tie as tie
@@ -43,16 +42,5 @@ returns-4 c = search (needs, braced-opens)
 pub brace-step-spec : {M : Type 1} → statement M
 brace-step-spec =
     tie.close
-    (tie.spec
-    element-write-after
-    element-write-others
-    add-t12
-    returns
-    returns-2
-    sub-m
-    element-copy-out-others
-    element-write-others-2
-    element-copy-out-t15
-    returns-3
-    element-copy-out-t7
-    returns-4)
+    (tie.spec element-write-after element-write-others add-t12 returns returns-2 sub-m element-copy-out-others
+    element-write-others-2 element-copy-out-t15 returns-3 element-copy-out-t7 returns-4)

@@ -62,22 +62,6 @@ returns c = passed-set _ _ _ _ _ _ _ (going-end _ _ _ _ _ _ _ _ _ _ _ _ _ (c .be
 pub pass-spec : {M : Type 1} → statement M
 pass-spec =
     tie.close
-    (tie.spec
-    Inv-loop
-    μ-loop
-    element-copy-out-prior
-    element-write-v
-    loop-holds
-    sub-p
-    element-copy-out-old
-    shared-slice-read-k
-    brace-step-requires
-    element-write-v-2
-    loop-less
-    loop-again
-    element-copy-out-t22
-    value-at-requires
-    element-write-v-3
-    loop-less-2
-    loop-again-2
-    returns)
+    (tie.spec Inv-loop μ-loop element-copy-out-prior element-write-v loop-holds sub-p element-copy-out-old
+    shared-slice-read-k brace-step-requires element-write-v-2 loop-less loop-again element-copy-out-t22
+    value-at-requires element-write-v-3 loop-less-2 loop-again-2 returns)

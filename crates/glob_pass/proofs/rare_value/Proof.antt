@@ -1,5 +1,4 @@
 use borrow.Author.Needs.{needs}
-use native.Mathlib.Omega.{arith}
 use Rattle.glob_pass.proofs.ValueLaws.{value-range, value-past, value-escaped, value-ahead, value-opens, value-comma, value-closes}
 use Rattle.glob_pass.proofs.rare_value.Statement.{statement}
 use Rattle.glob_pass.proofs.rare_value.Tie as tie
@@ -40,15 +39,5 @@ returns-7 c = search (needs, value-closes)
 pub rare-value-spec : {M : Type 1} → statement M
 rare-value-spec =
     tie.close
-    (tie.spec
-    returns
-    add-if3
-    returns-2
-    add-result
-    mul-result
-    shared-slice-read-result
-    returns-3
-    returns-4
-    returns-5
-    returns-6
-    returns-7)
+    (tie.spec returns add-if3 returns-2 add-result mul-result shared-slice-read-result returns-3 returns-4 returns-5
+    returns-6 returns-7)

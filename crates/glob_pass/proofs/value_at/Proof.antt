@@ -1,5 +1,4 @@
 use borrow.Author.Needs.{needs}
-use native.Mathlib.Omega.{arith}
 use Rattle.glob_pass.proofs.ValueLaws.{value-same, value-part, value-one, value-star, value-stars, value-set, rare}
 use Rattle.glob_pass.proofs.value_at.Statement.{statement}
 use Rattle.glob_pass.proofs.value_at.Tie as tie
@@ -43,16 +42,5 @@ returns-7 c = search needs
 pub value-at-spec : {M : Type 1} → statement M
 value-at-spec =
     tie.close
-    (tie.spec
-    mul-result
-    shared-slice-read-result
-    returns
-    returns-2
-    returns-3
-    returns-4
-    returns-5
-    add-in-set
-    in-set-requires
-    returns-6
-    rare-value-requires
-    returns-7)
+    (tie.spec mul-result shared-slice-read-result returns returns-2 returns-3 returns-4 returns-5 add-in-set
+    in-set-requires returns-6 rare-value-requires returns-7)

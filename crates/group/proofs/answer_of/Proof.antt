@@ -29,12 +29,5 @@ returns-3 c = rw (c .before .before .before .o3 .given .1, c .before .number-of 
 pub answer-of-spec : {M : Type 1} → statement M
 answer-of-spec =
     tie.close
-    (tie.spec
-    enum-known-o
-    enum-known-o-2
-    enum-known-o-3
-    number-of-requires
-    place-of-requires
-    returns
-    returns-2
+    (tie.spec enum-known-o enum-known-o-2 enum-known-o-3 number-of-requires place-of-requires returns returns-2
     returns-3)

@@ -1,5 +1,4 @@
 use borrow.Author.Needs.{needs}
-use native.Mathlib.Omega.{arith}
 use Rattle.group.proofs.GroupCall.{answered}
 use Rattle.group.proofs.group_call.Statement.{statement}
 use Rattle.group.proofs.group_call.Tie as tie

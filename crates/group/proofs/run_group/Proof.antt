@@ -64,23 +64,6 @@ returns-4 c = search (needs, done)
 pub run-group-spec : {M : Type 1} → statement M
 run-group-spec =
     tie.close
-    (tie.spec
-    refuse-requires
-    same-length
-    same-length-2
-    returns
-    mul-needed
-    add-needed
-    refuse-requires-2
-    same-length-3
-    same-length-4
-    returns-2
-    well-formed-prefix-requires
-    refuse-requires-3
-    same-length-5
-    same-length-6
-    returns-3
-    show-requires
-    same-length-7
-    same-length-8
-    returns-4)
+    (tie.spec refuse-requires same-length same-length-2 returns mul-needed add-needed refuse-requires-2 same-length-3
+    same-length-4 returns-2 well-formed-prefix-requires refuse-requires-3 same-length-5 same-length-6 returns-3
+    show-requires same-length-7 same-length-8 returns-4)

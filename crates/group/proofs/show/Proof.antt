@@ -1,5 +1,4 @@
 use borrow.Author.Needs.{needs}
-use native.Mathlib.Omega.{arith}
 use Rattle.group.proofs.GroupCall.{source-fits, codes-fit, show-refused, show-text}
 use Rattle.group.proofs.show.Statement.{statement}
 use Rattle.group.proofs.show.Tie as tie
@@ -34,13 +33,5 @@ returns-2 c = search (needs, show-text)
 pub show-spec : {M : Type 1} → statement M
 show-spec =
     tie.close
-    (tie.spec
-    read-requires
-    refuse-requires
-    same-length
-    same-length-2
-    returns
-    write-text-requires
-    same-length-3
-    same-length-4
-    returns-2)
+    (tie.spec read-requires refuse-requires same-length same-length-2 returns write-text-requires same-length-3
+    same-length-4 returns-2)

@@ -1,5 +1,4 @@
 use borrow.Author.Needs.{needs}
-use native.Mathlib.Omega.{arith}
 use Rattle.group.proofs.GroupCall.{codes-ready, text-short, text-fits}
 use Rattle.group.proofs.write_text.Statement.{statement}
 use Rattle.group.proofs.write_text.Tie as tie
@@ -43,16 +42,5 @@ returns-2 c = search (needs, text-fits)
 pub write-text-spec : {M : Type 1} → statement M
 write-text-spec =
     tie.close
-    (tie.spec
-    open-all-requires
-    mul-close-all
-    close-all-requires
-    refuse-requires
-    same-length
-    same-length-2
-    returns
-    finish-requires
-    zero-requires
-    same-length-3
-    same-length-4
-    returns-2)
+    (tie.spec open-all-requires mul-close-all close-all-requires refuse-requires same-length same-length-2 returns
+    finish-requires zero-requires same-length-3 same-length-4 returns-2)

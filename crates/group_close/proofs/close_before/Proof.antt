@@ -49,18 +49,5 @@ returns-2 c = search (needs, before-end)
 pub close-before-spec : {M : Type 1} → statement M
 close-before-spec =
     tie.close
-    (tie.spec
-    Inv-loop
-    μ-loop
-    loop-holds
-    sub-t
-    shared-slice-read-t
-    second-takes-requires
-    same-length
-    returns
-    put-requires
-    sub-k
-    loop-less
-    loop-again
-    same-length-2
-    returns-2)
+    (tie.spec Inv-loop μ-loop loop-holds sub-t shared-slice-read-t second-takes-requires same-length returns
+    put-requires sub-k loop-less loop-again same-length-2 returns-2)

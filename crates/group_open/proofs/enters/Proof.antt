@@ -1,5 +1,4 @@
 use borrow.Author.Needs.{needs}
-use native.Mathlib.Omega.{arith}
 use Rattle.group_open.proofs.BackLaws.{may-enter, too-deep}
 use Rattle.group_open.proofs.enters.Statement.{statement}
 use Rattle.group_open.proofs.enters.Tie as tie

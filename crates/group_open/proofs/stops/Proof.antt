@@ -1,5 +1,4 @@
 use borrow.Author.Needs.{needs}
-use native.Mathlib.Omega.{arith}
 use Rattle.group_open.proofs.BackLaws.{in-bracket, in-none}
 use Rattle.group_open.proofs.stops.Statement.{statement}
 use Rattle.group_open.proofs.stops.Tie as tie

@@ -1,5 +1,4 @@
 use borrow.Author.Needs.{needs}
-use native.Mathlib.Omega.{arith}
 use Rattle.group_read.proofs.LoopLaws.{end-deep, end-due, end-operator, end-keyword, end-name, end-number, end-after}
 use Rattle.group_read.proofs.end_read.Statement.{statement}
 use Rattle.group_read.proofs.end_read.Tie as tie
@@ -67,24 +66,6 @@ returns-7 c = search (needs, end-due, end-operator, end-keyword, end-name, end-n
 pub end-read-spec : {M : Type 1} → statement M
 end-read-spec =
     tie.close
-    (tie.spec
-    no-codes-requires
-    returns
-    enum-told
-    no-codes-requires-2
-    enum-told-2
-    sub-is-keyword
-    part-is-keyword-start
-    part-is-keyword-end
-    is-keyword-requires
-    no-codes-requires-3
-    returns-2
-    enum-told-3
-    enum-told-4
-    enum-told-5
-    no-codes-requires-4
-    returns-3
-    returns-4
-    returns-5
-    returns-6
-    returns-7)
+    (tie.spec no-codes-requires returns enum-told no-codes-requires-2 enum-told-2 sub-is-keyword part-is-keyword-start
+    part-is-keyword-end is-keyword-requires no-codes-requires-3 returns-2 enum-told-3 enum-told-4 enum-told-5
+    no-codes-requires-4 returns-3 returns-4 returns-5 returns-6 returns-7)

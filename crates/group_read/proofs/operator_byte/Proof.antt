@@ -1,5 +1,4 @@
 use borrow.Author.Needs.{needs}
-use native.Mathlib.Omega.{arith}
 use Rattle.group_read.proofs.OperatorLaws.{strength-small, operator-two, operator-none, operator-one, operator-room}
 use Rattle.group_read.proofs.operator_byte.Statement.{statement}
 use Rattle.group_read.proofs.operator_byte.Tie as tie
@@ -43,16 +42,5 @@ returns-3 c = search (needs, operator-one)
 pub operator-byte-spec : {M : Type 1} → statement M
 operator-byte-spec =
     tie.close
-    (tie.spec
-    of-two-requires
-    put-two-requires
-    goes-requires
-    same-length
-    returns
-    of-one-requires
-    refuse-requires
-    returns-2
-    put-one-requires
-    due-byte-requires
-    same-length-2
-    returns-3)
+    (tie.spec of-two-requires put-two-requires goes-requires same-length returns of-one-requires refuse-requires
+    returns-2 put-one-requires due-byte-requires same-length-2 returns-3)

@@ -1,6 +1,6 @@
 use borrow.Author.Needs.{needs}
 use native.Mathlib.Omega.{arith}
-use lib.ListN.{length, set, length-set}
+use lib.ListN.{length-set}
 use Rattle.group_read.proofs.OperatorLaws.{write-three}
 use Rattle.group_read.proofs.put_one.Statement.{statement}
 use Rattle.group_read.proofs.put_one.Tie as tie
@@ -35,13 +35,5 @@ returns c = write-three _ _ _ _ _ (c .pre .1)
 pub put-one-spec : {M : Type 1} → statement M
 put-one-spec =
     tie.close
-    (tie.spec
-    slice-write-scratch
-    add-scratch
-    slice-write-scratch-2
-    add-scratch-2
-    add-scratch-3
-    slice-write-scratch-3
-    add-result
-    same-length
-    returns)
+    (tie.spec slice-write-scratch add-scratch slice-write-scratch-2 add-scratch-2 add-scratch-3 slice-write-scratch-3
+    add-result same-length returns)

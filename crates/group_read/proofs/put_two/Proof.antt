@@ -1,6 +1,6 @@
 use borrow.Author.Needs.{needs}
 use native.Mathlib.Omega.{arith}
-use lib.ListN.{length, set, length-set}
+use lib.ListN.{length-set}
 use Rattle.group_read.proofs.OperatorLaws.{write-four}
 use Rattle.group_read.proofs.put_two.Statement.{statement}
 use Rattle.group_read.proofs.put_two.Tie as tie
@@ -41,15 +41,5 @@ returns c = write-four _ _ _ _ _ _ (c .pre .1)
 pub put-two-spec : {M : Type 1} → statement M
 put-two-spec =
     tie.close
-    (tie.spec
-    slice-write-scratch
-    add-scratch
-    slice-write-scratch-2
-    add-scratch-2
-    slice-write-scratch-3
-    add-scratch-3
-    add-scratch-4
-    slice-write-scratch-4
-    add-result
-    same-length
-    returns)
+    (tie.spec slice-write-scratch add-scratch slice-write-scratch-2 add-scratch-2 slice-write-scratch-3 add-scratch-3
+    add-scratch-4 slice-write-scratch-4 add-result same-length returns)

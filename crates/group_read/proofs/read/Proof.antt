@@ -1,5 +1,4 @@
 use borrow.Author.Needs.{needs}
-use native.Mathlib.Omega.{arith}
 use Prim.Native.Nat.{_-_}
 use lib.ListN.{length}
 use Rattle.group_read.proofs.LoopLaws.{Reads, reads-start, reads-room, reads-next, reads-refused, reads-end}
@@ -49,17 +48,5 @@ returns-2 c = search (needs, reads-end)
 pub read-spec : {M : Type 1} → statement M
 read-spec =
     tie.close
-    (tie.spec
-    Inv-loop
-    μ-loop
-    loop-holds
-    read-byte-requires
-    no-codes-requires
-    same-length
-    returns
-    add-i
-    loop-less
-    loop-again
-    end-read-requires
-    same-length-2
-    returns-2)
+    (tie.spec Inv-loop μ-loop loop-holds read-byte-requires no-codes-requires same-length returns add-i loop-less
+    loop-again end-read-requires same-length-2 returns-2)

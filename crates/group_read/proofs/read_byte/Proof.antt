@@ -1,5 +1,4 @@
 use borrow.Author.Needs.{needs}
-use native.Mathlib.Omega.{arith}
 use Rattle.group_read.proofs.LoopLaws.{due-room, after-room, name-room, number-room, operator-room, steps-due, steps-after, steps-name, steps-number, steps-operator}
 use Rattle.group_read.proofs.read_byte.Statement.{statement}
 use Rattle.group_read.proofs.read_byte.Tie as tie
@@ -79,28 +78,7 @@ returns-5 c = search (needs, steps-operator)
 pub read-byte-spec : {M : Type 1} → statement M
 read-byte-spec =
     tie.close
-    (tie.spec
-    enum-told
-    shared-slice-read-due-byte
-    due-byte-requires
-    enum-told-2
-    name-byte-requires
-    enum-told-3
-    number-byte-requires
-    enum-told-4
-    shared-slice-read-after-byte
-    after-byte-requires
-    enum-told-5
-    shared-slice-read-operator-byte
-    shared-slice-read-operator-byte-2
-    operator-byte-requires
-    same-length
-    returns
-    same-length-2
-    returns-2
-    same-length-3
-    returns-3
-    same-length-4
-    returns-4
-    same-length-5
-    returns-5)
+    (tie.spec enum-told shared-slice-read-due-byte due-byte-requires enum-told-2 name-byte-requires enum-told-3
+    number-byte-requires enum-told-4 shared-slice-read-after-byte after-byte-requires enum-told-5
+    shared-slice-read-operator-byte shared-slice-read-operator-byte-2 operator-byte-requires same-length returns
+    same-length-2 returns-2 same-length-3 returns-3 same-length-4 returns-4 same-length-5 returns-5)

@@ -46,16 +46,5 @@ returns-3 c = search (needs, ending-last)
 pub line-end-spec : {M : Type 1} → statement M
 line-end-spec =
     tie.close
-    (tie.spec
-    Inv-loop
-    μ-loop
-    shared-slice-read-if2
-    returns
-    past-blocks-requires
-    loop-holds
-    shared-slice-read-if3
-    returns-2
-    add-i
-    loop-less
-    loop-again
-    returns-3)
+    (tie.spec Inv-loop μ-loop shared-slice-read-if2 returns past-blocks-requires loop-holds shared-slice-read-if3
+    returns-2 add-i loop-less loop-again returns-3)

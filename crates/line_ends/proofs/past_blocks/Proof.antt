@@ -41,14 +41,4 @@ returns-2 c = search needs
 pub past-blocks-spec : {M : Type 1} → statement M
 past-blocks-spec =
     tie.close
-    (tie.spec
-    Inv-loop
-    μ-loop
-    loop-holds
-    sub-loop
-    has-lf-requires
-    returns
-    add-i
-    loop-less
-    loop-again
-    returns-2)
+    (tie.spec Inv-loop μ-loop loop-holds sub-loop has-lf-requires returns add-i loop-less loop-again returns-2)

@@ -29,11 +29,4 @@ returns-3 c = cr-stays _ _ (omega arith) (c .if2 .left)
 pub without-cr-spec : {M : Type 1} → statement M
 without-cr-spec =
     tie.close
-    (tie.spec
-    returns
-    sub-if2
-    shared-slice-read-if2
-    sub-result
-    slice-aggregate-result
-    returns-2
-    returns-3)
+    (tie.spec returns sub-if2 shared-slice-read-if2 sub-result slice-aggregate-result returns-2 returns-3)

@@ -89,25 +89,6 @@ returns-2 c = looked-end (c .before .loop .inv) (c .before .before .before .befo
 pub read-lines-spec : {M : Type 1} → statement M
 read-lines-spec =
     tie.close
-    (tie.spec
-    Inv-loop
-    μ-loop
-    new-requires
-    loop-holds
-    line-end-requires
-    sub-without-cr
-    part-without-cr-start
-    part-without-cr-end
-    without-cr-requires
-    line-step-requires
-    add-next
-    add-at
-    differs-requires
-    same-length
-    same-length-2
-    returns
-    loop-less
-    loop-again
-    same-length-3
-    same-length-4
-    returns-2)
+    (tie.spec Inv-loop μ-loop new-requires loop-holds line-end-requires sub-without-cr part-without-cr-start
+    part-without-cr-end without-cr-requires line-step-requires add-next add-at differs-requires same-length
+    same-length-2 returns loop-less loop-again same-length-3 same-length-4 returns-2)

@@ -38,14 +38,4 @@ returns c = search (needs, filling-end)
 pub zero-spec : {M : Type 1} → statement M
 zero-spec =
     tie.close
-    (tie.spec
-    Inv-loop
-    μ-loop
-    loop-holds
-    mul-list
-    slice-write-list
-    add-i
-    loop-less
-    loop-again
-    same-length
-    returns)
+    (tie.spec Inv-loop μ-loop loop-holds mul-list slice-write-list add-i loop-less loop-again same-length returns)

@@ -53,18 +53,6 @@ returns-4 c = search picks depth 20
 pub in-block-spec : {M : Type 1} → statement M
 in-block-spec =
     tie.close
-    (tie.spec
-    slice-aggregate-starts-with
-    starts-with-requires
-    add-t9
-    long-mark-requires
-    returns
-    slice-aggregate-starts-with-2
-    starts-with-requires-2
-    long-mark-requires-2
-    returns-2
-    sub-t18
-    long-mark-requires-3
-    returns-3
-    one-mark-requires
-    returns-4)
+    (tie.spec slice-aggregate-starts-with starts-with-requires add-t9 long-mark-requires returns
+    slice-aggregate-starts-with-2 starts-with-requires-2 long-mark-requires-2 returns-2 sub-t18 long-mark-requires-3
+    returns-3 one-mark-requires returns-4)

@@ -83,27 +83,7 @@ returns-7 c = search picks depth 20
 pub in-code-spec : {M : Type 1} → statement M
 in-code-spec =
     tie.close
-    (tie.spec
-    first-is-requires
-    long-mark-requires
-    returns
-    first-is-requires-2
-    one-mark-requires
-    returns-2
-    first-is-requires-3
-    one-mark-requires-2
-    returns-3
-    slice-aggregate-starts-with
-    starts-with-requires
-    one-mark-requires-3
-    returns-4
-    slice-aggregate-starts-with-2
-    starts-with-requires-2
-    long-mark-requires-2
-    returns-5
-    slice-aggregate-starts-with-3
-    starts-with-requires-3
-    long-mark-requires-3
-    returns-6
-    one-mark-requires-4
-    returns-7)
+    (tie.spec first-is-requires long-mark-requires returns first-is-requires-2 one-mark-requires returns-2
+    first-is-requires-3 one-mark-requires-2 returns-3 slice-aggregate-starts-with starts-with-requires
+    one-mark-requires-3 returns-4 slice-aggregate-starts-with-2 starts-with-requires-2 long-mark-requires-2 returns-5
+    slice-aggregate-starts-with-3 starts-with-requires-3 long-mark-requires-3 returns-6 one-mark-requires-4 returns-7)

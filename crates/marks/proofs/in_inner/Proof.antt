@@ -34,12 +34,5 @@ returns-3 c = search picks depth 20
 pub in-inner-spec : {M : Type 1} → statement M
 in-inner-spec =
     tie.close
-    (tie.spec
-    first-is-requires
-    long-mark-requires
-    returns
-    closes-requires
-    one-mark-requires
-    returns-2
-    one-mark-requires-2
-    returns-3)
+    (tie.spec first-is-requires long-mark-requires returns closes-requires one-mark-requires returns-2
+    one-mark-requires-2 returns-3)

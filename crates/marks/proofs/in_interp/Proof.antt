@@ -77,25 +77,7 @@ returns-7 c = search picks depth 20
 pub in-interp-spec : {M : Type 1} → statement M
 in-interp-spec =
     tie.close
-    (tie.spec
-    first-is-requires
-    long-mark-requires
-    returns
-    first-is-requires-2
-    one-mark-requires
-    returns-2
-    first-is-requires-3
-    one-mark-requires-2
-    returns-3
-    first-is-requires-4
-    add-t15
-    one-mark-requires-3
-    returns-4
-    first-is-requires-5
-    one-mark-requires-4
-    returns-5
-    sub-t22
-    one-mark-requires-5
-    returns-6
-    one-mark-requires-6
+    (tie.spec first-is-requires long-mark-requires returns first-is-requires-2 one-mark-requires returns-2
+    first-is-requires-3 one-mark-requires-2 returns-3 first-is-requires-4 add-t15 one-mark-requires-3 returns-4
+    first-is-requires-5 one-mark-requires-4 returns-5 sub-t22 one-mark-requires-5 returns-6 one-mark-requires-6
     returns-7)

@@ -27,10 +27,4 @@ returns-2 c = search picks depth 20
 pub in-prefab-spec : {M : Type 1} → statement M
 in-prefab-spec =
     tie.close
-    (tie.spec
-    slice-aggregate-starts-with
-    starts-with-requires
-    long-mark-requires
-    returns
-    one-mark-requires
-    returns-2)
+    (tie.spec slice-aggregate-starts-with starts-with-requires long-mark-requires returns one-mark-requires returns-2)

@@ -47,16 +47,5 @@ returns-4 c = search picks depth 20
 pub in-quoted-spec : {M : Type 1} → statement M
 in-quoted-spec =
     tie.close
-    (tie.spec
-    first-is-requires
-    long-mark-requires
-    returns
-    slice-aggregate-starts-with
-    starts-with-requires
-    long-mark-requires-2
-    returns-2
-    closes-requires
-    one-mark-requires
-    returns-3
-    one-mark-requires-2
-    returns-4)
+    (tie.spec first-is-requires long-mark-requires returns slice-aggregate-starts-with starts-with-requires
+    long-mark-requires-2 returns-2 closes-requires one-mark-requires returns-3 one-mark-requires-2 returns-4)

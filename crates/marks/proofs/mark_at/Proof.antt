@@ -68,25 +68,6 @@ returns-7 c = rw (c .before .enum-told3 .given .1) (c .in-prefab .ensures)
 pub mark-at-spec : {M : Type 1} → statement M
 mark-at-spec =
     tie.close
-    (tie.spec
-    enum-told
-    in-code-requires
-    enum-known-m
-    in-quoted-requires
-    enum-known-m-2
-    in-interp-requires
-    enum-known-m-3
-    in-inner-requires
-    enum-told-2
-    one-mark-requires
-    enum-known-m-4
-    in-block-requires
-    enum-told-3
-    in-prefab-requires
-    returns
-    returns-2
-    returns-3
-    returns-4
-    returns-5
-    returns-6
-    returns-7)
+    (tie.spec enum-told in-code-requires enum-known-m in-quoted-requires enum-known-m-2 in-interp-requires
+    enum-known-m-3 in-inner-requires enum-told-2 one-mark-requires enum-known-m-4 in-block-requires enum-told-3
+    in-prefab-requires returns returns-2 returns-3 returns-4 returns-5 returns-6 returns-7)

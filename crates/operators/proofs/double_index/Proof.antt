@@ -43,13 +43,4 @@ returns-9 c = search (needs, double-none)
 pub double-index-spec : {M : Type 1} → statement M
 double-index-spec =
     tie.close
-    (tie.spec
-    returns
-    returns-2
-    returns-3
-    returns-4
-    returns-5
-    returns-6
-    returns-7
-    returns-8
-    returns-9)
+    (tie.spec returns returns-2 returns-3 returns-4 returns-5 returns-6 returns-7 returns-8 returns-9)

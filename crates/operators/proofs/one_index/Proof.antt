@@ -51,15 +51,5 @@ returns-11 c = search (needs, one-none)
 pub one-index-spec : {M : Type 1} → statement M
 one-index-spec =
     tie.close
-    (tie.spec
-    returns
-    returns-2
-    returns-3
-    returns-4
-    returns-5
-    returns-6
-    returns-7
-    returns-8
-    returns-9
-    returns-10
+    (tie.spec returns returns-2 returns-3 returns-4 returns-5 returns-6 returns-7 returns-8 returns-9 returns-10
     returns-11)

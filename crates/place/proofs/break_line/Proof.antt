@@ -100,24 +100,7 @@ returns-3 c =
 pub break-line-spec : {M : Type 1} → statement M
 break-line-spec =
     tie.close
-    (tie.spec
-    continue-text-requires
-    ends-in-brace-requires
-    split-import-requires
-    enum-known-i
-    after-lines-requires
-    enum-told
-    split-operation-requires
-    enum-known-o
-    after-lines-requires-2
-    alone-requires
-    enum-known-o-2
-    trimmed-takes-else-requires
-    after-lines-requires-3
-    alone-requires-2
-    same-length
-    returns
-    same-length-2
-    returns-2
-    same-length-3
-    returns-3)
+    (tie.spec continue-text-requires ends-in-brace-requires split-import-requires enum-known-i after-lines-requires
+    enum-told split-operation-requires enum-known-o after-lines-requires-2 alone-requires enum-known-o-2
+    trimmed-takes-else-requires after-lines-requires-3 alone-requires-2 same-length returns same-length-2 returns-2
+    same-length-3 returns-3)

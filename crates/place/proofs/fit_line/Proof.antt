@@ -52,14 +52,5 @@ returns-2 c =
 pub fit-line-spec : {M : Type 1} → statement M
 fit-line-spec =
     tie.close
-    (tie.spec
-    fit-of-requires
-    enum-told
-    push-one-requires
-    alone-requires
-    enum-known-max
-    break-line-requires
-    same-length
-    returns
-    same-length-2
-    returns-2)
+    (tie.spec fit-of-requires enum-told push-one-requires alone-requires enum-known-max break-line-requires
+    same-length returns same-length-2 returns-2)

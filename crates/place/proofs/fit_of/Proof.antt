@@ -51,12 +51,5 @@ returns-4 c =
 pub fit-of-spec : {M : Type 1} → statement M
 fit-of-spec =
     tie.close
-    (tie.spec
-    enum-told
-    enum-known-width
-    over-wide-requires
-    all-code-or-str-requires
-    returns
-    returns-2
-    returns-3
+    (tie.spec enum-told enum-known-width over-wide-requires all-code-or-str-requires returns returns-2 returns-3
     returns-4)

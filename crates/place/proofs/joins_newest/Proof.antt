@@ -1,5 +1,3 @@
-use mathlib.Core.Bool.{Bool, true, false, _&&_}
-use mathlib.Core.Path.{_≡_}
 use borrow.Author.Needs.{needs}
 use Rattle.place.proofs.LayLaws.{both, not-first}
 use Rattle.place.proofs.joins_newest.Statement.{statement}

@@ -40,11 +40,5 @@ returns c =
 pub lay-line-spec : {M : Type 1} → statement M
 lay-line-spec =
     tie.close
-    (tie.spec
-    continues-requires
-    level-of-requires
-    drops-blank-requires
-    break-width-requires
-    fit-line-requires
-    same-length
-    returns)
+    (tie.spec continues-requires level-of-requires drops-blank-requires break-width-requires fit-line-requires
+    same-length returns)

@@ -38,12 +38,5 @@ returns-2 c =
 pub place-line-spec : {M : Type 1} → statement M
 place-line-spec =
     tie.close
-    (tie.spec
-    joins-newest-requires
-    join-one-requires
-    alone-requires
-    same-length
-    returns
-    lay-line-requires
-    same-length-2
-    returns-2)
+    (tie.spec joins-newest-requires join-one-requires alone-requires same-length returns lay-line-requires
+    same-length-2 returns-2)

@@ -21,8 +21,4 @@ returns c = search needs
 pub push-one-spec : {M : Type 1} → statement M
 push-one-spec =
     tie.close
-    (tie.spec
-    trimmed-takes-else-requires
-    push-line-requires
-    same-length
-    returns)
+    (tie.spec trimmed-takes-else-requires push-line-requires same-length returns)

@@ -1,5 +1,4 @@
 use borrow.Author.Needs.{needs}
-use native.Mathlib.Omega.{arith}
 use Prim.Native.Nat.{_-_}
 use Rattle.ranges.proofs.SlotLaws.{Finding, finding-start, finding-more, finding-end}
 use Rattle.ranges.proofs.any_slot.Statement.{statement}
@@ -38,14 +37,5 @@ returns c = search (needs, finding-end)
 pub any-slot-spec : {M : Type 1} → statement M
 any-slot-spec =
     tie.close
-    (tie.spec
-    Inv-loop
-    μ-loop
-    loop-holds
-    add-j
-    add-slot-in
-    element-copy-out-slot-in
-    slot-in-requires
-    loop-less
-    loop-again
-    returns)
+    (tie.spec Inv-loop μ-loop loop-holds add-j add-slot-in element-copy-out-slot-in slot-in-requires loop-less
+    loop-again returns)

@@ -1,5 +1,4 @@
 use borrow.Author.Needs.{needs}
-use native.Mathlib.Omega.{arith}
 use Rattle.ranges.proofs.SlotLaws.{lows-at, lows-past}
 use Rattle.ranges.proofs.digit_at.Statement.{statement}
 use Rattle.ranges.proofs.digit_at.Tie as tie

@@ -1,5 +1,4 @@
 use borrow.Author.Needs.{needs}
-use native.Mathlib.Omega.{arith}
 use Rattle.ranges.proofs.EndLaws.{end-minus, end-plain}
 use Rattle.ranges.proofs.end_at.Statement.{statement}
 use Rattle.ranges.proofs.end_at.Tie as tie
@@ -37,14 +36,5 @@ returns-2 c = end-plain _ _ _ _ (c .before .before .before .before .pre .0) (c .
 pub end-at-spec : {M : Type 1} → statement M
 end-at-spec =
     tie.close
-    (tie.spec
-    add-end
-    mul-if1
-    shared-slice-read-if1
-    add-past-zeros
-    past-zeros-requires
-    sub-t11
-    returns
-    past-zeros-requires-2
-    sub-t7
-    returns-2)
+    (tie.spec add-end mul-if1 shared-slice-read-if1 add-past-zeros past-zeros-requires sub-t11 returns
+    past-zeros-requires-2 sub-t7 returns-2)

@@ -1,5 +1,4 @@
 use borrow.Author.Needs.{needs}
-use native.Mathlib.Omega.{arith}
 use mathlib.Core.Path.{refl}
 use Rattle.ranges.specs.Ranges.{farAt}
 use Rattle.ranges.proofs.far_at.Statement.{statement}

@@ -1,5 +1,4 @@
 use borrow.Author.Needs.{needs}
-use native.Mathlib.Omega.{arith}
 use Rattle.ranges.proofs.SlotLaws.{far-is}
 use Rattle.ranges.proofs.far_next.Statement.{statement}
 use Rattle.ranges.proofs.far_next.Tie as tie

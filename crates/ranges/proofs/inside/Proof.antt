@@ -1,5 +1,4 @@
 use borrow.Author.Needs.{needs}
-use native.Mathlib.Omega.{arith}
 use Rattle.ranges.specs.Slots.{inside}
 use Rattle.ranges.proofs.inside.Statement.{statement}
 use Rattle.ranges.proofs.inside.Tie as tie
@@ -23,9 +22,4 @@ returns c = rw (c .before .before .before .not-below .ensures, c .before .before
 pub inside-spec : {M : Type 1} → statement M
 inside-spec =
     tie.close
-    (tie.spec
-    not-below-requires
-    not-above-requires
-    not-below-requires-2
-    not-above-requires-2
-    returns)
+    (tie.spec not-below-requires not-above-requires not-below-requires-2 not-above-requires-2 returns)

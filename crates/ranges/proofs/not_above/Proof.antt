@@ -1,8 +1,5 @@
-use borrow.Author.Needs.{needs}
-use native.Mathlib.Omega.{arith}
 use Rattle.rules.proofs.Choose.{picks}
 use Rattle.ranges.specs.Slots.{notAbove}
-use mathlib.Core.Path.{refl}
 use Rattle.ranges.proofs.not_above.Statement.{statement}
 use Rattle.ranges.proofs.not_above.Tie as tie
 

@@ -1,5 +1,3 @@
-use borrow.Author.Needs.{needs}
-use native.Mathlib.Omega.{arith}
 use Rattle.rules.proofs.Choose.{picks}
 use Rattle.ranges.specs.Slots.{notBelow}
 use Rattle.ranges.proofs.not_below.Statement.{statement}

@@ -1,5 +1,4 @@
 use borrow.Author.Needs.{needs}
-use native.Mathlib.Omega.{arith}
 use Rattle.ranges.proofs.SlotLaws.{opposite-is}
 use Rattle.ranges.proofs.opposite.Statement.{statement}
 use Rattle.ranges.proofs.opposite.Tie as tie

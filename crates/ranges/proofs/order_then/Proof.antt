@@ -1,5 +1,4 @@
 use borrow.Author.Needs.{needs}
-use native.Mathlib.Omega.{arith}
 use Rattle.ranges.proofs.SlotLaws.{ordered-less, ordered-more, ordered-same}
 use Rattle.ranges.proofs.order_then.Statement.{statement}
 use Rattle.ranges.proofs.order_then.Tie as tie

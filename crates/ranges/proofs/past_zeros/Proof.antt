@@ -1,5 +1,4 @@
 use borrow.Author.Needs.{needs}
-use native.Mathlib.Omega.{arith}
 use Prim.Native.Nat.{_-_}
 use Rattle.ranges.proofs.EndLaws.{Zeros, zeros-start, zeros-found, zeros-more, zeros-end}
 use Rattle.ranges.proofs.past_zeros.Statement.{statement}
@@ -38,14 +37,4 @@ returns-2 c = search (needs, zeros-end)
 pub past-zeros-spec : {M : Type 1} → statement M
 past-zeros-spec =
     tie.close
-    (tie.spec
-    Inv-loop
-    μ-loop
-    loop-holds
-    mul-if1
-    shared-slice-read-if1
-    returns
-    add-i
-    loop-less
-    loop-again
-    returns-2)
+    (tie.spec Inv-loop μ-loop loop-holds mul-if1 shared-slice-read-if1 returns add-i loop-less loop-again returns-2)

@@ -1,5 +1,4 @@
 use borrow.Author.Needs.{needs}
-use native.Mathlib.Omega.{arith}
 use Rattle.ranges.specs.Ranges.{withFlags}
 use Rattle.ranges.proofs.put_flags.Statement.{statement}
 use Rattle.ranges.proofs.put_flags.Tie as tie
@@ -38,14 +37,5 @@ returns c = rw (c .before .before .flag .ensures, c .before .flag2 .ensures, c .
 pub put-flags-spec : {M : Type 1} → statement M
 put-flags-spec =
     tie.close
-    (tie.spec
-    flag-requires
-    add-slots
-    element-write-slots
-    flag-requires-2
-    add-slots-2
-    element-write-slots-2
-    flag-requires-3
-    add-slots-3
-    element-write-slots-3
-    returns)
+    (tie.spec flag-requires add-slots element-write-slots flag-requires-2 add-slots-2 element-write-slots-2
+    flag-requires-3 add-slots-3 element-write-slots-3 returns)

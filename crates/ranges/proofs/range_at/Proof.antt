@@ -1,5 +1,4 @@
 use borrow.Author.Needs.{needs}
-use native.Mathlib.Omega.{arith}
 use Rattle.ranges.proofs.EndLaws.{first-some, second-inside, second-some, range-is}
 use Rattle.ranges.proofs.range_at.Statement.{statement}
 use Rattle.ranges.proofs.range_at.Tie as tie
@@ -40,15 +39,5 @@ returns c = search (needs, range-is)
 pub range-at-spec : {M : Type 1} → statement M
 range-at-spec =
     tie.close
-    (tie.spec
-    add-number-len
-    number-len-requires
-    add-end-at
-    end-at-requires
-    add-from
-    add-from-2
-    add-from-3
-    number-len-requires-2
-    end-at-requires-2
-    width-of-requires
-    returns)
+    (tie.spec add-number-len number-len-requires add-end-at end-at-requires add-from add-from-2 add-from-3
+    number-len-requires-2 end-at-requires-2 width-of-requires returns)

@@ -1,5 +1,4 @@
 use borrow.Author.Needs.{needs}
-use native.Mathlib.Omega.{arith}
 use Rattle.ranges.proofs.StepLaws.{range-behind, range-on, room-flags, room-after, room-slots, room-other}
 use Rattle.ranges.proofs.range_step.Statement.{statement}
 use Rattle.ranges.proofs.range_step.Tie as tie
@@ -52,19 +51,6 @@ returns-2 c = range-on _ _ _ _ _ (c .before .before .before .before .before .bef
 pub range-step-spec : {M : Type 1} → statement M
 range-step-spec =
     tie.close
-    (tie.spec
-    add-at
-    element-copy-out-last
-    far-at-requires
-    add-behind
-    element-copy-out-behind
-    first-slot-requires
-    element-write-slots
-    slots-next-requires
-    any-slot-requires
-    opposite-requires
-    any-slot-requires-2
-    far-next-requires
-    put-flags-requires
-    returns
-    returns-2)
+    (tie.spec add-at element-copy-out-last far-at-requires add-behind element-copy-out-behind first-slot-requires
+    element-write-slots slots-next-requires any-slot-requires opposite-requires any-slot-requires-2 far-next-requires
+    put-flags-requires returns returns-2)

@@ -1,5 +1,4 @@
 use borrow.Author.Needs.{needs}
-use native.Mathlib.Omega.{arith}
 use Rattle.ranges.proofs.SlotLaws.{in-none, in-some}
 use Rattle.ranges.proofs.slot_in.Statement.{statement}
 use Rattle.ranges.proofs.slot_in.Tie as tie
@@ -28,11 +27,4 @@ returns-2 c = search (needs, in-some)
 pub slot-in-spec : {M : Type 1} → statement M
 slot-in-spec =
     tie.close
-    (tie.spec
-    returns
-    sub-whole-of
-    whole-of-requires
-    sub-whole-of-2
-    whole-of-requires-2
-    inside-requires
-    returns-2)
+    (tie.spec returns sub-whole-of whole-of-requires sub-whole-of-2 whole-of-requires-2 inside-requires returns-2)

@@ -40,15 +40,5 @@ returns-4 c = search (needs, slot-some)
 pub slot-next-spec : {M : Type 1} → statement M
 slot-next-spec =
     tie.close
-    (tie.spec
-    returns
-    returns-2
-    returns-3
-    sub-order-then
-    order-then-requires
-    sub-order-then-2
-    order-then-requires-2
-    mul-result
-    add-result
-    add-result-2
-    returns-4)
+    (tie.spec returns returns-2 returns-3 sub-order-then order-then-requires sub-order-then-2 order-then-requires-2
+    mul-result add-result add-result-2 returns-4)

@@ -1,5 +1,4 @@
 use borrow.Author.Needs.{needs}
-use native.Mathlib.Omega.{arith}
 use Rattle.ranges.proofs.SlotLaws.{Moving, moving-start, moving-more, moving-end}
 use Rattle.ranges.proofs.slots_next.Statement.{statement}
 use Rattle.ranges.proofs.slots_next.Tie as tie
@@ -49,18 +48,5 @@ returns c = search (needs, moving-end)
 pub slots-next-spec : {M : Type 1} → statement M
 slots-next-spec =
     tie.close
-    (tie.spec
-    Inv-loop
-    μ-loop
-    loop-holds
-    sub-below
-    digit-at-requires
-    digit-at-requires-2
-    add-slot-next
-    element-copy-out-slot-next
-    slot-next-requires
-    add-slots
-    element-write-slots
-    loop-less
-    loop-again
-    returns)
+    (tie.spec Inv-loop μ-loop loop-holds sub-below digit-at-requires digit-at-requires-2 add-slot-next
+    element-copy-out-slot-next slot-next-requires add-slots element-write-slots loop-less loop-again returns)

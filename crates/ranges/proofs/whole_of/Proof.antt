@@ -1,5 +1,3 @@
-use borrow.Author.Needs.{needs}
-use native.Mathlib.Omega.{arith}
 use Rattle.rules.proofs.Choose.{picks}
 use Rattle.ranges.proofs.whole_of.Statement.{statement}
 use Rattle.ranges.proofs.whole_of.Tie as tie

@@ -1,5 +1,4 @@
 use borrow.Author.Needs.{needs}
-use native.Mathlib.Omega.{arith}
 use Rattle.ranges.proofs.EndLaws.{width-second, width-first, width-one}
 use Rattle.ranges.proofs.width_of.Statement.{statement}
 use Rattle.ranges.proofs.width_of.Tie as tie

@@ -80,28 +80,7 @@ returns-2 c = told _ _ _ _ _ _ _ _ (c .before .before .before .before .before .b
 pub agrees-spec : {M : Type 1} → statement M
 agrees-spec =
     tie.close
-    (tie.spec
-    add-indent
-    add-stored
-    add-end
-    sub-format-call
-    part-format-call-start
-    part-format-call-end
-    sub-format-call-2
-    part-format-call-start-2
-    part-format-call-end-2
-    slice-aggregate-format-call
-    slice-aggregate-format-call-2
-    format-call-requires
-    same-length
-    same-length-2
-    returns
-    slice-reshare-prefix-same
-    slice-aggregate-same
-    sub-same
-    part-same-start
-    part-same-end
-    same-requires
-    same-length-3
-    same-length-4
-    returns-2)
+    (tie.spec add-indent add-stored add-end sub-format-call part-format-call-start part-format-call-end
+    sub-format-call-2 part-format-call-start-2 part-format-call-end-2 slice-aggregate-format-call
+    slice-aggregate-format-call-2 format-call-requires same-length same-length-2 returns slice-reshare-prefix-same
+    slice-aggregate-same sub-same part-same-start part-same-end same-requires same-length-3 same-length-4 returns-2)

@@ -36,13 +36,4 @@ returns c = replaying-end (c .before .before .loop .inv) (c .if1 .left)
 pub replay-spec : {M : Type 1} → statement M
 replay-spec =
     tie.close
-    (tie.spec
-    Inv-loop
-    μ-loop
-    loop-holds
-    step-requires
-    loop-less
-    loop-again
-    same-length
-    same-length-2
-    returns)
+    (tie.spec Inv-loop μ-loop loop-holds step-requires loop-less loop-again same-length same-length-2 returns)

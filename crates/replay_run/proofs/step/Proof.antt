@@ -69,25 +69,6 @@ returns-4 c = step-differed _ _ _ _ (c .before .before .before .before .before .
 pub step-spec : {M : Type 1} → statement M
 step-spec =
     tie.close
-    (tie.spec
-    shared-slice-read-if1
-    line-end-requires
-    add-t13
-    returns
-    case-at-requires
-    add-size
-    add-size-2
-    sub-if2
-    differed-requires
-    returns-2
-    add-next
-    add-next-2
-    agrees-requires
-    agreed-requires
-    same-length
-    same-length-2
-    returns-3
-    differed-requires-2
-    same-length-3
-    same-length-4
-    returns-4)
+    (tie.spec shared-slice-read-if1 line-end-requires add-t13 returns case-at-requires add-size add-size-2 sub-if2
+    differed-requires returns-2 add-next add-next-2 agrees-requires agreed-requires same-length same-length-2
+    returns-3 differed-requires-2 same-length-3 same-length-4 returns-4)

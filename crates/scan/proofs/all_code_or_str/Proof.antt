@@ -35,13 +35,4 @@ returns-2 c = checked-end (c .before .loop .inv) (omega arith)
 pub all-code-or-str-spec : {M : Type 1} → statement M
 all-code-or-str-spec =
     tie.close
-    (tie.spec
-    Inv-loop
-    μ-loop
-    loop-holds
-    shared-slice-read-if1
-    returns
-    add-i
-    loop-less
-    loop-again
-    returns-2)
+    (tie.spec Inv-loop μ-loop loop-holds shared-slice-read-if1 returns add-i loop-less loop-again returns-2)

@@ -38,13 +38,4 @@ returns c = among-all _ _ _ _ _ (c .before .loop .inv) (omega arith)
 pub any-comment-spec : {M : Type 1} → statement M
 any-comment-spec =
     tie.close
-    (tie.spec
-    Inv-loop
-    μ-loop
-    loop-holds
-    add-any
-    shared-slice-read-any
-    add-k
-    loop-less
-    loop-again
-    returns)
+    (tie.spec Inv-loop μ-loop loop-holds add-any shared-slice-read-any add-k loop-less loop-again returns)

@@ -72,25 +72,6 @@ returns-2 c = block-stops (c .before .loop .inv) (omega arith) (omega arith)
 pub block-spec : {M : Type 1} → statement M
 block-spec =
     tie.close
-    (tie.spec
-    Inv-loop
-    μ-loop
-    loop-holds
-    two-at-requires
-    pair-requires
-    add-d
-    loop-less
-    loop-again
-    two-at-requires-2
-    pair-requires-2
-    same-length
-    returns
-    sub-d
-    loop-less-2
-    loop-again-2
-    slice-write-class
-    add-i
-    loop-less-3
-    loop-again-3
-    same-length-2
-    returns-2)
+    (tie.spec Inv-loop μ-loop loop-holds two-at-requires pair-requires add-d loop-less loop-again two-at-requires-2
+    pair-requires-2 same-length returns sub-d loop-less-2 loop-again-2 slice-write-class add-i loop-less-3
+    loop-again-3 same-length-2 returns-2)

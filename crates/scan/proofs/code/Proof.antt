@@ -28,11 +28,4 @@ returns-2 c = code-last (scanned-then (c .before .before .before .before .before
 pub code-spec : {M : Type 1} → statement M
 code-spec =
     tie.close
-    (tie.spec
-    eights-requires
-    ones-requires
-    start-requires
-    same-length
-    returns
-    same-length-2
-    returns-2)
+    (tie.spec eights-requires ones-requires start-requires same-length returns same-length-2 returns-2)

@@ -43,15 +43,5 @@ returns-3 c = passed-end (c .before .loop .inv) (omega arith)
 pub code-end-spec : {M : Type 1} → statement M
 code-end-spec =
     tie.close
-    (tie.spec
-    Inv-loop
-    μ-loop
-    has-no-comment-requires
-    returns
-    loop-holds
-    shared-slice-read-if2
-    returns-2
-    add-i
-    loop-less
-    loop-again
-    returns-3)
+    (tie.spec Inv-loop μ-loop has-no-comment-requires returns loop-holds shared-slice-read-if2 returns-2 add-i
+    loop-less loop-again returns-3)

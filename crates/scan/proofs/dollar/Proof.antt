@@ -36,13 +36,5 @@ returns-2 c = dollar-passes _ _ _ (omega arith) (omega arith) (c .before .before
 pub dollar-spec : {M : Type 1} → statement M
 dollar-spec =
     tie.close
-    (tie.spec
-    next-is-requires
-    pair-requires
-    interp-requires
-    same-length
-    returns
-    slice-write-class
-    add-result
-    same-length-2
-    returns-2)
+    (tie.spec next-is-requires pair-requires interp-requires same-length returns slice-write-class add-result
+    same-length-2 returns-2)

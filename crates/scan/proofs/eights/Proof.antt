@@ -60,20 +60,5 @@ returns-2 c = c .before .loop .inv
 pub eights-spec : {M : Type 1} → statement M
 eights-spec =
     tie.close
-    (tie.spec
-    Inv-loop
-    μ-loop
-    loop-holds
-    sub-loop
-    quiet-requires
-    add-e
-    sub-fill
-    part-fill-start
-    part-fill-end
-    fill-requires
-    loop-less
-    loop-again
-    same-length
-    returns
-    same-length-2
-    returns-2)
+    (tie.spec Inv-loop μ-loop loop-holds sub-loop quiet-requires add-e sub-fill part-fill-start part-fill-end
+    fill-requires loop-less loop-again same-length returns same-length-2 returns-2)

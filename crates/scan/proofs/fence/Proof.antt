@@ -49,17 +49,5 @@ returns-2 c = fence-code _ _ _ (omega arith) (omega arith) (c .before .before .b
 pub fence-spec : {M : Type 1} → statement M
 fence-spec =
     tie.close
-    (tie.spec
-    add-fence-at
-    fence-at-requires
-    add-e
-    sub-fill
-    part-fill-start
-    part-fill-end
-    fill-requires
-    same-length
-    returns
-    slice-write-class
-    add-t6
-    same-length-2
-    returns-2)
+    (tie.spec add-fence-at fence-at-requires add-e sub-fill part-fill-start part-fill-end fill-requires same-length
+    returns slice-write-class add-t6 same-length-2 returns-2)

@@ -30,12 +30,4 @@ returns-4 c = search (needs, starts-more)
 pub fence-at-spec : {M : Type 1} → statement M
 fence-at-spec =
     tie.close
-    (tie.spec
-    returns
-    shared-slice-read-if2
-    returns-2
-    add-if3
-    returns-3
-    add-two-at
-    two-at-requires
-    returns-4)
+    (tie.spec returns shared-slice-read-if2 returns-2 add-if3 returns-3 add-two-at two-at-requires returns-4)

@@ -1,4 +1,3 @@
-use borrow.Author.Needs.{needs}
 use Prim.Native.Nat.{_-_}
 use native.Mathlib.Omega.{arith}
 use Rattle.scan.proofs.CodeEnd.{Passed, passed-start, passed-block, no-comment, no-comment-no}
@@ -47,17 +46,5 @@ returns-4 c = no-comment _ _ _ (c .before .before .before .loop .inv) (omega ari
 pub has-no-comment-spec : {M : Type 1} → statement M
 has-no-comment-spec =
     tie.close
-    (tie.spec
-    Inv-loop
-    μ-loop
-    returns
-    sub-last
-    loop-holds
-    any-comment-requires
-    returns-2
-    add-i
-    loop-less
-    loop-again
-    any-comment-requires-2
-    returns-3
-    returns-4)
+    (tie.spec Inv-loop μ-loop returns sub-last loop-holds any-comment-requires returns-2 add-i loop-less loop-again
+    any-comment-requires-2 returns-3 returns-4)

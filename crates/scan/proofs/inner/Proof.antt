@@ -57,20 +57,5 @@ returns-2 c = inner-stops (c .before .loop .inv) (omega arith)
 pub inner-spec : {M : Type 1} → statement M
 inner-spec =
     tie.close
-    (tie.spec
-    Inv-loop
-    μ-loop
-    quote-of-requires
-    loop-holds
-    shared-slice-read-b
-    pair-requires
-    loop-less
-    loop-again
-    slice-write-class
-    add-i
-    same-length
-    returns
-    loop-less-2
-    loop-again-2
-    same-length-2
-    returns-2)
+    (tie.spec Inv-loop μ-loop quote-of-requires loop-holds shared-slice-read-b pair-requires loop-less loop-again
+    slice-write-class add-i same-length returns loop-less-2 loop-again-2 same-length-2 returns-2)

@@ -90,31 +90,6 @@ returns-2 c = interp-stops (c .before .loop .inv) (omega arith)
 pub interp-spec : {M : Type 1} → statement M
 interp-spec =
     tie.close
-    (tie.spec
-    Inv-loop
-    μ-loop
-    loop-holds
-    shared-slice-read-b
-    pair-requires
-    loop-less
-    loop-again
-    slice-write-class
-    add-i
-    inner-requires
-    loop-less-2
-    loop-again-2
-    inner-requires-2
-    loop-less-3
-    loop-again-3
-    add-d
-    loop-less-4
-    loop-again-4
-    same-length
-    returns
-    sub-d
-    loop-less-5
-    loop-again-5
-    loop-less-6
-    loop-again-6
-    same-length-2
-    returns-2)
+    (tie.spec Inv-loop μ-loop loop-holds shared-slice-read-b pair-requires loop-less loop-again slice-write-class
+    add-i inner-requires loop-less-2 loop-again-2 inner-requires-2 loop-less-3 loop-again-3 add-d loop-less-4
+    loop-again-4 same-length returns sub-d loop-less-5 loop-again-5 loop-less-6 loop-again-6 same-length-2 returns-2)

@@ -52,17 +52,5 @@ returns-2 c = c .before .loop .inv
 pub ones-spec : {M : Type 1} → statement M
 ones-spec =
     tie.close
-    (tie.spec
-    Inv-loop
-    μ-loop
-    loop-holds
-    shared-slice-read-starts-in-code
-    starts-in-code-requires
-    same-length
-    returns
-    slice-write-class
-    add-i
-    loop-less
-    loop-again
-    same-length-2
-    returns-2)
+    (tie.spec Inv-loop μ-loop loop-holds shared-slice-read-starts-in-code starts-in-code-requires same-length returns
+    slice-write-class add-i loop-less loop-again same-length-2 returns-2)

@@ -38,14 +38,5 @@ returns-2 c = record { moved = moved-last _ _ _ _ (omega arith); scanned = λ m 
 pub pair-spec : {M : Type 1} → statement M
 pair-spec =
     tie.close
-    (tie.spec
-    slice-write-class
-    add-if1
-    add-class
-    slice-write-class-2
-    add-result
-    same-length
-    returns
-    add-result-2
-    same-length-2
-    returns-2)
+    (tie.spec slice-write-class add-if1 add-class slice-write-class-2 add-result same-length returns add-result-2
+    same-length-2 returns-2)

@@ -62,21 +62,5 @@ returns-2 c = prefab-stops (c .before .loop .inv) (omega arith) (omega arith)
 pub prefab-spec : {M : Type 1} → statement M
 prefab-spec =
     tie.close
-    (tie.spec
-    Inv-loop
-    μ-loop
-    loop-holds
-    fence-at-requires
-    add-e
-    sub-fill
-    part-fill-start
-    part-fill-end
-    fill-requires
-    same-length
-    returns
-    slice-write-class
-    add-i
-    loop-less
-    loop-again
-    same-length-2
-    returns-2)
+    (tie.spec Inv-loop μ-loop loop-holds fence-at-requires add-e sub-fill part-fill-start part-fill-end fill-requires
+    same-length returns slice-write-class add-i loop-less loop-again same-length-2 returns-2)

@@ -41,14 +41,5 @@ returns c = rw Bool·not-not (among-all _ _ _ _ _ (c .before .loop .inv) (omega 
 pub quiet-spec : {M : Type 1} → statement M
 quiet-spec =
     tie.close
-    (tie.spec
-    Inv-loop
-    μ-loop
-    loop-holds
-    add-starts-in-code
-    shared-slice-read-starts-in-code
-    starts-in-code-requires
-    add-k
-    loop-less
-    loop-again
-    returns)
+    (tie.spec Inv-loop μ-loop loop-holds add-starts-in-code shared-slice-read-starts-in-code starts-in-code-requires
+    add-k loop-less loop-again returns)

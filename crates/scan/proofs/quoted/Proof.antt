@@ -66,23 +66,6 @@ returns-2 c = quoted-stops (c .before .loop .inv) (omega arith)
 pub quoted-spec : {M : Type 1} → statement M
 quoted-spec =
     tie.close
-    (tie.spec
-    Inv-loop
-    μ-loop
-    quote-of-requires
-    loop-holds
-    shared-slice-read-b
-    pair-requires
-    loop-less
-    loop-again
-    dollar-requires
-    loop-less-2
-    loop-again-2
-    slice-write-class
-    add-i
-    same-length
-    returns
-    loop-less-3
-    loop-again-3
-    same-length-2
-    returns-2)
+    (tie.spec Inv-loop μ-loop quote-of-requires loop-holds shared-slice-read-b pair-requires loop-less loop-again
+    dollar-requires loop-less-2 loop-again-2 slice-write-class add-i same-length returns loop-less-3 loop-again-3
+    same-length-2 returns-2)

@@ -53,19 +53,5 @@ returns-3 c = slash-code _ _ _ (omega arith) (omega arith) (c .before .before .b
 pub slash-spec : {M : Type 1} → statement M
 slash-spec =
     tie.close
-    (tie.spec
-    next-is-requires
-    sub-fill
-    part-fill-start
-    part-fill-end
-    fill-requires
-    same-length
-    returns
-    next-is-requires-2
-    pair-requires
-    same-length-2
-    returns-2
-    slice-write-class
-    add-t18
-    same-length-3
-    returns-3)
+    (tie.spec next-is-requires sub-fill part-fill-start part-fill-end fill-requires same-length returns
+    next-is-requires-2 pair-requires same-length-2 returns-2 slice-write-class add-t18 same-length-3 returns-3)

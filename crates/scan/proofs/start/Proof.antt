@@ -67,24 +67,6 @@ returns-6 c = code-passed _ _ _ (omega arith) (omega arith) (c .before .before .
 pub start-spec : {M : Type 1} → statement M
 start-spec =
     tie.close
-    (tie.spec
-    shared-slice-read-b
-    string-requires
-    same-length
-    returns
-    string-requires-2
-    same-length-2
-    returns-2
-    slash-requires
-    same-length-3
-    returns-3
-    fence-requires
-    same-length-4
-    returns-4
-    pair-requires
-    same-length-5
-    returns-5
-    slice-write-class
-    add-t21
-    same-length-6
-    returns-6)
+    (tie.spec shared-slice-read-b string-requires same-length returns string-requires-2 same-length-2 returns-2
+    slash-requires same-length-3 returns-3 fence-requires same-length-4 returns-4 pair-requires same-length-5
+    returns-5 slice-write-class add-t21 same-length-6 returns-6)

@@ -42,16 +42,5 @@ returns-3 c = rw (c .before .before .before .before .enum-told2 .given .1) (c .b
 pub stretch-spec : {M : Type 1} → statement M
 stretch-spec =
     tie.close
-    (tie.spec
-    enum-told
-    code-requires
-    enum-known-carry
-    block-requires
-    enum-told-2
-    prefab-requires
-    same-length
-    returns
-    same-length-2
-    returns-2
-    same-length-3
-    returns-3)
+    (tie.spec enum-told code-requires enum-known-carry block-requires enum-told-2 prefab-requires same-length returns
+    same-length-2 returns-2 same-length-3 returns-3)

@@ -67,22 +67,6 @@ returns c = search needs
 pub main-spec : {M : Type 1} → statement M
 main-spec =
     tie.close
-    (tie.spec
-    Inv-loop
-    μ-loop
-    slice-aggregate-read-full
-    read-full-requires
-    array-share-prefix-input
-    slice-aggregate-greatest
-    greatest-requires
-    large-buffer-requires
-    start-requires
-    loop-holds
-    slice-aggregate-fill
-    fill-requires
-    array-share-prefix-page
-    slice-aggregate-write-all
-    write-all-requires
-    loop-less
-    loop-again
-    returns)
+    (tie.spec Inv-loop μ-loop slice-aggregate-read-full read-full-requires array-share-prefix-input
+    slice-aggregate-greatest greatest-requires large-buffer-requires start-requires loop-holds slice-aggregate-fill
+    fill-requires array-share-prefix-page slice-aggregate-write-all write-all-requires loop-less loop-again returns)

@@ -41,14 +41,4 @@ returns c = search (needs, looking-end)
 pub give-spec : {M : Type 1} → statement M
 give-spec =
     tie.close
-    (tie.spec
-    Inv-loop
-    μ-loop
-    loop-holds
-    mul-weight
-    add-size
-    loop-less
-    loop-again
-    text-of-requires
-    add-t7
-    returns)
+    (tie.spec Inv-loop μ-loop loop-holds mul-weight add-size loop-less loop-again text-of-requires add-t7 returns)

@@ -43,15 +43,5 @@ returns c = search (needs, spelling-end)
 pub text-of-spec : {M : Type 1} → statement M
 text-of-spec =
     tie.close
-    (tie.spec
-    Inv-loop
-    μ-loop
-    loop-holds
-    div-letter
-    letter-requires
-    array-write-t
-    rem-left
-    add-i
-    loop-less
-    loop-again
+    (tie.spec Inv-loop μ-loop loop-holds div-letter letter-requires array-write-t rem-left add-i loop-less loop-again
     returns)

@@ -1,6 +1,5 @@
 use borrow.Author.Needs.{needs}
 use Prim.Native.Nat.{_-_}
-use native.Mathlib.Omega.{arith}
 use mathlib.Core.Path.{refl}
 use Rattle.unicode.specs.Places.{NoneAmong}
 use Rattle.unicode.proofs.Among.{among-start, among-more, among-all}
@@ -38,13 +37,4 @@ returns c = search (needs, among-all)
 pub any-other-spec : {M : Type 1} → statement M
 any-other-spec =
     tie.close
-    (tie.spec
-    Inv-loop
-    μ-loop
-    loop-holds
-    add-any
-    shared-slice-read-any
-    add-k
-    loop-less
-    loop-again
-    returns)
+    (tie.spec Inv-loop μ-loop loop-holds add-any shared-slice-read-any add-k loop-less loop-again returns)

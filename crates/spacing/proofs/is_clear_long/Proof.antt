@@ -44,16 +44,5 @@ returns-3 c = search (needs, clear-long)
 pub is-clear-long-spec : {M : Type 1} → statement M
 is-clear-long-spec =
     tie.close
-    (tie.spec
-    Inv-loop
-    μ-loop
-    sub-last
-    loop-holds
-    odd-sixteen-requires
-    returns
-    add-i
-    loop-less
-    loop-again
-    odd-sixteen-requires-2
-    returns-2
-    returns-3)
+    (tie.spec Inv-loop μ-loop sub-last loop-holds odd-sixteen-requires returns add-i loop-less loop-again
+    odd-sixteen-requires-2 returns-2 returns-3)

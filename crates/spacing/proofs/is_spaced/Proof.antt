@@ -39,14 +39,5 @@ returns-2 c = search (needs, keeping-end)
 pub is-spaced-spec : {M : Type 1} → statement M
 is-spaced-spec =
     tie.close
-    (tie.spec
-    Inv-loop
-    μ-loop
-    kept-prefix-requires
-    loop-holds
-    kept-at-requires
-    returns
-    add-i
-    loop-less
-    loop-again
+    (tie.spec Inv-loop μ-loop kept-prefix-requires loop-holds kept-at-requires returns add-i loop-less loop-again
     returns-2)

@@ -30,12 +30,5 @@ returns-4 c = search (needs, kept-char)
 pub kept-at-spec : {M : Type 1} → statement M
 kept-at-spec =
     tie.close
-    (tie.spec
-    shared-slice-read-c
-    kept-special-requires
-    returns
-    kept-special-requires-2
-    returns-2
-    kept-special-requires-3
-    returns-3
-    returns-4)
+    (tie.spec shared-slice-read-c kept-special-requires returns kept-special-requires-2 returns-2
+    kept-special-requires-3 returns-3 returns-4)

@@ -45,17 +45,5 @@ returns-6 c = search needs
 pub kept-comma-spec : {M : Type 1} → statement M
 kept-comma-spec =
     tie.close
-    (tie.spec
-    add-j
-    blank-before-requires
-    returns
-    returns-2
-    shared-slice-read-is-closer
-    is-closer-requires
-    returns-3
-    shared-slice-read-if4
-    returns-4
-    shared-slice-read-if5
-    returns-5
-    kept-gap-requires
-    returns-6)
+    (tie.spec add-j blank-before-requires returns returns-2 shared-slice-read-is-closer is-closer-requires returns-3
+    shared-slice-read-if4 returns-4 shared-slice-read-if5 returns-5 kept-gap-requires returns-6)

@@ -36,14 +36,5 @@ returns-4 c = search (needs, comma-gap)
 pub kept-gap-spec : {M : Type 1} → statement M
 kept-gap-spec =
     tie.close
-    (tie.spec
-    add-e
-    returns
-    shared-slice-read-is-code-blank
-    shared-slice-read-is-code-blank-2
-    is-code-blank-requires
-    returns-2
-    shared-slice-read-is-closer
-    is-closer-requires
-    returns-3
-    returns-4)
+    (tie.spec add-e returns shared-slice-read-is-code-blank shared-slice-read-is-code-blank-2 is-code-blank-requires
+    returns-2 shared-slice-read-is-closer is-closer-requires returns-3 returns-4)

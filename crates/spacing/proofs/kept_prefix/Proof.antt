@@ -32,12 +32,4 @@ returns-3 c = keeping-start _ _
 pub kept-prefix-spec : {M : Type 1} → statement M
 kept-prefix-spec =
     tie.close
-    (tie.spec
-    is-clear-requires
-    sub-e
-    sub-if2
-    shared-slice-read-if2
-    sub-result
-    returns
-    returns-2
-    returns-3)
+    (tie.spec is-clear-requires sub-e sub-if2 shared-slice-read-if2 sub-result returns returns-2 returns-3)

@@ -36,14 +36,5 @@ returns-5 c = search (needs, kept-char)
 pub kept-special-spec : {M : Type 1} → statement M
 kept-special-spec =
     tie.close
-    (tie.spec
-    shared-slice-read-if1
-    returns
-    shared-slice-read-c
-    kept-space-requires
-    returns-2
-    kept-comma-requires
-    returns-3
-    kept-pair-requires
-    returns-4
-    returns-5)
+    (tie.spec shared-slice-read-if1 returns shared-slice-read-c kept-space-requires returns-2 kept-comma-requires
+    returns-3 kept-pair-requires returns-4 returns-5)

@@ -75,26 +75,6 @@ returns c = search (needs, reached-end)
 pub normalize-spacing-spec : {M : Type 1} → statement M
 normalize-spacing-spec =
     tie.close
-    (tie.spec
-    Inv-loop
-    μ-loop
-    loop-holds
-    shared-slice-read-c
-    is-plain-requires
-    put-requires
-    add-i
-    loop-less
-    loop-again
-    is-dropped-requires
-    add-past-spaces
-    past-spaces-requires
-    loop-less-2
-    loop-again-2
-    add-put-next
-    slice-read-put-next
-    put-next-requires
-    add-i-2
-    loop-less-3
-    loop-again-3
-    same-length
-    returns)
+    (tie.spec Inv-loop μ-loop loop-holds shared-slice-read-c is-plain-requires put-requires add-i loop-less loop-again
+    is-dropped-requires add-past-spaces past-spaces-requires loop-less-2 loop-again-2 add-put-next slice-read-put-next
+    put-next-requires add-i-2 loop-less-3 loop-again-3 same-length returns)

@@ -1,6 +1,5 @@
 use borrow.Author.Needs.{needs}
 use Prim.Native.Nat.{_-_}
-use native.Mathlib.Omega.{arith}
 use Rattle.unicode.specs.Places.{NoneAmong}
 use Rattle.unicode.proofs.Among.{among-start, among-more, among-all}
 use Rattle.spacing.specs.Respaced.{oddAt}
@@ -61,21 +60,6 @@ returns c = search (needs, among-all)
 pub odd-sixteen-spec : {M : Type 1} → statement M
 odd-sixteen-spec =
     tie.close
-    (tie.spec
-    Inv-loop
-    μ-loop
-    loop-holds
-    add-i
-    shared-slice-read-is-odd
-    add-is-odd
-    shared-slice-read-is-odd-2
-    add-is-odd-2
-    shared-slice-read-is-odd-3
-    shared-slice-read-is-odd-4
-    add-is-odd-3
-    shared-slice-read-is-odd-5
-    is-odd-requires
-    add-k
-    loop-less
-    loop-again
-    returns)
+    (tie.spec Inv-loop μ-loop loop-holds add-i shared-slice-read-is-odd add-is-odd shared-slice-read-is-odd-2
+    add-is-odd-2 shared-slice-read-is-odd-3 shared-slice-read-is-odd-4 add-is-odd-3 shared-slice-read-is-odd-5
+    is-odd-requires add-k loop-less loop-again returns)

@@ -40,14 +40,4 @@ returns-2 c = search needs
 pub past-sixteens-spec : {M : Type 1} → statement M
 past-sixteens-spec =
     tie.close
-    (tie.spec
-    Inv-loop
-    μ-loop
-    loop-holds
-    sub-loop
-    any-other-requires
-    returns
-    add-i
-    loop-less
-    loop-again
-    returns-2)
+    (tie.spec Inv-loop μ-loop loop-holds sub-loop any-other-requires returns add-i loop-less loop-again returns-2)

@@ -1,6 +1,5 @@
 use borrow.Author.Needs.{needs}
 use Prim.Native.Nat.{_-_}
-use native.Mathlib.Omega.{arith}
 use lib.ListN.{length}
 use Rattle.spacing.specs.Respaced.{Run}
 use Rattle.spacing.proofs.SpacingLaws.{run-more}
@@ -40,14 +39,5 @@ returns-2 c = search needs
 pub past-spaces-spec : {M : Type 1} → statement M
 past-spaces-spec =
     tie.close
-    (tie.spec
-    Inv-loop
-    μ-loop
-    past-sixteens-requires
-    loop-holds
-    shared-slice-read-if1
-    returns
-    add-i
-    loop-less
-    loop-again
-    returns-2)
+    (tie.spec Inv-loop μ-loop past-sixteens-requires loop-holds shared-slice-read-if1 returns add-i loop-less
+    loop-again returns-2)

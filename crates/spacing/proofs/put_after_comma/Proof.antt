@@ -39,13 +39,5 @@ returns-3 c = wrote-by 2 (c .before .before .put-apart .ensures) (omega arith) (
 pub put-after-comma-spec : {M : Type 1} → statement M
 put-after-comma-spec =
     tie.close
-    (tie.spec
-    is-code-blank-requires
-    returns
-    is-closer-requires
-    put-plain-requires
-    same-length
-    returns-2
-    put-apart-requires
-    same-length-2
-    returns-3)
+    (tie.spec is-code-blank-requires returns is-closer-requires put-plain-requires same-length returns-2
+    put-apart-requires same-length-2 returns-3)

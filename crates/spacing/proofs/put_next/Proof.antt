@@ -59,20 +59,6 @@ returns-4 c = rw (c .before .before .before .before .enum-told4 .given .1) (c .b
 pub put-next-spec : {M : Type 1} → statement M
 put-next-spec =
     tie.close
-    (tie.spec
-    enum-told
-    put-plain-requires
-    enum-told-2
-    put-requires
-    enum-told-3
-    put-after-comma-requires
-    enum-told-4
-    put-after-space-requires
-    same-length
-    returns
-    same-length-2
-    returns-2
-    same-length-3
-    returns-3
-    same-length-4
+    (tie.spec enum-told put-plain-requires enum-told-2 put-requires enum-told-3 put-after-comma-requires enum-told-4
+    put-after-space-requires same-length returns same-length-2 returns-2 same-length-3 returns-3 same-length-4
     returns-4)

@@ -63,20 +63,6 @@ returns-5 c = wrote-by 1 (c .before .before .put5 .ensures) (omega arith) (searc
 pub put-plain-spec : {M : Type 1} → statement M
 put-plain-spec =
     tie.close
-    (tie.spec
-    put-requires
-    same-length
-    returns
-    put-requires-2
-    same-length-2
-    returns-2
-    trim-blanks-requires
-    put-requires-3
-    same-length-3
-    returns-3
-    put-requires-4
-    same-length-4
-    returns-4
-    put-requires-5
-    same-length-5
+    (tie.spec put-requires same-length returns put-requires-2 same-length-2 returns-2 trim-blanks-requires
+    put-requires-3 same-length-3 returns-3 put-requires-4 same-length-4 returns-4 put-requires-5 same-length-5
     returns-5)

@@ -39,15 +39,5 @@ returns-2 c = search (needs, trimming-end)
 pub trim-blanks-spec : {M : Type 1} → statement M
 trim-blanks-spec =
     tie.close
-    (tie.spec
-    Inv-loop
-    μ-loop
-    loop-holds
-    sub-j
-    add-is-blank
-    shared-slice-read-is-blank
-    is-blank-requires
-    loop-less
-    loop-again
-    returns
-    returns-2)
+    (tie.spec Inv-loop μ-loop loop-holds sub-j add-is-blank shared-slice-read-is-blank is-blank-requires loop-less
+    loop-again returns returns-2)

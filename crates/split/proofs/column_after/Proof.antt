@@ -1,5 +1,4 @@
 use borrow.Author.Needs.{needs}
-use native.Mathlib.Omega.{arith}
 use Rattle.split.proofs.MeasureLaws.{stop-left, byte-tab, byte-other}
 use Rattle.split.proofs.column_after.Statement.{statement}
 use Rattle.split.proofs.column_after.Tie as tie

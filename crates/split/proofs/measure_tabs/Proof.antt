@@ -36,13 +36,5 @@ returns c = search (needs, measuring-end)
 pub measure-tabs-spec : {M : Type 1} → statement M
 measure-tabs-spec =
     tie.close
-    (tie.spec
-    Inv-loop
-    μ-loop
-    loop-holds
-    shared-slice-read-column-after
-    column-after-requires
-    add-i
-    loop-less
-    loop-again
-    returns)
+    (tie.spec Inv-loop μ-loop loop-holds shared-slice-read-column-after column-after-requires add-i loop-less
+    loop-again returns)

@@ -33,12 +33,4 @@ returns-2 c = search needs
 pub over-wide-spec : {M : Type 1} → statement M
 over-wide-spec =
     tie.close
-    (tie.spec
-    mul-bytes
-    add-bytes
-    cast-if1
-    add-if1
-    mul-if1
-    returns
-    measured-wide-requires
-    returns-2)
+    (tie.spec mul-bytes add-bytes cast-if1 add-if1 mul-if1 returns measured-wide-requires returns-2)

@@ -43,16 +43,5 @@ returns c = trimmed-part _ _ _ _ _ (c .before .before .before .before .before .p
 pub trim-part-spec : {M : Type 1} → statement M
 trim-part-spec =
     tie.close
-    (tie.spec
-    sub-p
-    part-p-start
-    part-p-end
-    trim-start-requires
-    sub-trim-end
-    part-trim-end-start
-    part-trim-end-end
-    trim-end-requires
-    add-t8
-    add-t13
-    add-t14
-    returns)
+    (tie.spec sub-p part-p-start part-p-end trim-start-requires sub-trim-end part-trim-end-start part-trim-end-end
+    trim-end-requires add-t8 add-t13 add-t14 returns)

@@ -46,17 +46,5 @@ returns-4 c = search (needs, add-first)
 pub add-name-spec : {M : Type 1} → statement M
 add-name-spec =
     tie.close
-    (tie.spec
-    returns
-    slice-aggregate-measure-from
-    measure-from-requires
-    name-column-requires
-    put-name-requires
-    same-length
-    returns-2
-    new-line-requires
-    same-length-2
-    returns-3
-    new-line-requires-2
-    same-length-3
-    returns-4)
+    (tie.spec returns slice-aggregate-measure-from measure-from-requires name-column-requires put-name-requires
+    same-length returns-2 new-line-requires same-length-2 returns-3 new-line-requires-2 same-length-3 returns-4)

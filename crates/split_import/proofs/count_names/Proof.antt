@@ -59,21 +59,5 @@ returns c = search (needs, counting-end)
 pub count-names-spec : {M : Type 1} → statement M
 count-names-spec =
     tie.close
-    (tie.spec
-    Inv-loop
-    μ-loop
-    loop-holds
-    sub-name-len
-    part-name-len-start
-    part-name-len-end
-    name-len-requires
-    add-e
-    trim-part-requires
-    add-a
-    add-blanks
-    loop-less
-    loop-again
-    add-names
-    loop-less-2
-    loop-again-2
-    returns)
+    (tie.spec Inv-loop μ-loop loop-holds sub-name-len part-name-len-start part-name-len-end name-len-requires add-e
+    trim-part-requires add-a add-blanks loop-less loop-again add-names loop-less-2 loop-again-2 returns)

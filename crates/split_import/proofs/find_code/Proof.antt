@@ -43,15 +43,5 @@ returns-2 c = search (needs, code-end)
 pub find-code-spec : {M : Type 1} → statement M
 find-code-spec =
     tie.close
-    (tie.spec
-    Inv-loop
-    μ-loop
-    loop-holds
-    shared-slice-read-code-is
-    shared-slice-read-code-is-2
-    code-is-requires
-    returns
-    add-i
-    loop-less
-    loop-again
-    returns-2)
+    (tie.spec Inv-loop μ-loop loop-holds shared-slice-read-code-is shared-slice-read-code-is-2 code-is-requires
+    returns add-i loop-less loop-again returns-2)

@@ -24,10 +24,5 @@ returns c = search (needs, put-line)
 pub put-line-spec : {M : Type 1} → statement M
 put-line-spec =
     tie.close
-    (tie.spec
-    append-ending-requires
-    append-indented-requires
-    slice-aggregate-append
-    append-requires
-    same-length
+    (tie.spec append-ending-requires append-indented-requires slice-aggregate-append append-requires same-length
     returns)

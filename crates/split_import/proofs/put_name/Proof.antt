@@ -27,11 +27,5 @@ returns c = search (needs, put-name)
 pub put-name-spec : {M : Type 1} → statement M
 put-name-spec =
     tie.close
-    (tie.spec
-    slice-aggregate-append
-    append-requires
-    append-requires-2
-    slice-aggregate-append-2
-    append-requires-3
-    same-length
-    returns)
+    (tie.spec slice-aggregate-append append-requires append-requires-2 slice-aggregate-append-2 append-requires-3
+    same-length returns)

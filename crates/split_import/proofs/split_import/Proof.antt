@@ -58,21 +58,6 @@ returns-4 c = search (needs, no-import)
 pub split-import-spec : {M : Type 1} → statement M
 split-import-spec =
     tie.close
-    (tie.spec
-    starts-import-requires
-    find-code-requires
-    returns
-    add-a
-    sub-find-code
-    part-find-code-start
-    part-find-code-end
-    sub-find-code-2
-    part-find-code-start-2
-    part-find-code-end-2
-    find-code-requires-2
-    add-end
-    returns-2
-    write-import-requires
-    same-length
-    returns-3
-    returns-4)
+    (tie.spec starts-import-requires find-code-requires returns add-a sub-find-code part-find-code-start
+    part-find-code-end sub-find-code-2 part-find-code-start-2 part-find-code-end-2 find-code-requires-2 add-end
+    returns-2 write-import-requires same-length returns-3 returns-4)

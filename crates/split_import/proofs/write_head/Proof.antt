@@ -30,11 +30,5 @@ returns c = search (needs, head-written)
 pub write-head-spec : {M : Type 1} → statement M
 write-head-spec =
     tie.close
-    (tie.spec
-    trim-end-requires
-    slice-aggregate-append-indented
-    append-indented-requires
-    slice-aggregate-append
-    append-requires
-    same-length
-    returns)
+    (tie.spec trim-end-requires slice-aggregate-append-indented append-indented-requires slice-aggregate-append
+    append-requires same-length returns)

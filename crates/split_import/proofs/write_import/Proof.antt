@@ -66,20 +66,6 @@ returns-2 c =
 pub write-import-spec : {M : Type 1} → statement M
 write-import-spec =
     tie.close
-    (tie.spec
-    add-a
-    sub-names
-    part-names-start
-    part-names-end
-    count-names-requires
-    returns
-    slice-aggregate-write-head
-    write-head-requires
-    add-write-line
-    write-names-requires
-    sub-write-line
-    part-write-line-start
-    part-write-line-end
-    write-line-requires
-    same-length
-    returns-2)
+    (tie.spec add-a sub-names part-names-start part-names-end count-names-requires returns slice-aggregate-write-head
+    write-head-requires add-write-line write-names-requires sub-write-line part-write-line-start part-write-line-end
+    write-line-requires same-length returns-2)

@@ -63,22 +63,6 @@ returns c = search (needs, filling-end)
 pub write-names-spec : {M : Type 1} → statement M
 write-names-spec =
     tie.close
-    (tie.spec
-    Inv-loop
-    μ-loop
-    loop-holds
-    sub-name-len
-    part-name-len-start
-    part-name-len-end
-    name-len-requires
-    add-e
-    trim-part-requires
-    sub-add-name
-    part-add-name-start
-    part-add-name-end
-    add-name-requires
-    add-a
-    loop-less
-    loop-again
-    same-length
-    returns)
+    (tie.spec Inv-loop μ-loop loop-holds sub-name-len part-name-len-start part-name-len-end name-len-requires add-e
+    trim-part-requires sub-add-name part-add-name-start part-add-name-end add-name-requires add-a loop-less loop-again
+    same-length returns)

@@ -1,5 +1,4 @@
 -- `split_operation::break_first` meets its contract: the rounds that are left fall with each call of itself.
-use native.Mathlib.Omega.{arith}
 use borrow.Author.Needs.{needs}
 use Rattle.split_operation.proofs.ClassLaws.{class-length}
 use Rattle.split_operation.proofs.OperationLaws.{line-fits, whole-room, first-whole, first-within, first-fits, rounds-left, rest-fits, first-broken, some-rounds, fewer-rounds}

@@ -42,14 +42,5 @@ returns-4 c =
 pub round-break-spec : {M : Type 1} → statement M
 round-break-spec =
     tie.close
-    (tie.spec
-    unbroken-requires
-    returns
-    over-wide-requires
-    has-operator-requires
-    find-break-requires
-    returns-2
-    unbroken-requires-2
-    returns-3
-    unbroken-requires-3
-    returns-4)
+    (tie.spec unbroken-requires returns over-wide-requires has-operator-requires find-break-requires returns-2
+    unbroken-requires-2 returns-3 unbroken-requires-3 returns-4)

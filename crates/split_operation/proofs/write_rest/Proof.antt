@@ -59,19 +59,5 @@ returns c = search (needs, writing-end)
 pub write-rest-spec : {M : Type 1} → statement M
 write-rest-spec =
     tie.close
-    (tie.spec
-    Inv-loop
-    μ-loop
-    add-t22
-    loop-holds
-    add-next-op
-    next-op-requires
-    trim-part-requires
-    sub-write-line
-    part-write-line-start
-    part-write-line-end
-    write-line-requires
-    loop-less
-    loop-again
-    same-length
-    returns)
+    (tie.spec Inv-loop μ-loop add-t22 loop-holds add-next-op next-op-requires trim-part-requires sub-write-line
+    part-write-line-start part-write-line-end write-line-requires loop-less loop-again same-length returns)

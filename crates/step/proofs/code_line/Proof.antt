@@ -97,20 +97,6 @@ returns-2 c =
 pub code-line-spec : {M : Type 1} → statement M
 code-line-spec =
     tie.close
-    (tie.spec
-    slice-relend-prefix-classify
-    slice-aggregate-classify
-    classify-requires
-    slice-reshare-prefix-marker-in
-    slice-aggregate-marker-in
-    marker-in-requires
-    is-kept-requires
-    kept-line-requires
-    same-length
-    same-length-2
-    returns
-    is-alone-requires
-    spaced-line-requires
-    same-length-3
-    same-length-4
-    returns-2)
+    (tie.spec slice-relend-prefix-classify slice-aggregate-classify classify-requires slice-reshare-prefix-marker-in
+    slice-aggregate-marker-in marker-in-requires is-kept-requires kept-line-requires same-length same-length-2 returns
+    is-alone-requires spaced-line-requires same-length-3 same-length-4 returns-2)

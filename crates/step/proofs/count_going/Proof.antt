@@ -47,12 +47,5 @@ returns-2 c =
 pub count-going-spec : {M : Type 1} → statement M
 count-going-spec =
     tie.close
-    (tie.spec
-    mul-base
-    scan-brackets-requires
-    same-length
-    returns
-    mul-at
-    scan-brackets-at-requires
-    same-length-2
+    (tie.spec mul-base scan-brackets-requires same-length returns mul-at scan-brackets-at-requires same-length-2
     returns-2)

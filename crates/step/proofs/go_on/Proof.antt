@@ -50,15 +50,5 @@ returns-2 c =
 pub go-on-spec : {M : Type 1} → statement M
 go-on-spec =
     tie.close
-    (tie.spec
-    slice-reshare-prefix-is-spaced
-    slice-aggregate-is-spaced
-    is-spaced-requires
-    same-length
-    returns
-    mul-at
-    normalize-spacing-requires
-    mul-class-at
-    classify-at-requires
-    same-length-2
-    returns-2)
+    (tie.spec slice-reshare-prefix-is-spaced slice-aggregate-is-spaced is-spaced-requires same-length returns mul-at
+    normalize-spacing-requires mul-class-at classify-at-requires same-length-2 returns-2)

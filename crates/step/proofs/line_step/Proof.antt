@@ -88,23 +88,6 @@ returns-3 c =
 pub line-step-spec : {M : Type 1} → statement M
 line-step-spec =
     tie.close
-    (tie.spec
-    in-block-requires
-    is-raw-requires
-    raw-line-requires
-    same-length
-    same-length-2
-    returns
-    trim-end-requires
-    slice-aggregate-trim-start
-    trim-start-requires
-    blank-line-requires
-    same-length-3
-    returns-2
-    sub-line
-    part-line-start
-    part-line-end
-    code-line-requires
-    same-length-4
-    same-length-5
-    returns-3)
+    (tie.spec in-block-requires is-raw-requires raw-line-requires same-length same-length-2 returns trim-end-requires
+    slice-aggregate-trim-start trim-start-requires blank-line-requires same-length-3 returns-2 sub-line
+    part-line-start part-line-end code-line-requires same-length-4 same-length-5 returns-3)

@@ -54,14 +54,5 @@ returns-3 c =
 pub marker-in-spec : {M : Type 1} → statement M
 marker-in-spec =
     tie.close
-    (tie.spec
-    code-end-requires
-    sub-is-marker
-    part-is-marker-start
-    part-is-marker-end
-    is-marker-requires
-    slice-aggregate-has-code
-    has-code-requires
-    returns
-    returns-2
-    returns-3)
+    (tie.spec code-end-requires sub-is-marker part-is-marker-start part-is-marker-end is-marker-requires
+    slice-aggregate-has-code has-code-requires returns returns-2 returns-3)

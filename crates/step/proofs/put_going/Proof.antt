@@ -74,18 +74,6 @@ returns c =
 pub put-going-spec : {M : Type 1} → statement M
 put-going-spec =
     tie.close
-    (tie.spec
-    add-end
-    mul-at
-    line-that-goes-on-requires
-    sub-class
-    part-class-start
-    part-class-end
-    leading-closers-requires
-    mul-base
-    pop-closers-requires
-    prev-of-requires
-    before-of-requires
-    place-line-requires
-    same-length
-    returns)
+    (tie.spec add-end mul-at line-that-goes-on-requires sub-class part-class-start part-class-end
+    leading-closers-requires mul-base pop-closers-requires prev-of-requires before-of-requires place-line-requires
+    same-length returns)

@@ -60,12 +60,5 @@ returns c =
 pub spaced-line-spec : {M : Type 1} → statement M
 spaced-line-spec =
     tie.close
-    (tie.spec
-    go-on-requires
-    put-going-requires
-    count-going-requires
-    ignore-of-requires
-    after-line-requires
-    same-length
-    same-length-2
-    returns)
+    (tie.spec go-on-requires put-going-requires count-going-requires ignore-of-requires after-line-requires
+    same-length same-length-2 returns)

@@ -36,14 +36,5 @@ returns-2 c = search (needs, ending-crlf)
 pub append-ending-spec : {M : Type 1} → statement M
 append-ending-spec =
     tie.close
-    (tie.spec
-    enum-told
-    slice-aggregate-append
-    append-requires
-    enum-told-2
-    slice-aggregate-append-2
-    append-requires-2
-    same-length
-    returns
-    same-length-2
-    returns-2)
+    (tie.spec enum-told slice-aggregate-append append-requires enum-told-2 slice-aggregate-append-2 append-requires-2
+    same-length returns same-length-2 returns-2)

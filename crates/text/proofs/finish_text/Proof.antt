@@ -30,12 +30,5 @@ returns-2 c = search (needs, finish-whole)
 pub finish-text-spec : {M : Type 1} → statement M
 finish-text-spec =
     tie.close
-    (tie.spec
-    slice-aggregate-end-text
-    end-text-requires
-    zero-requires
-    same-length
-    returns
-    finish-requires
-    same-length-2
-    returns-2)
+    (tie.spec slice-aggregate-end-text end-text-requires zero-requires same-length returns finish-requires
+    same-length-2 returns-2)

@@ -28,10 +28,4 @@ returns c =
 pub join-else-spec : {M : Type 1} → statement M
 join-else-spec =
     tie.close
-    (tie.spec
-    slice-aggregate-append
-    append-requires
-    append-requires-2
-    kind-of-requires
-    same-length
-    returns)
+    (tie.spec slice-aggregate-append append-requires append-requires-2 kind-of-requires same-length returns)

@@ -66,19 +66,6 @@ returns c =
 pub push-line-spec : {M : Type 1} → statement M
 push-line-spec =
     tie.close
-    (tie.spec
-    stem-at-requires
-    stem-first-requires
-    separate-requires
-    append-indented-requires
-    sub-long
-    sub-pad
-    tail-of-requires
-    add-t25
-    full-of-requires
-    full-of-requires-2
-    alone-of-requires
-    kind-of-requires
-    full-of-requires-3
-    same-length
-    returns)
+    (tie.spec stem-at-requires stem-first-requires separate-requires append-indented-requires sub-long sub-pad
+    tail-of-requires add-t25 full-of-requires full-of-requires-2 alone-of-requires kind-of-requires full-of-requires-3
+    same-length returns)

@@ -46,15 +46,5 @@ returns-6 c = search needs
 pub class-kind-spec : {M : Type 1} → statement M
 class-kind-spec =
     tie.close
-    (tie.spec
-    enum-told
-    enum-told-2
-    enum-told-3
-    enum-told-4
-    enum-told-5
-    returns
-    returns-2
-    returns-3
-    returns-4
-    returns-5
-    returns-6)
+    (tie.spec enum-told enum-told-2 enum-told-3 enum-told-4 enum-told-5 returns returns-2 returns-3 returns-4
+    returns-5 returns-6)

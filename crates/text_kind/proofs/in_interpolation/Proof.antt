@@ -55,18 +55,5 @@ returns-7 c = search needs
 pub in-interpolation-spec : {M : Type 1} → statement M
 in-interpolation-spec =
     tie.close
-    (tie.spec
-    enum-told
-    enum-told-2
-    enum-told-3
-    enum-told-4
-    enum-told-5
-    enum-told-6
-    enum-told-7
-    returns
-    returns-2
-    returns-3
-    returns-4
-    returns-5
-    returns-6
-    returns-7)
+    (tie.spec enum-told enum-told-2 enum-told-3 enum-told-4 enum-told-5 enum-told-6 enum-told-7 returns returns-2
+    returns-3 returns-4 returns-5 returns-6 returns-7)

@@ -26,11 +26,4 @@ returns-2 c = rw (c .before .before .before .o2 .given .1, c .before .number-of 
 pub kind-answer-spec : {M : Type 1} → statement M
 kind-answer-spec =
     tie.close
-    (tie.spec
-    enum-known-o
-    kind-number-requires
-    enum-known-o-2
-    number-of-requires
-    place-of-requires
-    returns
-    returns-2)
+    (tie.spec enum-known-o kind-number-requires enum-known-o-2 number-of-requires place-of-requires returns returns-2)

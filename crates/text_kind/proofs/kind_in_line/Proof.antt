@@ -79,26 +79,6 @@ returns-3 c = search (needs, counting-end)
 pub kind-in-line-spec : {M : Type 1} → statement M
 kind-in-line-spec =
     tie.close
-    (tie.spec
-    Inv-loop
-    μ-loop
-    returns
-    begin-requires
-    loop-holds
-    sub-next-mark
-    part-next-mark-start
-    part-next-mark-end
-    next-mark-requires
-    shared-slice-read-is-tail
-    is-tail-requires
-    add-i
-    loop-less
-    loop-again
-    in-interpolation-requires
-    class-kind-requires
-    returns-2
-    sub-left
-    add-i-2
-    loop-less-2
-    loop-again-2
-    returns-3)
+    (tie.spec Inv-loop μ-loop returns begin-requires loop-holds sub-next-mark part-next-mark-start part-next-mark-end
+    next-mark-requires shared-slice-read-is-tail is-tail-requires add-i loop-less loop-again in-interpolation-requires
+    class-kind-requires returns-2 sub-left add-i-2 loop-less-2 loop-again-2 returns-3)

@@ -35,13 +35,5 @@ returns-2 c = part-from (c .before .before .before .args .source .now) (c .befor
 pub line-at-spec : {M : Type 1} → statement M
 line-at-spec =
     tie.close
-    (tie.spec
-    sub-without-cr
-    part-without-cr-start
-    part-without-cr-end
-    without-cr-requires
-    returns
-    sub-result
-    part-result-start
-    part-result-end
-    returns-2)
+    (tie.spec sub-without-cr part-without-cr-start part-without-cr-end without-cr-requires returns sub-result
+    part-result-start part-result-end returns-2)

@@ -27,11 +27,4 @@ returns-2 c = search (needs, kind-found)
 pub outcome-of-spec : {M : Type 1} → statement M
 outcome-of-spec =
     tie.close
-    (tie.spec
-    test-requires
-    enum-known-why
-    enum-told
-    text-kind-at-requires
-    returns
-    same-length
-    returns-2)
+    (tie.spec test-requires enum-known-why enum-told text-kind-at-requires returns same-length returns-2)

@@ -68,24 +68,6 @@ returns-2 c = search (needs, seeking-found)
 pub text-kind-at-spec : {M : Type 1} → statement M
 text-kind-at-spec =
     tie.close
-    (tie.spec
-    Inv-loop
-    μ-loop
-    loop-holds
-    line-end-requires
-    same-length
-    returns
-    sub-without-cr
-    part-without-cr-start
-    part-without-cr-end
-    without-cr-requires
-    classify-requires
-    add-at
-    sub-left
-    loop-less
-    loop-again
-    line-end-requires-2
-    line-at-requires
-    kind-in-line-requires
-    same-length-2
-    returns-2)
+    (tie.spec Inv-loop μ-loop loop-holds line-end-requires same-length returns sub-without-cr part-without-cr-start
+    part-without-cr-end without-cr-requires classify-requires add-at sub-left loop-less loop-again line-end-requires-2
+    line-at-requires kind-in-line-requires same-length-2 returns-2)

@@ -36,14 +36,5 @@ returns-2 c = search (needs, kinds-found)
 pub answer-spec : {M : Type 1} → statement M
 answer-spec =
     tie.close
-    (tie.spec
-    test-requires
-    enum-known-why
-    refuse-requires
-    enum-told
-    text-kinds-requires
-    same-length
-    returns
-    same-length-2
-    same-length-3
-    returns-2)
+    (tie.spec test-requires enum-known-why refuse-requires enum-told text-kinds-requires same-length returns
+    same-length-2 same-length-3 returns-2)

@@ -39,14 +39,5 @@ returns c = search (needs, answering-end)
 pub answer-place-spec : {M : Type 1} → statement M
 answer-place-spec =
     tie.close
-    (tie.spec
-    Inv-loop
-    μ-loop
-    loop-holds
-    is-place-requires
-    slice-write-kinds
-    add-next
-    loop-less
-    loop-again
-    same-length
+    (tie.spec Inv-loop μ-loop loop-holds is-place-requires slice-write-kinds add-next loop-less loop-again same-length
     returns)

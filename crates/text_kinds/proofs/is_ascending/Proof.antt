@@ -70,25 +70,6 @@ returns-2 c = search (needs, ascends-end)
 pub is-ascending-spec : {M : Type 1} → statement M
 is-ascending-spec =
     tie.close
-    (tie.spec
-    Inv-loop
-    μ-loop
-    loop-holds
-    mul-i
-    sub-not-after
-    mul-not-after
-    shared-slice-read-not-after
-    sub-not-after-2
-    mul-not-after-2
-    shared-slice-read-not-after-2
-    mul-not-after-3
-    shared-slice-read-not-after-3
-    add-not-after
-    mul-not-after-4
-    shared-slice-read-not-after-4
-    not-after-requires
-    add-k
-    loop-less
-    loop-again
-    returns
-    returns-2)
+    (tie.spec Inv-loop μ-loop loop-holds mul-i sub-not-after mul-not-after shared-slice-read-not-after sub-not-after-2
+    mul-not-after-2 shared-slice-read-not-after-2 mul-not-after-3 shared-slice-read-not-after-3 add-not-after
+    mul-not-after-4 shared-slice-read-not-after-4 not-after-requires add-k loop-less loop-again returns returns-2)

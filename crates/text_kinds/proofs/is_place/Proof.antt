@@ -33,13 +33,5 @@ returns-3 c = search (needs, is-place-past)
 pub is-place-spec : {M : Type 1} → statement M
 is-place-spec =
     tie.close
-    (tie.spec
-    mul-i
-    mul-if2
-    shared-slice-read-if2
-    add-result
-    mul-result
-    shared-slice-read-result
-    returns
-    returns-2
+    (tie.spec mul-i mul-if2 shared-slice-read-if2 add-result mul-result shared-slice-read-result returns returns-2
     returns-3)

@@ -87,29 +87,7 @@ returns c = search (needs, in-line-end)
 pub kinds-in-line-spec : {M : Type 1} → statement M
 kinds-in-line-spec =
     tie.close
-    (tie.spec
-    Inv-loop
-    μ-loop
-    begin-requires
-    loop-holds
-    sub-next-mark
-    part-next-mark-start
-    part-next-mark-end
-    next-mark-requires
-    shared-slice-read-is-tail
-    is-tail-requires
-    add-i
-    loop-less
-    loop-again
-    in-interpolation-requires
-    class-kind-requires
-    kind-byte-requires
-    answer-place-requires
-    add-column
-    add-i-2
-    loop-less-2
-    loop-again-2
-    open-after-requires
-    pass-line-requires
-    same-length
-    returns)
+    (tie.spec Inv-loop μ-loop begin-requires loop-holds sub-next-mark part-next-mark-start part-next-mark-end
+    next-mark-requires shared-slice-read-is-tail is-tail-requires add-i loop-less loop-again in-interpolation-requires
+    class-kind-requires kind-byte-requires answer-place-requires add-column add-i-2 loop-less-2 loop-again-2
+    open-after-requires pass-line-requires same-length returns)

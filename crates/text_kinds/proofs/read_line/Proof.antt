@@ -53,17 +53,5 @@ returns-2 c =
 pub read-line-spec : {M : Type 1} → statement M
 read-line-spec =
     tie.close
-    (tie.spec
-    line-end-requires
-    line-at-requires
-    is-on-requires
-    kinds-in-line-requires
-    add-t18
-    add-t19
-    same-length
-    returns
-    classify-requires
-    add-t22
-    add-t23
-    same-length-2
-    returns-2)
+    (tie.spec line-end-requires line-at-requires is-on-requires kinds-in-line-requires add-t18 add-t19 same-length
+    returns classify-requires add-t22 add-t23 same-length-2 returns-2)

@@ -60,17 +60,5 @@ returns-2 c =
 pub text-kinds-spec : {M : Type 1} → statement M
 text-kinds-spec =
     tie.close
-    (tie.spec
-    Inv-loop
-    μ-loop
-    zero-requires
-    loop-holds
-    same-length
-    same-length-2
-    returns
-    read-line-requires
-    loop-less
-    loop-again
-    same-length-3
-    same-length-4
-    returns-2)
+    (tie.spec Inv-loop μ-loop zero-requires loop-holds same-length same-length-2 returns read-line-requires loop-less
+    loop-again same-length-3 same-length-4 returns-2)

@@ -30,12 +30,5 @@ returns-3 c = search (needs, atom-other)
 pub atom-at-spec : {M : Type 1} → statement M
 atom-at-spec =
     tie.close
-    (tie.spec
-    shared-slice-read-if1
-    returns
-    sub-atom-len
-    part-atom-len-start
-    part-atom-len-end
-    atom-len-requires
-    returns-2
-    returns-3)
+    (tie.spec shared-slice-read-if1 returns sub-atom-len part-atom-len-start part-atom-len-end atom-len-requires
+    returns-2 returns-3)

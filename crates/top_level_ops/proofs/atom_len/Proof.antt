@@ -38,14 +38,5 @@ returns-2 c = search (needs, atom-end)
 pub atom-len-spec : {M : Type 1} → statement M
 atom-len-spec =
     tie.close
-    (tie.spec
-    Inv-loop
-    μ-loop
-    loop-holds
-    shared-slice-read-in-atom
-    in-atom-requires
-    add-i
-    loop-less
-    loop-again
-    returns
+    (tie.spec Inv-loop μ-loop loop-holds shared-slice-read-in-atom in-atom-requires add-i loop-less loop-again returns
     returns-2)

@@ -51,17 +51,5 @@ returns-4 c = λ t. search picks depth 20
 pub code-step-spec : {M : Type 1} → statement M
 code-step-spec =
     tie.close
-    (tie.spec
-    is-blank-requires
-    passed-requires
-    returns
-    is-opener-requires
-    add-bracket
-    bracket-requires
-    returns-2
-    is-closer-requires
-    add-bracket-2
-    ends-operand-requires
-    bracket-requires-2
-    returns-3
-    returns-4)
+    (tie.spec is-blank-requires passed-requires returns is-opener-requires add-bracket bracket-requires returns-2
+    is-closer-requires add-bracket-2 ends-operand-requires bracket-requires-2 returns-3 returns-4)

@@ -36,12 +36,5 @@ returns-4 c = λ t. let h = c .code-step .ensures t in search (picks, pick-code)
 pub fresh-step-spec : {M : Type 1} → statement M
 fresh-step-spec =
     tie.close
-    (tie.spec
-    passed-requires
-    returns
-    passed-requires-2
-    returns-2
-    passed-requires-3
-    returns-3
-    code-step-requires
+    (tie.spec passed-requires returns passed-requires-2 returns-2 passed-requires-3 returns-3 code-step-requires
     returns-4)

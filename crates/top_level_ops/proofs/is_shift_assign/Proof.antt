@@ -24,10 +24,5 @@ returns-2 c = search bools depth 20
 pub is-shift-assign-spec : {M : Type 1} → statement M
 is-shift-assign-spec =
     tie.close
-    (tie.spec
-    slice-aggregate-starts-with
-    starts-with-requires
-    returns
-    slice-aggregate-starts-with-2
-    starts-with-requires-2
-    returns-2)
+    (tie.spec slice-aggregate-starts-with starts-with-requires returns slice-aggregate-starts-with-2
+    starts-with-requires-2 returns-2)

@@ -46,17 +46,6 @@ returns-4 c = λ s e. search (picks, one-operator, operator-strength, token-oper
 pub one-char-step-spec : {M : Type 1} → statement M
 one-char-step-spec =
     tie.close
-    (tie.spec
-    shared-slice-read-c
-    one-index-requires
-    ends-operand-requires
-    plain-token-requires
-    returns
-    is-assign-requires
-    plain-token-requires-2
-    returns-2
-    is-unary-requires
-    plain-token-requires-3
-    returns-3
-    strength-at-requires
-    returns-4)
+    (tie.spec shared-slice-read-c one-index-requires ends-operand-requires plain-token-requires returns
+    is-assign-requires plain-token-requires-2 returns-2 is-unary-requires plain-token-requires-3 returns-3
+    strength-at-requires returns-4)

@@ -27,11 +27,4 @@ returns-3 c = λ t. let h = c .fresh-step .ensures t in search (needs, byte-fres
 pub plain-step-spec : {M : Type 1} → statement M
 plain-step-spec =
     tie.close
-    (tie.spec
-    is-tail-requires
-    returns
-    sub-passed
-    passed-requires
-    returns-2
-    fresh-step-requires
-    returns-3)
+    (tie.spec is-tail-requires returns sub-passed passed-requires returns-2 fresh-step-requires returns-3)

@@ -58,19 +58,6 @@ returns-5 c = λ s e. search (picks, pick-two, two-operator, token-operator) dep
 pub sign-step-spec : {M : Type 1} → statement M
 sign-step-spec =
     tie.close
-    (tie.spec
-    slice-aggregate-starts-with
-    starts-with-requires
-    plain-token-requires
-    returns
-    is-arrow-requires
-    plain-token-requires-2
-    returns-2
-    two-at-requires
-    one-char-step-requires
-    returns-3
-    is-shift-assign-requires
-    plain-token-requires-3
-    returns-4
-    strength-at-requires
-    returns-5)
+    (tie.spec slice-aggregate-starts-with starts-with-requires plain-token-requires returns is-arrow-requires
+    plain-token-requires-2 returns-2 two-at-requires one-char-step-requires returns-3 is-shift-assign-requires
+    plain-token-requires-3 returns-4 strength-at-requires returns-5)

@@ -27,11 +27,5 @@ returns-2 c = λ s e. let h = c .sign-step .ensures s e in search (needs, token-
 pub token-at-spec : {M : Type 1} → statement M
 token-at-spec =
     tie.close
-    (tie.spec
-    atom-at-requires
-    shared-slice-read-ends-operand
-    ends-operand-requires
-    plain-token-requires
-    returns
-    sign-step-requires
-    returns-2)
+    (tie.spec atom-at-requires shared-slice-read-ends-operand ends-operand-requires plain-token-requires returns
+    sign-step-requires returns-2)

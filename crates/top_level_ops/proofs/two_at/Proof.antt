@@ -21,9 +21,4 @@ returns-2 c = search (needs, two-long)
 pub two-at-spec : {M : Type 1} → statement M
 two-at-spec =
     tie.close
-    (tie.spec
-    returns
-    shared-slice-read-two-index
-    shared-slice-read-two-index-2
-    two-index-requires
-    returns-2)
+    (tie.spec returns shared-slice-read-two-index shared-slice-read-two-index-2 two-index-requires returns-2)

@@ -41,14 +41,5 @@ returns c = search (needs, count-end)
 pub char-count-spec : {M : Type 1} → statement M
 char-count-spec =
     tie.close
-    (tie.spec
-    Inv-loop
-    μ-loop
-    loop-holds
-    shared-slice-read-lead
-    lead-requires
-    add-n
-    add-i
-    loop-less
-    loop-again
+    (tie.spec Inv-loop μ-loop loop-holds shared-slice-read-lead lead-requires add-n add-i loop-less loop-again
     returns)

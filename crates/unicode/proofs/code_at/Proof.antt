@@ -35,13 +35,5 @@ returns c = search (needs, code-at-bytes)
 pub code-at-spec : {M : Type 1} → statement M
 code-at-spec =
     tie.close
-    (tie.spec
-    shared-slice-read-b0
-    add-byte-at
-    byte-at-requires
-    add-byte-at-2
-    byte-at-requires-2
-    add-byte-at-3
-    byte-at-requires-3
-    code-of-requires
-    returns)
+    (tie.spec shared-slice-read-b0 add-byte-at byte-at-requires add-byte-at-2 byte-at-requires-2 add-byte-at-3
+    byte-at-requires-3 code-of-requires returns)

@@ -61,20 +61,5 @@ returns-4 c = search tests
 pub code-of-spec : {M : Type 1} → statement M
 code-of-spec =
     tie.close
-    (tie.spec
-    returns
-    mul-result
-    add-result
-    returns-2
-    mul-result-2
-    mul-result-3
-    add-result-2
-    add-result-3
-    returns-3
-    mul-result-4
-    mul-result-5
-    add-result-4
-    mul-result-6
-    add-result-5
-    add-result-6
-    returns-4)
+    (tie.spec returns mul-result add-result returns-2 mul-result-2 mul-result-3 add-result-2 add-result-3 returns-3
+    mul-result-4 mul-result-5 add-result-4 mul-result-6 add-result-5 add-result-6 returns-4)

@@ -44,14 +44,5 @@ returns-5 c = search tests
 pub is-second-spec : {M : Type 1} → statement M
 is-second-spec =
     tie.close
-    (tie.spec
-    in-range-requires
-    returns
-    in-range-requires-2
-    returns-2
-    in-range-requires-3
-    returns-3
-    in-range-requires-4
-    returns-4
-    in-range-requires-5
-    returns-5)
+    (tie.spec in-range-requires returns in-range-requires-2 returns-2 in-range-requires-3 returns-3
+    in-range-requires-4 returns-4 in-range-requires-5 returns-5)

@@ -34,12 +34,4 @@ returns-6 c = search (tests, low-white, sym (c .before .before .before .before .
 pub is-white-spec : {M : Type 1} → statement M
 is-white-spec =
     tie.close
-    (tie.spec
-    is-high-white-requires
-    returns
-    in-range-requires
-    returns-2
-    returns-3
-    returns-4
-    returns-5
-    returns-6)
+    (tie.spec is-high-white-requires returns in-range-requires returns-2 returns-3 returns-4 returns-5 returns-6)

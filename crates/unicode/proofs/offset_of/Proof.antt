@@ -1,5 +1,5 @@
--- `unicode::offset_of` meets its contract: the invariant is `ColumnScan`, whose laws, one for each way through a turn, are in proofs/Column.antt.
--- Assumes nothing.
+-- `unicode::offset_of` meets its contract: the invariant is `ColumnScan`, whose laws, one for each way through a turn,
+-- are in proofs/Column.antt. Assumes nothing.
 use Prim.Native.Nat.{_-_}
 use borrow.Author.Needs.{needs}
 use Rattle.unicode.proofs.Column.{ColumnScan, column-begin, column-turn, column-past, column-end}
@@ -39,14 +39,4 @@ returns-2 c = search (needs, column-end)
 pub offset-of-spec : {M : Type 1} → statement M
 offset-of-spec =
     tie.close
-    (tie.spec
-    Inv-loop
-    μ-loop
-    loop-holds
-    returns
-    size-at-requires
-    add-i
-    add-k
-    loop-less
-    loop-again
-    returns-2)
+    (tie.spec Inv-loop μ-loop loop-holds returns size-at-requires add-i add-k loop-less loop-again returns-2)

@@ -1,7 +1,6 @@
 -- `unicode::past_ascii` meets its contract: the invariant is `AsciiRun`, whose laws are in proofs/Scan.antt.
 use Prim.Native.Nat.{_-_}
 use borrow.Author.Needs.{needs}
-use native.Mathlib.Omega.{arith}
 use lib.ListN.{length}
 use Rattle.unicode.specs.Places.{AsciiRun}
 use Rattle.unicode.proofs.Scan.{run-start, run-one}
@@ -47,16 +46,5 @@ returns-3 c = search needs
 pub past-ascii-spec : {M : Type 1} → statement M
 past-ascii-spec =
     tie.close
-    (tie.spec
-    Inv-loop
-    μ-loop
-    shared-slice-read-if2
-    returns
-    past-blocks-requires
-    loop-holds
-    shared-slice-read-if3
-    returns-2
-    add-i
-    loop-less
-    loop-again
-    returns-3)
+    (tie.spec Inv-loop μ-loop shared-slice-read-if2 returns past-blocks-requires loop-holds shared-slice-read-if3
+    returns-2 add-i loop-less loop-again returns-3)

@@ -35,13 +35,5 @@ returns c = search (needs, seq-at-bytes)
 pub seq-at-spec : {M : Type 1} → statement M
 seq-at-spec =
     tie.close
-    (tie.spec
-    shared-slice-read-b0
-    add-byte-at
-    byte-at-requires
-    add-byte-at-2
-    byte-at-requires-2
-    add-byte-at-3
-    byte-at-requires-3
-    seq-len-requires
-    returns)
+    (tie.spec shared-slice-read-b0 add-byte-at byte-at-requires add-byte-at-2 byte-at-requires-2 add-byte-at-3
+    byte-at-requires-3 seq-len-requires returns)

@@ -1,5 +1,5 @@
--- `unicode::seq_len` meets its contract: the branches pick the case of `seqLen`; what a call returned is handed over as an equation of the test.
--- Assumes nothing.
+-- `unicode::seq_len` meets its contract: the branches pick the case of `seqLen`; what a call returned is handed over as
+-- an equation of the test. Assumes nothing.
 use Rattle.unicode.proofs.Tests.{tests}
 use mathlib.Core.Path.{sym, _∙_}
 use Rattle.unicode.specs.Unicode.{seqLen}
@@ -76,22 +76,6 @@ returns-12 c = search tests
 pub seq-len-spec : {M : Type 1} → statement M
 seq-len-spec =
     tie.close
-    (tie.spec
-    returns
-    returns-2
-    is-tail-requires
-    returns-3
-    returns-4
-    is-second-requires
-    is-tail-requires-2
-    returns-5
-    returns-6
-    returns-7
-    is-second-requires-2
-    is-tail-requires-3
-    is-tail-requires-4
-    returns-8
-    returns-9
-    returns-10
-    returns-11
-    returns-12)
+    (tie.spec returns returns-2 is-tail-requires returns-3 returns-4 is-second-requires is-tail-requires-2 returns-5
+    returns-6 returns-7 is-second-requires-2 is-tail-requires-3 is-tail-requires-4 returns-8 returns-9 returns-10
+    returns-11 returns-12)

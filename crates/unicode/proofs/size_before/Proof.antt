@@ -1,5 +1,5 @@
--- `unicode::size_before` meets its contract: in a well-formed list the last bytes tell the size (`Back.back-1` and so on).
--- Assumes nothing.
+-- `unicode::size_before` meets its contract: in a well-formed list the last bytes tell the size (`Back.back-1` and so
+-- on). Assumes nothing.
 use Rattle.unicode.proofs.Back.{back-1, beyond-1, back-2, beyond-2, back-3, back-4}
 use borrow.Author.Needs.{needs}
 use Rattle.unicode.proofs.size_before.Statement.{statement}
@@ -38,14 +38,5 @@ returns-4 c = search (needs, back-4)
 pub size-before-spec : {M : Type 1} → statement M
 size-before-spec =
     tie.close
-    (tie.spec
-    sub-if1
-    shared-slice-read-if1
-    returns
-    sub-if2
-    shared-slice-read-if2
-    returns-2
-    sub-if3
-    shared-slice-read-if3
-    returns-3
-    returns-4)
+    (tie.spec sub-if1 shared-slice-read-if1 returns sub-if2 shared-slice-read-if2 returns-2 sub-if3
+    shared-slice-read-if3 returns-3 returns-4)

@@ -1,5 +1,5 @@
--- `unicode::trim_end` meets its contract: the invariant is `EndScan`, whose laws, one for each way through a turn, are in proofs/TrimScan.antt.
--- Assumes nothing.
+-- `unicode::trim_end` meets its contract: the invariant is `EndScan`, whose laws, one for each way through a turn, are
+-- in proofs/TrimScan.antt. Assumes nothing.
 use borrow.Author.Needs.{needs}
 use Rattle.unicode.proofs.TrimScan.{EndScan, end-begin, end-turn, end-found, end-all}
 use Rattle.unicode.proofs.trim_end.Statement.{statement}
@@ -35,13 +35,4 @@ returns-2 c = search (needs, end-all)
 pub trim-end-spec : {M : Type 1} → statement M
 trim-end-spec =
     tie.close
-    (tie.spec
-    Inv-loop
-    μ-loop
-    loop-holds
-    white-before-requires
-    returns
-    sub-e
-    loop-less
-    loop-again
-    returns-2)
+    (tie.spec Inv-loop μ-loop loop-holds white-before-requires returns sub-e loop-less loop-again returns-2)

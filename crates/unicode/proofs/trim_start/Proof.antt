@@ -1,5 +1,5 @@
--- `unicode::trim_start` meets its contract: the invariant is `StartScan`, whose laws, one for each way through a turn, are in proofs/TrimScan.antt.
--- Assumes nothing.
+-- `unicode::trim_start` meets its contract: the invariant is `StartScan`, whose laws, one for each way through a turn,
+-- are in proofs/TrimScan.antt. Assumes nothing.
 use Prim.Native.Nat.{_-_}
 use borrow.Author.Needs.{needs}
 use lib.ListN.{length}
@@ -37,13 +37,4 @@ returns-2 c = search (needs, start-end)
 pub trim-start-spec : {M : Type 1} → statement M
 trim-start-spec =
     tie.close
-    (tie.spec
-    Inv-loop
-    μ-loop
-    loop-holds
-    white-at-requires
-    returns
-    add-i
-    loop-less
-    loop-again
-    returns-2)
+    (tie.spec Inv-loop μ-loop loop-holds white-at-requires returns add-i loop-less loop-again returns-2)

@@ -44,15 +44,5 @@ returns-2 c = search (needs, prefix-end)
 pub well-formed-prefix-spec : {M : Type 1} → statement M
 well-formed-prefix-spec =
     tie.close
-    (tie.spec
-    Inv-loop
-    μ-loop
-    past-ascii-requires
-    loop-holds
-    seq-at-requires
-    returns
-    add-past-ascii
-    past-ascii-requires-2
-    loop-less
-    loop-again
-    returns-2)
+    (tie.spec Inv-loop μ-loop past-ascii-requires loop-holds seq-at-requires returns add-past-ascii
+    past-ascii-requires-2 loop-less loop-again returns-2)

@@ -38,14 +38,5 @@ returns-4 c = search (needs, other-more)
 pub white-at-spec : {M : Type 1} → statement M
 white-at-spec =
     tie.close
-    (tie.spec
-    shared-slice-read-b
-    cast-is-white
-    is-white-requires
-    returns
-    returns-2
-    code-at-requires
-    is-white-requires-2
-    size-at-requires
-    returns-3
-    returns-4)
+    (tie.spec shared-slice-read-b cast-is-white is-white-requires returns returns-2 code-at-requires
+    is-white-requires-2 size-at-requires returns-3 returns-4)

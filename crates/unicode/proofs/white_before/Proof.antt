@@ -44,16 +44,5 @@ returns-4 c = search (needs, before-other)
 pub white-before-spec : {M : Type 1} → statement M
 white-before-spec =
     tie.close
-    (tie.spec
-    sub-b
-    shared-slice-read-b
-    cast-is-white
-    is-white-requires
-    returns
-    returns-2
-    size-before-requires
-    sub-code-at
-    code-at-requires
-    is-white-requires-2
-    returns-3
-    returns-4)
+    (tie.spec sub-b shared-slice-read-b cast-is-white is-white-requires returns returns-2 size-before-requires
+    sub-code-at code-at-requires is-white-requires-2 returns-3 returns-4)

@@ -41,14 +41,5 @@ returns c = search (needs, width-end)
 pub width-spec : {M : Type 1} → statement M
 width-spec =
     tie.close
-    (tie.spec
-    Inv-loop
-    μ-loop
-    loop-holds
-    shared-slice-read-units
-    units-requires
-    add-n
-    add-i
-    loop-less
-    loop-again
+    (tie.spec Inv-loop μ-loop loop-holds shared-slice-read-units units-requires add-n add-i loop-less loop-again
     returns)

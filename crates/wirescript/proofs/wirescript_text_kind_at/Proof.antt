@@ -1,4 +1,5 @@
--- `wirescript::wirescript_text_kind_at` meets its contract: the answer is that of `text_kind::answer`, and the scratch is cleared after it.
+-- `wirescript::wirescript_text_kind_at` meets its contract: the answer is that of `text_kind::answer`, and the scratch
+-- is cleared after it.
 use borrow.Author.Needs.{needs}
 use Rattle.text_kind.proofs.KindCall.{answered}
 use Rattle.wirescript.proofs.wirescript_text_kind_at.Statement.{statement}

@@ -49,18 +49,5 @@ returns c = search (needs, counting-end)
 pub levels-in-spec : {M : Type 1} → statement M
 levels-in-spec =
     tie.close
-    (tie.spec
-    Inv-loop
-    μ-loop
-    loop-holds
-    mul-if1
-    add-if1
-    shared-slice-read-if1
-    add-i
-    loop-less
-    loop-again
-    add-levels
-    add-i-2
-    loop-less-2
-    loop-again-2
-    returns)
+    (tie.spec Inv-loop μ-loop loop-holds mul-if1 add-if1 shared-slice-read-if1 add-i loop-less loop-again add-levels
+    add-i-2 loop-less-2 loop-again-2 returns)

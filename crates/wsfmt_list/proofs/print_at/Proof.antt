@@ -46,17 +46,6 @@ returns c = search needs
 pub print-at-spec : {M : Type 1} → statement M
 print-at-spec =
     tie.close
-    (tie.spec
-    find-requires
-    sub-print
-    part-print-start
-    part-print-end
-    print-requires
-    print-decimal-requires
-    slice-aggregate-write-all
-    write-all-requires
-    array-share-prefix-output
-    slice-aggregate-write-all-2
-    write-all-requires-2
-    add-result
-    returns)
+    (tie.spec find-requires sub-print part-print-start part-print-end print-requires print-decimal-requires
+    slice-aggregate-write-all write-all-requires array-share-prefix-output slice-aggregate-write-all-2
+    write-all-requires-2 add-result returns)

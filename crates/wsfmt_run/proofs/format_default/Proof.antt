@@ -26,10 +26,5 @@ returns c = called _ _ _ _ _ (c .before .before .format-call .ensures) defaults-
 pub format-default-spec : {M : Type 1} → statement M
 format-default-spec =
     tie.close
-    (tie.spec
-    slice-aggregate-format-call
-    slice-aggregate-format-call-2
-    slice-aggregate-format-call-3
-    slice-aggregate-format-call-4
-    format-call-requires
-    returns)
+    (tie.spec slice-aggregate-format-call slice-aggregate-format-call-2 slice-aggregate-format-call-3
+    slice-aggregate-format-call-4 format-call-requires returns)

@@ -32,11 +32,5 @@ returns-3 c = c .before .before .format-default .ensures .accepted (c .if2 .left
 pub print-spec : {M : Type 1} → statement M
 print-spec =
     tie.close
-    (tie.spec
-    zero-requires
-    put-refusal-requires
-    returns
-    format-default-requires
-    put-refusal-requires-2
-    returns-2
+    (tie.spec zero-requires put-refusal-requires returns format-default-requires put-refusal-requires-2 returns-2
     returns-3)

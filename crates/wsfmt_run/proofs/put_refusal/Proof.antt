@@ -36,14 +36,5 @@ returns c = refusal-put _ _ (c .before .before .before .before .before .before .
 pub put-refusal-spec : {M : Type 1} → statement M
 put-refusal-spec =
     tie.close
-    (tie.spec
-    slice-aggregate-append
-    append-requires
-    put-decimal-requires
-    slice-aggregate-append-2
-    append-requires-2
-    put-decimal-requires-2
-    slice-aggregate-append-3
-    append-requires-3
-    same-length
-    returns)
+    (tie.spec slice-aggregate-append append-requires put-decimal-requires slice-aggregate-append-2 append-requires-2
+    put-decimal-requires-2 slice-aggregate-append-3 append-requires-3 same-length returns)

@@ -69,21 +69,6 @@ returns-2 c =
 pub format-with-spec : {M : Type 1} → statement M
 format-with-spec =
     tie.close
-    (tie.spec
-    ending-of-requires
-    cast-t22
-    slice-aggregate-read-lines
-    read-lines-requires
-    has-last-ending-requires
-    finish-text-requires
-    list-open-requires
-    same-length
-    same-length-2
-    same-length-3
-    returns
-    mul-base
-    list-open-requires-2
-    same-length-4
-    same-length-5
-    same-length-6
-    returns-2)
+    (tie.spec ending-of-requires cast-t22 slice-aggregate-read-lines read-lines-requires has-last-ending-requires
+    finish-text-requires list-open-requires same-length same-length-2 same-length-3 returns mul-base
+    list-open-requires-2 same-length-4 same-length-5 same-length-6 returns-2)

@@ -1,4 +1,5 @@
--- `call::assembly::list_open` meets its contract; the file is there so that a must-fail edit is refused here and not at a caller.
+-- `call::assembly::list_open` meets its contract; the file is there so that a must-fail edit is refused here and not at
+-- a caller.
 use borrow.Author.Needs.{needs}
 use Rattle.call.proofs.assembly.list_open.Statement.{statement}
 use Rattle.call.proofs.assembly.list_open.Tie as tie

@@ -24,10 +24,4 @@ returns-3 c = search (needs, header-not)
 pub is-header-spec : {M : Type 1} → statement M
 is-header-spec =
     tie.close
-    (tie.spec
-    returns
-    shared-slice-read-if2
-    sub-result
-    shared-slice-read-result
-    returns-2
-    returns-3)
+    (tie.spec returns shared-slice-read-if2 sub-result shared-slice-read-result returns-2 returns-3)

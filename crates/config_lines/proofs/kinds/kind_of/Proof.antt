@@ -36,14 +36,5 @@ returns-6 c = search (needs, kind-other)
 pub kind-of-spec : {M : Type 1} → statement M
 kind-of-spec =
     tie.close
-    (tie.spec
-    returns
-    shared-slice-read-if2
-    returns-2
-    shared-slice-read-if3
-    returns-3
-    is-header-requires
-    returns-4
-    eq-at-requires
-    returns-5
-    returns-6)
+    (tie.spec returns shared-slice-read-if2 returns-2 shared-slice-read-if3 returns-3 is-header-requires returns-4
+    eq-at-requires returns-5 returns-6)

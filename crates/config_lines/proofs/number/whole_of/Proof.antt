@@ -1,5 +1,4 @@
 use borrow.Author.Needs.{needs}
-use native.Mathlib.Omega.{arith}
 use Prim.Native.Nat.{_-_}
 use lib.ListN.{length}
 use Rattle.config_lines.proofs.WholeLaws.{Adding, adding-start, adding-more, whole-empty, whole-below, whole-above, whole-large, whole-end}
@@ -54,19 +53,5 @@ returns-5 c = search (needs, whole-end)
 pub whole-of-spec : {M : Type 1} → statement M
 whole-of-spec =
     tie.close
-    (tie.spec
-    Inv-loop
-    μ-loop
-    returns
-    loop-holds
-    shared-slice-read-c
-    returns-2
-    returns-3
-    mul-n
-    cast-n
-    add-n
-    returns-4
-    add-i
-    loop-less
-    loop-again
-    returns-5)
+    (tie.spec Inv-loop μ-loop returns loop-holds shared-slice-read-c returns-2 returns-3 mul-n cast-n add-n returns-4
+    add-i loop-less loop-again returns-5)

@@ -1,5 +1,4 @@
 use borrow.Author.Needs.{needs}
-use native.Mathlib.Omega.{arith}
 use Rattle.config_rules.specs.Values.{superseded}
 use Rattle.config_lines.proofs.pairs.superseded.Statement.{statement}
 use Rattle.config_lines.proofs.pairs.superseded.Tie as tie
@@ -29,11 +28,4 @@ returns c = rw (c .before .before .before .before .before .style .ensures, c .be
 pub superseded-spec : {M : Type 1} → statement M
 superseded-spec =
     tie.close
-    (tie.spec
-    style-requires
-    size-requires
-    tab-requires
-    max-requires
-    ending-requires
-    newline-requires
-    returns)
+    (tie.spec style-requires size-requires tab-requires max-requires ending-requires newline-requires returns)

@@ -1,5 +1,4 @@
 use borrow.Author.Needs.{needs}
-use native.Mathlib.Omega.{arith}
 use Rattle.rules.proofs.Choose.{picks}
 use Rattle.config_lines.proofs.pairs.tab.Statement.{statement}
 use Rattle.config_lines.proofs.pairs.tab.Tie as tie

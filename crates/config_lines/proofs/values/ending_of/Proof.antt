@@ -1,5 +1,4 @@
 use borrow.Author.Needs.{needs}
-use native.Mathlib.Omega.{arith}
 use Rattle.rules.proofs.Choose.{picks}
 use Rattle.config_rules.specs.Values.{endingOf}
 use Rattle.config_lines.proofs.values.ending_of.Statement.{statement}
@@ -42,14 +41,5 @@ returns-4 c = search picks depth 20
 pub ending-of-spec : {M : Type 1} → statement M
 ending-of-spec =
     tie.close
-    (tie.spec
-    slice-aggregate-is-word
-    is-word-requires
-    returns
-    slice-aggregate-is-word-2
-    is-word-requires-2
-    returns-2
-    slice-aggregate-is-word-3
-    is-word-requires-3
-    returns-3
-    returns-4)
+    (tie.spec slice-aggregate-is-word is-word-requires returns slice-aggregate-is-word-2 is-word-requires-2 returns-2
+    slice-aggregate-is-word-3 is-word-requires-3 returns-3 returns-4)

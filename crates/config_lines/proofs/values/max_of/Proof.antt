@@ -1,5 +1,4 @@
 use borrow.Author.Needs.{needs}
-use native.Mathlib.Omega.{arith}
 use Rattle.rules.proofs.Choose.{picks}
 use Rattle.config_rules.specs.Values.{maxOf}
 use Rattle.config_lines.proofs.ValueLaws.{max-none, max-some}
@@ -34,12 +33,5 @@ returns-3 c = search (needs, max-some)
 pub max-of-spec : {M : Type 1} → statement M
 max-of-spec =
     tie.close
-    (tie.spec
-    slice-aggregate-is-word
-    is-word-requires
-    returns
-    whole-of-requires
-    enum-told
-    enum-known-w
-    returns-2
+    (tie.spec slice-aggregate-is-word is-word-requires returns whole-of-requires enum-told enum-known-w returns-2
     returns-3)

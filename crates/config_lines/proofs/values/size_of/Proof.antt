@@ -1,5 +1,4 @@
 use borrow.Author.Needs.{needs}
-use native.Mathlib.Omega.{arith}
 use Rattle.rules.proofs.Choose.{picks}
 use Rattle.config_rules.specs.Values.{sizeOf}
 use Rattle.config_lines.proofs.ValueLaws.{size-none, size-some}
@@ -34,12 +33,5 @@ returns-3 c = search (needs, size-some)
 pub size-of-spec : {M : Type 1} → statement M
 size-of-spec =
     tie.close
-    (tie.spec
-    slice-aggregate-is-word
-    is-word-requires
-    returns
-    whole-of-requires
-    enum-told
-    enum-known-w
-    returns-2
+    (tie.spec slice-aggregate-is-word is-word-requires returns whole-of-requires enum-told enum-known-w returns-2
     returns-3)

@@ -1,5 +1,4 @@
 use borrow.Author.Needs.{needs}
-use native.Mathlib.Omega.{arith}
 use Rattle.rules.proofs.Choose.{picks}
 use Rattle.config_rules.specs.Values.{styleOf}
 use Rattle.config_lines.proofs.values.style_of.Statement.{statement}
@@ -32,11 +31,5 @@ returns-3 c = search picks depth 20
 pub style-of-spec : {M : Type 1} → statement M
 style-of-spec =
     tie.close
-    (tie.spec
-    slice-aggregate-is-word
-    is-word-requires
-    returns
-    slice-aggregate-is-word-2
-    is-word-requires-2
-    returns-2
+    (tie.spec slice-aggregate-is-word is-word-requires returns slice-aggregate-is-word-2 is-word-requires-2 returns-2
     returns-3)

@@ -1,5 +1,4 @@
 use borrow.Author.Needs.{needs}
-use native.Mathlib.Omega.{arith}
 use Rattle.config_lines.proofs.ValueLaws.{tab-none, tab-some}
 use Rattle.config_lines.proofs.values.tab_of.Statement.{statement}
 use Rattle.config_lines.proofs.values.tab_of.Tie as tie

@@ -27,11 +27,4 @@ returns-4 c = above-unused _ _ _ (c .before .before .before .pre .0) (c .if1 .le
 pub above-spec : {M : Type 1} → statement M
 above-spec =
     tie.close
-    (tie.spec
-    returns
-    is-root-requires
-    returns-2
-    sub-level-from
-    level-from-requires
-    returns-3
-    returns-4)
+    (tie.spec returns is-root-requires returns-2 sub-level-from level-from-requires returns-3 returns-4)

@@ -24,10 +24,4 @@ returns-2 c = search (needs, applied-unused)
 pub apply-spec : {M : Type 1} → statement M
 apply-spec =
     tie.close
-    (tie.spec
-    sub-settings
-    part-settings-start
-    part-settings-end
-    settings-requires
-    returns
-    returns-2)
+    (tie.spec sub-settings part-settings-start part-settings-end settings-requires returns returns-2)

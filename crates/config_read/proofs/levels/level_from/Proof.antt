@@ -37,14 +37,4 @@ returns-2 c = search (needs, scan-end)
 pub level-from-spec : {M : Type 1} → statement M
 level-from-spec =
     tie.close
-    (tie.spec
-    Inv-loop
-    μ-loop
-    loop-holds
-    sub-if1
-    shared-slice-read-if1
-    returns
-    sub-i
-    loop-less
-    loop-again
-    returns-2)
+    (tie.spec Inv-loop μ-loop loop-holds sub-if1 shared-slice-read-if1 returns sub-i loop-less loop-again returns-2)

@@ -37,14 +37,5 @@ returns c = rw (c .before .before .before .before .before .before .before .befor
 pub given-spec : {M : Type 1} → statement M
 given-spec =
     tie.close
-    (tie.spec
-    style-number-requires
-    size-kind-requires
-    size-number-requires
-    tab-set-requires
-    tab-number-requires
-    max-kind-requires
-    max-number-requires
-    ending-number-requires
-    newline-number-requires
-    returns)
+    (tie.spec style-number-requires size-kind-requires size-number-requires tab-set-requires tab-number-requires
+    max-kind-requires max-number-requires ending-number-requires newline-number-requires returns)

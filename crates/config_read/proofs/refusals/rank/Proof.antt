@@ -24,10 +24,4 @@ returns-4 c = search (needs, rank-none)
 pub rank-spec : {M : Type 1} → statement M
 rank-spec =
     tie.close
-    (tie.spec
-    returns
-    well-formed-prefix-requires
-    returns-2
-    has-long-name-requires
-    returns-3
-    returns-4)
+    (tie.spec returns well-formed-prefix-requires returns-2 has-long-name-requires returns-3 returns-4)

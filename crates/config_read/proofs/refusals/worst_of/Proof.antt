@@ -30,12 +30,5 @@ returns c = worst-four _ _ _ _ _ _ _ _ _ _ _ (c .before .before .before .before 
 pub worst-of-spec : {M : Type 1} → statement M
 worst-of-spec =
     tie.close
-    (tie.spec
-    rank-requires
-    rank-requires-2
-    worse-requires
-    rank-requires-3
-    rank-requires-4
-    worse-requires-2
-    worse-requires-3
-    returns)
+    (tie.spec rank-requires rank-requires-2 worse-requires rank-requires-3 rank-requires-4 worse-requires-2
+    worse-requires-3 returns)

@@ -34,12 +34,4 @@ returns-3 c = search needs
 pub applies-after-spec : {M : Type 1} → statement M
 applies-after-spec =
     tie.close
-    (tie.spec
-    enum-told
-    enum-told-2
-    name-in-requires
-    glob-matches-requires
-    enum-told-3
-    returns
-    returns-2
-    returns-3)
+    (tie.spec enum-told enum-told-2 name-in-requires glob-matches-requires enum-told-3 returns returns-2 returns-3)

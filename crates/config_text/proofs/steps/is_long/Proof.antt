@@ -34,12 +34,4 @@ returns-3 c = search needs
 pub is-long-spec : {M : Type 1} → statement M
 is-long-spec =
     tie.close
-    (tie.spec
-    enum-told
-    enum-told-2
-    name-in-requires
-    char-count-requires
-    enum-told-3
-    returns
-    returns-2
-    returns-3)
+    (tie.spec enum-told enum-told-2 name-in-requires char-count-requires enum-told-3 returns returns-2 returns-3)

@@ -48,17 +48,6 @@ returns-2 c = search (needs, root-other)
 pub root-pair-spec : {M : Type 1} → statement M
 root-pair-spec =
     tie.close
-    (tie.spec
-    slice-aggregate-trimmed
-    trimmed-requires
-    slice-aggregate-is-word
-    is-word-requires
-    add-trimmed
-    sub-trimmed
-    part-trimmed-start
-    part-trimmed-end
-    trimmed-requires-2
-    slice-aggregate-is-word-2
-    is-word-requires-2
-    returns
-    returns-2)
+    (tie.spec slice-aggregate-trimmed trimmed-requires slice-aggregate-is-word is-word-requires add-trimmed
+    sub-trimmed part-trimmed-start part-trimmed-end trimmed-requires-2 slice-aggregate-is-word-2 is-word-requires-2
+    returns returns-2)

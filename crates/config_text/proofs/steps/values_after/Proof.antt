@@ -34,12 +34,4 @@ returns-4 c = search (needs, values-kept)
 pub values-after-spec : {M : Type 1} → statement M
 values-after-spec =
     tie.close
-    (tie.spec
-    enum-told
-    enum-told-2
-    enum-known-kind
-    values-pair-requires
-    returns
-    returns-2
-    returns-3
-    returns-4)
+    (tie.spec enum-told enum-told-2 enum-known-kind values-pair-requires returns returns-2 returns-3 returns-4)

@@ -36,13 +36,5 @@ returns c = search (needs, values-pair-is)
 pub values-pair-spec : {M : Type 1} → statement M
 values-pair-spec =
     tie.close
-    (tie.spec
-    slice-aggregate-trimmed
-    trimmed-requires
-    add-trimmed
-    sub-trimmed
-    part-trimmed-start
-    part-trimmed-end
-    trimmed-requires-2
-    superseded-requires
-    returns)
+    (tie.spec slice-aggregate-trimmed trimmed-requires add-trimmed sub-trimmed part-trimmed-start part-trimmed-end
+    trimmed-requires-2 superseded-requires returns)

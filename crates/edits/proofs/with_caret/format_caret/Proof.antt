@@ -1,7 +1,6 @@
 use Rattle.edits.proofs.with_caret.format_caret.Statement.{statement}
 use Rattle.edits.proofs.with_caret.format_caret.Tie as tie
 use borrow.Author.Needs.{needs}
-use native.Mathlib.Omega.{arith}
 use mathlib.Core.Path.{sym}
 use lib.Seq.{length-take-le}
 use Rattle.edits.proofs.TextLaws.{text-fits, alike}
@@ -85,22 +84,6 @@ returns-3 c =
 pub format-caret-spec : {M : Type 1} → statement M
 format-caret-spec =
     tie.close
-    (tie.spec
-    format-text-requires
-    slice-reshare-prefix-caret-in-text
-    slice-aggregate-caret-in-text
-    caret-in-text-requires
-    same-length
-    same-length-2
-    returns
-    zero-requires
-    number-of-requires
-    place-of-requires
-    refused-requires
-    same-length-3
-    same-length-4
-    returns-2
-    refused-requires-2
-    same-length-5
-    same-length-6
-    returns-3)
+    (tie.spec format-text-requires slice-reshare-prefix-caret-in-text slice-aggregate-caret-in-text
+    caret-in-text-requires same-length same-length-2 returns zero-requires number-of-requires place-of-requires
+    refused-requires same-length-3 same-length-4 returns-2 refused-requires-2 same-length-5 same-length-6 returns-3)

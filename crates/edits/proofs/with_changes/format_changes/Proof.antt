@@ -1,7 +1,6 @@
 use Rattle.edits.proofs.with_changes.format_changes.Statement.{statement}
 use Rattle.edits.proofs.with_changes.format_changes.Tie as tie
 use borrow.Author.Needs.{needs}
-use native.Mathlib.Omega.{arith}
 use mathlib.Core.Path.{refl, sym}
 use lib.Seq.{length-take-le}
 use Rattle.edits.proofs.TextLaws.{text-fits, alike}
@@ -110,29 +109,7 @@ returns-3 c =
 pub format-changes-spec : {M : Type 1} → statement M
 format-changes-spec =
     tie.close
-    (tie.spec
-    format-text-requires
-    slice-reshare-prefix-write-changes
-    slice-aggregate-write-changes
-    write-changes-requires
-    mul-finish
-    finish-requires
-    same-length
-    same-length-2
-    same-length-3
-    returns
-    zero-requires
-    zero-requires-2
-    number-of-requires
-    place-of-requires
-    refused-requires
-    same-length-4
-    same-length-5
-    same-length-6
-    returns-2
-    zero-requires-3
-    refused-requires-2
-    same-length-7
-    same-length-8
-    same-length-9
-    returns-3)
+    (tie.spec format-text-requires slice-reshare-prefix-write-changes slice-aggregate-write-changes
+    write-changes-requires mul-finish finish-requires same-length same-length-2 same-length-3 returns zero-requires
+    zero-requires-2 number-of-requires place-of-requires refused-requires same-length-4 same-length-5 same-length-6
+    returns-2 zero-requires-3 refused-requires-2 same-length-7 same-length-8 same-length-9 returns-3)

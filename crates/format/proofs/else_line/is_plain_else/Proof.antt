@@ -30,12 +30,5 @@ returns-2 c = search (needs, else-no)
 pub is-plain-else-spec : {M : Type 1} → statement M
 is-plain-else-spec =
     tie.close
-    (tie.spec
-    slice-aggregate-starts-with
-    starts-with-requires
-    sub-is-plain-rest
-    part-is-plain-rest-start
-    part-is-plain-rest-end
-    is-plain-rest-requires
-    returns
-    returns-2)
+    (tie.spec slice-aggregate-starts-with starts-with-requires sub-is-plain-rest part-is-plain-rest-start
+    part-is-plain-rest-end is-plain-rest-requires returns returns-2)

@@ -36,14 +36,6 @@ returns c = search (needs, facts-by)
 pub line-facts-spec : {M : Type 1} → statement M
 line-facts-spec =
     tie.close
-    (tie.spec
-    trim-end-requires
-    slice-aggregate-ends-in-brace
-    ends-in-brace-requires
-    trim-start-requires
-    sub-starts-with
-    part-starts-with-start
-    part-starts-with-end
-    slice-aggregate-starts-with
-    starts-with-requires
+    (tie.spec trim-end-requires slice-aggregate-ends-in-brace ends-in-brace-requires trim-start-requires
+    sub-starts-with part-starts-with-start part-starts-with-end slice-aggregate-starts-with starts-with-requires
     returns)

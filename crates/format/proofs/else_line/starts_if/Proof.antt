@@ -30,12 +30,5 @@ returns-2 c = search (needs, no-white)
 pub starts-if-spec : {M : Type 1} → statement M
 starts-if-spec =
     tie.close
-    (tie.spec
-    first-is-white-requires
-    trim-start-requires
-    sub-starts-with-if
-    part-starts-with-if-start
-    part-starts-with-if-end
-    starts-with-if-requires
-    returns
-    returns-2)
+    (tie.spec first-is-white-requires trim-start-requires sub-starts-with-if part-starts-with-if-start
+    part-starts-with-if-end starts-with-if-requires returns returns-2)

@@ -30,12 +30,5 @@ returns-4 c = search (needs, if-no)
 pub starts-with-if-spec : {M : Type 1} → statement M
 starts-with-if-spec =
     tie.close
-    (tie.spec
-    slice-aggregate-starts-with
-    starts-with-requires
-    returns
-    shared-slice-read-is-ident
-    is-ident-requires
-    returns-2
-    returns-3
-    returns-4)
+    (tie.spec slice-aggregate-starts-with starts-with-requires returns shared-slice-read-is-ident is-ident-requires
+    returns-2 returns-3 returns-4)

@@ -33,13 +33,5 @@ returns-2 c = search (needs, takes-none)
 pub trimmed-takes-else-spec : {M : Type 1} → statement M
 trimmed-takes-else-spec =
     tie.close
-    (tie.spec
-    ends-in-brace-requires
-    trim-start-requires
-    sub-starts-with
-    part-starts-with-start
-    part-starts-with-end
-    slice-aggregate-starts-with
-    starts-with-requires
-    returns
-    returns-2)
+    (tie.spec ends-in-brace-requires trim-start-requires sub-starts-with part-starts-with-start part-starts-with-end
+    slice-aggregate-starts-with starts-with-requires returns returns-2)

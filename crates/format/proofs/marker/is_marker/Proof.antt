@@ -31,12 +31,5 @@ returns-2 c = search (needs, marker-no)
 pub is-marker-spec : {M : Type 1} → statement M
 is-marker-spec =
     tie.close
-    (tie.spec
-    slice-aggregate-starts-with
-    starts-with-requires
-    sub-is-marker-word
-    part-is-marker-word-start
-    part-is-marker-word-end
-    is-marker-word-requires
-    returns
-    returns-2)
+    (tie.spec slice-aggregate-starts-with starts-with-requires sub-is-marker-word part-is-marker-word-start
+    part-is-marker-word-end is-marker-word-requires returns returns-2)

@@ -34,13 +34,5 @@ returns c = search (needs, marker-word)
 pub is-marker-word-spec : {M : Type 1} → statement M
 is-marker-word-spec =
     tie.close
-    (tie.spec
-    trim-start-requires
-    sub-t
-    part-t-start
-    part-t-end
-    trim-end-requires
-    slice-aggregate-is-same
-    slice-aggregate-is-same-2
-    is-same-requires
-    returns)
+    (tie.spec trim-start-requires sub-t part-t-start part-t-end trim-end-requires slice-aggregate-is-same
+    slice-aggregate-is-same-2 is-same-requires returns)

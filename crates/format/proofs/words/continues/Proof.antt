@@ -38,14 +38,6 @@ returns-5 c = search (bools, continues-rest) depth 12
 pub continues-spec : {M : Type 1} → statement M
 continues-spec =
     tie.close
-    (tie.spec
-    returns
-    slice-aggregate-starts-with-word
-    starts-with-word-requires
-    returns-2
-    continues-with-else-requires
-    returns-3
-    starts-with-binary-op-requires
-    returns-4
-    starts-with-dot-requires
+    (tie.spec returns slice-aggregate-starts-with-word starts-with-word-requires returns-2
+    continues-with-else-requires returns-3 starts-with-binary-op-requires returns-4 starts-with-dot-requires
     returns-5)

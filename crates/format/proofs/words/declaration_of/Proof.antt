@@ -41,14 +41,5 @@ returns-4 c = search picks depth 10
 pub declaration-of-spec : {M : Type 1} → statement M
 declaration-of-spec =
     tie.close
-    (tie.spec
-    slice-aggregate-starts-with
-    starts-with-requires
-    returns
-    slice-aggregate-starts-with-2
-    starts-with-requires-2
-    returns-2
-    slice-aggregate-starts-with-3
-    starts-with-requires-3
-    returns-3
-    returns-4)
+    (tie.spec slice-aggregate-starts-with starts-with-requires returns slice-aggregate-starts-with-2
+    starts-with-requires-2 returns-2 slice-aggregate-starts-with-3 starts-with-requires-3 returns-3 returns-4)

@@ -21,9 +21,4 @@ returns-3 c = search (needs, binary-pair)
 pub starts-with-binary-op-spec : {M : Type 1} → statement M
 starts-with-binary-op-spec =
     tie.close
-    (tie.spec
-    returns
-    starts-with-operator-requires
-    returns-2
-    starts-with-operator-pair-requires
-    returns-3)
+    (tie.spec returns starts-with-operator-requires returns-2 starts-with-operator-pair-requires returns-3)

@@ -27,11 +27,5 @@ returns-3 c = search bools depth 10
 pub starts-with-dot-spec : {M : Type 1} → statement M
 starts-with-dot-spec =
     tie.close
-    (tie.spec
-    slice-aggregate-starts-with
-    starts-with-requires
-    slice-aggregate-starts-with-2
-    starts-with-requires-2
-    returns
-    returns-2
-    returns-3)
+    (tie.spec slice-aggregate-starts-with starts-with-requires slice-aggregate-starts-with-2 starts-with-requires-2
+    returns returns-2 returns-3)

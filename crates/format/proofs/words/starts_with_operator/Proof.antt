@@ -31,12 +31,5 @@ returns-2 c = search (needs, bools)
 pub starts-with-operator-spec : {M : Type 1} → statement M
 starts-with-operator-spec =
     tie.close
-    (tie.spec
-    shared-slice-read-is-one
-    is-one-requires
-    sub-starts-white-or
-    part-starts-white-or-start
-    part-starts-white-or-end
-    starts-white-or-requires
-    returns
-    returns-2)
+    (tie.spec shared-slice-read-is-one is-one-requires sub-starts-white-or part-starts-white-or-start
+    part-starts-white-or-end starts-white-or-requires returns returns-2)

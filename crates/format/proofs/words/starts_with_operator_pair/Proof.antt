@@ -34,13 +34,5 @@ returns-2 c = search (needs, bools)
 pub starts-with-operator-pair-spec : {M : Type 1} → statement M
 starts-with-operator-pair-spec =
     tie.close
-    (tie.spec
-    shared-slice-read-is-two
-    shared-slice-read-is-two-2
-    is-two-requires
-    sub-starts-white-or
-    part-starts-white-or-start
-    part-starts-white-or-end
-    starts-white-or-requires
-    returns
-    returns-2)
+    (tie.spec shared-slice-read-is-two shared-slice-read-is-two-2 is-two-requires sub-starts-white-or
+    part-starts-white-or-start part-starts-white-or-end starts-white-or-requires returns returns-2)

@@ -29,10 +29,4 @@ returns-3 c = then-no _ _ _ _ (sym (c .before .starts-with .ensures) ∙ c .if1 
 pub starts-with-word-spec : {M : Type 1} → statement M
 starts-with-word-spec =
     tie.close
-    (tie.spec
-    starts-with-requires
-    returns
-    shared-slice-read-is-blank
-    is-blank-requires
-    returns-2
-    returns-3)
+    (tie.spec starts-with-requires returns shared-slice-read-is-blank is-blank-requires returns-2 returns-3)

@@ -45,16 +45,5 @@ returns c = search (needs, decoding-end)
 pub decode-into-spec : {M : Type 1} → statement M
 decode-into-spec =
     tie.close
-    (tie.spec
-    Inv-loop
-    μ-loop
-    loop-holds
-    size-at-requires
-    code-at-requires
-    mul-chars
-    element-write-chars
-    add-i
-    add-n
-    loop-less
-    loop-again
-    returns)
+    (tie.spec Inv-loop μ-loop loop-holds size-at-requires code-at-requires mul-chars element-write-chars add-i add-n
+    loop-less loop-again returns)

@@ -1,5 +1,4 @@
 use borrow.Author.Needs.{needs}
-use native.Mathlib.Omega.{arith}
 use Prim.Native.Nat.{_-_}
 use lib.ListN.{length}
 use Rattle.glob_match.proofs.NameLaws.{Seeking, seeking-start, seeking-found, seeking-more, seeking-end}
@@ -39,14 +38,5 @@ returns-2 c = search (needs, seeking-end)
 pub has-slash-spec : {M : Type 1} → statement M
 has-slash-spec =
     tie.close
-    (tie.spec
-    Inv-loop
-    μ-loop
-    loop-holds
-    shared-slice-read-slash-at
-    slash-at-requires
-    returns
-    add-i
-    loop-less
-    loop-again
-    returns-2)
+    (tie.spec Inv-loop μ-loop loop-holds shared-slice-read-slash-at slash-at-requires returns add-i loop-less
+    loop-again returns-2)

@@ -1,5 +1,4 @@
 use borrow.Author.Needs.{needs}
-use native.Mathlib.Omega.{arith}
 use Rattle.glob_match.proofs.NameLaws.{slash-same, slash-past, slash-escaped, slash-other}
 use Rattle.glob_match.proofs.name.slash_at.Statement.{statement}
 use Rattle.glob_match.proofs.name.slash_at.Tie as tie
@@ -37,14 +36,5 @@ returns-4 c = search (needs, slash-other)
 pub slash-at-spec : {M : Type 1} → statement M
 slash-at-spec =
     tie.close
-    (tie.spec
-    mul-result
-    shared-slice-read-result
-    returns
-    add-if3
-    returns-2
-    add-result
-    mul-result-2
-    shared-slice-read-result-2
-    returns-3
-    returns-4)
+    (tie.spec mul-result shared-slice-read-result returns add-if3 returns-2 add-result mul-result-2
+    shared-slice-read-result-2 returns-3 returns-4)

@@ -1,5 +1,4 @@
 use borrow.Author.Needs.{needs}
-use native.Mathlib.Omega.{arith}
 use Rattle.glob_match.proofs.NameLaws.{slash-none, slash-first}
 use Rattle.glob_match.proofs.name.starts_with_slash.Statement.{statement}
 use Rattle.glob_match.proofs.name.starts_with_slash.Tie as tie

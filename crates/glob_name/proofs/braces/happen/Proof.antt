@@ -1,5 +1,4 @@
 use borrow.Author.Needs.{needs}
-use native.Mathlib.Omega.{arith}
 use Rattle.glob_name.proofs.MarkLaws.{happened-open, happened-comma-none, happened-comma, happened-close-none, happened-close, happened-nothing}
 use Rattle.glob_name.proofs.braces.happen.Statement.{statement}
 use Rattle.glob_name.proofs.braces.happen.Tie as tie
@@ -46,17 +45,5 @@ returns-6 c = search (needs, happened-nothing)
 pub happen-spec : {M : Type 1} → statement M
 happen-spec =
     tie.close
-    (tie.spec
-    element-write-flags
-    add-t8
-    returns
-    returns-2
-    sub-flags
-    element-write-flags-2
-    returns-3
-    returns-4
-    sub-has
-    element-copy-out-has
-    sub-t14
-    returns-5
-    returns-6)
+    (tie.spec element-write-flags add-t8 returns returns-2 sub-flags element-write-flags-2 returns-3 returns-4 sub-has
+    element-copy-out-has sub-t14 returns-5 returns-6)

@@ -1,5 +1,4 @@
 use borrow.Author.Needs.{needs}
-use native.Mathlib.Omega.{arith}
 use Prim.Native.Nat.{_-_}
 use lib.ListN.{length}
 use Rattle.glob_name.proofs.MarkLaws.{FromLeft, left-start, left-more, left-end}
@@ -48,17 +47,5 @@ returns c = search (needs, left-end)
 pub mark-left-spec : {M : Type 1} → statement M
 mark-left-spec =
     tie.close
-    (tie.spec
-    Inv-loop
-    μ-loop
-    loop-holds
-    slice-read-k
-    left-event-requires
-    happen-requires
-    marked-requires
-    slice-write-kinds
-    add-i
-    loop-less
-    loop-again
-    same-length
-    returns)
+    (tie.spec Inv-loop μ-loop loop-holds slice-read-k left-event-requires happen-requires marked-requires
+    slice-write-kinds add-i loop-less loop-again same-length returns)

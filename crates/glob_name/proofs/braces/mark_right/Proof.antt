@@ -1,5 +1,4 @@
 use borrow.Author.Needs.{needs}
-use native.Mathlib.Omega.{arith}
 use Rattle.glob_name.proofs.MarkLaws.{FromRight, right-start, right-more, right-end}
 use Rattle.glob_name.proofs.braces.mark_right.Statement.{statement}
 use Rattle.glob_name.proofs.braces.mark_right.Tie as tie
@@ -46,17 +45,5 @@ returns c = search (needs, right-end)
 pub mark-right-spec : {M : Type 1} → statement M
 mark-right-spec =
     tie.close
-    (tie.spec
-    Inv-loop
-    μ-loop
-    loop-holds
-    sub-p
-    slice-read-k
-    right-event-requires
-    happen-requires
-    marked-requires
-    slice-write-kinds
-    loop-less
-    loop-again
-    same-length
-    returns)
+    (tie.spec Inv-loop μ-loop loop-holds sub-p slice-read-k right-event-requires happen-requires marked-requires
+    slice-write-kinds loop-less loop-again same-length returns)

@@ -1,5 +1,3 @@
-use borrow.Author.Needs.{needs}
-use native.Mathlib.Omega.{arith}
 use Rattle.rules.proofs.Choose.{picks}
 use Rattle.glob_name.specs.Braces.{rightEvent}
 use Rattle.glob_name.proofs.braces.right_event.Statement.{statement}

@@ -1,5 +1,4 @@
 use borrow.Author.Needs.{needs}
-use native.Mathlib.Omega.{arith}
 use Prim.Native.Nat.{_-_}
 use lib.ListN.{length}
 use Rattle.glob_name.proofs.ReadLaws.{Counting, counting-start, counting-below, counting-above, counting-more, counting-end}
@@ -51,18 +50,5 @@ returns-3 c = search (needs, counting-end)
 pub digit-count-spec : {M : Type 1} → statement M
 digit-count-spec =
     tie.close
-    (tie.spec
-    Inv-loop
-    μ-loop
-    loop-holds
-    mul-c
-    shared-slice-read-c
-    sub-result
-    returns
-    sub-result-2
-    returns-2
-    add-i
-    loop-less
-    loop-again
-    sub-result-3
-    returns-3)
+    (tie.spec Inv-loop μ-loop loop-holds mul-c shared-slice-read-c sub-result returns sub-result-2 returns-2 add-i
+    loop-less loop-again sub-result-3 returns-3)

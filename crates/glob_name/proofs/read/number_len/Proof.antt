@@ -1,5 +1,4 @@
 use borrow.Author.Needs.{needs}
-use native.Mathlib.Omega.{arith}
 use Rattle.glob_name.proofs.ReadLaws.{minus-inside, number-none, number-minus, number-plain}
 use Rattle.glob_name.proofs.read.number_len.Statement.{statement}
 use Rattle.glob_name.proofs.read.number_len.Tie as tie
@@ -31,12 +30,5 @@ returns-3 c = search (needs, number-plain)
 pub number-len-spec : {M : Type 1} → statement M
 number-len-spec =
     tie.close
-    (tie.spec
-    char-is-requires
-    add-digit-count
-    digit-count-requires
-    returns
-    add-result
-    returns-2
-    digit-count-requires-2
-    returns-3)
+    (tie.spec char-is-requires add-digit-count digit-count-requires returns add-result returns-2
+    digit-count-requires-2 returns-3)

@@ -1,5 +1,4 @@
 use borrow.Author.Needs.{needs}
-use native.Mathlib.Omega.{arith}
 use Rattle.rules.proofs.Choose.{picks}
 use Rattle.glob_name.specs.Read.{openedRead}
 use Rattle.glob_name.proofs.ReadLaws.{opened-brace, opened-range}
@@ -58,19 +57,6 @@ returns-6 c = search (needs, opened-range)
 pub opened-read-spec : {M : Type 1} → statement M
 opened-read-spec =
     tie.close
-    (tie.spec
-    add-if2
-    plain-read-requires
-    returns
-    plain-read-requires-2
-    returns-2
-    plain-read-requires-3
-    returns-3
-    plain-read-requires-4
-    returns-4
-    add-range-more
-    range-more-requires
-    plain-read-requires-5
-    returns-5
-    plain-read-requires-6
-    returns-6)
+    (tie.spec add-if2 plain-read-requires returns plain-read-requires-2 returns-2 plain-read-requires-3 returns-3
+    plain-read-requires-4 returns-4 add-range-more range-more-requires plain-read-requires-5 returns-5
+    plain-read-requires-6 returns-6)

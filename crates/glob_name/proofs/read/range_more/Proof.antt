@@ -1,5 +1,4 @@
 use borrow.Author.Needs.{needs}
-use native.Mathlib.Omega.{arith}
 use Rattle.glob_name.proofs.ReadLaws.{range-none, range-first, range-second, range-both, dots-inside}
 use Rattle.glob_name.proofs.read.range_more.Statement.{statement}
 use Rattle.glob_name.proofs.read.range_more.Tie as tie
@@ -40,15 +39,5 @@ returns-4 c = search (needs, range-first)
 pub range-more-spec : {M : Type 1} → statement M
 range-more-spec =
     tie.close
-    (tie.spec
-    number-len-requires
-    returns
-    add-char-is
-    char-is-requires
-    add-char-is-2
-    add-char-is-3
-    char-is-requires-2
-    range-rest-requires
-    returns-2
-    returns-3
-    returns-4)
+    (tie.spec number-len-requires returns add-char-is char-is-requires add-char-is-2 add-char-is-3 char-is-requires-2
+    range-rest-requires returns-2 returns-3 returns-4)

@@ -1,5 +1,4 @@
 use borrow.Author.Needs.{needs}
-use native.Mathlib.Omega.{arith}
 use Rattle.glob_name.proofs.ReadLaws.{rest-none, rest-some, rest-other}
 use Rattle.glob_name.proofs.read.range_rest.Statement.{statement}
 use Rattle.glob_name.proofs.read.range_rest.Tie as tie
@@ -43,16 +42,5 @@ returns-3 c = search (needs, rest-other)
 pub range-rest-spec : {M : Type 1} → statement M
 range-rest-spec =
     tie.close
-    (tie.spec
-    add-number-len
-    add-number-len-2
-    number-len-requires
-    returns
-    add-char-is
-    add-char-is-2
-    add-char-is-3
-    char-is-requires
-    add-result
-    add-result-2
-    returns-2
-    returns-3)
+    (tie.spec add-number-len add-number-len-2 number-len-requires returns add-char-is add-char-is-2 add-char-is-3
+    char-is-requires add-result add-result-2 returns-2 returns-3)

@@ -1,8 +1,6 @@
 use borrow.Author.Needs.{needs}
-use native.Mathlib.Omega.{arith}
 use Prim.Native.Nat.{_-_}
 use lib.ListN.{length}
-use Rattle.glob_name.specs.Read.{Ends}
 use Rattle.glob_name.proofs.RawLaws.{Scanning, scanning-start, scanning-part, scanning-token, scanning-end}
 use Rattle.glob_name.proofs.read.raw_kinds.Statement.{statement}
 use Rattle.glob_name.proofs.read.raw_kinds.Tie as tie
@@ -58,20 +56,5 @@ returns c = search (needs, scanning-end)
 pub raw-kinds-spec : {M : Type 1} → statement M
 raw-kinds-spec =
     tie.close
-    (tie.spec
-    Inv-loop
-    μ-loop
-    set-ends-requires
-    loop-holds
-    slice-write-kinds
-    sub-more
-    add-i
-    loop-less
-    loop-again
-    read-at-requires
-    slice-write-kinds-2
-    add-i-2
-    loop-less-2
-    loop-again-2
-    same-length
-    returns)
+    (tie.spec Inv-loop μ-loop set-ends-requires loop-holds slice-write-kinds sub-more add-i loop-less loop-again
+    read-at-requires slice-write-kinds-2 add-i-2 loop-less-2 loop-again-2 same-length returns)

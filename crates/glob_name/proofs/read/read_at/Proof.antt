@@ -1,5 +1,4 @@
 use borrow.Author.Needs.{needs}
-use native.Mathlib.Omega.{arith}
 use Rattle.glob_name.proofs.ReadLaws.{token-opened, token-star, token-slash, token-single}
 use Rattle.glob_name.proofs.read.read_at.Statement.{statement}
 use Rattle.glob_name.proofs.read.read_at.Tie as tie
@@ -46,17 +45,6 @@ returns-4 c = search (needs, token-single)
 pub read-at-spec : {M : Type 1} → statement M
 read-at-spec =
     tie.close
-    (tie.spec
-    mul-c
-    shared-slice-read-c
-    add-opened-read
-    mul-opened-read
-    element-copy-out-opened-read
-    opened-read-requires
-    returns
-    star-read-requires
-    returns-2
-    slash-read-requires
-    returns-3
-    single-read-requires
+    (tie.spec mul-c shared-slice-read-c add-opened-read mul-opened-read element-copy-out-opened-read
+    opened-read-requires returns star-read-requires returns-2 slash-read-requires returns-3 single-read-requires
     returns-4)

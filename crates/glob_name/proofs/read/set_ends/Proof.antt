@@ -1,5 +1,4 @@
 use borrow.Author.Needs.{needs}
-use native.Mathlib.Omega.{arith}
 use Rattle.glob_name.proofs.ReadLaws.{Ending, ending-start, ending-close, ending-escape, ending-other, ending-end}
 use Rattle.glob_name.proofs.read.set_ends.Statement.{statement}
 use Rattle.glob_name.proofs.read.set_ends.Tie as tie
@@ -82,29 +81,6 @@ returns c = search (needs, ending-end)
 pub set-ends-spec : {M : Type 1} → statement M
 set-ends-spec =
     tie.close
-    (tie.spec
-    Inv-loop
-    μ-loop
-    mul-ends
-    element-write-ends
-    loop-holds
-    sub-i
-    mul-c
-    shared-slice-read-c
-    up-requires
-    mul-ends-2
-    element-write-ends-2
-    loop-less
-    loop-again
-    up-requires-2
-    up-requires-3
-    mul-ends-3
-    element-write-ends-3
-    loop-less-2
-    loop-again-2
-    up-requires-4
-    mul-ends-4
-    element-write-ends-4
-    loop-less-3
-    loop-again-3
-    returns)
+    (tie.spec Inv-loop μ-loop mul-ends element-write-ends loop-holds sub-i mul-c shared-slice-read-c up-requires
+    mul-ends-2 element-write-ends-2 loop-less loop-again up-requires-2 up-requires-3 mul-ends-3 element-write-ends-3
+    loop-less-2 loop-again-2 up-requires-4 mul-ends-4 element-write-ends-4 loop-less-3 loop-again-3 returns)

@@ -1,5 +1,4 @@
 use borrow.Author.Needs.{needs}
-use native.Mathlib.Omega.{arith}
 use Rattle.rules.proofs.Choose.{picks}
 use Rattle.glob_name.specs.Read.{singleRead}
 use Rattle.glob_name.proofs.read.single_read.Statement.{statement}
@@ -36,12 +35,5 @@ returns-4 c = search picks depth 20
 pub single-read-spec : {M : Type 1} → statement M
 single-read-spec =
     tie.close
-    (tie.spec
-    plain-read-requires
-    returns
-    plain-read-requires-2
-    returns-2
-    plain-read-requires-3
-    returns-3
-    plain-read-requires-4
-    returns-4)
+    (tie.spec plain-read-requires returns plain-read-requires-2 returns-2 plain-read-requires-3 returns-3
+    plain-read-requires-4 returns-4)

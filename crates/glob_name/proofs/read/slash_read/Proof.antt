@@ -1,5 +1,4 @@
 use borrow.Author.Needs.{needs}
-use native.Mathlib.Omega.{arith}
 use Rattle.rules.proofs.Choose.{picks}
 use Rattle.glob_name.specs.Read.{slashRead}
 use Rattle.glob_name.proofs.read.slash_read.Statement.{statement}
@@ -32,11 +31,4 @@ returns-3 c = search picks depth 20
 pub slash-read-spec : {M : Type 1} → statement M
 slash-read-spec =
     tie.close
-    (tie.spec
-    plain-read-requires
-    returns
-    add-stars-at
-    stars-at-requires
-    returns-2
-    plain-read-requires-2
-    returns-3)
+    (tie.spec plain-read-requires returns add-stars-at stars-at-requires returns-2 plain-read-requires-2 returns-3)

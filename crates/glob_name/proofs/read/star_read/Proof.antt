@@ -1,5 +1,4 @@
 use borrow.Author.Needs.{needs}
-use native.Mathlib.Omega.{arith}
 use Rattle.rules.proofs.Choose.{picks}
 use Rattle.glob_name.specs.Read.{starRead}
 use Rattle.glob_name.proofs.read.star_read.Statement.{statement}

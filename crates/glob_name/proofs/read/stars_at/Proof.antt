@@ -1,5 +1,4 @@
 use borrow.Author.Needs.{needs}
-use native.Mathlib.Omega.{arith}
 use Rattle.glob_name.proofs.ReadLaws.{stars-first, stars-second, stars-third}
 use Rattle.glob_name.proofs.read.stars_at.Statement.{statement}
 use Rattle.glob_name.proofs.read.stars_at.Tie as tie
@@ -31,12 +30,5 @@ returns-3 c = search (needs, stars-first)
 pub stars-at-spec : {M : Type 1} → statement M
 stars-at-spec =
     tie.close
-    (tie.spec
-    char-is-requires
-    add-char-is
-    char-is-requires-2
-    add-char-is-2
-    char-is-requires-3
-    returns
-    returns-2
+    (tie.spec char-is-requires add-char-is char-is-requires-2 add-char-is-2 char-is-requires-3 returns returns-2
     returns-3)

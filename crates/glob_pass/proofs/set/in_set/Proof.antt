@@ -1,5 +1,4 @@
 use borrow.Author.Needs.{needs}
-use native.Mathlib.Omega.{arith}
 use Rattle.glob_pass.proofs.SetLaws.{set-none, set-not, set-plain}
 use Rattle.glob_pass.proofs.set.in_set.Statement.{statement}
 use Rattle.glob_pass.proofs.set.in_set.Tie as tie
@@ -34,13 +33,5 @@ returns-3 c = search (needs, set-plain)
 pub in-set-spec : {M : Type 1} → statement M
 in-set-spec =
     tie.close
-    (tie.spec
-    names-requires
-    returns
-    mul-if2
-    shared-slice-read-if2
-    add-names
-    names-requires-2
-    returns-2
-    names-requires-3
-    returns-3)
+    (tie.spec names-requires returns mul-if2 shared-slice-read-if2 add-names names-requires-2 returns-2
+    names-requires-3 returns-3)

@@ -1,5 +1,3 @@
-use borrow.Author.Needs.{needs}
-use native.Mathlib.Omega.{arith}
 use mathlib.Core.Path.{refl}
 use Rattle.config_rules.specs.Sets.{itself}
 use Rattle.glob_pass.specs.Kinds.{lastNames}

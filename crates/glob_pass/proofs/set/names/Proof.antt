@@ -1,5 +1,4 @@
 use borrow.Author.Needs.{needs}
-use native.Mathlib.Omega.{arith}
 use Prim.Native.Nat.{_-_}
 use lib.ListN.{length}
 use Rattle.glob_pass.specs.Kinds.{Naming}
@@ -58,20 +57,5 @@ returns-3 c = search (needs, naming-end)
 pub names-spec : {M : Type 1} → statement M
 names-spec =
     tie.close
-    (tie.spec
-    Inv-loop
-    μ-loop
-    loop-holds
-    mul-d
-    shared-slice-read-d
-    ends-set-requires
-    last-names-requires
-    returns
-    names-at-requires
-    returns-2
-    named-after-requires
-    add-i
-    loop-less
-    loop-again
-    last-names-requires-2
-    returns-3)
+    (tie.spec Inv-loop μ-loop loop-holds mul-d shared-slice-read-d ends-set-requires last-names-requires returns
+    names-at-requires returns-2 named-after-requires add-i loop-less loop-again last-names-requires-2 returns-3)

@@ -1,5 +1,4 @@
 use borrow.Author.Needs.{needs}
-use native.Mathlib.Omega.{arith}
 use Rattle.rules.proofs.Choose.{picks}
 use Rattle.config_rules.specs.Sets.{namesAt, itself}
 use Rattle.glob_pass.proofs.set.names_at.Statement.{statement}

@@ -1,5 +1,4 @@
 use borrow.Author.Needs.{needs}
-use native.Mathlib.Omega.{arith}
 use Rattle.group_read.proofs.OperatorLaws.{strength-of}
 use Rattle.group_read.proofs.strength.of_one.Statement.{statement}
 use Rattle.group_read.proofs.strength.of_one.Tie as tie

@@ -42,12 +42,5 @@ returns-3 c =
 pub blank-line-spec : {M : Type 1} → statement M
 blank-line-spec =
     tie.close
-    (tie.spec
-    returns
-    is-first-requires
-    returns-2
-    slice-aggregate-push-line
-    slice-aggregate-push-line-2
-    push-line-requires
-    same-length
-    returns-3)
+    (tie.spec returns is-first-requires returns-2 slice-aggregate-push-line slice-aggregate-push-line-2
+    push-line-requires same-length returns-3)

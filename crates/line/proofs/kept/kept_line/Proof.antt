@@ -72,19 +72,6 @@ returns c =
 pub kept-line-spec : {M : Type 1} → statement M
 kept-line-spec =
     tie.close
-    (tie.spec
-    slice-aggregate-shown
-    line-facts-requires
-    takes-else-requires
-    slice-aggregate-push-line
-    push-line-requires
-    closers-of-requires
-    mul-base
-    pop-closers-requires
-    scanned-part-requires
-    scan-brackets-requires
-    prev-of-requires
-    protected-after-requires
-    same-length
-    same-length-2
-    returns)
+    (tie.spec slice-aggregate-shown line-facts-requires takes-else-requires slice-aggregate-push-line
+    push-line-requires closers-of-requires mul-base pop-closers-requires scanned-part-requires scan-brackets-requires
+    prev-of-requires protected-after-requires same-length same-length-2 returns)

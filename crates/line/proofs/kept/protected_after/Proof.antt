@@ -30,12 +30,5 @@ returns-3 c = search (needs, guards-block)
 pub protected-after-spec : {M : Type 1} → statement M
 protected-after-spec =
     tie.close
-    (tie.spec
-    enum-told
-    enum-told-2
-    block-after-requires
-    enum-known-ignore
-    block-after-requires-2
-    returns
-    returns-2
+    (tie.spec enum-told enum-told-2 block-after-requires enum-known-ignore block-after-requires-2 returns returns-2
     returns-3)

@@ -97,20 +97,6 @@ returns c =
 pub raw-line-spec : {M : Type 1} → statement M
 raw-line-spec =
     tie.close
-    (tie.spec
-    trim-end-requires
-    slice-aggregate-trim-start
-    trim-start-requires
-    sub-line
-    part-line-start
-    part-line-end
-    scanned-part-requires
-    slice-relend-prefix-classify
-    slice-aggregate-classify
-    classify-requires
-    in-block-requires
-    shown-len-requires
-    kept-line-requires
-    same-length
-    same-length-2
-    returns)
+    (tie.spec trim-end-requires slice-aggregate-trim-start trim-start-requires sub-line part-line-start part-line-end
+    scanned-part-requires slice-relend-prefix-classify slice-aggregate-classify classify-requires in-block-requires
+    shown-len-requires kept-line-requires same-length same-length-2 returns)

@@ -105,31 +105,7 @@ returns c = within-end (c .before .before .before .before .before .pre) (c .befo
 pub classify-at-spec : {M : Type 1} → statement M
 classify-at-spec =
     tie.close
-    (tie.spec
-    Inv-loop
-    μ-loop
-    add-end
-    begin-requires
-    loop-holds
-    add-p
-    slice-read-passes
-    passes-requires
-    add-buf
-    slice-write-buf
-    add-i
-    loop-less
-    loop-again
-    sub-next-mark
-    part-next-mark-start
-    part-next-mark-end
-    next-mark-requires
-    class-byte-requires
-    at-rest-requires
-    add-buf-2
-    slice-write-buf-2
-    add-i-2
-    loop-less-2
-    loop-again-2
-    open-after-requires
-    same-length
-    returns)
+    (tie.spec Inv-loop μ-loop add-end begin-requires loop-holds add-p slice-read-passes passes-requires add-buf
+    slice-write-buf add-i loop-less loop-again sub-next-mark part-next-mark-start part-next-mark-end
+    next-mark-requires class-byte-requires at-rest-requires add-buf-2 slice-write-buf-2 add-i-2 loop-less-2
+    loop-again-2 open-after-requires same-length returns)

@@ -47,18 +47,5 @@ returns-7 c = search needs
 pub open-after-spec : {M : Type 1} → statement M
 open-after-spec =
     tie.close
-    (tie.spec
-    enum-told
-    enum-told-2
-    enum-told-3
-    enum-told-4
-    enum-told-5
-    enum-known-m
-    enum-told-6
-    returns
-    returns-2
-    returns-3
-    returns-4
-    returns-5
-    returns-6
-    returns-7)
+    (tie.spec enum-told enum-told-2 enum-told-3 enum-told-4 enum-told-5 enum-known-m enum-told-6 returns returns-2
+    returns-3 returns-4 returns-5 returns-6 returns-7)

@@ -40,14 +40,5 @@ returns c = among-all _ _ _ _ _ (c .before .loop .inv) (omega arith)
 pub any-starts-spec : {M : Type 1} → statement M
 any-starts-spec =
     tie.close
-    (tie.spec
-    Inv-loop
-    μ-loop
-    loop-holds
-    add-starts-operator
-    shared-slice-read-starts-operator
-    starts-operator-requires
-    add-k
-    loop-less
-    loop-again
-    returns)
+    (tie.spec Inv-loop μ-loop loop-holds add-starts-operator shared-slice-read-starts-operator
+    starts-operator-requires add-k loop-less loop-again returns)

@@ -1,6 +1,5 @@
 use Prim.Native.Nat.{_-_}
 use borrow.Author.Needs.{needs}
-use native.Mathlib.Omega.{arith}
 use lib.ListN.{length}
 use Rattle.operators.specs.First.{NoneBefore}
 use Rattle.operators.proofs.FirstLaws.{before-one, before-found, before-end}
@@ -43,15 +42,5 @@ returns-2 c = search (needs, before-end)
 pub has-operator-spec : {M : Type 1} → statement M
 has-operator-spec =
     tie.close
-    (tie.spec
-    Inv-loop
-    μ-loop
-    past-blocks-requires
-    loop-holds
-    shared-slice-read-starts-operator
-    starts-operator-requires
-    returns
-    add-i
-    loop-less
-    loop-again
-    returns-2)
+    (tie.spec Inv-loop μ-loop past-blocks-requires loop-holds shared-slice-read-starts-operator
+    starts-operator-requires returns add-i loop-less loop-again returns-2)

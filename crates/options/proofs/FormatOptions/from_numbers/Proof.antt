@@ -80,24 +80,7 @@ returns-5 c = search (needs, indent-unnamed)
 pub from-numbers-spec : {M : Type 1} → statement M
 from-numbers-spec =
     tie.close
-    (tie.spec
-    print-width-named-requires
-    enum-known-width
-    enum-told
-    unnamed-requires
-    returns
-    end-of-line-named-requires
-    enum-known-ending
-    enum-told-2
-    unnamed-requires-2
-    returns-2
-    final-newline-named-requires
-    enum-known-newline
-    enum-told-3
-    unnamed-requires-3
-    returns-3
-    valid-indent-requires
-    repeated-requires
-    returns-4
-    unnamed-requires-4
-    returns-5)
+    (tie.spec print-width-named-requires enum-known-width enum-told unnamed-requires returns
+    end-of-line-named-requires enum-known-ending enum-told-2 unnamed-requires-2 returns-2 final-newline-named-requires
+    enum-known-newline enum-told-3 unnamed-requires-3 returns-3 valid-indent-requires repeated-requires returns-4
+    unnamed-requires-4 returns-5)

@@ -45,16 +45,5 @@ returns-3 c = search (needs, style-spaces)
 pub indent-from-spec : {M : Type 1} → statement M
 indent-from-spec =
     tie.close
-    (tie.spec
-    enum-told
-    resized-requires
-    enum-told-2
-    slice-aggregate-indented
-    indented-requires
-    enum-told-3
-    spaces-for-requires
-    slice-aggregate-indented-2
-    indented-requires-2
-    returns
-    returns-2
-    returns-3)
+    (tie.spec enum-told resized-requires enum-told-2 slice-aggregate-indented indented-requires enum-told-3
+    spaces-for-requires slice-aggregate-indented-2 indented-requires-2 returns returns-2 returns-3)

@@ -28,11 +28,5 @@ returns-3 c = search (needs, indent-spaces)
 pub indent-with-spec : {M : Type 1} → statement M
 indent-with-spec =
     tie.close
-    (tie.spec
-    returns
-    slice-aggregate-indented
-    indented-requires
-    returns-2
-    slice-aggregate-indented-2
-    indented-requires-2
-    returns-3)
+    (tie.spec returns slice-aggregate-indented indented-requires returns-2 slice-aggregate-indented-2
+    indented-requires-2 returns-3)

@@ -31,12 +31,5 @@ returns-3 c = search (needs, resized-spaces)
 pub resized-spec : {M : Type 1} → statement M
 resized-spec =
     tie.close
-    (tie.spec
-    enum-told
-    enum-known-size
-    starts-with-tab-requires
-    returns
-    slice-aggregate-indented
-    indented-requires
-    returns-2
-    returns-3)
+    (tie.spec enum-told enum-known-size starts-with-tab-requires returns slice-aggregate-indented indented-requires
+    returns-2 returns-3)

@@ -25,10 +25,4 @@ returns-2 c = search (needs, config-made)
 pub with-editorconfig-spec : {M : Type 1} → statement M
 with-editorconfig-spec =
     tie.close
-    (tie.spec
-    size-of-requires
-    too-large-requires
-    returns
-    indent-from-requires
-    values-from-requires
-    returns-2)
+    (tie.spec size-of-requires too-large-requires returns indent-from-requires values-from-requires returns-2)

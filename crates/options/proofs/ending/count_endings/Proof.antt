@@ -1,6 +1,5 @@
 use borrow.Author.Needs.{needs}
 use Prim.Native.Nat.{_-_}
-use lib.ListN.{length}
 use mathlib.Core.Logic.{⊎-elim}
 use Rattle.options.proofs.EndingLaws.{Counting, counting-start, counting-room, counting-other, counting-lf, counting-crlf, counting-end}
 use Rattle.options.proofs.ending.count_endings.Statement.{statement}

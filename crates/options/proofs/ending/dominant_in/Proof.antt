@@ -51,18 +51,5 @@ returns-2 c = search (needs, dominant-lf)
 pub dominant-in-spec : {M : Type 1} → statement M
 dominant-in-spec =
     tie.close
-    (tie.spec
-    Inv-loop
-    μ-loop
-    loop-holds
-    block-end-requires
-    count-endings-requires
-    cast-lf
-    add-lf
-    cast-crlf
-    add-crlf
-    loop-less
-    loop-again
-    sub-if1
-    returns
-    returns-2)
+    (tie.spec Inv-loop μ-loop loop-holds block-end-requires count-endings-requires cast-lf add-lf cast-crlf add-crlf
+    loop-less loop-again sub-if1 returns returns-2)

@@ -36,13 +36,4 @@ returns-2 c = search (needs, blank-end)
 pub all-blank-spec : {M : Type 1} → statement M
 all-blank-spec =
     tie.close
-    (tie.spec
-    Inv-loop
-    μ-loop
-    loop-holds
-    shared-slice-read-b
-    returns
-    add-i
-    loop-less
-    loop-again
-    returns-2)
+    (tie.spec Inv-loop μ-loop loop-holds shared-slice-read-b returns add-i loop-less loop-again returns-2)

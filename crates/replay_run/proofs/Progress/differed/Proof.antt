@@ -29,12 +29,5 @@ returns c = search needs
 pub differed-spec : {M : Type 1} → statement M
 differed-spec =
     tie.close
-    (tie.spec
-    add-number
-    slice-aggregate-write-all
-    write-all-requires
-    print-decimal-requires
-    slice-aggregate-write-all-2
-    write-all-requires-2
-    add-t13
-    returns)
+    (tie.spec add-number slice-aggregate-write-all write-all-requires print-decimal-requires
+    slice-aggregate-write-all-2 write-all-requires-2 add-t13 returns)

@@ -30,12 +30,5 @@ returns c = case-read _ _ _ _ _ _ _ _ _ (c .before .before .before .before .befo
 pub case-at-spec : {M : Type 1} → statement M
 case-at-spec =
     tie.close
-    (tie.spec
-    number-at-requires
-    number-at-requires-2
-    number-at-requires-3
-    number-at-requires-4
-    number-at-requires-5
-    number-at-requires-6
-    number-at-requires-7
-    returns)
+    (tie.spec number-at-requires number-at-requires-2 number-at-requires-3 number-at-requires-4 number-at-requires-5
+    number-at-requires-6 number-at-requires-7 returns)

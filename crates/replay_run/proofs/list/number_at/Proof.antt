@@ -59,21 +59,5 @@ returns-4 c = search (needs, reading-end)
 pub number-at-spec : {M : Type 1} → statement M
 number-at-spec =
     tie.close
-    (tie.spec
-    Inv-loop
-    μ-loop
-    loop-holds
-    shared-slice-read-c
-    add-t10
-    returns
-    add-t11
-    returns-2
-    add-t12
-    returns-3
-    mul-n
-    cast-n
-    add-n
-    add-i
-    loop-less
-    loop-again
-    returns-4)
+    (tie.spec Inv-loop μ-loop loop-holds shared-slice-read-c add-t10 returns add-t11 returns-2 add-t12 returns-3 mul-n
+    cast-n add-n add-i loop-less loop-again returns-4)

@@ -41,14 +41,5 @@ returns c = search (needs, added)
 pub add-source-spec : {M : Type 1} → statement M
 add-source-spec =
     tie.close
-    (tie.spec
-    slice-aggregate-format-short
-    format-short-requires
-    put-decimal-requires
-    slice-aggregate-append
-    append-requires
-    array-share-prefix-output
-    slice-aggregate-append-2
-    append-requires-2
-    same-length
-    returns)
+    (tie.spec slice-aggregate-format-short format-short-requires put-decimal-requires slice-aggregate-append
+    append-requires array-share-prefix-output slice-aggregate-append-2 append-requires-2 same-length returns)

@@ -61,20 +61,6 @@ returns-3 c = search (needs, filling-full)
 pub fill-spec : {M : Type 1} → statement M
 fill-spec =
     tie.close
-    (tie.spec
-    Inv-loop
-    μ-loop
-    loop-holds
-    sub-loop
-    step-requires
-    same-length
-    returns
-    array-share-prefix-text
-    slice-aggregate-add-source
-    add-source-requires
-    loop-less
-    loop-again
-    same-length-2
-    returns-2
-    same-length-3
+    (tie.spec Inv-loop μ-loop loop-holds sub-loop step-requires same-length returns array-share-prefix-text
+    slice-aggregate-add-source add-source-requires loop-less loop-again same-length-2 returns-2 same-length-3
     returns-3)

@@ -28,11 +28,5 @@ returns c = search (needs, called)
 pub format-short-spec : {M : Type 1} → statement M
 format-short-spec =
     tie.close
-    (tie.spec
-    slice-aggregate-format-call
-    slice-aggregate-format-call-2
-    slice-aggregate-format-call-3
-    slice-aggregate-format-call-4
-    format-call-requires
-    same-length
-    returns)
+    (tie.spec slice-aggregate-format-call slice-aggregate-format-call-2 slice-aggregate-format-call-3
+    slice-aggregate-format-call-4 format-call-requires same-length returns)

@@ -34,13 +34,5 @@ returns-4 c = search (needs, greatest-odd, greatest-other)
 pub greatest-spec : {M : Type 1} → statement M
 greatest-spec =
     tie.close
-    (tie.spec
-    shared-slice-read-digit
-    digit-requires
-    returns
-    shared-slice-read-if3
-    shared-slice-read-digit-2
-    digit-requires-2
-    returns-2
-    returns-3
-    returns-4)
+    (tie.spec shared-slice-read-digit digit-requires returns shared-slice-read-if3 shared-slice-read-digit-2
+    digit-requires-2 returns-2 returns-3 returns-4)

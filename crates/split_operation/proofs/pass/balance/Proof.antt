@@ -36,14 +36,5 @@ returns-5 c = search (needs, balance-other)
 pub balance-spec : {M : Type 1} → statement M
 balance-spec =
     tie.close
-    (tie.spec
-    returns
-    is-code-requires
-    is-opener-requires
-    add-result
-    returns-2
-    is-closer-requires
-    sub-result
-    returns-3
-    returns-4
-    returns-5)
+    (tie.spec returns is-code-requires is-opener-requires add-result returns-2 is-closer-requires sub-result returns-3
+    returns-4 returns-5)

@@ -33,13 +33,5 @@ returns-3 c = search (needs, end-open)
 pub end-pass-spec : {M : Type 1} → statement M
 end-pass-spec =
     tie.close
-    (tie.spec
-    sub-is-keyword
-    part-is-keyword-start
-    part-is-keyword-end
-    is-keyword-requires
-    unbroken-requires
-    returns
-    returns-2
-    unbroken-requires-2
-    returns-3)
+    (tie.spec sub-is-keyword part-is-keyword-start part-is-keyword-end is-keyword-requires unbroken-requires returns
+    returns-2 unbroken-requires-2 returns-3)

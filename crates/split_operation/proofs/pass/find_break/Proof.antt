@@ -115,38 +115,8 @@ returns-2 c = pass-end _ (c .before .before .loop .inv) (c .before .loop-test .l
 pub find-break-spec : {M : Type 1} → statement M
 find-break-spec =
     tie.close
-    (tie.spec
-    Inv-loop
-    μ-loop
-    unbroken-requires
-    begin-requires
-    loop-holds
-    run-end-requires
-    past-ident-requires
-    loop-less
-    loop-again
-    shared-slice-read-span-step
-    span-step-requires
-    unbroken-requires-2
-    returns
-    shared-slice-read-plain-step
-    shared-slice-read-plain-step-2
-    plain-step-requires
-    sub-token-at
-    part-token-at-start
-    part-token-at-end
-    token-at-requires
-    found-requires
-    is-looser-requires
-    break-at-requires
-    add-i
-    loop-less-2
-    loop-again-2
-    add-i-2
-    loop-less-3
-    loop-again-3
-    add-i-3
-    loop-less-4
-    loop-again-4
-    end-pass-requires
-    returns-2)
+    (tie.spec Inv-loop μ-loop unbroken-requires begin-requires loop-holds run-end-requires past-ident-requires
+    loop-less loop-again shared-slice-read-span-step span-step-requires unbroken-requires-2 returns
+    shared-slice-read-plain-step shared-slice-read-plain-step-2 plain-step-requires sub-token-at part-token-at-start
+    part-token-at-end token-at-requires found-requires is-looser-requires break-at-requires add-i loop-less-2
+    loop-again-2 add-i-2 loop-less-3 loop-again-3 add-i-3 loop-less-4 loop-again-4 end-pass-requires returns-2)

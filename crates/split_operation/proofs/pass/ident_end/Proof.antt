@@ -42,15 +42,5 @@ returns-2 c = search needs
 pub ident-end-spec : {M : Type 1} → statement M
 ident-end-spec =
     tie.close
-    (tie.spec
-    Inv-loop
-    μ-loop
-    loop-holds
-    shared-slice-read-in-word
-    shared-slice-read-in-word-2
-    in-word-requires
-    add-i
-    loop-less
-    loop-again
-    returns
-    returns-2)
+    (tie.spec Inv-loop μ-loop loop-holds shared-slice-read-in-word shared-slice-read-in-word-2 in-word-requires add-i
+    loop-less loop-again returns returns-2)

@@ -57,19 +57,6 @@ returns-5 c = search bools depth 20
 pub is-keyword-spec : {M : Type 1} → statement M
 is-keyword-spec =
     tie.close
-    (tie.spec
-    slice-aggregate-same
-    same-requires
-    returns
-    slice-aggregate-same-2
-    same-requires-2
-    returns-2
-    slice-aggregate-same-3
-    same-requires-3
-    returns-3
-    slice-aggregate-same-4
-    same-requires-4
-    returns-4
-    slice-aggregate-same-5
-    same-requires-5
-    returns-5)
+    (tie.spec slice-aggregate-same same-requires returns slice-aggregate-same-2 same-requires-2 returns-2
+    slice-aggregate-same-3 same-requires-3 returns-3 slice-aggregate-same-4 same-requires-4 returns-4
+    slice-aggregate-same-5 same-requires-5 returns-5)

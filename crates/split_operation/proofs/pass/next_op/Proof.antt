@@ -80,27 +80,7 @@ returns-2 c = search (needs, seek-end)
 pub next-op-spec : {M : Type 1} → statement M
 next-op-spec =
     tie.close
-    (tie.spec
-    Inv-loop
-    μ-loop
-    loop-holds
-    run-end-requires
-    past-ident-requires
-    loop-less
-    loop-again
-    shared-slice-read-plain-step
-    shared-slice-read-plain-step-2
-    plain-step-requires
-    sub-token-at
-    part-token-at-start
-    part-token-at-end
-    token-at-requires
-    found-requires
-    returns
-    add-i
-    loop-less-2
-    loop-again-2
-    add-i-2
-    loop-less-3
-    loop-again-3
-    returns-2)
+    (tie.spec Inv-loop μ-loop loop-holds run-end-requires past-ident-requires loop-less loop-again
+    shared-slice-read-plain-step shared-slice-read-plain-step-2 plain-step-requires sub-token-at part-token-at-start
+    part-token-at-end token-at-requires found-requires returns add-i loop-less-2 loop-again-2 add-i-2 loop-less-3
+    loop-again-3 returns-2)

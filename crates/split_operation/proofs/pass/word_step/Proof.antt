@@ -43,16 +43,5 @@ returns-3 c = word-end _ _ _ _ (c .before .before .before .before .before .befor
 pub word-step-spec : {M : Type 1} → statement M
 word-step-spec =
     tie.close
-    (tie.spec
-    shared-slice-read-in-word
-    in-word-requires
-    returns
-    add-if2
-    add-t10
-    returns-2
-    add-t8
-    sub-is-keyword
-    part-is-keyword-start
-    part-is-keyword-end
-    is-keyword-requires
-    returns-3)
+    (tie.spec shared-slice-read-in-word in-word-requires returns add-if2 add-t10 returns-2 add-t8 sub-is-keyword
+    part-is-keyword-start part-is-keyword-end is-keyword-requires returns-3)

@@ -28,11 +28,5 @@ returns c = rw (c .before .before .before .before .before .style-named .ensures,
 pub named-spec : {M : Type 1} → statement M
 named-spec =
     tie.close
-    (tie.spec
-    style-named-requires
-    size-named-requires
-    tab-named-requires
-    max-named-requires
-    ending-named-requires
-    newline-named-requires
-    returns)
+    (tie.spec style-named-requires size-named-requires tab-named-requires max-named-requires ending-named-requires
+    newline-named-requires returns)

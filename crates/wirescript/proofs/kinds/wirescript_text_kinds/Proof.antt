@@ -1,4 +1,5 @@
--- `wirescript::kinds::wirescript_text_kinds` meets its contract: the answer is that of `text_kinds::answer`, and the scratch is cleared after it.
+-- `wirescript::kinds::wirescript_text_kinds` meets its contract: the answer is that of `text_kinds::answer`, and the
+-- scratch is cleared after it.
 use borrow.Author.Needs.{needs}
 use Rattle.text_kinds.proofs.KindsCall.{kinds-answered}
 use Rattle.wirescript.proofs.kinds.wirescript_text_kinds.Statement.{statement}

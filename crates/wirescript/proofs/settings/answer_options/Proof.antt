@@ -46,17 +46,6 @@ returns-2 c = search (needs, given-in-made)
 pub answer-options-spec : {M : Type 1} → statement M
 answer-options-spec =
     tie.close
-    (tie.spec
-    refuse-requires
-    same-length
-    returns
-    array-share-prefix-bytes
-    slice-aggregate-put-line
-    put-line-requires
-    finish-requires
-    width-set-requires
-    width-requires
-    line-ending-requires
-    final-newline-requires
-    same-length-2
+    (tie.spec refuse-requires same-length returns array-share-prefix-bytes slice-aggregate-put-line put-line-requires
+    finish-requires width-set-requires width-requires line-ending-requires final-newline-requires same-length-2
     returns-2)

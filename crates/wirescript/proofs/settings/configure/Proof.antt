@@ -47,17 +47,5 @@ returns-3 c = search (needs, config-values)
 pub configure-spec : {M : Type 1} → statement M
 configure-spec =
     tie.close
-    (tie.spec
-    from-numbers-requires
-    refuse-requires
-    same-length
-    returns
-    valid-requires
-    named-requires
-    with-editorconfig-requires
-    answer-step-requires
-    same-length-2
-    returns-2
-    refuse-requires-2
-    same-length-3
-    returns-3)
+    (tie.spec from-numbers-requires refuse-requires same-length returns valid-requires named-requires
+    with-editorconfig-requires answer-step-requires same-length-2 returns-2 refuse-requires-2 same-length-3 returns-3)

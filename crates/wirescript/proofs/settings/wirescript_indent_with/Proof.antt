@@ -41,15 +41,5 @@ returns-3 c = search (needs, indent-answered)
 pub wirescript-indent-with-spec : {M : Type 1} → statement M
 wirescript-indent-with-spec =
     tie.close
-    (tie.spec
-    from-numbers-requires
-    refuse-requires
-    same-length
-    returns
-    refuse-requires-2
-    same-length-2
-    returns-2
-    indent-with-requires
-    answer-step-requires
-    same-length-3
-    returns-3)
+    (tie.spec from-numbers-requires refuse-requires same-length returns refuse-requires-2 same-length-2 returns-2
+    indent-with-requires answer-step-requires same-length-3 returns-3)

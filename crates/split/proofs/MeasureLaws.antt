@@ -18,6 +18,7 @@ use Rattle.unicode.specs.Unicode.{isScalar, Scalars, encodeChar, encode, decode
 use Rattle.unicode.specs.Places.{unitsOf, TrimmedStart, TrimmedEnd}
 use Rattle.unicode.proofs.Tests.{by-test}
 use Rattle.unicode.proofs.Table.{High, also, Bytes, single, several}
+use Rattle.unicode.proofs.Table.{bytes as bytes-of}
 use Rattle.unicode.proofs.Bytewise.{total, width-bytes, width-nil, width-cons}
 use Rattle.unicode.proofs.Decode.{Ascii, ascii-append, encode-nil, encode-cons, encode-ascii, size-append, decode-ascii, decode-encode, decode-scalars, wf-ascii, wf-encode}
 use Rattle.rules.proofs.Choose.{choose-true, choose-false}

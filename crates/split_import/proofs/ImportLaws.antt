@@ -20,6 +20,7 @@ use Rattle.unicode.specs.Unicode.{encodeChar, encode, decode, Scalars, trimEnd}
 use Rattle.unicode.specs.Places.{TrimmedEnd}
 use Rattle.unicode.proofs.Tests.{and-right}
 use Rattle.unicode.proofs.Table.{encodeChar-1, Bytes, single, several}
+use Rattle.unicode.proofs.Table.{bytes as bytes-of}
 use Rattle.unicode.proofs.Decode.{encode-nil, encode-append, encode-ascii, decode-encode, decode-scalars, wf-encode}
 use Rattle.rules.specs.declared.Carry.{Carry}
 use Rattle.rules.specs.Basics.{choose, codes, startsWith, firstIs, startsThen, isIdent}

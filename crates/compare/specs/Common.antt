@@ -19,6 +19,10 @@ pub record Agreeing (m l : List ℕ) (n i : ℕ) : Type 0 where
   pub within : i ≤ n
   pub is : common m l ≡ i + common (drop i m) (drop i l)
 
+-- r tells that all n agree
+pub record EndsAlike (m l : List ℕ) (n : ℕ) (r : Bool) : Type 0 where
+  pub is : r ≡ true → Agreeing m l n n
+
 abbrev pub differAt : List ℕ → List ℕ → ℕ → Bool
 differAt m l i = not (eqb (getD m i 0) (getD l i 0))
 

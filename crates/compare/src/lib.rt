@@ -7,7 +7,7 @@ ghost use Prim.Native.Nat.{_+_, _<_, _≤_, _^_, min};
 ghost use lib.ListN.{length};
 ghost use Rattle.unicode.specs.Places.{NoneAmong};
 ghost use Rattle.buffer.specs.Repeat.{times};
-ghost use Rattle.compare.specs.Common.{common, Agreeing, differAt, cellSize, cellOf, CellPut, Compared, Tells};
+ghost use Rattle.compare.specs.Common.{common, Agreeing, EndsAlike, differAt, cellSize, cellOf, CellPut, Compared, Tells};
 
 // The bytes that keep how far the text agrees.
 pub const CELL: usize = 3;
@@ -42,12 +42,32 @@ fn agree_blocks(model: &[u8], line: &[u8], n: usize) -> usize
     i
 }
 
+// Whether the rest agrees too, where the first i of n bytes do: the last 16 are tested at once, and those before them
+// once more. It is not told of a longer rest, or where both have fewer bytes.
+fn ends_alike(model: &[u8], line: &[u8], n: usize, i: usize) -> bool
+    requires { ⌜ n ≡ min (length (now line)) (length (now model)) ⌝ }
+    requires { ⌜ Agreeing (now model) (now line) n i ⌝ }
+    ensures { λ r. ⌜ EndsAlike (now (model .entry)) (now (line .entry)) n r ⌝ }
+{
+    if n < 16 {
+        return false;
+    }
+    if n - i > 16 {
+        return false;
+    }
+    !differ_among(model, line, n - 16)
+}
+
 // How many of the first bytes of line are the model's.
 fn agree(model: &[u8], line: &[u8]) -> usize
     ensures { λ r. ⌜ r ≡ common (now (model .entry)) (now (line .entry)) ⌝ }
 {
     let n = buffer::place(line.len(), model.len());
-    let mut i = agree_blocks(model, line, n);
+    let from = agree_blocks(model, line, n);
+    if ends_alike(model, line, n, from) {
+        return n;
+    }
+    let mut i = from;
     while i < n {
         if model[i] != line[i] {
             return i;

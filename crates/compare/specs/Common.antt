@@ -1,6 +1,6 @@
 -- How long a beginning of a text agrees with a model, and where a text goes.
 use Prim.Native.Nat.{ℕ, suc, _+_, _*_, _≤_, _<_, _^_, min}
-use mathlib.Core.Bool.{Bool, not}
+use mathlib.Core.Bool.{Bool, true, not}
 use mathlib.Core.List.{List, [], _∷_, _++_}
 use mathlib.Core.Path.{_≡_}
 use lib.Dec.{eqb}

@@ -117,21 +117,24 @@ pub fn rows(size: usize) {
         most: Some(1.3),
     }
     .print();
-    #[cfg(feature = "check")]
-    check::rows(size);
+    check::rows(size, formatter);
 }
 
-/// `is_formatted`, which makes its buffers anew in each call; so does the `format` beside it.
-#[cfg(feature = "check")]
+/// `is_formatted` beside `format`, each in a formatter that keeps its buffers.
 mod check {
     use super::{Compared, best, black_box, written};
-    use wirescript_format::{Options, format, is_formatted};
+    use wirescript_format::{Formatter, LineEnding, Options, format};
 
     const WRONG: &str = "f(a ,b)\n";
 
+    /// With a fixed ending, without which the call is refused.
+    fn options() -> Options {
+        Options::new().line_ending(LineEnding::Lf)
+    }
+
     /// A source that formatting leaves as it is, with room for a line before it.
     fn formatted(size: usize) -> String {
-        let options = Options::new();
+        let options = options();
         let mut source = written(size, 0);
         // a text may be longer than its source, and once is not always enough
         for _ in 0..10 {
@@ -147,40 +150,45 @@ mod check {
         panic!("formatting ten times doesn't come to rest");
     }
 
-    fn checking(source: &str, expected: bool) -> f64 {
-        let options = Options::new();
-        assert_eq!(is_formatted(source, &options), Ok(expected));
+    fn checking(source: &str, expected: bool, formatter: &mut Formatter) -> f64 {
+        let options = options();
+        assert_eq!(formatter.is_formatted(source, &options), Ok(expected));
         best(|| {
-            black_box(is_formatted(black_box(source), &options)).expect("accepted");
+            black_box(formatter.is_formatted(black_box(source), &options)).expect("accepted");
         })
     }
 
-    /// The time of making a scratch and of clearing it, as the call does.
+    /// The time of clearing a scratch, as the call does.
     fn clearing(source: &str) -> f64 {
+        let mut scratch = vec![0_u8; 12 * source.len() + 256];
         best(|| {
-            let mut scratch = black_box(vec![0_u8; 12 * source.len() + 256]);
-            scratch.fill(0);
-            black_box(scratch);
+            black_box(&mut scratch).fill(0);
         })
     }
 
-    pub fn rows(size: usize) {
+    pub fn rows(size: usize, formatter: &mut Formatter) {
         let source = formatted(size);
-        let options = Options::new();
+        let options = options();
         let base = best(|| {
-            black_box(format(black_box(&source), &options)).expect("accepted");
+            let formatted = formatter.format(black_box(&source), &options);
+            black_box(formatted.expect("accepted").text.len());
         });
         let row = |call, time, most| Compared {
             call,
             source: source.len(),
             time,
-            beside: "`format`, buffers new",
+            beside: "`format`",
             base,
             most,
         };
-        row("`is_formatted`, yes", checking(&source, true), Some(1.0)).print();
+        row(
+            "`is_formatted`, yes",
+            checking(&source, true, formatter),
+            Some(1.0),
+        )
+        .print();
         let wrong = format!("{WRONG}{source}");
-        let (whole, apart) = (checking(&wrong, false), clearing(&wrong));
+        let (whole, apart) = (checking(&wrong, false, formatter), clearing(&wrong));
         row("`is_formatted`, first line wrong", whole, None).print();
         row("clearing the scratch alone", apart, None).print();
         // below zero where what is left is less than the times vary

@@ -12,8 +12,6 @@ ghost use Rattle.unicode.specs.Unicode.{WellFormed};
 ghost use Rattle.config_rules.specs.Call.{readEditorConfig};
 ghost use Rattle.config_read.specs.Levels.{Resolves};
 ghost use Rattle.config_read.specs.Refusals.{AllAccepted};
-ghost use Rattle.config_read.specs.ConfigAnswered.{ConfigAnswered};
-use config_rules::ConfigAnswer;
 use config_rules::ConfigOutcome;
 use levels::above;
 use levels::apply;
@@ -71,8 +69,8 @@ fn resolve(
     apply(p, l1, t1, r2)
 }
 
-// Refusals 7, 4 and 8, then the values.
-fn read(
+// The whole call: refusals 7, 4 and 8, then the values.
+pub fn read(
     path: &[u8],
     t1: &[u8],
     t2: &[u8],
@@ -101,23 +99,4 @@ fn read(
     }
     let top = levels::top(path);
     ConfigOutcome::Given(resolve(&path[top..], t1, t2, t3, t4, t5, t6, t7, t8))
-}
-
-// The whole call, with its answer in numbers.
-pub fn answer(
-    path: &[u8],
-    t1: &[u8],
-    t2: &[u8],
-    t3: &[u8],
-    t4: &[u8],
-    t5: &[u8],
-    t6: &[u8],
-    t7: &[u8],
-    t8: &[u8],
-) -> ConfigAnswer
-    ensures { λ r. ⌜ ConfigAnswered (now (path .entry)) (now (t1 .entry) ∷ now (t2 .entry)
-        ∷ now (t3 .entry) ∷ now (t4 .entry) ∷ now (t5 .entry) ∷ now (t6 .entry)
-        ∷ now (t7 .entry) ∷ now (t8 .entry) ∷ []) r ⌝ }
-{
-    numbers::answer_of(read(path, t1, t2, t3, t4, t5, t6, t7, t8))
 }

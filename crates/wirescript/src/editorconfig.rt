@@ -20,7 +20,7 @@ pub extern "C" fn wirescript_read_editorconfig(
         ∷ now («text_3» .entry) ∷ now («text_4» .entry) ∷ now («text_5» .entry) ∷ now («text_6» .entry)
         ∷ now («text_7» .entry) ∷ now («text_8» .entry) ∷ []) r ⌝ }
 {
-    config_read::answer(
+    let outcome = config_read::read(
         path,
         text_1,
         text_2,
@@ -30,5 +30,6 @@ pub extern "C" fn wirescript_read_editorconfig(
         text_6,
         text_7,
         text_8,
-    )
+    );
+    config_read::numbers::answer_of(outcome)
 }

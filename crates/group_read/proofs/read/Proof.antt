@@ -1,3 +1,5 @@
+-- `read` meets its contract: the invariant is `Reads`, reading the source comes to reading what is left of it from the
+-- reader's state; its laws are in proofs/LoopLaws.antt.
 use borrow.Author.Needs.{needs}
 use Prim.Native.Nat.{_-_}
 use lib.ListN.{length}

@@ -163,11 +163,6 @@ module _ (ks cs : List ℕ) (i : ℕ) (w : Seeking ks cs i) where
 
 -- ---- the whole
 
-place-one : (b : Bool) → firstPlace b ≤ 1
-unfolding firstPlace choose
-place-one true = omega arith
-place-one false = omega arith
-
 pub place-first : (b : Bool) → b ≡ true → (0 ≡ firstPlace b) × (0 ≤ 1)
 unfolding firstPlace choose
 place-first b e = (rw e, omega arith)

@@ -110,9 +110,6 @@ module _ (ks cs path : List ℕ) (e : ℕ) (v : List Bool) (found : Bool) (l : L
       let a : decode (take e path) ≡ [] = ap (λ (i : ℕ). decode (take i path)) y in
       sym (w .all ∙ ap (λ (x : List ℕ). x ++ w .text) a)
 
-  pub reading-room : (length cs ≤ length l) × (length cs < length h) × (length cs < length v)
-  reading-room = (w .at .slots, w .at .hits, w .at .room)
-
   module _ (z : e ≤ 0) (l' : List ℕ) (h' : List Bool) (R : RangesNext ks cs v 47 l l' h h') (new : List Bool) (p : Passed (held ks cs) 47 false h' v new) where
     last : ReadAt ks cs (47 ∷ decode path) new (found || getD new 0 false) l' h'
     last = rw (← at-start z) (read-more ks cs (w .text) v found l h (w .at) 47 l' h' R new p)

@@ -223,9 +223,6 @@ module _ (ks cs : List ℕ) (v : List Bool) (c : ℕ) (l₀ : List ℕ) (h₀ : 
               };
         }
 
-pub some-range : (ks cs : List ℕ) (p : ℕ) → Spaced cs ks → getD ks p 0 ≡ 9 → 0 < rangeMore cs (p + 1)
-some-range ks cs p w e = w .some p e
-
 -- ---- nothing read
 
 from-none : (p k : Strings) (j : ℕ) → from p k (suc j) [] ≡ false

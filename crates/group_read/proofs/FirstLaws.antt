@@ -9,14 +9,6 @@ use Rattle.rules.proofs.Computing.{computing}
 use Rattle.rules.specs.Operators as F
 use Rattle.group_rules.specs.Expression.{startsOperator}
 
-outside : (lo hi c : ℕ) → (lo ≤ c → c ≤ hi → ⊥) → within lo hi c ≡ false
-outside lo hi c k = go (leb lo c) (leb c hi) refl refl
-  where
-    go : (a b : Bool) → leb lo c ≡ a → leb c hi ≡ b → (a && b) ≡ false
-    go true true p q = absurd (k (leb-true lo c p) (leb-true c hi q))
-    go true false p q = refl
-    go false b p q = refl
-
 pub by-equal : {P : Type 0} (c k : ℕ) → (c ≡ k → P) → ((c ≡ k → ⊥) → P) → P
 by-equal {P} c k f g = go (eqb c k) refl
   where

@@ -35,20 +35,6 @@ unfoldable pub AllPlain : List Token → Type 0
 AllPlain [] = Unit {0}
 AllPlain (t ∷ ts) = PlainToken t × AllPlain ts
 
-pub plain-append : (a b : List ℕ) → Plain a → Plain b → Plain (a ++ b)
-unfolding Plain
-plain-append [] b h k = k
-plain-append (c ∷ a) b h k = (h .0, plain-append a b (h .1) k)
-
-pub plain-one : (c : ℕ) → 32 ≤ c → Plain (c ∷ [])
-unfolding Plain
-plain-one c h = (h, tt)
-
-pub all-append : (a b : List Token) → AllPlain a → AllPlain b → AllPlain (a ++ b)
-unfolding AllPlain
-all-append [] b h k = k
-all-append (c ∷ a) b h k = (h .0, all-append a b (h .1) k)
-
 pub all-first : (a b : List Token) → AllPlain (a ++ b) → AllPlain a
 unfolding AllPlain
 all-first [] b h = tt

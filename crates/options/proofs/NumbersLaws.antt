@@ -62,9 +62,6 @@ module _ (s : List ℕ) where
 -- ---- the numbers
 
 -- a number that is none of the first is a successor: the clause for all others applies
-pub past-zero : (n : ℕ) → (n ≡ 0 → ⊥) → n ≡ suc (n - 1)
-past-zero n h = omega arith
-
 pub past-one : (n : ℕ) → (n ≡ 0 → ⊥) → (n ≡ 1 → ⊥) → n ≡ suc (suc (n - 2))
 past-one n h k = omega arith
 

@@ -1,6 +1,6 @@
 -- The respaced text of a line's bytes is the bytes of the respaced text of its characters; and its length.
---     spacing-encode, spacing-bytes     normalizeSpacing on bytes
---     spacing-bound                     a text of n cells becomes at most 2 n long
+--     spacing-encode     normalizeSpacing on bytes
+--     spacing-bound      a text of n cells becomes at most 2 n long
 use Prim.Native.Nat.{ℕ, suc, _+_, _*_, _<_, _≤_}
 use native.Mathlib.Omega.{arith}
 use mathlib.Core.Bool.{Bool, and-false}
@@ -132,9 +132,6 @@ spacing-encode cells =
           rest-high bs hs k (encode (lead (t .gap) (t .out)) ++ (b ∷ [])),
         )
         (ap (λ (o : List ℕ). spaced o Gap.Nothing) (last-bytes (lead (t .gap) (t .out)) c b bs e))
-
-pub spacing-bytes : (y : Carry) (l : List ℕ) → normalizeSpacing (classify y (encode l)) ≡ encode (normalizeSpacing (classify y l))
-spacing-bytes y l = ap normalizeSpacing (classify-encode y l) ∙ spacing-encode (classify y l)
 
 -- ---- how long the text gets: at most two characters for each cell
 

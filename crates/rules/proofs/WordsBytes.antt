@@ -1,6 +1,6 @@
 -- Words, names and pieces of a line, found on its bytes.
 --     encodePieces, split-encode, pieces-encode     a text cut at an ASCII character
---     word-encode, declaration-encode, import-encode     what a line starts with
+--     word-encode, import-encode                    what a line starts with
 --     hasWord-encode, balanced-encode               over the cells of a line
 --     beforeCode-encode, fromCode-encode            the parts at an ASCII Code character
 use Prim.Native.Nat.{ℕ, _<_, _≤_}
@@ -62,10 +62,6 @@ word-encode line word a = then-encode word isBlank false true a steady-blank lin
 pub import-encode : (line : List ℕ) → startsImport (encode line) ≡ startsImport line
 unfolding startsImport
 import-encode line = then-encode (codes "import") (λ c. not (isIdent c)) true true refl (steady-not isIdent false steady-ident) line
-
-pub declaration-encode : (a b : List ℕ) → sameDeclaration (encode a) (encode b) ≡ sameDeclaration a b
-unfolding sameDeclaration
-declaration-encode a b = simp starts-encode
 
 -- ---- the parts of a line at a Code character
 

@@ -1,6 +1,6 @@
 -- What a pair means, by bytes and by characters.
 use Prim.Native.Nat.{ℕ, suc, _≤_}
-use mathlib.Core.Bool.{true, false, and-false}
+use mathlib.Core.Bool.{false, and-false}
 use mathlib.Core.List.{List, [], _∷_}
 use mathlib.Core.Path.{_≡_, refl, sym, ap, _∙_}
 use native.Mathlib.Omega.{arith}

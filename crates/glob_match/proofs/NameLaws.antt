@@ -1,5 +1,5 @@
 -- A name: its characters, its slashes.
-use Prim.Native.Nat.{ℕ, suc, _+_, _-_, _≤_, _<_}
+use Prim.Native.Nat.{ℕ, suc, _+_, _≤_, _<_}
 use mathlib.Core.Bool.{Bool, true, false, not, _||_, true≢false}
 use mathlib.Core.List.{List, [], _∷_, _++_, append-assoc, append-nil}
 use mathlib.Core.Path.{_≡_, refl, sym, ap, _∙_}
@@ -16,7 +16,6 @@ use Rattle.rules.specs.Basics.{choose, is, firstIs}
 use Rattle.rules.proofs.Choose.{choose-case}
 use Rattle.rules.proofs.StartsBytes.{on-decode, first-encode, steady-is}
 use Rattle.config_rules.specs.Name.{Item, Token, tokensOf}
-use Rattle.config_rules.specs.Name.Item.{same}
 use Rattle.config_rules.specs.Name.Token.{item}
 use Rattle.config_rules.specs.Globs.{rooted, isSlash, hasSlash, anchored, matches}
 use Rattle.glob_pass.specs.Kinds.{rangeIn, plainAt, braceOf, heldAt, held}

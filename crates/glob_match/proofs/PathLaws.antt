@@ -1,5 +1,5 @@
 -- A path read from its end: the values at what is read of it.
-use Prim.Native.Nat.{ℕ, zero, suc, _+_, _-_, _≤_, _<_}
+use Prim.Native.Nat.{ℕ, zero, suc, _-_, _≤_, _<_}
 use mathlib.Core.Bool.{Bool, true, false, _||_, or-comm}
 use mathlib.Core.List.{List, [], _∷_, _++_, append-assoc, append-nil}
 use mathlib.Core.Path.{_≡_, refl, sym, ap, _∙_}

@@ -7,7 +7,7 @@ use lib.ListN.{length, take, replicate}
 use Rattle.unicode.specs.Unicode.{WellFormed}
 use Rattle.rules.specs.Basics.{choose}
 use Rattle.rules.specs.declared.Refusal.{Refusal}
-use Rattle.group_rules.specs.Grouping.{Grouping, grouping}
+use Rattle.group_rules.specs.Grouping.{Grouping}
 use Rattle.group_rules.specs.Passes.{openedText, closedText}
 use Rattle.group_rules.specs.Outcome.{groupScratch, groupingIn, groupOutcome, groupedText, groupOutputFor, groupOutput}
 use Rattle.group_rules.specs.declared.GroupOutcome.{GroupOutcome}

@@ -1,10 +1,9 @@
 -- The first characters of operators: the ranges that crate operators tests are those of the rules' table.
-use Prim.Native.Nat.{ℕ, _≤_}
-use mathlib.Core.Bool.{Bool, true, false, _&&_}
+use Prim.Native.Nat.{ℕ}
+use mathlib.Core.Bool.{Bool, true, false}
 use mathlib.Core.Path.{_≡_, refl, sym, _∙_}
-use lib.Dec.{eqb, leb}
-use borrow.Author.Tests.{ne-eqb, eqb-true, eqb-false, leb-true}
-use Rattle.unicode.specs.Unicode.{within}
+use lib.Dec.{eqb}
+use borrow.Author.Tests.{ne-eqb, eqb-true, eqb-false}
 use Rattle.rules.proofs.Computing.{computing}
 use Rattle.rules.specs.Operators as F
 use Rattle.group_rules.specs.Expression.{startsOperator}

@@ -5,7 +5,7 @@ use mathlib.Core.List.{List, [], _++_, reverse}
 use mathlib.Core.Path.{_≡_}
 use lib.ListN.{length, take, getD}
 use Rattle.buffer.specs.Buffer.{part}
-use Rattle.group_rules.specs.Expression.{maxDepth, Token, word, operator, Stage, due, inName, inNumber, after, inOperator, State, state, Step, next, refused, dueStep, afterStep, stageStep, Reading, read, refusedAt, ending, reading}
+use Rattle.group_rules.specs.Expression.{maxDepth, Token, Stage, due, inName, inNumber, after, inOperator, State, state, Step, next, refused, dueStep, afterStep, stageStep, Reading, read, refusedAt, ending, reading}
 use Rattle.group_rules.specs.Passes.{coded}
 use Rattle.group_read.specs.declared.Phase.{Phase}
 use Rattle.group_read.specs.declared.Phase.the-variants.{Due, Name, Number, After, Operator}

@@ -6,7 +6,7 @@ use mathlib.Core.Path.{_≡_, refl, ap, sym, _∙_}
 use native.Mathlib.Omega.{arith}
 use lib.Dec.{eqb, lit≤}
 use borrow.Author.Tests.{eq-eqb, ne-eqb, le-ltb, lt-ltb, le-leb, lt-leb}
-use Rattle.rules.specs.Basics.{choose, codes}
+use Rattle.rules.specs.Basics.{choose}
 use Rattle.rules.proofs.Choose.{choose-true, choose-false}
 use Rattle.group_rules.specs.Expression.{Token, operator, closer}
 use Rattle.group_rules.specs.Grouping.{Tree, operand, signed, bracketed, operation, strengthOf, takes, written}

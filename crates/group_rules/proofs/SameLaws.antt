@@ -8,7 +8,7 @@ use lib.Dec.{eqb, leb}
 use lib.ListN.{length, length-append}
 use borrow.Author.Tests.{lt-leb, ne-eqb, eqb-true, leb-true}
 use Rattle.unicode.specs.Unicode.{within}
-use Rattle.rules.specs.Basics.{choose, is, same, oneOf, isBlank, isIdent}
+use Rattle.rules.specs.Basics.{choose, is, oneOf, isBlank, isIdent}
 use Rattle.rules.specs.Operators.{operators}
 use Rattle.rules.specs.SplitOperation.{isSign, keywords}
 use Rattle.rules.proofs.Computing.{computing}

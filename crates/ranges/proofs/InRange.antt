@@ -1,8 +1,8 @@
 -- A range by the orders of a number against its two ends: what `inRange` says, said without large numbers.
-use Prim.Native.Nat.{ℕ, zero, suc, _+_, _-_, _≤_, _<_}
+use Prim.Native.Nat.{ℕ, zero, suc, _+_, _≤_, _<_}
 use mathlib.Core.Bool.{Bool, true, false, not, _&&_, _||_, and-false, and-true, and-comm, or-comm}
 use mathlib.Core.List.{List, [], _∷_}
-use mathlib.Core.Logic.{_⊎_, ⊎-elim}
+use mathlib.Core.Logic.{⊎-elim}
 use mathlib.Core.Path.{_≡_, refl, sym, ap, _∙_}
 use native.Mathlib.Nat.{zero-add, add-zero, add-comm}
 use native.Mathlib.Omega.{arith}
@@ -10,7 +10,7 @@ use borrow.Author.Tests.{lt-ltb, le-leb, lt-leb, eq-eqb, ne-eqb, eqb-true, eqb-f
 use lib.Dec.{eqb, ltb, leb}
 use lib.ListN.{length, drop, take}
 use Rattle.unicode.proofs.Tests.{split, by-test}
-use Rattle.rules.specs.Basics.{choose, is, firstIs}
+use Rattle.rules.specs.Basics.{choose, firstIs}
 use Rattle.rules.proofs.Choose.{choose-true, choose-false}
 use Rattle.config_rules.specs.Numbers.{isDigit, digitCount, sign, numberLen, isNumber, value, up, down, atMost, inRange}
 use Rattle.config_rules.specs.Globs.{Strings, someThen}

@@ -2,16 +2,16 @@
 -- lowest on. Reading the path from its end, each digit is put before the ones read: the new digit decides, and where it
 -- equals the end's digit of that place the order so far stays.
 use Prim.Native.Nat.{ℕ, zero, suc, _+_, _-_, _*_, _≤_, _<_}
-use mathlib.Core.Bool.{Bool, true, false, not, _&&_, _||_, and-false, and-true, or-false, true≢false}
+use mathlib.Core.Bool.{Bool, true, false, _&&_, _||_, and-false, and-true, or-false, true≢false}
 use mathlib.Core.List.{List, [], _∷_, foldl}
-use mathlib.Core.Logic.{_⊎_, ⊎-elim}
+use mathlib.Core.Logic.{⊎-elim}
 use mathlib.Core.Path.{_≡_, refl, sym, ap, _∙_}
 use native.Mathlib.Omega.{arith}
 use borrow.Author.Tests.{lt-ltb, le-ltb}
 use lib.Dec.{ltb}
 use lib.ListN.{length, drop, take, getD}
 use Rattle.unicode.proofs.Tests.{split, in-range, and-left, and-right}
-use Rattle.rules.specs.Basics.{choose, is}
+use Rattle.rules.specs.Basics.{choose}
 use Rattle.config_rules.specs.Numbers.{isDigit, value}
 use Rattle.config_rules.specs.Globs.{Strings, someThen, never}
 use Rattle.ranges.specs.Slots.{digit, orderThen, valid, orderAt, allDigits, all, order, number, from}

@@ -11,10 +11,10 @@ use lib.ListN.{length, drop, take, getD, set, length-set}
 use lib.Seq.{drop-length, getD-set-same, getD-set-other}
 use Rattle.unicode.proofs.Tests.{split, by-test, in-range, and-left, and-right}
 use Rattle.rules.specs.Basics.{choose}
-use Rattle.config_rules.specs.Numbers.{isDigit, value, sign, inRange}
+use Rattle.config_rules.specs.Numbers.{isDigit, value, inRange}
 use Rattle.config_rules.specs.Globs.{Strings, someThen}
 use Rattle.glob_name.specs.Read.{rangeMore}
-use Rattle.ranges.specs.Slots.{digit, orderThen, valid, orderAt, inside, insideOf, near, allDigits, all, number, from, farther, minus, size, inPlain, inMinus}
+use Rattle.ranges.specs.Slots.{digit, orderThen, valid, orderAt, insideOf, near, allDigits, all, number, from, farther, minus, size, inPlain, inMinus}
 use Rattle.ranges.specs.Ranges.{lows, lowsOf, EndAt, RangeOf, firstEnd, secondEnd, slotStep, slotIn, anySlot, opposite, slotAt, flagOf, firstSlot, farAt, withFlags, FarNext, Moved, Kept, RangeNext}
 use Rattle.ranges.specs.declared.End.{End}
 use Rattle.ranges.specs.declared.Range.{Range}

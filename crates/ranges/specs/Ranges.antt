@@ -5,7 +5,7 @@ use mathlib.Core.List.{List, [], _∷_}
 use mathlib.Core.Path.{_≡_}
 use lib.Dec.{ltb, eqb}
 use lib.ListN.{length, getD, set, take, drop}
-use Rattle.rules.specs.Basics.{choose, is}
+use Rattle.rules.specs.Basics.{choose}
 use Rattle.config_rules.specs.Numbers.{isDigit, numberLen, inRange}
 use Rattle.config_rules.specs.Globs.{Strings, someThen}
 use Rattle.glob_name.specs.Read.{rangeMore}

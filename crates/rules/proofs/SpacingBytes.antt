@@ -12,14 +12,13 @@ use Rattle.unicode.specs.Unicode.{encodeChar, encode}
 use Rattle.unicode.proofs.Table.{encodeChar-1, High, none, also, Bytes, single, several, bytes}
 use Rattle.unicode.proofs.Decode.{encode-append, encode-one}
 use Rattle.rules.specs.declared.Class.{Class}
-use Rattle.rules.specs.declared.Carry.{Carry}
 use Rattle.rules.specs.declared.Gap.{Gap}
 use Rattle.rules.specs.Basics.{choose, isBlank}
-use Rattle.rules.specs.Scan.{Cell, cell, isCode, classify}
+use Rattle.rules.specs.Scan.{Cell, cell, isCode}
 use Rattle.rules.specs.Spacing.{Spaced, spaced, consBlank, trimBlanks, putPlain, putAfterComma, putAt, spaceStep, normalizeSpacing}
 use Rattle.rules.proofs.Choose.{choose-case}
 use Rattle.rules.proofs.StartsBytes.{encode-some, choose-map, choose-both, not-ascii, steady-blank, steady-closer}
-use Rattle.rules.proofs.ScanBytes.{label, encodeCells, classify-encode, fold-encode}
+use Rattle.rules.proofs.ScanBytes.{label, encodeCells, fold-encode}
 
 encode-snoc : (c : ℕ) → c < 0x80 → (o : List ℕ) → encode (o ++ (c ∷ [])) ≡ encode o ++ (c ∷ [])
 encode-snoc c h o = encode-append o (c ∷ []) ∙ rw (encode-one c, encodeChar-1 c h)

@@ -15,10 +15,10 @@ use Rattle.unicode.proofs.Table.{High, none, also, Bytes, single, several, byte
 use Rattle.rules.specs.declared.Class.{Class}
 use Rattle.rules.specs.Basics.{choose, is, codes, isBlank, isIdent, same, oneOf, Pieces, pieces, atSep, splitOn}
 use Rattle.rules.specs.Scan.{Cell, cell, isCode}
-use Rattle.rules.specs.Words.{startsWithWord, sameDeclaration}
+use Rattle.rules.specs.Words.{startsWithWord}
 use Rattle.rules.specs.SplitImport.{codeIs, beforeCode, fromCode, startsImport}
 use Rattle.rules.specs.SplitOperation.{balanceStep, isZero, isBalanced, inWord, wordOn, hasWordFrom, hasWord, keywords}
-use Rattle.rules.proofs.StartsBytes.{allAscii, choose-both, steady-is, steady-blank, steady-opener, steady-closer, steady-ident, steady-not, starts-encode, then-encode}
+use Rattle.rules.proofs.StartsBytes.{allAscii, choose-both, steady-is, steady-blank, steady-opener, steady-closer, steady-ident, steady-not, then-encode}
 use Rattle.rules.proofs.ScanBytes.{label, encodeCells, fold-encode, SteadyCell, before-encode, from-encode}
 
 -- ---- pieces

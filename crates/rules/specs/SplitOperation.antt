@@ -1,5 +1,5 @@
 -- split_operation: an over-wide expression broken before its loosest operators.
-use Prim.Native.Nat.{ℕ, zero, suc, _+_, min}
+use Prim.Native.Nat.{ℕ, zero, suc, min}
 use mathlib.Core.Bool.{Bool, true, false, not, _&&_, _||_}
 use mathlib.Core.List.{List, [], _∷_, _++_, map, foldl, reverse}
 use mathlib.Core.Option.{Option, none, some}

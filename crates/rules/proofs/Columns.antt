@@ -1,7 +1,8 @@
 -- Laws of the measure.
 --     measure-append    a joined text: the second part is measured from where the first ends
 --     measure-zero      at ruler 0 the UTF-16 width is added
---     measure-bytes     at most a column for each byte and the ruler for each tab; measure-short, where the tabs aren't counted
+--     measure-bytes     at most a column for each byte and the ruler for each tab
+--     measure-short     the same where the tabs aren't counted
 --     measure-grows     no part goes back
 --     measure-shift     from some whole steps of the ruler further on, as many further on
 --     indent-levels     an indent several times over: each level after the first adds what the second adds

@@ -22,11 +22,7 @@ use Rattle.group_read.specs.Read.{stateOf, Holds, StepIs, DueRoom, onwar
 use Rattle.group_read.specs.declared.Phase.the-variants.{Due, Name, Number, After, Operator}
 use Rattle.group_read.specs.declared.Reader.{Reader}
 use Rattle.group_read.specs.declared.Next.{Next}
-
-coded-append : (a b : List Token) → coded (a ++ b) ≡ coded a ++ coded b
-unfolding coded
-coded-append [] b = refl
-coded-append (t ∷ a) b = ap (λ l. codesOf t ++ l) (coded-append a b) ∙ sym (append-assoc (codesOf t) (coded a) (coded b))
+use Rattle.group_rules.proofs.PassLaws.{coded-append}
 
 coded-one : (t : Token) → coded (t ∷ []) ≡ codesOf t
 unfolding coded

@@ -42,7 +42,7 @@ codesWith (signed c e) m = c ∷ codesWith e m
 codesWith (bracketed e) m = 14 ∷ codesWith e (15 ∷ m)
 codesWith (operation op l r) m = codesWith l (strengthOf op ∷ (op ++ (strengthOf op + 16) ∷ codesWith r m))
 
-coded-append : (a b : List Token) → coded (a ++ b) ≡ coded a ++ coded b
+pub coded-append : (a b : List Token) → coded (a ++ b) ≡ coded a ++ coded b
 unfolding coded
 coded-append [] b = refl
 coded-append (t ∷ a) b = ap (λ l. codesOf t ++ l) (coded-append a b) ∙ sym (append-assoc (codesOf t) (coded a) (coded b))

@@ -15,7 +15,7 @@ use Rattle.rules.proofs.Choose.{choose-true, choose-false}
 use Rattle.config_rules.specs.Numbers.{isDigit, digitCount, sign, numberLen, isNumber, value, up, down, atMost, inRange}
 use Rattle.config_rules.specs.Globs.{Strings, someThen}
 use Rattle.ranges.specs.Slots.{allDigits, all, order, number, from, minus, size, inPlain, inMinus, valid, notAbove, notBelow, inside, near}
-use Rattle.ranges.proofs.OrderLaws.{wholeAt, whole-at, at, from-next, at-number, order-less, order-more, order-same, some-same}
+use Rattle.ranges.proofs.OrderLaws.{wholeAt, whole-at, at, from-next, at-number, order-less, order-more, order-same, some-same, and-assoc}
 
 -- ---- a number is digits
 
@@ -91,10 +91,6 @@ module _ (m : List ℕ) (x : ℕ) where
   below-minus =
       by-test (minus m) (λ t. rw (t, zero-add x, zero-add (value (drop 1 m))) (sym (order-ge x (value (drop 1 m)))))
       (λ t. rw t (le-leb 0 (value m + x) (omega arith)))
-
-and-assoc : (a b c : Bool) → ((a && b) && c) ≡ (a && (b && c))
-and-assoc true b c = refl
-and-assoc false b c = refl
 
 swapped : (p q r s : Bool) → ((p && q) || (r && s)) ≡ ((s && r) || (q && p))
 swapped p q r s = rw (and-comm s r, and-comm q p) (or-comm (p && q) (r && s))

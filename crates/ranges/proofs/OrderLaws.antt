@@ -79,7 +79,7 @@ value-small (c ∷ l) e =
     let v : value (c ∷ l) ≡ scale (length l) (digit c) + value l = value-cons c l in
     omega (arith, v, scale-le (length l) (digit c) 9 s, scale-nine (length l))
 
-scale-more : (i n : ℕ) → i ≤ n → scale i 1 ≤ scale n 1
+pub scale-more : (i n : ℕ) → i ≤ n → scale i 1 ≤ scale n 1
 unfolding scale
 scale-more zero n q = scale-one n
 scale-more (suc i) zero q = absurd (omega arith)
@@ -243,7 +243,7 @@ at-is p k zero s = refl
 at-is p k (suc j) [] = refl
 at-is p k (suc j) (c ∷ s) = at-is (λ (l : List ℕ). p (c ∷ l)) k j s
 
-and-assoc : (a b c : Bool) → ((a && b) && c) ≡ (a && (b && c))
+pub and-assoc : (a b c : Bool) → ((a && b) && c) ≡ (a && (b && c))
 and-assoc true b c = refl
 and-assoc false b c = refl
 

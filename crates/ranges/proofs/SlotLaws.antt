@@ -70,7 +70,7 @@ far-is r o last far c a b e f g = record { plain = rw e; minus = rw (g, f) }
 
 -- ---- digits
 
-length-lows : (cs : List ℕ) (e n : ℕ) → length (lows cs e n) ≡ n
+pub length-lows : (cs : List ℕ) (e n : ℕ) → length (lows cs e n) ≡ n
 unfolding lows
 length-lows cs e zero = refl
 length-lows cs e (suc n) = ap suc (length-lows cs (e - 1) n)

@@ -20,7 +20,8 @@ pub record FormatAnswered (c : Call) (r : Answer) (out list work : List ℕ) : T
   pub well : r .refusal ≡ 0 → WellFormed (take (r .length) out)
   -- and its characters keep of the source's what demand 3 says, with the answer's counts
   pub kept : r .refusal ≡ 0
-      → Kept (optionsOf (c .choices) .printWidth) (decode (c .source)) (decode (take (r .length) out)) (r .«imports_split») (r .«blank_names»)
+      → Kept (optionsOf (c .choices) .printWidth) (decode (c .source)) (decode (take (r .length) out))
+      (r .«imports_split») (r .«blank_names»)
   -- and with no print width its quoted text
   pub quoted : r .refusal ≡ 0 → c .choices .numbers .«width_set» ≡ 0
       → QuotedKept (optionsOf (c .choices) .endOfLine) (decode (c .source)) (decode (take (r .length) out))

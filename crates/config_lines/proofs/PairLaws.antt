@@ -1,19 +1,19 @@
 -- What a pair means, by bytes and by characters.
 use Prim.Native.Nat.{ℕ, suc, _≤_}
-use mathlib.Core.Bool.{true, false, and-false}
+use mathlib.Core.Bool.{false, and-false}
 use mathlib.Core.List.{List, [], _∷_}
-use mathlib.Core.Path.{_≡_, refl, sym, ap, _∙_}
+use mathlib.Core.Path.{_≡_, refl, sym, _∙_}
 use native.Mathlib.Omega.{arith}
 use borrow.Author.Tests.{lt-leb, ne-eqb, eqb-true, eqb-false}
 use lib.Dec.{eqb, leb}
-use lib.ListN.{length, length-append}
-use Rattle.unicode.specs.Unicode.{encodeChar, encode, decode, WellFormed}
+use lib.ListN.{length}
+use Rattle.unicode.specs.Unicode.{encode, decode, WellFormed}
 use Rattle.unicode.proofs.Table.{encodeChar-1}
 use Rattle.unicode.proofs.Tests.{by-test, in-range}
-use Rattle.unicode.proofs.Decode.{encode-nil, encode-cons, encode-one}
+use Rattle.unicode.proofs.Decode.{encode-nil, encode-cons}
 use Rattle.rules.specs.Basics.{choose, codes, leading}
 use Rattle.rules.proofs.Choose.{choose-true, choose-false, choose-case}
-use Rattle.rules.proofs.StartsBytes.{Steady, on-decode, encode-some, leading-encode}
+use Rattle.rules.proofs.StartsBytes.{Steady, on-decode, leading-encode}
 use Rattle.rules.specs.declared.IndentSize.{IndentSize}
 use Rattle.rules.specs.declared.TabWidth.{TabWidth}
 use Rattle.rules.specs.declared.MaxLineLen.{MaxLineLen}
@@ -23,6 +23,7 @@ use Rattle.config_rules.specs.Lines.{lower}
 use Rattle.config_rules.specs.Values.{isWhole, styleOf, sizeOf, tabOf, maxOf, endingOf, newlineOf, superseded}
 use Rattle.config_lines.proofs.LineBytes.{word-decode}
 use Rattle.config_lines.proofs.ValueLaws.{whole-lower, not-whole}
+use Rattle.rules.proofs.SpacedLine.{length-size}
 
 -- ---- digits
 
@@ -42,12 +43,6 @@ unfolding digitCount
 count-fits [] = omega arith
 count-fits (c ∷ l) = choose-case (λ (n : ℕ). n ≤ suc (length l)) (λ e. omega (arith, count-fits l)) (λ e. omega arith)
 
-encode-fits : (l : List ℕ) → length l ≤ length (encode l)
-encode-fits [] = omega arith
-encode-fits (c ∷ l) =
-    rw (encode-cons c l)
-    (omega (arith, length-append (encodeChar c) (encode l), encode-fits l, ap length (encode-one c), ap length (encode-some c [] .2)))
-
 digits-encode : (l : List ℕ) → digitCount l ≡ length l → encode l ≡ l
 unfolding digitCount
 digits-encode [] e = encode-nil
@@ -65,7 +60,7 @@ whole-encode f z l =
     (λ t. rw (digits-encode l (eqb-true (digitCount l) (length l) t)))
     (λ t.
     let n : digitCount (encode l) ≡ length (encode l) → ⊥ =
-    λ e. eqb-false (digitCount l) (length l) t (omega (arith, count-encode l, count-fits l, encode-fits l, e)) in
+    λ e. eqb-false (digitCount l) (length l) t (omega (arith, count-encode l, count-fits l, length-size l, e)) in
     choose-false (isWhole (encode l)) (f (value (encode l))) z (not-whole (encode l) (ne-eqb (digitCount (encode l)) (length (encode l)) n))
     ∙ sym (choose-false (isWhole l) (f (value l)) z (not-whole l t)))
 

@@ -11,7 +11,7 @@ use lib.Seq.{drop-cons, take-suc}
 use Rattle.unicode.specs.Unicode.{WellFormed, trim, trimEnd}
 use Rattle.unicode.specs.Places.{TrimmedStart, TrimmedEnd}
 use Rattle.buffer.proofs.RegionLaws.{part-from}
-use Rattle.rules.specs.Basics.{choose, is}
+use Rattle.rules.specs.Basics.{choose}
 use Rattle.config_rules.specs.Lines.{hasEq, key, setting}
 use Rattle.config_lines.specs.Words.{EqAt, Trimmed}
 

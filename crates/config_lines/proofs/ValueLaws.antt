@@ -20,7 +20,7 @@ use Rattle.config_rules.specs.Values.{isWhole, sizeOf, tabOf, maxOf}
 use Rattle.config_lines.specs.Words.{lowered}
 use Rattle.config_lines.specs.Whole.{WholeOf}
 use Rattle.config_lines.specs.declared.number.Whole.{Whole}
-use Rattle.config_lines.proofs.WordLaws.{low-below}
+use Rattle.config_lines.proofs.WordLaws.{low-below, length-lower}
 
 digit-lower : (c : ℕ) → isDigit (lowered c) ≡ isDigit c
 digit-lower c =
@@ -32,11 +32,6 @@ digit-lower c =
 
 same-digit : (c : ℕ) → isDigit c ≡ true → lowered c ≡ c
 same-digit c t = let r : (48 ≤ c) × (c ≤ 57) = in-range 48 57 c t in sym (low-below c (omega arith))
-
-length-lower : (s : List ℕ) → length (lower s) ≡ length s
-unfolding lower
-length-lower [] = refl
-length-lower (c ∷ s) = ap suc (length-lower s)
 
 count-lower : (s : List ℕ) → digitCount (lower s) ≡ digitCount s
 unfolding lower digitCount

@@ -2,7 +2,7 @@
 use Prim.Native.Nat.{ℕ, suc, _+_, _-_, _*_, _≤_, _<_}
 use mathlib.Core.Bool.{true, false, _&&_, and-false}
 use mathlib.Core.List.{List, [], _∷_, foldl}
-use mathlib.Core.Logic.{_⊎_, ⊎-elim}
+use mathlib.Core.Logic.{⊎-elim}
 use mathlib.Core.Path.{_≡_, refl, sym, ap, _∙_}
 use native.Mathlib.Numerals.{add-one}
 use native.Mathlib.Omega.{arith}
@@ -16,6 +16,7 @@ use Rattle.config_rules.specs.Numbers.{isDigit, digitCount, value}
 use Rattle.config_rules.specs.Values.{isWhole}
 use Rattle.config_lines.specs.Whole.{WholeOf}
 use Rattle.config_lines.specs.declared.number.Whole.{Whole}
+use Rattle.config_lines.proofs.ValueLaws.{not-whole}
 
 abbrev step : ℕ → ℕ → ℕ
 step n c = n * 10 + (c - 48)
@@ -51,10 +52,6 @@ count-none : digitCount [] ≡ 0
 unfolding digitCount
 count-none = refl
 
-no-digits : (v : List ℕ) → eqb (digitCount v) (length v) ≡ false → isWhole v ≡ false
-unfolding isWhole
-no-digits v d = rw (d, and-false (ltb 0 (length v)))
-
 too-large : (v : List ℕ) → leb (value v) 4_294_967_295 ≡ false → isWhole v ≡ false
 unfolding isWhole
 too-large v l = rw (l, and-false (ltb 0 (length v) && eqb (digitCount v) (length v)))
@@ -72,7 +69,7 @@ module _ (v : List ℕ) (i n : ℕ) (w : Adding v i n) where
   not-digit h t =
       let z : digitCount (drop i v) ≡ 0 = ap digitCount (drop-cons v i 0 h) ∙ count-other (getD v i 0) (drop (suc i) v) t in
       let d : eqb (digitCount v) (length v) ≡ false = ne-eqb (digitCount v) (length v) (λ q. absurd (omega (arith, w .digits, z, q))) in
-      none-is v (no-digits v d)
+      none-is v (not-whole v d)
 
   pub whole-below : i < length v → getD v i 0 < 48 → WholeOf v Whole.None
   whole-below h k = not-digit h (rw (lt-leb 48 (getD v i 0) k))

@@ -32,7 +32,7 @@ length-differs [] (y ∷ w) n = refl
 length-differs (x ∷ l) [] n = refl
 length-differs (x ∷ l) (y ∷ w) n = sym (rw (sym (length-differs l w (λ e. n (ap suc e)))) (and-false (eqb x y)))
 
-length-lower : (s : List ℕ) → length (lower s) ≡ length s
+pub length-lower : (s : List ℕ) → length (lower s) ≡ length s
 unfolding lower
 length-lower [] = refl
 length-lower (c ∷ s) = ap suc (length-lower s)

@@ -62,7 +62,8 @@ closing p = record { here = p .here; around = record { others = never; after = p
 -- a comma: an alternative ends here, and the next one starts
 unfoldable pub between : Strings → List Around → Place
 between k [] = record { here = k; around = [] }
-between k (b ∷ bs) = record { here = b .after; around = record { others = either k (b .others); after = b .after } ∷ bs }
+between k (b ∷ bs) =
+    record { here = b .after; around = record { others = either k (b .others); after = b .after } ∷ bs }
 
 -- an opening brace: any of the alternatives
 unfoldable pub opening : Strings → List Around → Place

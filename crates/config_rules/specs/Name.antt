@@ -51,7 +51,8 @@ consTo c (some l) = some (c ∷ l)
 
 unfoldable pub toBracket : Bool → List ℕ → Option (List ℕ)
 toBracket esc [] = none
-toBracket esc (c ∷ s) = let r = consTo c (toBracket (not esc && is "\\" c) s) in choose (not esc && is "]" c) (some []) r
+toBracket esc (c ∷ s) =
+    let r = consTo c (toBracket (not esc && is "\\" c) s) in choose (not esc && is "]" c) (some []) r
 
 unfoldable pub bracketAt : Option (List ℕ) → Reading
 bracketAt none = reading (item (same 91)) 0

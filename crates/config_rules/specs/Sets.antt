@@ -31,7 +31,8 @@ itself n c = n .some && eqb (n .low) c
 
 -- at d the set names c: d ends a range that holds it, or no range starts before d
 unfoldable pub namesAt : Named → ℕ → ℕ → Bool
-namesAt n d c = choose (escapes n d) false (choose (dashes n d) false (choose (n .dash) (within (n .low) d c) (itself n c)))
+namesAt n d c =
+    choose (escapes n d) false (choose (dashes n d) false (choose (n .dash) (within (n .low) d c) (itself n c)))
 
 -- a `-` at the end is itself
 unfoldable pub names : Named → List ℕ → ℕ → Bool

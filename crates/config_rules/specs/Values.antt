@@ -18,17 +18,21 @@ unfoldable pub isWhole : List ℕ → Bool
 isWhole v = ltb 0 (length v) && eqb (digitCount v) (length v) && leb (value v) 4_294_967_295
 
 unfoldable pub styleOf : List ℕ → IndentStyle
-styleOf v = choose (same v (codes "tab")) IndentStyle.Tabs (choose (same v (codes "space")) IndentStyle.Spaces IndentStyle.Unset)
+styleOf v =
+    choose (same v (codes "tab")) IndentStyle.Tabs
+    (choose (same v (codes "space")) IndentStyle.Spaces IndentStyle.Unset)
 
 unfoldable pub sizeOf : List ℕ → IndentSize
 sizeOf v =
-    choose (same v (codes "tab")) IndentSize.UseTabWidth (choose (isWhole v) (IndentSize.Value (value v)) IndentSize.Unset)
+    choose (same v (codes "tab")) IndentSize.UseTabWidth
+    (choose (isWhole v) (IndentSize.Value (value v)) IndentSize.Unset)
 
 unfoldable pub tabOf : List ℕ → TabWidth
 tabOf v = choose (isWhole v) (TabWidth.Value (value v)) TabWidth.Unset
 
 unfoldable pub maxOf : List ℕ → MaxLineLen
-maxOf v = choose (same v (codes "off")) MaxLineLen.Off (choose (isWhole v) (MaxLineLen.Value (value v)) MaxLineLen.Unset)
+maxOf v =
+    choose (same v (codes "off")) MaxLineLen.Off (choose (isWhole v) (MaxLineLen.Value (value v)) MaxLineLen.Unset)
 
 unfoldable pub endingOf : List ℕ → ConfigEnding
 endingOf v =

@@ -10,7 +10,8 @@ use Rattle.config_rules.specs.Lines.{Line, lineOf, withoutBom}
 
 unfoldable pub linesFrom : List ℕ → ℕ → List Line
 linesFrom text at =
-    choose (leb at (length text)) (map (λ (l : List ℕ). lineOf (trim (decode l))) (pieces (splitOn "\n" (drop at text)))) []
+    choose (leb at (length text))
+    (map (λ (l : List ℕ). lineOf (trim (decode l))) (pieces (splitOn "\n" (drop at text)))) []
 
 -- the lines start at r: behind U+FEFF, if the text starts with it
 pub record StartOf (text : List ℕ) (r : ℕ) : Type 0 where

@@ -1,5 +1,5 @@
 -- A name: its characters, its slashes.
-use Prim.Native.Nat.{ℕ, suc, _+_, _-_, _≤_, _<_}
+use Prim.Native.Nat.{ℕ, suc, _+_, _≤_, _<_}
 use mathlib.Core.Bool.{Bool, true, false, not, _||_, true≢false}
 use mathlib.Core.List.{List, [], _∷_, _++_, append-assoc, append-nil}
 use mathlib.Core.Path.{_≡_, refl, sym, ap, _∙_}
@@ -16,7 +16,6 @@ use Rattle.rules.specs.Basics.{choose, is, firstIs}
 use Rattle.rules.proofs.Choose.{choose-case}
 use Rattle.rules.proofs.StartsBytes.{on-decode, first-encode, steady-is}
 use Rattle.config_rules.specs.Name.{Item, Token, tokensOf}
-use Rattle.config_rules.specs.Name.Item.{same}
 use Rattle.config_rules.specs.Name.Token.{item}
 use Rattle.config_rules.specs.Globs.{rooted, isSlash, hasSlash, anchored, matches}
 use Rattle.glob_pass.specs.Kinds.{rangeIn, plainAt, braceOf, heldAt, held}
@@ -162,11 +161,6 @@ module _ (ks cs : List ℕ) (i : ℕ) (w : Seeking ks cs i) where
   seeking-end h = sym (w .is ∙ ap hasSlash (drop-of-length-le (held ks cs) {i = i} (rw (length-held ks cs (w .same)) h)))
 
 -- ---- the whole
-
-place-one : (b : Bool) → firstPlace b ≤ 1
-unfolding firstPlace choose
-place-one true = omega arith
-place-one false = omega arith
 
 pub place-first : (b : Bool) → b ≡ true → (0 ≡ firstPlace b) × (0 ≤ 1)
 unfolding firstPlace choose

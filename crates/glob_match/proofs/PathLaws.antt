@@ -1,5 +1,5 @@
 -- A path read from its end: the values at what is read of it.
-use Prim.Native.Nat.{ℕ, zero, suc, _+_, _-_, _≤_, _<_}
+use Prim.Native.Nat.{ℕ, zero, suc, _-_, _≤_, _<_}
 use mathlib.Core.Bool.{Bool, true, false, _||_, or-comm}
 use mathlib.Core.List.{List, [], _∷_, _++_, append-assoc, append-nil}
 use mathlib.Core.Path.{_≡_, refl, sym, ap, _∙_}
@@ -109,9 +109,6 @@ module _ (ks cs path : List ℕ) (e : ℕ) (v : List Bool) (found : Bool) (l : L
       let y : e ≡ 0 = omega arith in
       let a : decode (take e path) ≡ [] = ap (λ (i : ℕ). decode (take i path)) y in
       sym (w .all ∙ ap (λ (x : List ℕ). x ++ w .text) a)
-
-  pub reading-room : (length cs ≤ length l) × (length cs < length h) × (length cs < length v)
-  reading-room = (w .at .slots, w .at .hits, w .at .room)
 
   module _ (z : e ≤ 0) (l' : List ℕ) (h' : List Bool) (R : RangesNext ks cs v 47 l l' h h') (new : List Bool) (p : Passed (held ks cs) 47 false h' v new) where
     last : ReadAt ks cs (47 ∷ decode path) new (found || getD new 0 false) l' h'

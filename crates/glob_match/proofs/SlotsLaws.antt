@@ -1,8 +1,8 @@
 -- The loop over the ranges of a name.
-use Prim.Native.Nat.{ℕ, zero, suc, _+_, _-_, _≤_, _<_}
+use Prim.Native.Nat.{ℕ, zero, suc, _+_, _≤_, _<_}
 use mathlib.Core.Bool.{Bool, true, false, true≢false}
 use mathlib.Core.List.{List, [], _∷_}
-use mathlib.Core.Logic.{_⊎_, ⊎-elim}
+use mathlib.Core.Logic.{⊎-elim}
 use mathlib.Core.Path.{_≡_, refl, sym, ap, _∙_}
 use native.Mathlib.Numerals.{add-one}
 use native.Mathlib.Omega.{arith}
@@ -222,9 +222,6 @@ module _ (ks cs : List ℕ) (v : List Bool) (c : ℕ) (l₀ : List ℕ) (h₀ : 
                 left = λ j x y z. after-kept j (omega arith) y z (hereAt (held ks cs) (j + 1)) s (w .at s U S .left j (omega arith) y z);
               };
         }
-
-pub some-range : (ks cs : List ℕ) (p : ℕ) → Spaced cs ks → getD ks p 0 ≡ 9 → 0 < rangeMore cs (p + 1)
-some-range ks cs p w e = w .some p e
 
 -- ---- nothing read
 

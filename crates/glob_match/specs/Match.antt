@@ -20,7 +20,8 @@ pub record SlotsAt (ks cs : List ℕ) (s : List ℕ) (l : List ℕ) : Type 0 whe
 pub record RangesNext (ks cs : List ℕ) (v : List Bool) (c : ℕ) (l l' : List ℕ) (h h' : List Bool) : Type 0 where
   pub long : length l' ≡ length l
   pub room : length h' ≡ length h
-  pub is : (s : List ℕ) → Values (held ks cs) s v → SlotsAt ks cs s l → Hits (held ks cs) (c ∷ s) h' × SlotsAt ks cs (c ∷ s) l'
+  pub is : (s : List ℕ) → Values (held ks cs) s v → SlotsAt ks cs s l
+      → Hits (held ks cs) (c ∷ s) h' × SlotsAt ks cs (c ∷ s) l'
 
 -- the whole string, or also what remains of it from some place on
 unfoldable pub matchesAt : List Token → Bool → List ℕ → Bool

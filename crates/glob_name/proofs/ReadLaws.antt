@@ -16,7 +16,6 @@ use Rattle.rules.specs.Basics.{choose, is, at, firstIs, startsWith}
 use Rattle.rules.proofs.Choose.{choose-true, choose-false}
 use Rattle.config_rules.specs.Numbers.{isDigit, digitCount, sign, numberLen}
 use Rattle.config_rules.specs.Name.{reading, consTo, toBracket, bracketAt, escapeAt, rangeAt, braceAt, starAt, slashAt, readingAt}
-use Rattle.config_rules.specs.Name.Item.{one}
 use Rattle.config_rules.specs.Name.Token.{item, opens}
 use Rattle.glob_pass.specs.Kinds.{upTo, rangeIn, plainAt, braceOf, heldAt}
 use Rattle.glob_name.specs.declared.read.Read.{Read}

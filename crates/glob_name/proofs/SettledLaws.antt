@@ -10,7 +10,7 @@ use lib.ListN.{length, getD}
 use Rattle.unicode.specs.Unicode.{within}
 use Rattle.unicode.proofs.Tests.{by-test}
 use Rattle.rules.specs.Basics.{choose, isEmpty}
-use Rattle.config_rules.specs.Name.{innermost, closers, unopened, openers, settledAt, settled, tokens, tokensOf}
+use Rattle.config_rules.specs.Name.{innermost, closers, unopened, openers, settledAt, settled, tokensOf}
 use Rattle.glob_pass.specs.Kinds.{plainAt, braceOf, heldAt, held}
 use Rattle.glob_name.specs.Read.{Raw, Spaced, RawKinds}
 use Rattle.glob_name.specs.Braces.{rightEvent, leftEvent, marked, stackAfter, isLone, openRight, markRight, markLeft}

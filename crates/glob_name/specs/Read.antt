@@ -51,10 +51,13 @@ unfoldable pub starRead : Bool → List ℕ → Read
 starRead deep s = choose (firstIs (is "*") s) (record { kind = 7; more = 1; deep = deep }) (plainRead 6 0)
 
 unfoldable pub slashRead : Bool → List ℕ → Read
-slashRead deep s = choose deep (plainRead 0 0) (choose (at s "**/") (record { kind = 11; more = 0; deep = true }) (plainRead 0 0))
+slashRead deep s =
+    choose deep (plainRead 0 0) (choose (at s "**/") (record { kind = 11; more = 0; deep = true }) (plainRead 0 0))
 
 unfoldable pub singleRead : ℕ → Read
-singleRead c = choose (is "?" c) (plainRead 5 0) (choose (is "," c) (plainRead 2 0) (choose (is "}" c) (plainRead 1 0) (plainRead 0 0)))
+singleRead c =
+    choose (is "?" c) (plainRead 5 0)
+    (choose (is "," c) (plainRead 2 0) (choose (is "}" c) (plainRead 1 0) (plainRead 0 0)))
 
 unfoldable pub openedRead : List ℕ → ℕ → ℕ → ℕ → Read
 openedRead cs i c end =
@@ -82,7 +85,8 @@ pub record Raw (ks : List ℕ) : Type 0 where
 -- where a range stands, its characters follow as parts
 pub record Spaced (cs ks : List ℕ) : Type 0 where
   pub some : (j : ℕ) → getD ks j 0 ≡ 9 → 0 < rangeMore cs (j + 1)
-  pub parts : (j : ℕ) → getD ks j 0 ≡ 9 → (q : ℕ) → j < q → q ≤ j + rangeMore cs (j + 1) → q < length ks → getD ks q 0 ≡ 4
+  pub parts : (j : ℕ) → getD ks j 0 ≡ 9 → (q : ℕ) → j < q → q ≤ j + rangeMore cs (j + 1) → q < length ks
+      → getD ks q 0 ≡ 4
 
 pub record RawKinds (cs ks : List ℕ) : Type 0 where
   pub long : length ks ≡ length cs

@@ -1,7 +1,7 @@
 // Braces and commas that stand for themselves, found with a stack of flags from each side.
 ghost use mathlib.Core.Path.{_≡_};
 ghost use mathlib.Core.List.{[]};
-ghost use Prim.Native.Nat.{_+_, _<_};
+ghost use Prim.Native.Nat.{_<_};
 ghost use lib.ListN.{length};
 ghost use Rattle.glob_name.specs.Braces.{rightEvent, leftEvent, marked, Happened, markRight, markLeft};
 

@@ -5,7 +5,8 @@ ghost use lib.Dec.{eqb};
 ghost use lib.ListN.{length, drop};
 ghost use Rattle.rules.specs.Basics.{firstIs, at};
 ghost use Rattle.config_rules.specs.Numbers.{digitCount, numberLen};
-ghost use Rattle.glob_name.specs.Read.{Counted, restMore, rangeMore, longer, Ends, plainRead, starRead, slashRead, singleRead, openedRead, TokenRead, RawKinds};
+ghost use Rattle.glob_name.specs.Read.{Counted, restMore, rangeMore, longer, Ends, plainRead, starRead};
+ghost use Rattle.glob_name.specs.Read.{slashRead, singleRead, openedRead, TokenRead, RawKinds};
 
 // A token's kind, how many more characters it has, and whether a `/**/` goes on behind it.
 pub struct Read {

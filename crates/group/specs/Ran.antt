@@ -7,7 +7,7 @@ use lib.ListN.{length, take, replicate}
 use Rattle.unicode.specs.Unicode.{WellFormed}
 use Rattle.rules.specs.Basics.{choose}
 use Rattle.rules.specs.declared.Refusal.{Refusal}
-use Rattle.group_rules.specs.Grouping.{Grouping, grouping}
+use Rattle.group_rules.specs.Grouping.{Grouping}
 use Rattle.group_rules.specs.Passes.{openedText, closedText}
 use Rattle.group_rules.specs.Outcome.{groupScratch, groupingIn, groupOutcome, groupedText, groupOutputFor, groupOutput}
 use Rattle.group_rules.specs.declared.GroupOutcome.{GroupOutcome}
@@ -25,7 +25,9 @@ pub record CodesFit (l : List ℕ) (n : ℕ) : Type 0 where
 
 -- what a text comes to in an output of so many bytes
 abbrev pub textOutcome : ℕ → List ℕ → GroupOutcome
-textOutcome room t = choose (ltb room (length t)) (GroupOutcome.Refused (Refusal.OutputShort (length t))) (GroupOutcome.Grouped (length t))
+textOutcome room t =
+    choose (ltb room (length t)) (GroupOutcome.Refused (Refusal.OutputShort (length t)))
+    (GroupOutcome.Grouped (length t))
 
 -- the text of the first n codes of l
 abbrev pub codesText : List ℕ → ℕ → List ℕ

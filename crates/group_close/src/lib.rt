@@ -2,8 +2,7 @@
 // goes on stand on a stack in front of the bytes that are left, the nearest on top, 0 for a bracket.
 ghost use mathlib.Core.Path.{_≡_};
 ghost use mathlib.Core.List.{_∷_, []};
-ghost use Prim.Native.Nat.{_+_, _-_, _≤_, _<_, _^_};
-ghost use lib.ListN.{length};
+ghost use Prim.Native.Nat.{_+_, _≤_, _<_, _^_};
 ghost use Rattle.buffer.specs.Buffer.{part, Appended};
 ghost use Rattle.group_rules.specs.Passes.{closesBefore, closeEnd, closedText};
 ghost use Rattle.group_close.specs.Forth.{Room, Closed, Stepped, Ready, ForthTo};

@@ -263,9 +263,6 @@ module _ {l l′ : List ℕ} {n at top : ℕ} {r : Spot} where
 
 -- ---- the codes one after the other
 
-pub backed-room : {cs l : List ℕ} {n left at top : ℕ} → 0 < left → Backed cs l n left at top → Room l n at top 1
-backed-room h b = record { room = omega (arith, b .room); within = b .within; height = omega (arith, b .height); fits = b .fits }
-
 drop-back : (l : List ℕ) (i : ℕ) → 0 < i → i ≤ length l → drop (i - 1) l ≡ getD l (i - 1) 0 ∷ drop i l
 drop-back l i h k = drop-cons l (i - 1) 0 (omega arith) ∙ ap (λ m. getD l (i - 1) 0 ∷ drop m l) same
   where
@@ -370,12 +367,6 @@ too-deep depth b code h = rw (le-ltb depth 64 h)
 
 pub entered : (depth : ℕ) (x t : Bool) → t ≡ (ltb depth 64 && x) → t ≡ true → depth < 64
 entered depth x t e f = ltb-true depth 64 (and-left (ltb depth 64) x (sym e ∙ f))
-
-pub back-none : {l : List ℕ} {n : ℕ} (s : Back) → Backed (take n l) l n (s .left) (s .at) (s .top) → BackTo l l n 1 (s .left) s
-back-none s b = record { backed = b; lower = omega arith; whole = λ x. absurd (omega arith); size = refl }
-
-pub back-one : {l l′ : List ℕ} {n : ℕ} (s r : Back) → BackTo l l′ n 1 (s .left - 1) r → BackTo l l′ n 1 (s .left) r
-back-one s r b = record { backed = b .backed; lower = omega (arith, b .lower); whole = b .whole; size = b .size }
 
 pub pushed-size : {l l′ : List ℕ} {at b r : ℕ} → Pushed l l′ at b r → length l′ ≡ length l
 pushed-size {l} {l′} {at} {b} {r} w = ap length (w .is) ∙ length-set l r b

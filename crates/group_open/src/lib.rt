@@ -5,7 +5,7 @@ ghost use mathlib.Core.Path.{_≡_};
 ghost use mathlib.Core.List.{_∷_};
 ghost use mathlib.Core.Bool.{_&&_};
 ghost use lib.Dec.{eqb, ltb};
-ghost use Prim.Native.Nat.{_+_, _*_, _-_, _≤_, _<_};
+ghost use Prim.Native.Nat.{_*_, _-_, _≤_, _<_};
 ghost use lib.ListN.{length, take};
 ghost use Rattle.buffer.specs.Buffer.{part};
 ghost use Rattle.group_rules.specs.Grouping.{takes};

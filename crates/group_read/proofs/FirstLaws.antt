@@ -1,21 +1,12 @@
 -- The first characters of operators: the ranges that crate operators tests are those of the rules' table.
-use Prim.Native.Nat.{ℕ, _≤_}
-use mathlib.Core.Bool.{Bool, true, false, _&&_}
+use Prim.Native.Nat.{ℕ}
+use mathlib.Core.Bool.{Bool, true, false}
 use mathlib.Core.Path.{_≡_, refl, sym, _∙_}
-use lib.Dec.{eqb, leb}
-use borrow.Author.Tests.{ne-eqb, eqb-true, eqb-false, leb-true}
-use Rattle.unicode.specs.Unicode.{within}
+use lib.Dec.{eqb}
+use borrow.Author.Tests.{ne-eqb, eqb-true, eqb-false}
 use Rattle.rules.proofs.Computing.{computing}
 use Rattle.rules.specs.Operators as F
 use Rattle.group_rules.specs.Expression.{startsOperator}
-
-outside : (lo hi c : ℕ) → (lo ≤ c → c ≤ hi → ⊥) → within lo hi c ≡ false
-outside lo hi c k = go (leb lo c) (leb c hi) refl refl
-  where
-    go : (a b : Bool) → leb lo c ≡ a → leb c hi ≡ b → (a && b) ≡ false
-    go true true p q = absurd (k (leb-true lo c p) (leb-true c hi q))
-    go true false p q = refl
-    go false b p q = refl
 
 pub by-equal : {P : Type 0} (c k : ℕ) → (c ≡ k → P) → ((c ≡ k → ⊥) → P) → P
 by-equal {P} c k f g = go (eqb c k) refl

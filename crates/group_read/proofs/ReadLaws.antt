@@ -1,6 +1,6 @@
 -- Laws of the reader's steps.
 use Prim.Native.Nat.{ℕ, suc, _+_, _-_, _≤_, _<_}
-use mathlib.Core.Bool.{Bool, true, false, not}
+use mathlib.Core.Bool.{Bool, true, false}
 use mathlib.Core.List.{List, [], _∷_, _++_, reverse, reverse-cons, append-assoc, append-nil}
 use mathlib.Core.Path.{_≡_, refl, ap, sym, _∙_, subst}
 use native.Mathlib.Omega.{arith}
@@ -11,7 +11,7 @@ use lib.Seq.{take-suc-set, drop-cons}
 use borrow.Author.Tests.{eq-eqb, ne-eqb, le-leb, lt-leb}
 use Rattle.buffer.specs.Buffer.{part}
 use Rattle.buffer.proofs.RegionLaws.{part-more}
-use Rattle.rules.specs.Basics.{is, oneOf, isBlank, isIdent}
+use Rattle.rules.specs.Basics.{oneOf, isBlank, isIdent}
 use Rattle.rules.specs.SplitOperation.{isSign, keywords}
 use Rattle.rules.proofs.Choose.{choose-true, choose-false}
 use Rattle.group_rules.specs.Expression.{Token, word, sign, opener, closer, due, inName, inNumber, after, inOperator, state, Step, next, refused, maxDepth, isDigit, openStep, dueStep, closeStep, afterStep, stageStep, startsOperator}
@@ -22,11 +22,7 @@ use Rattle.group_read.specs.Read.{stateOf, Holds, StepIs, DueRoom, onwar
 use Rattle.group_read.specs.declared.Phase.the-variants.{Due, Name, Number, After, Operator}
 use Rattle.group_read.specs.declared.Reader.{Reader}
 use Rattle.group_read.specs.declared.Next.{Next}
-
-coded-append : (a b : List Token) → coded (a ++ b) ≡ coded a ++ coded b
-unfolding coded
-coded-append [] b = refl
-coded-append (t ∷ a) b = ap (λ l. codesOf t ++ l) (coded-append a b) ∙ sym (append-assoc (codesOf t) (coded a) (coded b))
+use Rattle.group_rules.proofs.PassLaws.{coded-append}
 
 coded-one : (t : Token) → coded (t ∷ []) ≡ codesOf t
 unfolding coded

@@ -5,7 +5,9 @@ use mathlib.Core.List.{List, [], _++_, reverse}
 use mathlib.Core.Path.{_≡_}
 use lib.ListN.{length, take, getD}
 use Rattle.buffer.specs.Buffer.{part}
-use Rattle.group_rules.specs.Expression.{maxDepth, Token, word, operator, Stage, due, inName, inNumber, after, inOperator, State, state, Step, next, refused, dueStep, afterStep, stageStep, Reading, read, refusedAt, ending, reading}
+use Rattle.group_rules.specs.Expression.{maxDepth, Token, Stage, due, inName, inNumber, after, inOperator, State, state}
+use Rattle.group_rules.specs.Expression.{Step, next, refused, dueStep, afterStep, stageStep, Reading, read, refusedAt}
+use Rattle.group_rules.specs.Expression.{ending, reading}
 use Rattle.group_rules.specs.Passes.{coded}
 use Rattle.group_read.specs.declared.Phase.{Phase}
 use Rattle.group_read.specs.declared.Phase.the-variants.{Due, Name, Number, After, Operator}
@@ -70,7 +72,8 @@ pub record StepIs (source l : List ℕ) (i : ℕ) (st : Step) (q : Next) : Type 
 -- the character at i, whatever the tokens are
 pub record Steps (source l l′ : List ℕ) (i : ℕ) (r : Reader) (q : Next) : Type 0 where
   pub is : (ts : List Token) → Holds source l i r ts
-      → StepIs source l′ (suc i) (stageStep maxDepth (stageOf source i (r .phase) (r .start)) (r .depth) ts (getD source i 0)) q
+      → StepIs source l′ (suc i)
+      (stageStep maxDepth (stageOf source i (r .phase) (r .start)) (r .depth) ts (getD source i 0)) q
   pub size : length l′ ≡ length l
 
 pub record ReaderRoom (source l : List ℕ) (i : ℕ) (r : Reader) : Type 0 where
@@ -155,7 +158,8 @@ pub record CodedIs (l : List ℕ) (g : Reading) (n : ℕ) (q : Coded) : Type 0 w
 
 pub record EndAs (source : List ℕ) (r : Reader) (q : Coded) : Type 0 where
   pub is : (l : List ℕ) (ts : List Token) → Holds source l (length source) r ts
-      → CodedIs l (ending (length source) (stageOf source (length source) (r .phase) (r .start)) (r .depth) ts) (length source) q
+      → CodedIs l (ending (length source) (stageOf source (length source) (r .phase) (r .start)) (r .depth) ts)
+      (length source) q
 
 pub record SourceFits (source l : List ℕ) : Type 0 where
   pub fits : 3 * length source ≤ length l

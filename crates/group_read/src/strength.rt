@@ -1,7 +1,6 @@
 // The strengths of 01's operators, 0 for what is none: the table that splitting breaks by.
 ghost use mathlib.Core.Path.{_≡_};
 ghost use mathlib.Core.List.{[], _∷_};
-ghost use Prim.Native.Nat.{_<_};
 ghost use lib.ListN.{getD};
 ghost use Rattle.rules.specs.Operators.{strengths};
 ghost use Rattle.group_rules.specs.Grouping.{strengthOf};

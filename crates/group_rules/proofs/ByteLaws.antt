@@ -12,13 +12,13 @@ use Rattle.unicode.specs.Unicode.{encodeChar, encode, decode, WellFormed}
 use Rattle.unicode.proofs.Table.{Bytes, bytes}
 use Rattle.unicode.proofs.Table as Tab
 use Rattle.unicode.proofs.Decode.{Ascii, ascii-append, encode-ascii, encode-cons, encode-nil}
-use Rattle.rules.specs.Basics.{choose, is, oneOf, isBlank, isIdent}
+use Rattle.rules.specs.Basics.{choose, oneOf, isBlank, isIdent}
 use Rattle.rules.specs.Operators.{operators}
 use Rattle.rules.specs.SplitOperation.{isSign, keywords}
 use Rattle.rules.proofs.Choose.{choose-false, choose-case}
 use Rattle.rules.proofs.StartsBytes.{on-decode}
-use Rattle.group_rules.specs.Expression.{maxDepth, Token, word, operator, closer, Stage, due, inName, inNumber, after, inOperator, State, state, Step, next, refused, isDigit, startsOperator, dueStep, afterStep, stageStep, step, Reading, read, refusedAt, onStep, readFrom, readingTo, reading}
-use Rattle.group_rules.specs.Grouping.{Tree, operand, signed, bracketed, operation, written, text}
+use Rattle.group_rules.specs.Expression.{maxDepth, Token, word, operator, closer, Stage, due, inName, inNumber, after, inOperator, State, state, Step, next, refused, isDigit, startsOperator, dueStep, afterStep, stageStep, step, Reading, refusedAt, onStep, readFrom, readingTo, reading}
+use Rattle.group_rules.specs.Grouping.{Tree, operand, signed, bracketed, operation, written}
 use Rattle.group_rules.proofs.TableLaws.{or-cases, allOf}
 use Rattle.group_rules.proofs.SpelledLaws.{AllSpelled, SpelledToken, IsOperator, one, two, lowBytes, one-low, digit-low, ident-low, sign-low, word-ascii, operator-ascii, spelled-first, spelled-second}
 use Rattle.group_rules.proofs.TokenLaws.{tokensOf}

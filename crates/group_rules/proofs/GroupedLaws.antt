@@ -11,14 +11,7 @@ use Rattle.rules.specs.Basics.{codes}
 use Rattle.rules.proofs.Choose.{choose-case}
 use Rattle.group_rules.specs.Expression.{Token, word, sign, operator, opener, closer}
 use Rattle.group_rules.specs.Grouping.{Tree, operand, signed, bracketed, operation, strengthOf, takes, extend, Left, nothing, leftOf, Frame, withSigns, joinLeft, Spot, dueIn, done, Parse, parse, feed, feedAt, feedDue, feedDone, feedClosed, start, treeAt, treeOf}
-use Rattle.group_rules.specs.Promises.{onLeft, onRight, underSign, Grouped, toRight}
-
--- no operation, so it may stand anywhere
-bare-left : (op : List ℕ) (x : Tree) → underSign x → onLeft op x
-bare-left op (operand w) h = tt
-bare-left op (signed c e) h = tt
-bare-left op (bracketed e) h = tt
-bare-left op (operation o l r) h = absurd h
+use Rattle.group_rules.specs.Promises.{onRight, underSign, Grouped, toRight}
 
 bare-right : (op : List ℕ) (x : Tree) → underSign x → onRight op x
 bare-right op (operand w) h = tt

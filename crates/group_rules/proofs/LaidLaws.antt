@@ -5,7 +5,7 @@ use mathlib.Core.List.{List, [], _∷_, _++_, reverse}
 use mathlib.Core.Path.{_≡_, refl}
 use native.Mathlib.Omega.{arith}
 use lib.Dec.{eqb}
-use Rattle.rules.specs.Basics.{is, oneOf, isBlank, isIdent}
+use Rattle.rules.specs.Basics.{oneOf, isBlank, isIdent}
 use Rattle.rules.specs.Operators.{operators}
 use Rattle.rules.specs.SplitOperation.{isSign, keywords}
 use Rattle.rules.proofs.Choose.{choose-case}

@@ -6,7 +6,7 @@ use mathlib.Core.Path.{_≡_, refl, ap, sym, _∙_}
 use native.Mathlib.Omega.{arith}
 use lib.Dec.{eqb, lit≤}
 use borrow.Author.Tests.{eq-eqb, ne-eqb, le-ltb, lt-ltb, le-leb, lt-leb}
-use Rattle.rules.specs.Basics.{choose, codes}
+use Rattle.rules.specs.Basics.{choose}
 use Rattle.rules.proofs.Choose.{choose-true, choose-false}
 use Rattle.group_rules.specs.Expression.{Token, operator, closer}
 use Rattle.group_rules.specs.Grouping.{Tree, operand, signed, bracketed, operation, strengthOf, takes, written}
@@ -42,7 +42,7 @@ codesWith (signed c e) m = c ∷ codesWith e m
 codesWith (bracketed e) m = 14 ∷ codesWith e (15 ∷ m)
 codesWith (operation op l r) m = codesWith l (strengthOf op ∷ (op ++ (strengthOf op + 16) ∷ codesWith r m))
 
-coded-append : (a b : List Token) → coded (a ++ b) ≡ coded a ++ coded b
+pub coded-append : (a b : List Token) → coded (a ++ b) ≡ coded a ++ coded b
 unfolding coded
 coded-append [] b = refl
 coded-append (t ∷ a) b = ap (λ l. codesOf t ++ l) (coded-append a b) ∙ sym (append-assoc (codesOf t) (coded a) (coded b))

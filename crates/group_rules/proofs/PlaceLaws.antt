@@ -14,8 +14,9 @@ use Rattle.rules.specs.SplitOperation.{isSign, keywords}
 use Rattle.group_rules.specs.Promises.{IsRead, Begins, Longest}
 use Rattle.rules.proofs.Computing.{computing}
 use Rattle.rules.proofs.Choose.{choose-case, choose-true, choose-false}
-use Rattle.group_rules.proofs.TableLaws.{or-cases, and-first, and-second, and-none, not-of, allOf, found}
+use Rattle.group_rules.proofs.TableLaws.{or-cases, and-none, not-of, allOf, found}
 use Rattle.group_rules.specs.Expression.{maxDepth, Token, word, operator, opener, closer, Stage, due, inName, inNumber, after, inOperator, State, state, Step, next, refused, startsOperator, openStep, closeStep, dueStep, afterStep, stageStep, step, Reading, read, refusedAt, ended, ending, onStep, readFrom, readingTo, reading}
+use Rattle.unicode.proofs.Tests.{and-left, and-right}
 
 -- what goes on so that an expression is read
 pub record Completed (i : ℕ) (s : State) : Type 0 where
@@ -77,14 +78,14 @@ same-under : (k w : List ℕ) → hasNone k ≡ true → same k (w ++ 95 ∷ [])
 unfolding same hasNone
 same-under [] [] h = refl
 same-under [] (x ∷ w) h = refl
-same-under (c ∷ k) [] h = ap (λ (b : Bool). b && same k []) (not-of (eqb c 95) (and-first (not (eqb c 95)) (hasNone k) h))
-same-under (c ∷ k) (x ∷ w) h = ap (λ (b : Bool). eqb c x && b) (same-under k w (and-second (not (eqb c 95)) (hasNone k) h)) ∙ and-none (eqb c x)
+same-under (c ∷ k) [] h = ap (λ (b : Bool). b && same k []) (not-of (eqb c 95) (and-left (not (eqb c 95)) (hasNone k) h))
+same-under (c ∷ k) (x ∷ w) h = ap (λ (b : Bool). eqb c x && b) (same-under k w (and-right (not (eqb c 95)) (hasNone k) h)) ∙ and-none (eqb c x)
 
 one-under : (ks : List (List ℕ)) (w : List ℕ) → allNone ks ≡ true → oneOf ks (w ++ 95 ∷ []) ≡ false
 unfolding oneOf allNone
 one-under [] w h = refl
 one-under (k ∷ ks) w h =
-    ap (λ (b : Bool). b || oneOf ks (w ++ 95 ∷ [])) (same-under k w (and-first (hasNone k) (allNone ks) h)) ∙ one-under ks w (and-second (hasNone k) (allNone ks) h)
+    ap (λ (b : Bool). b || oneOf ks (w ++ 95 ∷ [])) (same-under k w (and-left (hasNone k) (allNone ks) h)) ∙ one-under ks w (and-right (hasNone k) (allNone ks) h)
 
 keyword-under : (w : List ℕ) → oneOf keywords (w ++ 95 ∷ []) ≡ false
 keyword-under w = one-under keywords w (unfold allNone hasNone in refl)
@@ -114,7 +115,7 @@ one-a : (ks : List (List ℕ)) (a : ℕ) → allSecond ks ≡ true → oneOf ks 
 unfolding oneOf allSecond
 one-a [] a h = refl
 one-a (k ∷ ks) a h =
-    ap (λ (b : Bool). b || oneOf ks (a ∷ 97 ∷ [])) (same-a k a (and-first (notSecond k) (allSecond ks) h)) ∙ one-a ks a (and-second (notSecond k) (allSecond ks) h)
+    ap (λ (b : Bool). b || oneOf ks (a ∷ 97 ∷ [])) (same-a k a (and-left (notSecond k) (allSecond ks) h)) ∙ one-a ks a (and-right (notSecond k) (allSecond ks) h)
 
 no-a : (a : ℕ) → oneOf operators (a ∷ 97 ∷ []) ≡ false
 no-a a = one-a operators a (unfold allSecond notSecond in refl)

@@ -13,7 +13,8 @@ use Rattle.rules.specs.SplitOperation.{isSign}
 use Rattle.rules.proofs.Computing.{computing}
 use Rattle.group_rules.specs.Expression.{Token, word, sign, operator, opener, closer, isDigit}
 use Rattle.group_rules.specs.Grouping.{strengthOf}
-use Rattle.group_rules.proofs.TableLaws.{or-cases, and-first, and-second, allOf, found}
+use Rattle.group_rules.proofs.TableLaws.{or-cases, allOf, found}
+use Rattle.unicode.proofs.Tests.{and-left, and-right}
 
 unfoldable pub Plain : List ℕ → Type 0
 Plain [] = Unit {0}
@@ -35,20 +36,6 @@ unfoldable pub AllPlain : List Token → Type 0
 AllPlain [] = Unit {0}
 AllPlain (t ∷ ts) = PlainToken t × AllPlain ts
 
-pub plain-append : (a b : List ℕ) → Plain a → Plain b → Plain (a ++ b)
-unfolding Plain
-plain-append [] b h k = k
-plain-append (c ∷ a) b h k = (h .0, plain-append a b (h .1) k)
-
-pub plain-one : (c : ℕ) → 32 ≤ c → Plain (c ∷ [])
-unfolding Plain
-plain-one c h = (h, tt)
-
-pub all-append : (a b : List Token) → AllPlain a → AllPlain b → AllPlain (a ++ b)
-unfolding AllPlain
-all-append [] b h k = k
-all-append (c ∷ a) b h k = (h .0, all-append a b (h .1) k)
-
 pub all-first : (a b : List Token) → AllPlain (a ++ b) → AllPlain a
 unfolding AllPlain
 all-first [] b h = tt
@@ -61,7 +48,7 @@ all-second (c ∷ a) b h = all-second a b (unfold AllPlain in h .1)
 -- ---- the tests of a character
 
 pub within-plain : (lo hi c : ℕ) → 32 ≤ lo → within lo hi c ≡ true → 32 ≤ c
-within-plain lo hi c k h = let m = leb-true lo c (and-first (leb lo c) (leb c hi) h) in omega arith
+within-plain lo hi c k h = let m = leb-true lo c (and-left (leb lo c) (leb c hi) h) in omega arith
 
 pub is-plain : (k c : ℕ) → 32 ≤ k → eqb c k ≡ true → 32 ≤ c
 is-plain k c h e = let m = eqb-true c k e in omega arith
@@ -97,16 +84,16 @@ operators-right = refl
 plain-bytes : (w : List ℕ) → plainBytes w ≡ true → Plain w
 unfolding plainBytes Plain
 plain-bytes [] h = tt
-plain-bytes (b ∷ w) h = (leb-true 32 b (and-first (leb 32 b) (plainBytes w) h), plain-bytes w (and-second (leb 32 b) (plainBytes w) h))
+plain-bytes (b ∷ w) h = (leb-true 32 b (and-left (leb 32 b) (plainBytes w) h), plain-bytes w (and-right (leb 32 b) (plainBytes w) h))
 
 right-plain : (op : List ℕ) → right op ≡ true → PlainOperator op
 unfolding right
 right-plain op h =
-    let f = and-first (ltb 0 (strengthOf op) && leb (strengthOf op) 12) (plainBytes op) h in
+    let f = and-left (ltb 0 (strengthOf op) && leb (strengthOf op) 12) (plainBytes op) h in
     record {
-      chars = plain-bytes op (and-second (ltb 0 (strengthOf op) && leb (strengthOf op) 12) (plainBytes op) h);
-      positive = leb-true 1 (strengthOf op) (and-first (ltb 0 (strengthOf op)) (leb (strengthOf op) 12) f);
-      small = leb-true (strengthOf op) 12 (and-second (ltb 0 (strengthOf op)) (leb (strengthOf op) 12) f);
+      chars = plain-bytes op (and-right (ltb 0 (strengthOf op) && leb (strengthOf op) 12) (plainBytes op) h);
+      positive = leb-true 1 (strengthOf op) (and-left (ltb 0 (strengthOf op)) (leb (strengthOf op) 12) f);
+      small = leb-true (strengthOf op) 12 (and-right (ltb 0 (strengthOf op)) (leb (strengthOf op) 12) f);
     }
 
 pub operator-plain : (op : List ℕ) → oneOf operators op ≡ true → PlainOperator op

@@ -8,7 +8,7 @@ use lib.Dec.{eqb, leb}
 use lib.ListN.{length, length-append}
 use borrow.Author.Tests.{lt-leb, ne-eqb, eqb-true, leb-true}
 use Rattle.unicode.specs.Unicode.{within}
-use Rattle.rules.specs.Basics.{choose, is, same, oneOf, isBlank, isIdent}
+use Rattle.rules.specs.Basics.{choose, is, oneOf, isBlank, isIdent}
 use Rattle.rules.specs.Operators.{operators}
 use Rattle.rules.specs.SplitOperation.{isSign, keywords}
 use Rattle.rules.proofs.Computing.{computing}
@@ -16,9 +16,10 @@ use Rattle.rules.proofs.Choose.{choose-true, choose-false}
 use Rattle.group_rules.specs.Expression.{Token, word, sign, operator, opener, closer, due, inName, inNumber, after, inOperator, State, state, Step, next, isDigit, startsOperator, openStep, closeStep, dueStep, afterStep, stageStep, step, read, ended, ending, onStep, readFrom, readingTo}
 use Rattle.group_rules.specs.Grouping.{Tree, operand, signed, bracketed, operation, extend, leftOf, Frame, start, withSigns, joinLeft, join, dueIn, done, parse, feed, feedAt, feedDue, feedDone, feedClosed, treeAt, treeOf, written}
 use Rattle.group_rules.proofs.TokenLaws.{tokensOf}
-use Rattle.group_rules.proofs.TableLaws.{or-cases, and-first, and-second, not-of, allOf, found}
+use Rattle.group_rules.proofs.TableLaws.{or-cases, not-of, allOf, found}
 use Rattle.group_rules.proofs.SpelledLaws.{digit-ident, AllSpelled, SpelledToken, AllAre, name, number, IsWord, isName, isNumber, IsOperator, one, two, spelled-first, spelled-second}
 use Rattle.group_rules.specs.Promises.{unbracketed, SameTree}
+use Rattle.unicode.proofs.Tests.{and-left, and-right}
 
 -- every operation bracketed, and nothing else
 unfoldable pub bracketAll : Tree → Tree
@@ -101,7 +102,7 @@ ident-high c h =
     (λ h. let m = eqb-true c 95 h in omega arith) h
   where
     low : (a b : ℕ) → 48 ≤ a → within a b c ≡ true → 48 ≤ c
-    low a b k e = let m = leb-true a c (and-first (leb a c) (leb c b) e) in omega arith
+    low a b k e = let m = leb-true a c (and-left (leb a c) (leb c b) e) in omega arith
 
 module _ (c : ℕ) (h : 48 ≤ c) where
   not-low : (k : ℕ) → k < 48 → eqb c k ≡ false
@@ -245,11 +246,11 @@ module _ (limit : ℕ) where
     where
       go : (not (isBlank a) && not (eqb a 41) && startsOperator a) ≡ true → afterStep d ts a ≡ next (state (inOperator a) d ts)
       go k =
-          let f = and-first (not (isBlank a) && not (eqb a 41)) (startsOperator a) k in
+          let f = and-left (not (isBlank a) && not (eqb a 41)) (startsOperator a) k in
           unfold afterStep in
-          choose-false (isBlank a) _ _ (not-of (isBlank a) (and-first (not (isBlank a)) (not (eqb a 41)) f))
-          ∙ choose-false (eqb a 41) _ _ (not-of (eqb a 41) (and-second (not (isBlank a)) (not (eqb a 41)) f))
-          ∙ choose-true (startsOperator a) _ _ (and-second (not (isBlank a) && not (eqb a 41)) (startsOperator a) k)
+          choose-false (isBlank a) _ _ (not-of (isBlank a) (and-left (not (isBlank a)) (not (eqb a 41)) f))
+          ∙ choose-false (eqb a 41) _ _ (not-of (eqb a 41) (and-right (not (isBlank a)) (not (eqb a 41)) f))
+          ∙ choose-true (startsOperator a) _ _ (and-right (not (isBlank a) && not (eqb a 41)) (startsOperator a) k)
 
   -- an operator between spaces
   reads-operator : {op : List ℕ} → IsOperator op → (i d : ℕ) (ts : List Token) (cs : List ℕ)

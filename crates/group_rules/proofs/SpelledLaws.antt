@@ -13,7 +13,8 @@ use Rattle.rules.specs.Operators.{operators}
 use Rattle.rules.specs.SplitOperation.{isSign, keywords}
 use Rattle.group_rules.specs.Expression.{Token, word, sign, operator, opener, closer, Stage, due, inName, inNumber, after, inOperator, isDigit, startsOperator}
 use Rattle.group_rules.proofs.PlainLaws.{Plain, PlainToken, AllPlain, digit-plain, ident-plain, sign-plain, operator-plain}
-use Rattle.group_rules.proofs.TableLaws.{or-cases, and-first, and-second, allOf, found}
+use Rattle.group_rules.proofs.TableLaws.{or-cases, allOf, found}
+use Rattle.unicode.proofs.Tests.{and-left, and-right}
 
 -- every character passes the test
 unfoldable pub AllAre : (ℕ → Bool) → List ℕ → Type 0
@@ -115,7 +116,7 @@ all-plain (t ∷ ts) h = (token-plain t (h .0), all-plain ts (h .1))
 -- ---- and are ASCII
 
 within-low : (lo hi c : ℕ) → hi < 128 → within lo hi c ≡ true → c < 128
-within-low lo hi c k h = let m = leb-true c hi (and-second (leb lo c) (leb c hi) h) in omega arith
+within-low lo hi c k h = let m = leb-true c hi (and-right (leb lo c) (leb c hi) h) in omega arith
 
 is-low : (k c : ℕ) → k < 128 → eqb c k ≡ true → c < 128
 is-low k c h e = let m = eqb-true c k e in omega arith
@@ -152,7 +153,7 @@ lowBytes (b ∷ bs) = ltb b 128 && lowBytes bs
 low-bytes : (w : List ℕ) → lowBytes w ≡ true → Ascii w
 unfolding lowBytes
 low-bytes [] h = tt
-low-bytes (b ∷ w) h = (ltb-true b 128 (and-first (ltb b 128) (lowBytes w) h), low-bytes w (and-second (ltb b 128) (lowBytes w) h))
+low-bytes (b ∷ w) h = (ltb-true b 128 (and-left (ltb b 128) (lowBytes w) h), low-bytes w (and-right (ltb b 128) (lowBytes w) h))
 
 pub one-low : (ops : List (List ℕ)) (op : List ℕ) → allOf lowBytes ops ≡ true → oneOf ops op ≡ true → Ascii op
 one-low ops op h k = low-bytes op (found lowBytes ops op h k)

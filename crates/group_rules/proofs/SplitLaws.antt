@@ -1,8 +1,8 @@
 -- split_once breaks an accepted source at its loosest operators outside brackets.
-use Prim.Native.Nat.{ℕ, zero, suc, _+_, _-_}
+use Prim.Native.Nat.{ℕ, zero, suc, _+_}
 use mathlib.Core.Bool.{Bool, true, false, not, _&&_, _||_}
 use mathlib.Core.List.{List, [], _∷_, _++_, foldl, reverse, reverse-cons, reverse-reverse, append-assoc, append-nil}
-use mathlib.Core.Option.{Option, none, some}
+use mathlib.Core.Option.{Option, some}
 use mathlib.Core.Path.{_≡_, refl, ap, sym, _∙_}
 use native.Mathlib.Omega.{arith}
 use lib.Dec.{eqb}
@@ -20,7 +20,7 @@ use Rattle.rules.specs.Operators.{strengths}
 use Rattle.rules.specs.SplitOperation.{endsOperand, atomLen, Ops, OpStep, isSign, oneCharStep, twoCharStep, codeStep, freshStep, opStepAt, opStep, OpMark, opMark, marksFrom, noOps, topLevelOps, deeper, shallower, balanceStep, isZero, isBalanced, wordOn, hasWordFrom, hasWord, keywords, looser, loosest, breakAt, splitOnce}
 use Rattle.rules.proofs.Computing.{computing}
 use Rattle.rules.proofs.Choose.{choose-true, choose-false, choose-case}
-use Rattle.group_rules.specs.Expression.{Token, word, operator, Stage, due, inName, inNumber, after, inOperator, read, readingTo}
+use Rattle.group_rules.specs.Expression.{Token, operator, Stage, due, inName, inNumber, after, inOperator, read, readingTo}
 use Rattle.group_rules.specs.Grouping.{strengthOf}
 use Rattle.group_rules.proofs.TableLaws.{or-cases, or-false, and-none, not-of, unlike, allOf, found}
 use Rattle.group_rules.specs.Split.{plainMarks, operatorMarks, depthOf, marksBack, marksOf, inked, SplitsAlike}

@@ -8,6 +8,7 @@ use lib.Dec.{eqb}
 use borrow.Author.Tests.{eqb-true}
 use Rattle.rules.specs.Basics.{same, oneOf}
 use Rattle.rules.proofs.Prefix.{same-eq}
+use Rattle.unicode.proofs.Tests.{and-left, and-right}
 
 pub or-cases : {P : Type 0} (a b : Bool) → (a ≡ true → P) → (b ≡ true → P) → (a || b) ≡ true → P
 or-cases true b f g h = f refl
@@ -15,14 +16,6 @@ or-cases false b f g h = g h
 
 pub or-false : (a b : Bool) → a ≡ false → b ≡ false → (a || b) ≡ false
 or-false a b e f = ap (λ (x : Bool). x || b) e ∙ f
-
-pub and-first : (a b : Bool) → (a && b) ≡ true → a ≡ true
-and-first true b h = refl
-and-first false b h = h
-
-pub and-second : (a b : Bool) → (a && b) ≡ true → b ≡ true
-and-second true b h = h
-and-second false b h = let z : _≡_ {A = ℕ} 0 1 = cc in absurd (omega arith)
 
 pub and-none : (a : Bool) → (a && false) ≡ false
 and-none true = refl
@@ -48,5 +41,5 @@ pub found : (p : List ℕ → Bool) (ops : List (List ℕ)) (w : List ℕ) → a
 unfolding oneOf allOf
 found p [] w h k = let z : _≡_ {A = ℕ} 0 1 = cc in absurd (omega arith)
 found p (o ∷ os) w h k =
-    let r = found p os w (and-second (p o) (allOf p os) h) in
-    or-cases (same o w) (oneOf os w) (λ e. ap p (sym (same-eq o w e)) ∙ and-first (p o) (allOf p os) h) r k
+    let r = found p os w (and-right (p o) (allOf p os) h) in
+    or-cases (same o w) (oneOf os w) (λ e. ap p (sym (same-eq o w e)) ∙ and-left (p o) (allOf p os) h) r k

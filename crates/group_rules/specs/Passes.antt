@@ -66,7 +66,8 @@ openedText codes = opensAfter 0 (openBack codes .text) (openBack codes .spine) .
 -- `)` for each operation that ends before an operator of strength s
 unfoldable pub closesBefore : ℕ → List ℕ → List ℕ → Pass
 closesBefore s text [] = pass text []
-closesBefore s text (t ∷ spine) = let r = closesBefore s (text ++ 41 ∷ []) spine in choose (takes t s) (pass text (t ∷ spine)) r
+closesBefore s text (t ∷ spine) =
+    let r = closesBefore s (text ++ 41 ∷ []) spine in choose (takes t s) (pass text (t ∷ spine)) r
 
 -- before a closing bracket, or at the end
 unfoldable pub closeEnd : List ℕ → List ℕ → Pass

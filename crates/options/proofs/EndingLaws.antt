@@ -128,8 +128,3 @@ crlf-lf s e = rw e
 pub crlf-crlf : (s : List ℕ) → s ≡ codes "\r\n" → s ≡ asStr LineEnding.Crlf
 unfolding asStr
 crlf-crlf s e = e
-
-pub length-as-str : (e : LineEnding) → length (asStr e) ≤ 2
-unfolding asStr
-length-as-str LineEnding.Lf = omega arith
-length-as-str LineEnding.Crlf = omega arith

@@ -1,6 +1,6 @@
 -- Options as a host gives them.
 use Prim.Native.Nat.{ℕ, suc, _+_, _-_, _≤_, _<_}
-use mathlib.Core.Bool.{Bool, true, false, not, _&&_, and-false}
+use mathlib.Core.Bool.{Bool, true, false, not, and-false}
 use mathlib.Core.Path.{_≡_, refl, sym, ap, _∙_}
 use mathlib.Core.List.{List}
 use native.Mathlib.Omega.{arith}
@@ -22,6 +22,7 @@ use Rattle.options.specs.declared.numbers.EndingNamed.{EndingNamed}
 use Rattle.options.specs.declared.numbers.NewlineNamed.{NewlineNamed}
 use Rattle.options.proofs.ListLaws.{drop-next, times-one}
 use Rattle.options.proofs.HeldLaws.{stepped, in-held, held-again}
+use Rattle.unicode.proofs.Tests.{and-left}
 
 -- ---- the bytes of an indent: those before i are blank
 
@@ -62,9 +63,6 @@ module _ (s : List ℕ) where
 -- ---- the numbers
 
 -- a number that is none of the first is a successor: the clause for all others applies
-pub past-zero : (n : ℕ) → (n ≡ 0 → ⊥) → n ≡ suc (n - 1)
-past-zero n h = omega arith
-
 pub past-one : (n : ℕ) → (n ≡ 0 → ⊥) → (n ≡ 1 → ⊥) → n ≡ suc (suc (n - 2))
 past-one n h k = omega arith
 
@@ -73,13 +71,9 @@ past-two n h k m = omega arith
 
 -- ---- the options that choices name
 
-both-first : (a b : Bool) → (a && b) ≡ true → a ≡ true
-both-first true b e = refl
-both-first false b e = e
-
 indent-fits : (s : List ℕ) → validIndent s ≡ true → length s ≤ maxIndent
 unfolding validIndent
-indent-fits s e = leb-true (length s) maxIndent (both-first _ _ e)
+indent-fits s e = leb-true (length s) maxIndent (and-left _ _ e)
 
 pub times-fit : (s : List ℕ) (b : Bool) → b ≡ validIndent s → b ≡ true → length (times 1 s) ≤ maxIndent
 times-fit s b e f = rw times-one (indent-fits s (sym e ∙ f))

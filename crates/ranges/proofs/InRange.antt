@@ -1,8 +1,8 @@
 -- A range by the orders of a number against its two ends: what `inRange` says, said without large numbers.
-use Prim.Native.Nat.{ℕ, zero, suc, _+_, _-_, _≤_, _<_}
+use Prim.Native.Nat.{ℕ, zero, suc, _+_, _≤_, _<_}
 use mathlib.Core.Bool.{Bool, true, false, not, _&&_, _||_, and-false, and-true, and-comm, or-comm}
 use mathlib.Core.List.{List, [], _∷_}
-use mathlib.Core.Logic.{_⊎_, ⊎-elim}
+use mathlib.Core.Logic.{⊎-elim}
 use mathlib.Core.Path.{_≡_, refl, sym, ap, _∙_}
 use native.Mathlib.Nat.{zero-add, add-zero, add-comm}
 use native.Mathlib.Omega.{arith}
@@ -10,12 +10,12 @@ use borrow.Author.Tests.{lt-ltb, le-leb, lt-leb, eq-eqb, ne-eqb, eqb-true, eqb-f
 use lib.Dec.{eqb, ltb, leb}
 use lib.ListN.{length, drop, take}
 use Rattle.unicode.proofs.Tests.{split, by-test}
-use Rattle.rules.specs.Basics.{choose, is, firstIs}
+use Rattle.rules.specs.Basics.{choose, firstIs}
 use Rattle.rules.proofs.Choose.{choose-true, choose-false}
 use Rattle.config_rules.specs.Numbers.{isDigit, digitCount, sign, numberLen, isNumber, value, up, down, atMost, inRange}
 use Rattle.config_rules.specs.Globs.{Strings, someThen}
 use Rattle.ranges.specs.Slots.{allDigits, all, order, number, from, minus, size, inPlain, inMinus, valid, notAbove, notBelow, inside, near}
-use Rattle.ranges.proofs.OrderLaws.{wholeAt, whole-at, at, from-next, at-number, order-less, order-more, order-same, some-same}
+use Rattle.ranges.proofs.OrderLaws.{wholeAt, whole-at, at, from-next, at-number, order-less, order-more, order-same, some-same, and-assoc}
 
 -- ---- a number is digits
 
@@ -91,10 +91,6 @@ module _ (m : List ℕ) (x : ℕ) where
   below-minus =
       by-test (minus m) (λ t. rw (t, zero-add x, zero-add (value (drop 1 m))) (sym (order-ge x (value (drop 1 m)))))
       (λ t. rw t (le-leb 0 (value m + x) (omega arith)))
-
-and-assoc : (a b c : Bool) → ((a && b) && c) ≡ (a && (b && c))
-and-assoc true b c = refl
-and-assoc false b c = refl
 
 swapped : (p q r s : Bool) → ((p && q) || (r && s)) ≡ ((s && r) || (q && p))
 swapped p q r s = rw (and-comm s r, and-comm q p) (or-comm (p && q) (r && s))

@@ -2,16 +2,16 @@
 -- lowest on. Reading the path from its end, each digit is put before the ones read: the new digit decides, and where it
 -- equals the end's digit of that place the order so far stays.
 use Prim.Native.Nat.{ℕ, zero, suc, _+_, _-_, _*_, _≤_, _<_}
-use mathlib.Core.Bool.{Bool, true, false, not, _&&_, _||_, and-false, and-true, or-false, true≢false}
+use mathlib.Core.Bool.{Bool, true, false, _&&_, _||_, and-false, and-true, or-false, true≢false}
 use mathlib.Core.List.{List, [], _∷_, foldl}
-use mathlib.Core.Logic.{_⊎_, ⊎-elim}
+use mathlib.Core.Logic.{⊎-elim}
 use mathlib.Core.Path.{_≡_, refl, sym, ap, _∙_}
 use native.Mathlib.Omega.{arith}
 use borrow.Author.Tests.{lt-ltb, le-ltb}
 use lib.Dec.{ltb}
 use lib.ListN.{length, drop, take, getD}
 use Rattle.unicode.proofs.Tests.{split, in-range, and-left, and-right}
-use Rattle.rules.specs.Basics.{choose, is}
+use Rattle.rules.specs.Basics.{choose}
 use Rattle.config_rules.specs.Numbers.{isDigit, value}
 use Rattle.config_rules.specs.Globs.{Strings, someThen, never}
 use Rattle.ranges.specs.Slots.{digit, orderThen, valid, orderAt, allDigits, all, order, number, from}
@@ -79,7 +79,7 @@ value-small (c ∷ l) e =
     let v : value (c ∷ l) ≡ scale (length l) (digit c) + value l = value-cons c l in
     omega (arith, v, scale-le (length l) (digit c) 9 s, scale-nine (length l))
 
-scale-more : (i n : ℕ) → i ≤ n → scale i 1 ≤ scale n 1
+pub scale-more : (i n : ℕ) → i ≤ n → scale i 1 ≤ scale n 1
 unfolding scale
 scale-more zero n q = scale-one n
 scale-more (suc i) zero q = absurd (omega arith)
@@ -243,7 +243,7 @@ at-is p k zero s = refl
 at-is p k (suc j) [] = refl
 at-is p k (suc j) (c ∷ s) = at-is (λ (l : List ℕ). p (c ∷ l)) k j s
 
-and-assoc : (a b c : Bool) → ((a && b) && c) ≡ (a && (b && c))
+pub and-assoc : (a b c : Bool) → ((a && b) && c) ≡ (a && (b && c))
 and-assoc true b c = refl
 and-assoc false b c = refl
 

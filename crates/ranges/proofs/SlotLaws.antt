@@ -49,12 +49,6 @@ module _ (x c d e : ℕ) where
   unfolding slotStep choose
   slot-some z h g o q a b = rw (ne-eqb x 0 z, le-leb 48 c h, le-leb c 57 g, a .is, b .is)
 
-pub third : (x o q c d e : ℕ) → x < 256 → (x ≡ 0 → ⊥) → Ordered c d ((x - 1) / 3) o → Ordered c e ((x - 1) % 3) q → (3 * o < 256) × (1 + 3 * o + q < 256)
-third x o q c d e h z a b =
-    let s : o ≤ 84 = a .small (omega arith) in
-    let t : q < 3 = b .least (omega arith) in
-    (omega arith, omega arith)
-
 module _ (r : Range) (j x : ℕ) where
   pub in-none : x ≡ 0 → false ≡ slotIn r j x
   unfolding slotIn choose
@@ -76,7 +70,7 @@ far-is r o last far c a b e f g = record { plain = rw e; minus = rw (g, f) }
 
 -- ---- digits
 
-length-lows : (cs : List ℕ) (e n : ℕ) → length (lows cs e n) ≡ n
+pub length-lows : (cs : List ℕ) (e n : ℕ) → length (lows cs e n) ≡ n
 unfolding lows
 length-lows cs e zero = refl
 length-lows cs e (suc n) = ap suc (length-lows cs (e - 1) n)

@@ -11,16 +11,17 @@ use lib.ListN.{length, drop, take, getD, set, length-set}
 use lib.Seq.{drop-length, getD-set-same, getD-set-other}
 use Rattle.unicode.proofs.Tests.{split, by-test, in-range, and-left, and-right}
 use Rattle.rules.specs.Basics.{choose}
-use Rattle.config_rules.specs.Numbers.{isDigit, value, sign, inRange}
+use Rattle.config_rules.specs.Numbers.{isDigit, value, inRange}
 use Rattle.config_rules.specs.Globs.{Strings, someThen}
 use Rattle.glob_name.specs.Read.{rangeMore}
-use Rattle.ranges.specs.Slots.{digit, orderThen, valid, orderAt, inside, insideOf, near, allDigits, all, number, from, farther, minus, size, inPlain, inMinus}
-use Rattle.ranges.specs.Ranges.{lows, lowsOf, EndAt, RangeOf, firstEnd, secondEnd, slotStep, slotIn, anySlot, opposite, slotAt, flagOf, firstSlot, farAt, withFlags, FarNext, Moved, Kept, RangeNext}
+use Rattle.ranges.specs.Slots.{digit, orderThen, valid, orderAt, insideOf, near, allDigits, all, number, from, farther, minus, size, inPlain, inMinus}
+use Rattle.ranges.specs.Ranges.{lowsOf, EndAt, RangeOf, firstEnd, secondEnd, slotStep, slotIn, anySlot, opposite, slotAt, flagOf, firstSlot, farAt, withFlags, FarNext, Moved, Kept, RangeNext}
 use Rattle.ranges.specs.declared.End.{End}
 use Rattle.ranges.specs.declared.Range.{Range}
 use Rattle.ranges.specs.declared.Near.{Near}
-use Rattle.ranges.proofs.OrderLaws.{scale, scale-zero, low-split, low-small, from-next, at-number, far-zero, far-large, far-other, wholeAt}
+use Rattle.ranges.proofs.OrderLaws.{scale, scale-zero, low-split, low-small, from-next, at-number, far-zero, far-large, far-other, wholeAt, scale-more}
 use Rattle.ranges.proofs.InRange.{kept-plain, kept-minus, some-number, range-else, range-after-minus, large-plain, large-minus}
+use Rattle.ranges.proofs.SlotLaws.{length-lows}
 
 -- ---- slots
 
@@ -123,23 +124,11 @@ hit-minus : (m n : List ℕ) (k : Strings) (w : ℕ) (s : List ℕ)
     → someThen (inRange m n) k (45 ∷ s) ≡ (near (inMinus m n) k w s || from (number (inMinus m n)) k (suc w) s)
 hit-minus m n k w s = range-after-minus m n k s ∙ some-number (inMinus m n) k w s
 
-scale-le : (i n : ℕ) → i ≤ n → scale i 1 ≤ scale n 1
-unfolding scale
-scale-le zero zero h = omega arith
-scale-le zero (suc n) h = omega (arith, scale-le zero n (omega arith))
-scale-le (suc i) zero h = absurd (omega arith)
-scale-le (suc i) (suc n) h = omega (arith, scale-le i n (omega arith))
-
-length-lows : (cs : List ℕ) (e n : ℕ) → length (lows cs e n) ≡ n
-unfolding lows
-length-lows cs e zero = refl
-length-lows cs e (suc n) = ap suc (length-lows cs (e - 1) n)
-
 all-small : (r : List ℕ) (w : ℕ) → length r ≤ w → allDigits r ≡ true → all r < scale w 1
 unfolding all
 all-small r w h e =
     let z : all (drop (length r) r) ≡ 0 = ap all (drop-length r) in
-    omega (arith, low-split r (length r), low-small r (length r) e, scale-zero (length r), ap (scale (length r)) z, scale-le (length r) w h)
+    omega (arith, low-split r (length r), low-small r (length r) e, scale-zero (length r), ap (scale (length r)) z, scale-more (length r) w h)
 
 none-is : (cs m : List ℕ) (e : End) → EndAt cs m e → eqb (e .digits) 0 ≡ eqb (size m) 0
 unfolding all

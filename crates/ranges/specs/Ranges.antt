@@ -5,11 +5,12 @@ use mathlib.Core.List.{List, [], _∷_}
 use mathlib.Core.Path.{_≡_}
 use lib.Dec.{ltb, eqb}
 use lib.ListN.{length, getD, set, take, drop}
-use Rattle.rules.specs.Basics.{choose, is}
+use Rattle.rules.specs.Basics.{choose}
 use Rattle.config_rules.specs.Numbers.{isDigit, numberLen, inRange}
 use Rattle.config_rules.specs.Globs.{Strings, someThen}
 use Rattle.glob_name.specs.Read.{rangeMore}
-use Rattle.ranges.specs.Slots.{orderThen, valid, orderAt, insideOf, wholeOf, allDigits, all, minus, size, inPlain, inMinus, farther}
+use Rattle.ranges.specs.Slots.{orderThen, valid, orderAt, insideOf, wholeOf, allDigits, all, minus, size, inPlain}
+use Rattle.ranges.specs.Slots.{inMinus, farther}
 use Rattle.ranges.specs.declared.End.{End}
 use Rattle.ranges.specs.declared.Range.{Range}
 use Rattle.ranges.specs.declared.Near.{Near}
@@ -130,7 +131,8 @@ unfoldable pub farAt : List ℕ → ℕ → Near
 farAt l at = record { plain = eqb (getD l (at + 1) 0) 1; minus = eqb (getD l (at + 2) 0) 1 }
 
 unfoldable pub withFlags : List ℕ → ℕ → Near → Bool → List ℕ
-withFlags l at far behind = set (set (set l (at + 1) (flagOf (far .plain))) (at + 2) (flagOf (far .minus))) (at + 3) (flagOf behind)
+withFlags l at far behind =
+    set (set (set l (at + 1) (flagOf (far .plain))) (at + 2) (flagOf (far .minus))) (at + 3) (flagOf behind)
 
 -- the longer numbers
 pub record FarNext (r : Range) (last : ℕ) (far : Near) (c : ℕ) (n : Near) : Type 0 where
@@ -142,12 +144,14 @@ pub record Moved (cs : List ℕ) (p : ℕ) (r : Range) (c : ℕ) (l l' : List �
   pub long : length l' ≡ length l
   pub kept : (i : ℕ) → (i ≤ p → getD l' i 0 ≡ getD l i 0) × (p + r .width < i → getD l' i 0 ≡ getD l i 0)
   pub slots : (j : ℕ) → j < r .width
-      → getD l' (p + suc j) 0 ≡ slotStep (getD l (p + j) 0) c (getD (lowsOf cs (r .first)) j 48) (getD (lowsOf cs (r .second)) j 48)
+      → getD l' (p + suc j) 0
+      ≡ slotStep (getD l (p + j) 0) c (getD (lowsOf cs (r .first)) j 48) (getD (lowsOf cs (r .second)) j 48)
 
 -- ---- what is kept of the range at p, where k follows it, at s
 
 pub record Kept (cs : List ℕ) (p : ℕ) (r : Range) (k : Strings) (s : List ℕ) (l : List ℕ) : Type 0 where
-  pub slots : (j : ℕ) → 0 < j → j ≤ r .width → getD l (p + j) 0 ≡ slotAt (lowsOf cs (r .first)) (lowsOf cs (r .second)) k j s
+  pub slots : (j : ℕ) → 0 < j → j ≤ r .width
+      → getD l (p + j) 0 ≡ slotAt (lowsOf cs (r .first)) (lowsOf cs (r .second)) k j s
   pub plain : eqb (getD l (p + r .width + 1) 0) 1 ≡ farther (inPlain (firstEnd cs p) (secondEnd cs p)) k (r .width) s
   pub minus : eqb (getD l (p + r .width + 2) 0) 1 ≡ farther (inMinus (firstEnd cs p) (secondEnd cs p)) k (r .width) s
   pub behind : eqb (getD l (p + r .width + 3) 0) 1 ≡ someThen (inRange (firstEnd cs p) (secondEnd cs p)) k (45 ∷ s)

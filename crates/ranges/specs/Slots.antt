@@ -88,4 +88,5 @@ unfoldable pub inPlain : List ℕ → List ℕ → ℕ → Bool
 inPlain m n x = inside (minus m) (eqb (size m) 0) (order x (size m)) (minus n) (eqb (size n) 0) (order x (size n))
 
 unfoldable pub inMinus : List ℕ → List ℕ → ℕ → Bool
-inMinus m n x = inside (not (minus m)) (eqb (size m) 0) (order x (size m)) (not (minus n)) (eqb (size n) 0) (order x (size n))
+inMinus m n x =
+    inside (not (minus m)) (eqb (size m) 0) (order x (size m)) (not (minus n)) (eqb (size n) 0) (order x (size n))

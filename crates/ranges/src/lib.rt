@@ -5,7 +5,9 @@ ghost use lib.ListN.{length, getD, take, drop};
 ghost use Rattle.config_rules.specs.Numbers.{numberLen};
 ghost use Rattle.glob_name.specs.Read.{rangeMore};
 ghost use Rattle.ranges.specs.Slots.{notAbove, notBelow, wholeOf, insideOf};
-ghost use Rattle.ranges.specs.Ranges.{lows, EndAt, RangeOf, endOf, Ordered, slotStep, slotIn, flagOf, firstSlot, farAt, withFlags, FarNext, PastZeros, WidthOf, turned, opposite, anySlot, Moved, RangeNext};
+ghost use Rattle.ranges.specs.Ranges.{lows, EndAt, RangeOf, endOf, Ordered, slotStep, slotIn, flagOf, firstSlot};
+ghost use Rattle.ranges.specs.Ranges.{farAt, withFlags, FarNext, PastZeros, WidthOf, turned, opposite, anySlot};
+ghost use Rattle.ranges.specs.Ranges.{Moved, RangeNext};
 use glob_name::read::number_len;
 
 // An end of a range: whether a minus stands before it, where its digits end, and how many there are without leading
@@ -160,7 +162,8 @@ fn digit_at(chars: &[u32], e: End, j: usize) -> u32
 
 // The slots of the range at p, one character more of the path: each is moved one up, the highest first.
 fn slots_next(chars: &[u32], slots: &mut [u8; 1026], p: usize, range: Range, c: u32)
-    requires { ⌜ RangeOf (now chars) p range × (length (now chars) ≤ length (now slots)) × (length (now chars) < 1026) ⌝ }
+    requires { ⌜ RangeOf (now chars) p range × (length (now chars) ≤ length (now slots)) ×
+        (length (now chars) < 1026) ⌝ }
     ensures { λ r. ⌜ Moved (now (chars .entry)) p range c (now (slots .entry)) (now (slots .exit)) ⌝ }
 {
     let first = range.first;
@@ -312,7 +315,8 @@ fn range_step(
     next: bool,
     c: u32,
 ) -> bool
-    requires { ⌜ RangeOf (now chars) p range × (length (now chars) ≤ length (now slots)) × (length (now chars) < 1026) ⌝ }
+    requires { ⌜ RangeOf (now chars) p range × (length (now chars) ≤ length (now slots)) ×
+        (length (now chars) < 1026) ⌝ }
     ensures { λ r. ⌜ RangeNext (now (chars .entry)) p next c (now (slots .entry)) (now (slots .exit)) r ⌝ }
 {
     let at = p + range.width;

@@ -36,7 +36,11 @@ differed p next = record { at = next; sources = p .sources + 1; differ = p .diff
 -- after a comment: the place after its LF
 abbrev pub skipped : List ℕ → Progress → Progress
 skipped list p =
-    record { at = p .at + length (splitOn "\n" (drop (p .at) list) .first) + 1; sources = p .sources; differ = p .differ }
+    record {
+      at = p .at + length (splitOn "\n" (drop (p .at) list) .first) + 1;
+      sources = p .sources;
+      differ = p .differ;
+    }
 
 abbrev pub caseSize : Case → ℕ
 caseSize c = c .source + c .indent + c .answer

@@ -1,9 +1,10 @@
 // A list from its start to its end: comments, which go from `#` to the line's end, and cases.
 ghost use mathlib.Core.Path.{_≡_};
-ghost use Prim.Native.Nat.{_+_, _≤_, _<_};
+ghost use Prim.Native.Nat.{_≤_};
 ghost use lib.ListN.{length};
 ghost use Rattle.replay_run.specs.Stored.{CaseIn};
-ghost use Rattle.replay_run.specs.Replay.{agrees as agreesWith, agreed, differed, CountsFit, StepReady, Advanced, fromStart, replayed};
+ghost use Rattle.replay_run.specs.Replay.{agrees as agreesWith, agreed, differed, CountsFit, StepReady, Advanced};
+ghost use Rattle.replay_run.specs.Replay.{fromStart, replayed};
 use crate::list::Case;
 use crate::list::case_at;
 use libc::STDOUT_FILENO;

@@ -1,8 +1,8 @@
 -- Demand 3 for each accepted call, from bytes to bytes.
 --     accepted          what an accepted call passed, and its outcome
 --     text-scalars      its text consists of scalar values, so its bytes read back as its characters
---     delivered         the first bytes of the output are the text, which is well formed; demand 3 of the source's and the output's characters and of
---                       the answer's counts
+--     delivered         the first bytes of the output are the text, which is well formed; demand 3 of the source's and
+--                       the output's characters and of the answer's counts
 use Prim.Native.Nat.{ℕ, _≤_}
 use native.Mathlib.Omega.{arith}
 use mathlib.Core.Bool.{Bool, true, false, not, _&&_}

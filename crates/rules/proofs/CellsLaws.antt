@@ -1,7 +1,7 @@
 -- A line as the code holds it, bytes and a class byte for each: laws of `cellsOf`, and the loops over it.
 --     cells-of, cells-classify, cells-bytes     what the class bytes of classify give back
 --     code-byte, str-byte, comment-byte, code-or-str-byte     the tests of a class, on its byte
---     length-cells, chars-cells, take-cells, drop-cells, getD-cells, append-cells, cells-take
+--     length-cells, chars-cells, take-cells, drop-cells, getD-cells     its parts
 --     cells-at, cells-end           the cell at a place, and what is left after it
 --     Folding                       a loop that folds over the line
 --     Finding                       a loop that looks for the first cell that passes a test
@@ -124,20 +124,6 @@ getD-cells i [] ks d h l = absurd (omega arith)
 getD-cells i (c ∷ s) [] d h l = absurd (omega arith)
 getD-cells zero (c ∷ s) (k ∷ ks) d h l = refl
 getD-cells (suc i) (c ∷ s) (k ∷ ks) d h l = getD-cells i s ks d (omega arith) (omega arith)
-
-pub append-cells : (s t ks ls : List ℕ) → length s ≡ length ks → cellsOf (s ++ t) (ks ++ ls) ≡ cellsOf s ks ++ cellsOf t ls
-unfolding cellsOf
-append-cells [] t [] ls h = refl
-append-cells [] t (k ∷ ks) ls h = absurd (omega arith)
-append-cells (c ∷ s) t [] ls h = absurd (omega arith)
-append-cells (c ∷ s) t (k ∷ ks) ls h = rw (append-cells s t ks ls (omega arith))
-
--- class bytes past the line's end don't matter
-pub cells-take : (s ks : List ℕ) → cellsOf s (take (length s) ks) ≡ cellsOf s ks
-unfolding cellsOf
-cells-take [] ks = refl
-cells-take (c ∷ s) [] = refl
-cells-take (c ∷ s) (k ∷ ks) = rw (cells-take s ks)
 
 -- ---- a loop over the line
 

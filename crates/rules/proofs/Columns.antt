@@ -1,8 +1,8 @@
 -- Laws of the measure.
 --     measure-append    a joined text: the second part is measured from where the first ends
 --     measure-zero      at ruler 0 the UTF-16 width is added
---     measure-one       at ruler 1 too
---     measure-bytes     at most a column for each byte and the ruler for each tab; measure-short, where the tabs aren't counted
+--     measure-bytes     at most a column for each byte and the ruler for each tab
+--     measure-short     the same where the tabs aren't counted
 --     measure-grows     no part goes back
 --     measure-shift     from some whole steps of the ruler further on, as many further on
 --     indent-levels     an indent several times over: each level after the first adds what the second adds
@@ -86,18 +86,6 @@ units-low c h = rw (lt-ltb c 0x10000 h)
 units-high : (c : ℕ) → 0x10000 ≤ c → units c ≡ 2
 unfolding units
 units-high c h = rw (le-ltb c 0x10000 h)
-
--- a ruler of 1 is one of 0
-pub measure-one : (from : ℕ) (l : List ℕ) → measure 1 from l ≡ measure 0 from l
-unfolding measure
-measure-one from [] = refl
-measure-one from (c ∷ l) = ap (λ (k : ℕ). measure 1 k l) same ∙ measure-one (columnAfter 0 from c) l
-  where
-    same : columnAfter 1 from c ≡ columnAfter 0 from c
-    same =
-        by-test (eqb c 9)
-        (λ e. omega (arith, after-tab 1 from c (omega arith) (eqb-true c 9 e), stop-low 1 from (omega arith), stop-high 1 from, after-zero 0 from c refl, units-low c (omega (arith, eqb-true c 9 e))))
-        (λ e. after-other 1 from c e ∙ sym (after-zero 0 from c refl))
 
 -- ---- bounds
 

@@ -1,7 +1,8 @@
 -- The operators of a line and of its beginning.
 --     Found, step-found           what one step of `marksFrom` finds; Operator, marks-operators, of a line's marks
 --     Tighter, CutAt, cut-at      the first place where a break cuts a line: the operators before it bind tighter
---     scan-prefix                 a beginning, scanned by itself, has the classes that it has in the line, where all are code or string
+--     scan-prefix                 a beginning, scanned by itself, has the classes that it has in the line, where all
+--                                 are code or string
 --     scan-white, marks-white     white space before a line changes nothing
 --     opsAfter, marksTill         the state after some characters of a line, and their marks
 --     marks-append, marks-prefix  a beginning has the marks that it has in the line, where no token runs on past it

@@ -1,6 +1,6 @@
 -- The respaced text of a line's bytes is the bytes of the respaced text of its characters; and its length.
---     spacing-encode, spacing-bytes     normalizeSpacing on bytes
---     spacing-bound                     a text of n cells becomes at most 2 n long
+--     spacing-encode     normalizeSpacing on bytes
+--     spacing-bound      a text of n cells becomes at most 2 n long
 use Prim.Native.Nat.{ℕ, suc, _+_, _*_, _<_, _≤_}
 use native.Mathlib.Omega.{arith}
 use mathlib.Core.Bool.{Bool, and-false}
@@ -12,14 +12,13 @@ use Rattle.unicode.specs.Unicode.{encodeChar, encode}
 use Rattle.unicode.proofs.Table.{encodeChar-1, High, none, also, Bytes, single, several, bytes}
 use Rattle.unicode.proofs.Decode.{encode-append, encode-one}
 use Rattle.rules.specs.declared.Class.{Class}
-use Rattle.rules.specs.declared.Carry.{Carry}
 use Rattle.rules.specs.declared.Gap.{Gap}
 use Rattle.rules.specs.Basics.{choose, isBlank}
-use Rattle.rules.specs.Scan.{Cell, cell, isCode, classify}
+use Rattle.rules.specs.Scan.{Cell, cell, isCode}
 use Rattle.rules.specs.Spacing.{Spaced, spaced, consBlank, trimBlanks, putPlain, putAfterComma, putAt, spaceStep, normalizeSpacing}
 use Rattle.rules.proofs.Choose.{choose-case}
 use Rattle.rules.proofs.StartsBytes.{encode-some, choose-map, choose-both, not-ascii, steady-blank, steady-closer}
-use Rattle.rules.proofs.ScanBytes.{label, encodeCells, classify-encode, fold-encode}
+use Rattle.rules.proofs.ScanBytes.{label, encodeCells, fold-encode}
 
 encode-snoc : (c : ℕ) → c < 0x80 → (o : List ℕ) → encode (o ++ (c ∷ [])) ≡ encode o ++ (c ∷ [])
 encode-snoc c h o = encode-append o (c ∷ []) ∙ rw (encode-one c, encodeChar-1 c h)
@@ -132,9 +131,6 @@ spacing-encode cells =
           rest-high bs hs k (encode (lead (t .gap) (t .out)) ++ (b ∷ [])),
         )
         (ap (λ (o : List ℕ). spaced o Gap.Nothing) (last-bytes (lead (t .gap) (t .out)) c b bs e))
-
-pub spacing-bytes : (y : Carry) (l : List ℕ) → normalizeSpacing (classify y (encode l)) ≡ encode (normalizeSpacing (classify y l))
-spacing-bytes y l = ap normalizeSpacing (classify-encode y l) ∙ spacing-encode (classify y l)
 
 -- ---- how long the text gets: at most two characters for each cell
 

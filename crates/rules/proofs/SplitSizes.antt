@@ -3,7 +3,6 @@
 --     Fit                         the lines, joined in order, or put onto others
 --     import-fits                 an import that is split, and its blank names
 --     operation-fits              an expression
---     alone-fits                  a line that is not split
 use Prim.Native.Nat.{ℕ, zero, suc, _+_, _*_, _≤_, _<_}
 use Prim.Native.Char.{Char}
 use native.Mathlib.Omega.{arith}
@@ -197,10 +196,6 @@ module _ (o : Options) (blank : allBlank (o .indent) ≡ true) (short : length (
     pub operation-fits : (table : List ℕ) (max : ℕ) (l : List ℕ) → Fit eol ((size l + 1) * 67108932) (splitOperation table o max level l)
     unfolding splitOperation
     operation-fits table max l = rounds-fit table max (length l) l
-
-    pub alone-fits : (l : List ℕ) → Fit eol ((size l + 1) * 67108932) ((indentOf o level ++ l) ∷ [])
-    unfolding roomOf
-    alone-fits l = fit eol end ((size l + 1) * 67108932) ((indentOf o level ++ l) ∷ []) (omega (arith, alone-size o blank short level l))
 
 -- ---- an import
 

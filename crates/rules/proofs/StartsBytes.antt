@@ -3,10 +3,11 @@
 --     on-decode                     a law on encode l, for a well-formed list of bytes
 --     Steady                        a test that tells no two characters from 80 hex on apart
 --     starts-encode, starts-cons    startsWith, for an ASCII text; and after a first character of its own
---     drop-ascii, take-ascii        an ASCII front: as many bytes as characters; drop-starts, starts-column after startsWith
+--     drop-ascii, take-ascii        an ASCII front: as many bytes as characters
+--     drop-starts, starts-column    the same after startsWith
 --     first-encode, last-encode, then-encode, empty-encode, same-encode     the tests of Basics
---     leading-encode, leading-ascii                                         as many first bytes as characters pass a test of ASCII characters
---     closers-encode, drop-closers                                          leading closers
+--     leading-encode, leading-ascii as many first bytes as characters pass a test of ASCII characters
+--     closers-encode                leading closers
 use Prim.Native.Nat.{ℕ, zero, suc, _<_, _≤_}
 use Prim.Native.Char.{Char, code}
 use native.Mathlib.Omega.{arith}
@@ -245,6 +246,3 @@ closers-encode l = leading-encode isCloser steady-closer l
 pub closers-ascii : (l : List ℕ) → allAscii (take (leadingClosers l) l) ≡ true
 unfolding leadingClosers
 closers-ascii l = leading-ascii isCloser steady-closer l
-
-pub drop-closers : (l : List ℕ) → drop (leadingClosers l) (encode l) ≡ encode (drop (leadingClosers l) l)
-drop-closers l = drop-ascii (leadingClosers l) l (closers-ascii l)

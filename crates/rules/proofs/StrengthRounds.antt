@@ -3,7 +3,8 @@
 --     Plain                  a line of code and strings whose operators bind tighter than p
 --     plain-first            so is the first piece of a break, for the strength of the break
 --     rounds-known           k rounds are enough where no strength of the table is over k
---     known-lines            so are maxStrength rounds for every table of such strengths; strengths-known, of which every table of a host is one
+--     known-lines            so are maxStrength rounds for every table of such strengths
+--     strengths-known        every table of a host is one of these
 --     fifteen-rounds         both together
 use Prim.Native.Nat.{ℕ, zero, suc, _+_, _-_, _/_, _%_, _≤_, _<_}
 use native.Mathlib.Omega.{arith}

@@ -1,6 +1,6 @@
 -- Words, names and pieces of a line, found on its bytes.
 --     encodePieces, split-encode, pieces-encode     a text cut at an ASCII character
---     word-encode, declaration-encode, import-encode     what a line starts with
+--     word-encode, import-encode                    what a line starts with
 --     hasWord-encode, balanced-encode               over the cells of a line
 --     beforeCode-encode, fromCode-encode            the parts at an ASCII Code character
 use Prim.Native.Nat.{ℕ, _<_, _≤_}
@@ -15,10 +15,10 @@ use Rattle.unicode.proofs.Table.{High, none, also, Bytes, single, several, byte
 use Rattle.rules.specs.declared.Class.{Class}
 use Rattle.rules.specs.Basics.{choose, is, codes, isBlank, isIdent, same, oneOf, Pieces, pieces, atSep, splitOn}
 use Rattle.rules.specs.Scan.{Cell, cell, isCode}
-use Rattle.rules.specs.Words.{startsWithWord, sameDeclaration}
+use Rattle.rules.specs.Words.{startsWithWord}
 use Rattle.rules.specs.SplitImport.{codeIs, beforeCode, fromCode, startsImport}
 use Rattle.rules.specs.SplitOperation.{balanceStep, isZero, isBalanced, inWord, wordOn, hasWordFrom, hasWord, keywords}
-use Rattle.rules.proofs.StartsBytes.{allAscii, choose-both, steady-is, steady-blank, steady-opener, steady-closer, steady-ident, steady-not, starts-encode, then-encode}
+use Rattle.rules.proofs.StartsBytes.{allAscii, choose-both, steady-is, steady-blank, steady-opener, steady-closer, steady-ident, steady-not, then-encode}
 use Rattle.rules.proofs.ScanBytes.{label, encodeCells, fold-encode, SteadyCell, before-encode, from-encode}
 
 -- ---- pieces
@@ -62,10 +62,6 @@ word-encode line word a = then-encode word isBlank false true a steady-blank lin
 pub import-encode : (line : List ℕ) → startsImport (encode line) ≡ startsImport line
 unfolding startsImport
 import-encode line = then-encode (codes "import") (λ c. not (isIdent c)) true true refl (steady-not isIdent false steady-ident) line
-
-pub declaration-encode : (a b : List ℕ) → sameDeclaration (encode a) (encode b) ≡ sameDeclaration a b
-unfolding sameDeclaration
-declaration-encode a b = simp starts-encode
 
 -- ---- the parts of a line at a Code character
 

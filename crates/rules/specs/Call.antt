@@ -7,7 +7,8 @@ use lib.ListN.{length, take, replicate}
 use Rattle.unicode.specs.Unicode.{decode, encode}
 use Rattle.rules.specs.Choices.{Choices, validOptions, optionsOf}
 use Rattle.rules.specs.Assembly.{Formatted, formatWith}
-use Rattle.rules.specs.Refusals.{scratchNeeded, numberOf, placeOf, tested, wrongLength, bitsSet, longSource, badOption, wideRuler, shortScratch, illFormed, shortOutput}
+use Rattle.rules.specs.Refusals.{scratchNeeded, numberOf, placeOf, tested, wrongLength, bitsSet, longSource}
+use Rattle.rules.specs.Refusals.{badOption, wideRuler, shortScratch, illFormed, shortOutput}
 use Rattle.rules.specs.declared.Verdict.{Verdict}
 use Rattle.rules.specs.declared.Outcome.{Outcome}
 use Rattle.rules.specs.declared.Answer.{Answer}
@@ -50,7 +51,8 @@ formatTests table source bad ruler scratch =
 unfoldable pub verdictOf : Call → Verdict
 verdictOf c =
     tested
-    (formatTests (c .choices .strengths) (c .source) (not (validOptions (c .choices))) (c .choices .numbers .«ruler_tab») (c .scratch)
+    (formatTests (c .choices .strengths) (c .source) (not (validOptions (c .choices)))
+    (c .choices .numbers .«ruler_tab») (c .scratch)
     ++ (shortOutput (length (textOf c)) (c .output) ∷ []))
 
 -- what a finished text of so many bytes comes to
@@ -64,9 +66,23 @@ outcomeOf c = outcomeAfter (verdictOf c) (length (textOf c)) (formatted c)
 -- what the host reads: a refused call gives number and place, other fields 0
 abbrev pub answerOf : Outcome → Answer
 answerOf (Outcome.Formatted len imports blanks brackets) =
-    record { refusal = 0; place = 0; length = len; «imports_split» = imports; «blank_names» = blanks; «open_brackets» = brackets }
+    record {
+      refusal = 0;
+      place = 0;
+      length = len;
+      «imports_split» = imports;
+      «blank_names» = blanks;
+      «open_brackets» = brackets;
+    }
 answerOf (Outcome.Refused r) =
-    record { refusal = numberOf r; place = placeOf r; length = 0; «imports_split» = 0; «blank_names» = 0; «open_brackets» = 0 }
+    record {
+      refusal = numberOf r;
+      place = placeOf r;
+      length = 0;
+      «imports_split» = 0;
+      «blank_names» = 0;
+      «open_brackets» = 0;
+    }
 
 -- ---- the buffers: the output is the text, then zeros, or all zeros; the scratch is all zeros after every call
 
@@ -102,4 +118,5 @@ pub record Result : Type 0 where
   pub scratch : List ℕ
 
 abbrev pub formatCall : Call → Result
-formatCall c = record { answer = answerOf (outcomeOf c); output = outputOf c; opened = openedOf c; scratch = scratchOf c }
+formatCall c =
+    record { answer = answerOf (outcomeOf c); output = outputOf c; opened = openedOf c; scratch = scratchOf c }

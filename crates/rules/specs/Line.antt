@@ -77,7 +77,8 @@ closersIn Carry.Prefab raw = 0
 
 -- the brackets open after a line that is kept
 unfoldable pub keptStack : Formatter → List ℕ → List Entry
-keptStack f raw = countBrackets (f .number) (closersIn (f .carry) raw) (classify (f .carry) (scannedPart (f .carry) raw)) (f .stack)
+keptStack f raw =
+    countBrackets (f .number) (closersIn (f .carry) raw) (classify (f .carry) (scannedPart (f .carry) raw)) (f .stack)
 
 -- A lone marker protects the next line that is not blank and, if that leaves more brackets open than before it, every
 -- line up to and with the first that ends with the earlier count or below. A marker on a protected line protects
@@ -129,7 +130,8 @@ blankLine f =
 -- a plain `else` joined to the newest line: no indent, blank or split rule applies
 unfoldable pub elseLine : Formatter → List ℕ → Formatter
 elseLine f line =
-    after f (joinElse line (f .lines)) (scanBrackets (f .number) (classify Carry.Code line) (f .stack)) line Ignore.Nothing (carryAfter Carry.Code line)
+    after f (joinElse line (f .lines)) (scanBrackets (f .number) (classify Carry.Code line) (f .stack)) line
+    Ignore.Nothing (carryAfter Carry.Code line)
 
 -- Blank between declarations: the newest line goes if it is empty, no bracket is open and both lines declare the same.
 unfoldable pub dropBlank : List (List ℕ) → List (List ℕ)
@@ -145,7 +147,9 @@ linesBefore f line = choose (isEmpty (f .stack) && sameDeclaration line (f .prev
 unfoldable pub continues : List ℕ → List ℕ → Bool
 continues prev line =
     eqb (leadingClosers line) 0
-    && (startsWithWord line (codes "then") || (startsWithWord line (codes "else") && not (lastIs (is "}") prev)) || startsWithBinaryOp line
+    && (startsWithWord line (codes "then")
+    || (startsWithWord line (codes "else") && not (lastIs (is "}") prev))
+    || startsWithBinaryOp line
     || (at line "." && not (at line "...")))
 
 -- the indent: levels after the leading closers popped, plus one if the line continues
@@ -159,7 +163,11 @@ oneLine l = record { lines = l ∷ []; importsSplit = 0; blankNames = 0 }
 unfoldable pub orOperation : Option Laid → Options → ℕ → ℕ → List ℕ → Laid
 orOperation (some laid) o max level line = laid
 orOperation none o max level line =
-    record { lines = splitOperation (strengthsIn (o .strengths .table)) o max level line; importsSplit = 0; blankNames = 0 }
+    record {
+      lines = splitOperation (strengthsIn (o .strengths .table)) o max level line;
+      importsSplit = 0;
+      blankNames = 0;
+    }
 
 unfoldable pub broken : Options → ℕ → ℕ → List ℕ → Laid
 broken o max level line = orOperation (splitImport o max level (classify Carry.Code line)) o max level line
@@ -167,7 +175,8 @@ broken o max level line = orOperation (splitImport o max level (classify Carry.C
 -- the line may be split: it doesn't continue, has no leading closers, is no marker and is all Code and Str
 unfoldable pub maySplit : Formatter → Bool → List ℕ → Bool
 maySplit f marker line =
-    not (continues (f .prev) line) && eqb (leadingClosers line) 0 && not marker && allCodeOrStr (classify Carry.Code line)
+    not (continues (f .prev) line) && eqb (leadingClosers line) 0 && not marker
+    && allCodeOrStr (classify Carry.Code line)
 
 -- broken, where the line, its indent included, is wider than the print width
 unfoldable pub splitWide : PrintWidth → Options → ℕ → List ℕ → Laid
@@ -177,7 +186,8 @@ splitWide (PrintWidth.Columns max) o level line =
 
 unfoldable pub laid : Options → Formatter → Bool → List ℕ → Laid
 laid o f marker line =
-    choose (maySplit f marker line) (splitWide (o .printWidth) o (levelOf f line) line) (oneLine (indentOf o (levelOf f line) ++ line))
+    choose (maySplit f marker line) (splitWide (o .printWidth) o (levelOf f line) line)
+    (oneLine (indentOf o (levelOf f line) ++ line))
 
 -- the counts of a line that was laid out, added to the record's
 abbrev pub counting : Laid → Formatter → Formatter
@@ -204,7 +214,8 @@ placedLine o f marker line =
     (carryAfter Carry.Code line))
 
 unfoldable pub spacedLine : Options → Formatter → Bool → List ℕ → Formatter
-spacedLine o f marker line = choose (isPlainElse line && canJoin (f .lines)) (elseLine f line) (placedLine o f marker line)
+spacedLine o f marker line =
+    choose (isPlainElse line && canJoin (f .lines)) (elseLine f line) (placedLine o f marker line)
 
 abbrev pub protects : Ignore → Bool
 protects Ignore.Nothing = false
@@ -218,7 +229,8 @@ inBlock (Ignore.Block n) = true
 
 unfoldable pub codeLine : Options → Formatter → List ℕ → Formatter
 codeLine o f raw =
-    choose (protects (f .ignore) || (isMarker (classify Carry.Code (trim raw)) && hasCode (classify Carry.Code (trim raw))))
+    choose (protects (f .ignore) || (isMarker (classify Carry.Code (trim raw))
+    && hasCode (classify Carry.Code (trim raw))))
     (protectedLine f raw)
     (spacedLine o f (isMarker (classify Carry.Code (trim raw))) (respaced (trim raw)))
 

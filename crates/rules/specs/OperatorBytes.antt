@@ -13,4 +13,5 @@ byteStep table s x cs = choose (tail (x .ch)) (record { strength = 0; after = s 
 unfoldable pub byteMarks : List ℕ → Ops → List Cell → List OpMark
 byteMarks table s [] = []
 byteMarks table s (x ∷ xs) =
-    opMark (x .ch) (byteStep table s x (charsOf xs) .strength) ∷ byteMarks table (byteStep table s x (charsOf xs) .after) xs
+    opMark (x .ch) (byteStep table s x (charsOf xs) .strength)
+    ∷ byteMarks table (byteStep table s x (charsOf xs) .after) xs

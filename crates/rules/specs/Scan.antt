@@ -67,7 +67,8 @@ inInner q d k s =
 unfoldable pub inBlock : ℕ → List ℕ → Mark
 inBlock d s =
     choose (at s "/*") (long 1 Class.BlockComment (Mode.Block (d + 1)))
-    (choose (at s "*/") (choose (leb d 1) (long 1 Class.BlockComment Mode.Code) (long 1 Class.BlockComment (Mode.Block (d - 1))))
+    (choose (at s "*/")
+    (choose (leb d 1) (long 1 Class.BlockComment Mode.Code) (long 1 Class.BlockComment (Mode.Block (d - 1))))
     (one Class.BlockComment (Mode.Block d)))
 
 -- in a prefab, to ```

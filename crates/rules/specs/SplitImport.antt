@@ -75,7 +75,8 @@ importParts o max level head parts tail =
 
 unfoldable pub closedImport : Options → ℕ → ℕ → List ℕ → List ℕ → List Cell → Option Laid
 closedImport o max level head inside [] = none
-closedImport o max level head inside (x ∷ xs) = importParts o max level head (pieces (splitOn "," inside)) (charsOf (x ∷ xs))
+closedImport o max level head inside (x ∷ xs) =
+    importParts o max level head (pieces (splitOn "," inside)) (charsOf (x ∷ xs))
 
 unfoldable pub openedImport : Options → ℕ → ℕ → List ℕ → List Cell → Option Laid
 openedImport o max level head [] = none

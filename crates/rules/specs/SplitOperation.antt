@@ -1,12 +1,13 @@
 -- split_operation: an over-wide expression broken before its loosest operators.
-use Prim.Native.Nat.{ℕ, zero, suc, _+_, min}
+use Prim.Native.Nat.{ℕ, zero, suc, min}
 use mathlib.Core.Bool.{Bool, true, false, not, _&&_, _||_}
 use mathlib.Core.List.{List, [], _∷_, _++_, map, foldl, reverse}
 use mathlib.Core.Option.{Option, none, some}
 use lib.Dec.{eqb}
 use lib.ListN.{length, drop, take, getD}
 use Rattle.unicode.specs.Unicode.{trim}
-use Rattle.rules.specs.Basics.{choose, is, codes, at, same, oneOf, leading, firstIs, Pieces, isBlank, isOpener, isCloser, isIdent}
+use Rattle.rules.specs.Basics.{choose, is, codes, at, same, oneOf, leading, firstIs, Pieces, isBlank, isOpener}
+use Rattle.rules.specs.Basics.{isCloser, isIdent}
 use Rattle.rules.specs.Scan.{Cell, charsOf, isCode, isStr, classify}
 use Rattle.rules.specs.Operators.{operators, indexIn}
 use Rattle.rules.specs.Options.{Options, indentOf, overWide}
@@ -46,7 +47,10 @@ pub record OpStep : Type 0 where
 -- a token of n + 1 characters that is no operator
 unfoldable pub token : Ops → Bool → ℕ → OpStep
 token s operand n =
-    record { strength = 0; after = record { opened = s .opened; closed = s .closed; operand = operand; esc = false; skip = n } }
+    record {
+      strength = 0;
+      after = record { opened = s .opened; closed = s .closed; operand = operand; esc = false; skip = n };
+    }
 
 -- an operator of n + 1 characters: it counts outside brackets, at depth exactly 0. No operand ends with it.
 unfoldable pub operator : Ops → ℕ → ℕ → OpStep
@@ -57,11 +61,18 @@ operator s strength n =
     }
 
 unfoldable pub escape : Ops → Bool → OpStep
-escape s esc = record { strength = 0; after = record { opened = s .opened; closed = s .closed; operand = s .operand; esc = esc; skip = 0 } }
+escape s esc =
+    record {
+      strength = 0;
+      after = record { opened = s .opened; closed = s .closed; operand = s .operand; esc = esc; skip = 0 };
+    }
 
 unfoldable pub bracket : ℕ → ℕ → Bool → OpStep
 bracket opened closed operand =
-    record { strength = 0; after = record { opened = opened; closed = closed; operand = operand; esc = false; skip = 0 } }
+    record {
+      strength = 0;
+      after = record { opened = opened; closed = closed; operand = operand; esc = false; skip = 0 };
+    }
 
 unfoldable pub isSign : ℕ → Bool
 isSign c = is "+" c || is "-" c
@@ -88,7 +99,8 @@ startsPair l = eqb (length (take 2 l)) 2 && oneOf operators (take 2 l)
 -- the character c of code with cs after it; an atom's name may hold `-`, with which no operand ends
 unfoldable pub codeStep : List ℕ → Ops → ℕ → List ℕ → OpStep
 codeStep table s c cs =
-    choose (is ":" c && not (s .operand) && not (eqb (atomLen cs) 0)) (token s (endsOperand (getD (c ∷ cs) (atomLen cs) 0)) (atomLen cs))
+    choose (is ":" c && not (s .operand) && not (eqb (atomLen cs) 0))
+    (token s (endsOperand (getD (c ∷ cs) (atomLen cs) 0)) (atomLen cs))
     (choose (isBlank c) (token s (s .operand) 0)
     (choose (isOpener c) (bracket (suc (s .opened)) (s .closed) false)
     (choose (isCloser c) (bracket (s .opened) (suc (s .closed)) (endsOperand c))
@@ -100,7 +112,11 @@ codeStep table s c cs =
 -- a string is one operand; an escaped character is passed over
 unfoldable pub freshStep : List ℕ → Ops → Cell → List ℕ → OpStep
 freshStep table s x cs =
-    choose (isStr (x .class)) (record { strength = 0; after = record { opened = s .opened; closed = s .closed; operand = true; esc = s .esc; skip = 0 } })
+    choose (isStr (x .class))
+    (record {
+      strength = 0;
+      after = record { opened = s .opened; closed = s .closed; operand = true; esc = s .esc; skip = 0 };
+    })
     (choose (s .esc) (escape s false)
     (choose (is "\\" (x .ch)) (escape s true)
     (codeStep table s (x .ch) cs)))
@@ -221,7 +237,8 @@ breakOn (some q) p again = again (record { first = q .first; rest = q .rest ++ p
 -- Each break leaves the first piece shorter, so its length is rounds enough (proofs/Rounds.antt).
 unfoldable pub breakFirst : List ℕ → Options → ℕ → ℕ → ℕ → Pieces → Pieces
 breakFirst table o max level zero p = p
-breakFirst table o max level (suc n) p = breakOn (nextBreak table o max level (p .first)) p (breakFirst table o max level n)
+breakFirst table o max level (suc n) p =
+    breakOn (nextBreak table o max level (p .first)) p (breakFirst table o max level n)
 
 -- the first keeps the line's level, the others stand one deeper
 unfoldable pub layPieces : Options → ℕ → Pieces → List (List ℕ)

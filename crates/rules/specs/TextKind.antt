@@ -64,14 +64,16 @@ abbrev pub kindScratch : ℕ
 kindScratch = 8
 
 abbrev pub kindTests : List ℕ → ℕ → List Verdict
-kindTests source scratch = longSource source ∷ shortScratch (scratchNeeded kindScratch source) scratch ∷ illFormed source ∷ []
+kindTests source scratch =
+    longSource source ∷ shortScratch (scratchNeeded kindScratch source) scratch ∷ illFormed source ∷ []
 
 abbrev pub kindAfter : Verdict → TextKind → KindOutcome
 kindAfter Verdict.Accepted k = KindOutcome.Found k
 kindAfter (Verdict.Refused r) k = KindOutcome.Refused r
 
 unfoldable pub kindOutcomeOf : List ℕ → ℕ → ℕ → ℕ → KindOutcome
-kindOutcomeOf source line col scratch = kindAfter (tested (kindTests source scratch)) (textKindAt (decode source) line col)
+kindOutcomeOf source line col scratch =
+    kindAfter (tested (kindTests source scratch)) (textKindAt (decode source) line col)
 
 abbrev pub kindNumber : TextKind → ℕ
 kindNumber TextKind.Code = 0

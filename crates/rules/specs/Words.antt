@@ -33,7 +33,8 @@ dropSlashes comment = drop (leading (is "/") comment) comment
 
 -- the comment starts `//` but not `///`, and after its leading slashes and trimming it is exactly `fmt-ignore`
 unfoldable pub isMarkerText : List ℕ → Bool
-isMarkerText comment = at comment "//" && not (at comment "///") && same (trim (dropSlashes comment)) (codes "fmt-ignore")
+isMarkerText comment =
+    at comment "//" && not (at comment "///") && same (trim (dropSlashes comment)) (codes "fmt-ignore")
 
 unfoldable pub isMarker : List Cell → Bool
 isMarker cells = isMarkerText (charsOf (commentPart cells))

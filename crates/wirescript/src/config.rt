@@ -1,7 +1,8 @@
 // The resolved values of .editorconfig that numbers name.
 ghost use mathlib.Core.Path.{_≡_};
 ghost use mathlib.Core.Option.{Option·getD};
-ghost use Rattle.wirescript.specs.Config.{indentStyleNamed, indentSizeNamed, tabWidthNamed, maxLineLenNamed, configEndingNamed, insertNewlineNamed};
+ghost use Rattle.wirescript.specs.Config.{indentStyleNamed, indentSizeNamed, tabWidthNamed, maxLineLenNamed};
+ghost use Rattle.wirescript.specs.Config.{configEndingNamed, insertNewlineNamed};
 ghost use Rattle.wirescript.specs.Config.{validConfig, resolvedOf};
 use rules::ConfigEnding;
 use rules::IndentSize;

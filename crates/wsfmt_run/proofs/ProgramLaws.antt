@@ -2,7 +2,7 @@
 --     refusal-put                 the five pieces of a refusal
 --     printed-refusal, too-long   a refusal written over zeros; when it is the one for longer input
 --     called                      a call with the default options
-use Prim.Native.Nat.{ℕ, zero, suc, _+_, _-_, _^_, _≤_, _<_}
+use Prim.Native.Nat.{ℕ, zero, suc, _-_, _^_, _≤_, _<_}
 use native.Mathlib.Omega.{arith}
 use native.Mathlib.Nat.{not-suc-le-zero, le-of-suc-le-suc}
 use mathlib.Core.Bool.{true, false, not}

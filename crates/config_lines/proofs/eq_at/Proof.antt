@@ -1,3 +1,4 @@
+-- `eq_at` meets its contract: the invariant is `NoEq`, no `=` stands before i; its laws are in proofs/PartLaws.antt.
 use borrow.Author.Needs.{needs}
 use Prim.Native.Nat.{_-_}
 use lib.ListN.{length}

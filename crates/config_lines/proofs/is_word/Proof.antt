@@ -1,3 +1,5 @@
+-- `is_word` meets its contract: the invariant is `Comparing`, the answer is that for what stands from i on; its laws
+-- are in proofs/WordLaws.antt.
 use borrow.Author.Needs.{needs}
 use Prim.Native.Nat.{_-_}
 use lib.ListN.{length}

@@ -1,3 +1,5 @@
+-- `has_long_name` meets its contract: the invariant is `Names`, the answer is that for the lines from `at` on; its laws
+-- are in proofs/WalkLaws.antt.
 use borrow.Author.Needs.{needs}
 use native.Mathlib.Omega.{arith}
 use Prim.Native.Nat.{_-_, _+_}

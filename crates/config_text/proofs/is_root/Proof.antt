@@ -1,3 +1,5 @@
+-- `is_root` meets its contract: the invariant is `Root`, the answer is that for the lines from `at` on with `root`
+-- before them; its laws are in proofs/WalkLaws.antt.
 use borrow.Author.Needs.{needs}
 use native.Mathlib.Omega.{arith}
 use Prim.Native.Nat.{_-_, _+_}

@@ -1,3 +1,5 @@
+-- `settings` meets its contract: the invariant is `Setting`, the lines from `at` on make of the present values what all
+-- lines make of the old ones; its laws are in proofs/WalkLaws.antt.
 use borrow.Author.Needs.{needs}
 use native.Mathlib.Omega.{arith}
 use Prim.Native.Nat.{_-_, _+_}

@@ -1,3 +1,5 @@
+-- `spell` meets its contract: the invariant is `Spelling`, the digits of `rest` and then what stands from i on are
+-- those of n; its laws are in proofs/DigitLaws.antt.
 use borrow.Author.Needs.{needs}
 use native.Mathlib.Omega.{arith}
 use native.Mathlib.Nat.{mod-lt, div-lt-self}

@@ -1,3 +1,5 @@
+-- `matches_at` meets its contract: the invariant is `Reading`, what is known of the path from e on, each place's value
+-- among it; its laws are in proofs/PathLaws.antt.
 use borrow.Author.Needs.{needs}
 use native.Mathlib.Omega.{arith}
 use Rattle.glob_match.proofs.PathLaws.{Reading, reading-start, reading-more, reading-levels, reading-whole}

@@ -1,3 +1,5 @@
+-- `ranges_next` meets its contract: the invariant is `Ranging`, the ranges before p have read the character, those from
+-- p on haven't; its laws are in proofs/SlotsLaws.antt.
 use borrow.Author.Needs.{needs}
 use native.Mathlib.Omega.{arith}
 use Prim.Native.Nat.{_-_}

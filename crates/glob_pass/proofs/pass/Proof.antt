@@ -1,3 +1,5 @@
+-- `pass` meets its contract: the invariant is `Going`, places from p on have their new values, those before p the old
+-- ones, and the open braces stand on the stack; its laws are in proofs/PassLaws.antt.
 use borrow.Author.Needs.{needs}
 use native.Mathlib.Omega.{arith}
 use lib.ListN.{set}

@@ -1,3 +1,5 @@
+-- `close_before` meets its contract: the invariant is `Closing`, a `)` is written for each operation taken off the
+-- stack; its laws are in proofs/ForthLaws.antt.
 use Rattle.group_rules.specs.Passes.{closesBefore}
 use Rattle.group_close.proofs.ForthLaws.{Closing, closing-start, before-stop, before-more, before-end, appended-size}
 use borrow.Author.Needs.{needs}

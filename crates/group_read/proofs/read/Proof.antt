@@ -1,10 +1,11 @@
+-- `read` meets its contract: the invariant is `Reads`, reading the source comes to reading what is left of it from the
+-- reader's state; its laws are in proofs/LoopLaws.antt.
 use borrow.Author.Needs.{needs}
 use Prim.Native.Nat.{_-_}
 use lib.ListN.{length}
 use Rattle.group_read.proofs.LoopLaws.{Reads, reads-start, reads-room, reads-next, reads-refused, reads-end}
 use Rattle.group_read.proofs.read.Statement.{statement}
 use Rattle.group_read.proofs.read.Tie as tie
-use Rattle.group_read.proofs.read.Reads as reads
 
 abbrev Inv-loop : tie.InvT-loop
 Inv-loop source scratch₀ r₀ i₀ scratch r i = Reads source scratch₀ scratch i r

@@ -1,3 +1,5 @@
+-- `any_slot` meets its contract: the invariant is `Finding`, `found` is the answer for the first j slots; its laws are
+-- in proofs/SlotLaws.antt.
 use borrow.Author.Needs.{needs}
 use Prim.Native.Nat.{_-_}
 use Rattle.ranges.proofs.SlotLaws.{Finding, finding-start, finding-more, finding-end}

@@ -1,3 +1,5 @@
+-- `past_zeros` meets its contract: the invariant is `Zeros`, only zeros stand from `from` up to i; its laws are in
+-- proofs/EndLaws.antt.
 use borrow.Author.Needs.{needs}
 use Prim.Native.Nat.{_-_}
 use Rattle.ranges.proofs.EndLaws.{Zeros, zeros-start, zeros-found, zeros-more, zeros-end}

@@ -1,3 +1,5 @@
+-- `slots_next` meets its contract: the invariant is `Moving`, the range's slots above j have moved, all others are as
+-- they were; its laws are in proofs/SlotLaws.antt.
 use borrow.Author.Needs.{needs}
 use Rattle.ranges.proofs.SlotLaws.{Moving, moving-start, moving-more, moving-end}
 use Rattle.ranges.proofs.slots_next.Statement.{statement}

@@ -1,3 +1,5 @@
+-- `replay` meets its contract: the invariant is `Replaying`, the steps left make of p what all steps make of the start;
+-- its laws are in proofs/RunLaws.antt.
 use borrow.Author.Needs.{needs}
 use native.Mathlib.Omega.{arith}
 use Prim.Native.Nat.{_-_}

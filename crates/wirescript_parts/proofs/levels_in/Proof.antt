@@ -1,3 +1,5 @@
+-- `levels_in` meets its contract: the invariant is `Counting`, of the first i entries `levels` added one; its laws are
+-- in proofs/LevelLaws.antt.
 use Prim.Native.Nat.{_-_}
 use Rattle.wirescript_parts.proofs.LevelLaws.{Counting, counting-start, counting-flat, counting-level, counting-end}
 use borrow.Author.Needs.{needs}

@@ -1,3 +1,5 @@
+-- `print_all` ends: each source brings the list's end nearer. What it writes no contract can say, so the loop keeps
+-- nothing.
 use Prim.Native.Nat.{_-_}
 use native.Mathlib.Omega.{arith}
 use borrow.Author.Needs.{needs}

@@ -7,7 +7,7 @@
 //! out of order, with an odd number behind the last entry, and with too few answer bytes.
 
 use runs::random::Random;
-use runs::{grammar, sources};
+use runs::{argument, grammar, sources};
 use upstream::{TextKind, text_kind_at};
 use wirescript_format::raw::{self, Kinds};
 
@@ -142,9 +142,7 @@ fn source_checks(random: &mut Random, text: &str) -> u64 {
 }
 
 fn main() {
-    let count: u64 = std::env::args()
-        .nth(1)
-        .map_or(20_000, |n| n.parse().expect("a number of sources"));
+    let count = argument(1, 20_000);
     let mut random = Random::new(16);
     let mut checks = 0;
     for length in 0..=4 {

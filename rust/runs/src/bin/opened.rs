@@ -9,7 +9,7 @@
 
 use runs::call::Chosen;
 use runs::random::Random;
-use runs::{grammar, sources};
+use runs::{argument, grammar, sources};
 use upstream::{Counted, FormatOptions};
 use wirescript_format::Options;
 use wirescript_format::raw::{self, Answer, Choices};
@@ -132,9 +132,7 @@ fn random_source(random: &mut Random) -> String {
 }
 
 fn main() {
-    let count: u64 = std::env::args()
-        .nth(1)
-        .map_or(100_000, |n| n.parse().expect("a number of sources"));
+    let count = argument(1, 100_000);
     let mut random = Random::new(20);
     let mut calls = 0;
     for length in 0..=5 {

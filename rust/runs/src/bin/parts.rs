@@ -7,7 +7,7 @@
 mod wrappers;
 
 use runs::random::Random;
-use runs::{grammar, sources};
+use runs::{argument, grammar, sources};
 use upstream::Carry;
 use wrappers::Open;
 
@@ -80,8 +80,7 @@ fn compare(source: &str) -> u64 {
 }
 
 fn main() {
-    let most = std::env::args().nth(1).and_then(|n| n.parse().ok());
-    let most: u64 = most.unwrap_or(200_000);
+    let most = argument(1, 200_000);
     let mut lines = 0;
     for (_, alphabet) in sources::ALPHABETS {
         for length in 0..=4 {

@@ -1,3 +1,5 @@
+-- `whole_of` meets its contract: the invariant is `Adding`, the first i characters are digits that spell n; its laws
+-- are in proofs/WholeLaws.antt.
 use borrow.Author.Needs.{needs}
 use Prim.Native.Nat.{_-_}
 use lib.ListN.{length}

@@ -1,3 +1,5 @@
+-- `level_from` meets its contract: the invariant is `LevelScan`, the answer for e is that for i; its laws are in
+-- proofs/LevelLaws.antt.
 use borrow.Author.Needs.{needs}
 use native.Mathlib.Omega.{arith}
 use Rattle.config_read.proofs.LevelLaws.{LevelScan, scan-start, scan-found, scan-more, scan-end}

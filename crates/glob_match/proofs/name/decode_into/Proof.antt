@@ -1,3 +1,5 @@
+-- `decode_into` meets its contract: the invariant is `Decoding`, the characters of the name's first i bytes stand from
+-- k up to n; its laws are in proofs/NameLaws.antt.
 use borrow.Author.Needs.{needs}
 use native.Mathlib.Omega.{arith}
 use Prim.Native.Nat.{_-_}

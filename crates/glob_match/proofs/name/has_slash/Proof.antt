@@ -1,3 +1,5 @@
+-- `has_slash` meets its contract: the invariant is `Seeking`, the answer is that for the tokens from i on; its laws are
+-- in proofs/NameLaws.antt.
 use borrow.Author.Needs.{needs}
 use Prim.Native.Nat.{_-_}
 use lib.ListN.{length}

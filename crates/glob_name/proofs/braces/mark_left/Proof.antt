@@ -1,3 +1,5 @@
+-- `mark_left` meets its contract: the invariant is `FromLeft`, the first i kinds are marked and the braces open there
+-- have their flags; its laws are in proofs/MarkLaws.antt.
 use borrow.Author.Needs.{needs}
 use Prim.Native.Nat.{_-_}
 use lib.ListN.{length}

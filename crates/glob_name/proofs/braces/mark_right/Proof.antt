@@ -1,3 +1,5 @@
+-- `mark_right` meets its contract: the invariant is `FromRight`, the kinds from p on are marked and the braces open
+-- there have their flags; its laws are in proofs/MarkLaws.antt.
 use borrow.Author.Needs.{needs}
 use Rattle.glob_name.proofs.MarkLaws.{FromRight, right-start, right-more, right-end}
 use Rattle.glob_name.proofs.braces.mark_right.Statement.{statement}

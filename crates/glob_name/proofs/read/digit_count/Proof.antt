@@ -1,3 +1,5 @@
+-- `digit_count` meets its contract: the invariant is `Counting`, digits stand from `from` up to i; its laws are in
+-- proofs/ReadLaws.antt.
 use borrow.Author.Needs.{needs}
 use Prim.Native.Nat.{_-_}
 use lib.ListN.{length}

@@ -1,3 +1,5 @@
+-- `raw_kinds` meets its contract: the invariant is `Scanning`, the first i kinds are the tokens read so far, the last
+-- of which takes `more` characters more; its laws are in proofs/RawLaws.antt.
 use borrow.Author.Needs.{needs}
 use Prim.Native.Nat.{_-_}
 use lib.ListN.{length}

@@ -1,3 +1,5 @@
+-- `set_ends` meets its contract: the invariant is `Ending`, from i on each place has the distance of its `]`, and two
+-- running values tell it for i, escaped and not; its laws are in proofs/ReadLaws.antt.
 use borrow.Author.Needs.{needs}
 use Rattle.glob_name.proofs.ReadLaws.{Ending, ending-start, ending-close, ending-escape, ending-other, ending-end}
 use Rattle.glob_name.proofs.read.set_ends.Statement.{statement}

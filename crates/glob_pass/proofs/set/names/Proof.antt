@@ -1,3 +1,5 @@
+-- `names` meets its contract: the invariant is `Naming` of specs/Kinds.antt, the set goes on at i with n before it; its
+-- laws are in proofs/SetLaws.antt.
 use borrow.Author.Needs.{needs}
 use Prim.Native.Nat.{_-_}
 use lib.ListN.{length}

@@ -1,3 +1,5 @@
+-- `count_endings` meets its contract: the invariant is `Counting`, lf line feeds stand in the block up to i, crlf of
+-- them behind a CR; its laws are in proofs/EndingLaws.antt.
 use borrow.Author.Needs.{needs}
 use Prim.Native.Nat.{_-_}
 use mathlib.Core.Logic.{⊎-elim}

@@ -1,3 +1,5 @@
+-- `dominant_in` meets its contract: the invariant is `Counted` of specs/Endings.antt, lf line feeds stand before i,
+-- crlf of them behind a CR; its laws are in proofs/EndingLaws.antt.
 use borrow.Author.Needs.{needs}
 use Prim.Native.Nat.{_-_}
 use lib.ListN.{length}

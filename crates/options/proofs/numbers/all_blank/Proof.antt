@@ -1,3 +1,5 @@
+-- `all_blank` meets its contract: the invariant is `Blank`, the answer is that for the bytes from i on; its laws are in
+-- proofs/NumbersLaws.antt.
 use borrow.Author.Needs.{needs}
 use Prim.Native.Nat.{_-_}
 use lib.ListN.{length}

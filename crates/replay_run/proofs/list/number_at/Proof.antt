@@ -1,3 +1,5 @@
+-- `number_at` meets its contract: the invariant is `Reading`, n is what the digits from `at` up to i spell; its laws
+-- are in proofs/ListLaws.antt.
 use borrow.Author.Needs.{needs}
 use Prim.Native.Nat.{_-_}
 use lib.ListN.{length}

@@ -6,6 +6,8 @@ use std::str::FromStr;
 use clap::{Args, Parser, Subcommand, ValueEnum};
 use wirescript_format::{FinalNewline, LineEnding, Options, Refusal};
 
+use crate::report::words;
+
 /// Formats Wirescript: files, the .ws files of folders, and standard input.
 #[derive(Parser)]
 #[command(
@@ -99,7 +101,7 @@ impl Job {
         }
         let options = self.chosen.over(Options::new());
         let refusal = options.and_then(|options| wirescript_format::format("", &options));
-        refusal.err().map(|refusal| refusal.to_string())
+        refusal.err().map(words)
     }
 }
 

@@ -170,8 +170,7 @@ fn a_refused_editorconfig() {
     let file = Configured::new();
     let mut client = Client::ready();
     file.write("[*]\nindent_size = 65\n");
-    let refused =
-        "its .editorconfig files: an option is not allowed: an indent is at most 64 spaces or tabs";
+    let refused = "its .editorconfig files: an indent is at most 64 spaces or tabs";
     let told = diagnostic([0, 0, 0, 0], 1, refused);
     let both = [told, open_bracket([0, 0, 0, 1])].join(",");
     client.open(&file.uri, "{", &both);

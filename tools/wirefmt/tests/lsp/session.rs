@@ -237,7 +237,7 @@ fn options_that_are_none() {
     );
     client.ask(
         &asked(r#","options":{"tabSize":65,"insertSpaces":true}"#),
-        r#"{"jsonrpc":"2.0","id":1,"error":{"code":-32803,"message":"an option is not allowed: an indent is at most 64 spaces or tabs"}}"#,
+        r#"{"jsonrpc":"2.0","id":1,"error":{"code":-32803,"message":"an indent is at most 64 spaces or tabs"}}"#,
     );
     client.shut_down();
 }

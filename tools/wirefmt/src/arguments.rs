@@ -48,7 +48,7 @@ pub struct Job {
     /// Files, and folders whose .ws files are meant; `-` or nothing: standard input
     #[arg(value_name = "PATH")]
     pub paths: Vec<PathBuf>,
-    /// Write nothing; tell the files that would change, with exit status 1
+    /// Write nothing; tell the files that one pass would change (or --stable), with exit status 1
     #[arg(long)]
     pub check: bool,
     /// Write nothing; show what would change as a unified diff

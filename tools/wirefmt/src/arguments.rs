@@ -6,6 +6,8 @@ use std::str::FromStr;
 use clap::{Args, Parser, Subcommand, ValueEnum};
 use wirescript_format::{FinalNewline, LineEnding, Options, Refusal};
 
+use crate::report::words;
+
 /// Formats Wirescript: files, the .ws files of folders, and standard input.
 #[derive(Parser)]
 #[command(
@@ -46,7 +48,7 @@ pub struct Job {
     /// Files, and folders whose .ws files are meant; `-` or nothing: standard input
     #[arg(value_name = "PATH")]
     pub paths: Vec<PathBuf>,
-    /// Write nothing; tell the files that would change, with exit status 1
+    /// Write nothing; tell the files that one pass would change (or --stable), with exit status 1
     #[arg(long)]
     pub check: bool,
     /// Write nothing; show what would change as a unified diff
@@ -99,7 +101,7 @@ impl Job {
         }
         let options = self.chosen.over(Options::new());
         let refusal = options.and_then(|options| wirescript_format::format("", &options));
-        refusal.err().map(|refusal| refusal.to_string())
+        refusal.err().map(words)
     }
 }
 

@@ -1,6 +1,6 @@
 //! Extended attributes of files; access control lists are among them.
 
-use std::ffi::{CStr, c_void};
+use std::ffi::{CStr, CString, c_int, c_void};
 use std::fs::File;
 use std::io;
 use std::os::fd::AsRawFd;
@@ -8,15 +8,18 @@ use std::os::fd::AsRawFd;
 /// The longest list of names, and the longest value.
 const LONGEST: usize = 65_536;
 
-/// Gives a file the extended attributes of another.
+/// Gives a file the extended attributes of another, and no others.
 pub fn copy(from: &File, to: &File) -> io::Result<()> {
-    let names = match names(from) {
+    let (kept, new) = match names(from) {
         // a file system without them
         Err(error) if error.raw_os_error() == Some(libc::ENOTSUP) => return Ok(()),
-        names => names?,
+        kept => (kept?, names(to)?),
     };
-    for name in names.split_inclusive(|byte| *byte == 0) {
-        let name = CStr::from_bytes_with_nul(name).map_err(io::Error::other)?;
+    // a folder may give its new files an access control list
+    for name in new.iter().filter(|name| !kept.contains(name)) {
+        remove(to, name)?;
+    }
+    for name in &kept {
         let kept = value(from, name)?;
         if !value(to, name).is_ok_and(|new| new == kept) {
             set(to, name, &kept)?;
@@ -25,12 +28,14 @@ pub fn copy(from: &File, to: &File) -> io::Result<()> {
     Ok(())
 }
 
-/// The names, each ended by NUL.
-fn names(file: &File) -> io::Result<Vec<u8>> {
-    filled(|buffer, length| {
+fn names(file: &File) -> io::Result<Vec<CString>> {
+    let names = filled(|buffer, length| {
         // SAFETY: the buffer has this length, and the descriptor is open.
         unsafe { libc::flistxattr(file.as_raw_fd(), buffer.cast(), length) }
-    })
+    })?;
+    let names = names.split_inclusive(|byte| *byte == 0);
+    let names = names.map(|name| CString::from_vec_with_nul(name.to_vec()));
+    names.collect::<Result<_, _>>().map_err(io::Error::other)
 }
 
 fn value(file: &File, name: &CStr) -> io::Result<Vec<u8>> {
@@ -43,8 +48,17 @@ fn value(file: &File, name: &CStr) -> io::Result<Vec<u8>> {
 fn set(file: &File, name: &CStr, value: &[u8]) -> io::Result<()> {
     let (bytes, length) = (value.as_ptr().cast(), value.len());
     // SAFETY: pointer and length are those of a slice, the name ends in NUL, and the descriptor is open.
-    let done = unsafe { libc::fsetxattr(file.as_raw_fd(), name.as_ptr(), bytes, length, 0) };
-    if done == 0 {
+    done(unsafe { libc::fsetxattr(file.as_raw_fd(), name.as_ptr(), bytes, length, 0) })
+}
+
+fn remove(file: &File, name: &CStr) -> io::Result<()> {
+    // SAFETY: the name ends in NUL, and the descriptor is open.
+    done(unsafe { libc::fremovexattr(file.as_raw_fd(), name.as_ptr()) })
+}
+
+/// What a call's 0 or -1 says.
+fn done(answer: c_int) -> io::Result<()> {
+    if answer == 0 {
         Ok(())
     } else {
         Err(io::Error::last_os_error())

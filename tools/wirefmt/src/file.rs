@@ -96,9 +96,10 @@ impl Temporary {
         (&self.file).write_all(bytes)?;
         let (new, kept) = (self.file.metadata()?, old.metadata()?);
         if (new.uid(), new.gid()) != (kept.uid(), kept.gid()) {
-            fchown(&self.file, Some(kept.uid()), Some(kept.gid()))?;
+            let owner = fchown(&self.file, Some(kept.uid()), Some(kept.gid()));
+            owner.map_err(|error| lost("its owner", &error))?;
         }
-        attributes::copy(old, &self.file)?;
+        attributes::copy(old, &self.file).map_err(|error| lost("its attributes", &error))?;
         // last, since a change of the owner drops bits
         let mode = Permissions::from_mode(kept.mode() & 0o7777);
         self.file.set_permissions(mode)?;
@@ -108,6 +109,10 @@ impl Temporary {
     fn rename(self, path: &Path) -> io::Result<()> {
         fs::rename(&self.path, path)
     }
+}
+
+fn lost(what: &str, error: &io::Error) -> io::Error {
+    io::Error::other(format!("{what} can't be kept: {error}"))
 }
 
 impl Drop for Temporary {

@@ -10,6 +10,7 @@ mod progress;
 mod report;
 mod run;
 mod settings;
+mod stop;
 mod text;
 mod walk;
 

@@ -2,7 +2,19 @@
 
 use std::io;
 
-use wirescript_format::{MAX_SOURCE, Position, Refusal};
+use wirescript_format::{Formatter, MAX_INDENT, MAX_SOURCE, Position, Refusal};
+
+/// A refusal in words, for whom a call's own options and buffers mean nothing.
+pub fn words(refusal: Refusal) -> String {
+    match refusal {
+        Refusal::BadOption => format!("an indent is at most {MAX_INDENT} spaces or tabs"),
+        Refusal::OutputShort { needed } => {
+            let most = Formatter::MOST >> 20;
+            format!("the text would take {needed} bytes, and {most} MiB is the most")
+        }
+        other => other.to_string(),
+    }
+}
 
 /// How a run ends; the worst counts.
 #[derive(Clone, Copy, Debug, Default, PartialEq, Eq, PartialOrd, Ord)]
@@ -43,7 +55,7 @@ impl Trouble {
             Refusal::NotUtf8 { .. } => "it is not UTF-8 from here on".to_owned(),
             Refusal::NotExpression { .. } => "this is not an expression from here on".to_owned(),
             Refusal::TooDeep { .. } => "this bracket stands deeper than 64".to_owned(),
-            other => other.to_string(),
+            other => words(other),
         };
         let place = refusal.position(source).unwrap_or_default();
         Self { place, what }

@@ -13,7 +13,7 @@ use crate::progress::Progress;
 use crate::report::{Report, Status, Trouble};
 use crate::text::Text;
 use crate::walk::Found;
-use crate::{file, name, settings, text, walk};
+use crate::{file, name, settings, stop, text, walk};
 
 /// How many files are reported together.
 const TOGETHER: usize = 256;
@@ -54,7 +54,13 @@ impl Source<'_> {
 pub fn files(job: &Job) -> io::Result<Status> {
     let found = walk::files(&job.paths);
     let progress = Progress::new(found.len());
+    if job.writes() {
+        stop::listen();
+    }
     let step = |found| {
+        if stop::asked() {
+            return Report::default();
+        }
         let report = file_report(job, found);
         progress.step();
         report
@@ -67,6 +73,7 @@ pub fn files(job: &Job) -> io::Result<Status> {
         progress.aside(|| reports.iter().try_for_each(publish))?;
     }
     progress.end();
+    stop::obey();
     Ok(status)
 }
 

@@ -37,8 +37,8 @@ pub fn files(paths: &[PathBuf]) -> Vec<Found> {
     found
 }
 
-/// The path with its folder's links resolved.
-fn whole(path: &Path) -> PathBuf {
+/// The path with its folder's links and `..` resolved; as it is where there is no such folder.
+pub fn whole(path: &Path) -> PathBuf {
     let folder = match path.parent() {
         Some(folder) if folder != Path::new("") => folder,
         _ => Path::new("."),

@@ -166,6 +166,41 @@ fn what_is_gone_moved_or_no_file() {
     repository.commit();
 }
 
+/// What an amended commit has beyond the old one is looked at; a new message alone is fine.
+#[test]
+fn amended_commits() {
+    let repository = Repository::new();
+    repository.stage("a.ws", SOURCE);
+    repository.done(&["commit", "--quiet", "--message=m", "--no-verify"]);
+    repository.done(&["commit", "--quiet", "--message=n", "--amend"]);
+    repository.stage("b.ws", SOURCE);
+    let told = repository.stopped(&["--amend"]);
+    assert!(
+        told.contains("b.ws:1:1: ") && !told.contains("a.ws"),
+        "{told}"
+    );
+    repository.stage("b.ws", TEXT);
+    repository.done(&["commit", "--quiet", "--message=m", "--amend"]);
+}
+
+/// A submodule is another repository, whatever its name.
+#[test]
+fn submodules() {
+    let (inner, outer) = (Repository::new(), Repository::new());
+    inner.stage("a.ws", SOURCE);
+    inner.done(&["commit", "--quiet", "--message=m", "--no-verify"]);
+    let url = inner.0.path().to_str().expect("UTF-8");
+    let local = ["-c", "protocol.file.allow=always"];
+    let add = ["submodule", "--quiet", "add", url, "inner.ws"];
+    outer.done(&[&local[..], &add].concat());
+    outer.commit();
+    let kind = outer.git(&["ls-tree", "HEAD", "inner.ws"]).stdout;
+    assert!(kind.starts_with(b"160000 commit "), "{kind:?}");
+    outer.stage("b.ws", SOURCE);
+    let told = outer.stopped(&[]);
+    assert!(!told.contains("inner.ws"), "{told}");
+}
+
 #[test]
 fn settings_of_the_repository() {
     let repository = Repository::new();

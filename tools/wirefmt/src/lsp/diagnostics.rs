@@ -5,6 +5,7 @@ use wirescript_format::{Formatter, LineIndex, Options, Refusal};
 use super::json::{Value, object};
 use super::place::{Position, Walk, line_end, range};
 use super::settings::configured;
+use crate::report::words;
 
 const ERROR: i64 = 1;
 const WARNING: i64 = 2;
@@ -36,11 +37,7 @@ pub fn of(formatter: &mut Formatter, uri: &str, text: &str) -> Vec<Value> {
                 found.push(diagnostic(Default::default(), WARNING, &message));
             }
         }
-        Err(refusal) => found.push(diagnostic(
-            place(text, refusal),
-            ERROR,
-            &refusal.to_string(),
-        )),
+        Err(refusal) => found.push(diagnostic(place(text, refusal), ERROR, &words(refusal))),
     }
     found
 }

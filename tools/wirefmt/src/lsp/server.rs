@@ -14,6 +14,7 @@ use super::rpc::{
 };
 use super::settings::configured;
 use super::{tell, tokens};
+use crate::report::words;
 
 #[derive(Clone, Copy, Debug, Default, PartialEq, Eq)]
 enum State {
@@ -227,7 +228,7 @@ impl Server {
 }
 
 fn refused(refusal: Refusal) -> Fault {
-    Fault::new(REQUEST_FAILED, refusal.to_string())
+    Fault::new(REQUEST_FAILED, words(refusal))
 }
 
 /// The number of a text: a whole number, or null.

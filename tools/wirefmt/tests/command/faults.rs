@@ -2,11 +2,14 @@
 //! each, a file is as it was or is formatted.
 
 use std::fs::{self, Permissions};
+use std::io;
 use std::os::unix::fs::{MetadataExt, PermissionsExt, chown};
-use std::os::unix::process::ExitStatusExt;
+use std::os::unix::process::{CommandExt, ExitStatusExt};
 use std::path::PathBuf;
-use std::process::{Child, Command, Stdio};
+use std::process::{Child, Command, ExitStatus, Stdio};
 use std::sync::OnceLock;
+use std::thread;
+use std::time::Duration;
 
 use crate::folder::{Folder, Ran, SOURCE, TEXT, WIREFMT, not_run};
 
@@ -219,9 +222,8 @@ fn the_owner_is_kept() {
     };
     match without(&folder, "-chown", &["a.ws"]) {
         Some(ran) => {
-            ran.refused(&format!(
-                "{NOT_REPLACED}: Operation not permitted (os error 1)"
-            ));
+            let lost = "its owner can't be kept: Operation not permitted (os error 1)";
+            ran.refused(&format!("{NOT_REPLACED}: {lost}"));
             assert_eq!(
                 (folder.read("a.ws").as_str(), owner()),
                 (SOURCE, (12_345, 23_456))
@@ -258,4 +260,56 @@ fn four_at_once_in_one_folder() {
     }
     assert_eq!(folder.names(), names);
     folder.holds(&names, TEXT);
+}
+
+/// A run over slow files that is sent a signal once it has begun; the folder, and how it ended. What the signal does
+/// to it at first (the default, or nothing) is set, since a run in the background inherits that.
+fn sent(signal: i32, at_first: libc::sighandler_t) -> (Folder, ExitStatus) {
+    let folder = Folder::new();
+    for file in 0..FILES {
+        folder.write(format!("{file}.ws"), SOURCE);
+    }
+    let mut command = with_fault(&folder, "slow fsync", &["."]);
+    // SAFETY: between fork and exec only this call is made, which may be made there.
+    unsafe {
+        command.pre_exec(move || match libc::signal(signal, at_first) {
+            libc::SIG_ERR => Err(io::Error::last_os_error()),
+            _ => Ok(()),
+        });
+    }
+    let mut child = command.spawn().unwrap();
+    while folder.read("0.ws") == SOURCE {
+        thread::sleep(Duration::from_millis(1));
+    }
+    let process = i32::try_from(child.id()).unwrap();
+    // SAFETY: it takes two numbers; the process is not waited for yet, so the number is still its own.
+    assert_eq!(unsafe { libc::kill(process, signal) }, 0);
+    let status = child.wait().unwrap();
+    (folder, status)
+}
+
+const FILES: usize = 200;
+
+/// Ctrl-C, a closed terminal, a request to end: the files at work are finished, the rest are as they were.
+#[test]
+fn told_to_end() {
+    for signal in [libc::SIGINT, libc::SIGTERM, libc::SIGHUP] {
+        let (folder, status) = sent(signal, libc::SIG_DFL);
+        assert_eq!(status.signal(), Some(signal));
+        let names = folder.names();
+        assert_eq!(names.len(), FILES, "a temporary file is left");
+        let (done, others): (Vec<_>, Vec<_>) =
+            names.iter().partition(|name| folder.read(name) == TEXT);
+        assert!(!done.is_empty() && !others.is_empty());
+        folder.holds(&others, SOURCE);
+    }
+}
+
+/// As `nohup` starts it.
+#[test]
+fn a_signal_that_is_ignored() {
+    let (folder, status) = sent(libc::SIGHUP, libc::SIG_IGN);
+    assert_eq!(status.code(), Some(0));
+    assert_eq!(folder.names().len(), FILES);
+    folder.holds(&folder.names(), TEXT);
 }

@@ -102,45 +102,69 @@ fn permissions_are_kept() {
     assert_eq!(folder.names(), ["a.ws"]);
 }
 
-/// The value of an extended attribute of `a.ws`.
-fn attribute(folder: &Folder, name: &CStr) -> Vec<u8> {
-    let path = CString::new(folder.path().join("a.ws").as_os_str().as_bytes()).unwrap();
+fn c_path(folder: &Folder, file: &str) -> CString {
+    CString::new(folder.path().join(file).as_os_str().as_bytes()).unwrap()
+}
+
+/// The value of an extended attribute of `a.ws`, if it has it.
+fn attribute(folder: &Folder, name: &CStr) -> Option<Vec<u8>> {
+    let path = c_path(folder, "a.ws");
     let mut value = vec![0_u8; 99];
     let buffer = value.as_mut_ptr().cast();
     // SAFETY: both names end in NUL, and the buffer has this length.
     let length = unsafe { libc::getxattr(path.as_ptr(), name.as_ptr(), buffer, 99) };
-    value.truncate(usize::try_from(length).unwrap());
-    value
+    value.truncate(usize::try_from(length).ok()?);
+    Some(value)
 }
 
-/// Gives `a.ws` an extended attribute; `false` where the file system has none.
-fn set_attribute(folder: &Folder, name: &CStr, value: &[u8]) -> bool {
-    let path = CString::new(folder.path().join("a.ws").as_os_str().as_bytes()).unwrap();
+/// Gives a file an extended attribute; `false`, and told, where the file system has none.
+fn set_attribute(folder: &Folder, file: &str, name: &CStr, value: &[u8]) -> bool {
+    let path = c_path(folder, file);
     let (bytes, length) = (value.as_ptr().cast(), value.len());
     // SAFETY: both names end in NUL, and pointer and length are those of a slice.
-    unsafe { libc::setxattr(path.as_ptr(), name.as_ptr(), bytes, length, 0) == 0 }
+    let set = unsafe { libc::setxattr(path.as_ptr(), name.as_ptr(), bytes, length, 0) == 0 };
+    if !set {
+        not_run("extended attributes are kept (the file system has none)");
+    }
+    set
 }
 
 /// An access control list: the owner reads and writes, user 12345 too, the group and all others read.
 const LIST: &[u8] = b"\x02\0\0\0\x01\0\x06\0\xff\xff\xff\xff\x02\0\x06\0\x39\x30\0\0\
     \x04\0\x04\0\xff\xff\xff\xff\x10\0\x06\0\xff\xff\xff\xff\x20\0\x04\0\xff\xff\xff\xff";
 
+const ACCESS: &CStr = c"system.posix_acl_access";
+
 #[test]
 fn extended_attributes_are_kept() {
     let folder = Folder::new();
-    for (name, value) in [
-        (c"user.note", &b"a\0b"[..]),
-        (c"system.posix_acl_access", LIST),
-    ] {
+    for (name, value) in [(c"user.note", &b"a\0b"[..]), (ACCESS, LIST)] {
         folder.write("a.ws", SOURCE);
-        if !set_attribute(&folder, name, value) {
-            not_run("extended attributes are kept (the file system has none)");
+        if !set_attribute(&folder, "a.ws", name, value) {
             continue;
         }
         folder.run(&["a.ws"]).quiet(0);
         assert_eq!(folder.read("a.ws"), TEXT);
-        assert_eq!(attribute(&folder, name), value, "{name:?}");
+        assert_eq!(attribute(&folder, name).as_deref(), Some(value), "{name:?}");
     }
+}
+
+/// A file that had no access control list gets none from its folder.
+#[test]
+fn no_access_control_list_is_added() {
+    let folder = Folder::new();
+    folder.write("a.ws", SOURCE);
+    if !set_attribute(&folder, ".", c"system.posix_acl_default", LIST) {
+        return;
+    }
+    assert_eq!(attribute(&folder, ACCESS), None);
+    folder.run(&["a.ws"]).quiet(0);
+    assert_eq!(folder.read("a.ws"), TEXT);
+    assert_eq!(attribute(&folder, ACCESS), None);
+    // a new file does get one
+    fs::remove_file(folder.path().join("a.ws")).unwrap();
+    folder.write("a.ws", SOURCE);
+    assert!(attribute(&folder, ACCESS).is_some());
 }
 
 /// A file that is formatted is not written again.

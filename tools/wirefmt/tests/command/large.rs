@@ -62,7 +62,7 @@ fn a_text_without_end() {
     let source = "(\n".repeat(20_000);
     let ran = Folder::new().feed(&[], &source);
     let needed = (0..20_000).map(|level| 2 * level + 2).sum::<usize>();
-    let what = format!("the text takes {needed} bytes, more than there is room for");
+    let what = format!("the text would take {needed} bytes, and 64 MiB is the most");
     ran.refused(&format!("<stdin>:1:1: {what}"));
 }
 

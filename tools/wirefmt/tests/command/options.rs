@@ -150,3 +150,17 @@ fn editorconfig_of_standard_input() {
     let none = ["--stdin-filepath", "wide/none.ws", "--no-editorconfig"];
     assert_eq!(text(&none), "f(\n  a + b*c\n)\n");
 }
+
+/// The files of the folders that a path leads through and out of again don't count.
+#[test]
+fn editorconfig_of_paths_that_lead_up() {
+    let folder = configured();
+    let deep = "root = true\n[*]\nindent_size = 7\n";
+    folder.write("wide/deep/.editorconfig", deep);
+    for path in ["wide/deep/../a.ws", "wide/../wide/deep/../a.ws"] {
+        let ran = folder.feed(&["--stdin-filepath", path], "f(\na + b*c\n)\n");
+        assert_eq!(ran.output, "f(\n    a\n        + b*c\n)\n", "{path}");
+    }
+    folder.run(&["wide/deep/../../a.ws"]).quiet(0);
+    assert_eq!(folder.read("a.ws"), "f(\n    a + b*c\n)\n");
+}

@@ -110,35 +110,50 @@ fn a_missing_file() {
     ran.refused("none.ws:1:1: it can't be read: No such file or directory (os error 2)");
 }
 
+/// Each with words of its message.
+const BAD_OPTIONS: [(&[&str], &str); 16] = [
+    (
+        &["--indent", "65"],
+        "an indent is at most 64 spaces or tabs",
+    ),
+    (
+        &["--tabs", "--indent", "65"],
+        "an indent is at most 64 spaces",
+    ),
+    (&["--indent", "x"], "neither a number nor spaces and tabs"),
+    (&["--indent", ""], "--indent"),
+    (&["--width", "-1"], "'-1'"),
+    (&["--width", "9", "--no-width"], "cannot be used with"),
+    (
+        &["--end-of-line", "cr"],
+        "[possible values: keep, lf, crlf]",
+    ),
+    (&["--final-newline", "perhaps"], "always, never, as-source]"),
+    (&["--ruler-tab", "17"], "the ruler tab is over 16 columns"),
+    (&["--strengths", "1123456677778889aabbbc0"], "not 22 digits"),
+    (
+        &["--strengths", "11234566777788g9aabbc0"],
+        "0 to 9 and a to f",
+    ),
+    (&["--strengths", "112345667777889aabbbc1"], "the last bits"),
+    (&["--stdin-filepath", "a.ws"], "is for standard input"),
+    (&["-"], "can't be named with other paths"),
+    (&["--nothing"], "'--nothing'"),
+    (&["--null"], "--list"),
+];
+
 #[test]
 fn bad_options() {
     let folder = folder();
-    let bad: [&[&str]; 16] = [
-        &["--indent", "65", "raw.ws"],
-        &["--tabs", "--indent", "65", "raw.ws"],
-        &["--indent", "x", "raw.ws"],
-        &["--indent", "", "raw.ws"],
-        &["--indent", &" ".repeat(65), "raw.ws"],
-        &["--width", "-1", "raw.ws"],
-        &["--width", "9", "--no-width", "raw.ws"],
-        &["--end-of-line", "cr", "raw.ws"],
-        &["--final-newline", "perhaps", "raw.ws"],
-        &["--ruler-tab", "17", "raw.ws"],
-        &["--strengths", "1123456677778889aabbbc0", "raw.ws"],
-        &["--strengths", "11234566777788g9aabbc0", "raw.ws"],
-        &["--strengths", "112345667777889aabbbc1", "raw.ws"],
-        &["--stdin-filepath", "a.ws", "raw.ws"],
-        &["-", "raw.ws"],
-        &["--nothing", "raw.ws"],
-    ];
-    for arguments in bad {
-        let ran = folder.run(arguments);
-        assert_eq!(ran.status, Some(2), "{arguments:?}");
-        assert!(ran.messages.starts_with("error: "), "{arguments:?}");
-        assert_eq!(
-            (ran.output.as_str(), folder.read("raw.ws").as_str()),
-            ("", SOURCE)
-        );
+    let long = " ".repeat(65);
+    let long = (&["--indent", &long][..], "an indent is at most 64");
+    for (options, words) in BAD_OPTIONS.into_iter().chain([long]) {
+        let ran = folder.run(&[options, &["raw.ws"]].concat());
+        let first = ran.messages.lines().take(2).collect::<String>();
+        assert!(first.starts_with("error: "), "{first}");
+        assert!(first.contains(words), "{options:?}: {first}");
+        assert_eq!((ran.status, ran.output.as_str()), (Some(2), ""));
+        assert_eq!(folder.read("raw.ws"), SOURCE);
     }
 }
 
@@ -152,7 +167,7 @@ fn bad_editorconfig() {
         folder.run(&["raw.ws"]).refused(&told);
         assert_eq!(folder.read("raw.ws"), SOURCE);
     };
-    let indent = "an option is not allowed: an indent is at most 64 spaces or tabs";
+    let indent = "an indent is at most 64 spaces or tabs";
     tell(
         b"root=true\n[*]\nindent_style=space\nindent_size=65\n",
         indent,

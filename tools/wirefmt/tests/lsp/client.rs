@@ -1,5 +1,6 @@
 //! A client that compares every byte that comes back.
 
+use std::fmt::Display;
 use std::io::{BufRead, BufReader, Read, Write};
 use std::process::{Child, ChildStdin, ChildStdout, Command, Stdio};
 
@@ -36,10 +37,9 @@ impl Client {
     /// A client of a server that is initialized.
     pub fn ready() -> Self {
         let mut client = Self::new();
-        client
-            .send(r#"{"jsonrpc":"2.0","id":0,"method":"initialize","params":{"capabilities":{}}}"#);
+        client.send(&request(0, "initialize", r#"{"capabilities":{}}"#));
         client.receive();
-        client.send(r#"{"jsonrpc":"2.0","method":"initialized","params":{}}"#);
+        client.send(&notification("initialized", "{}"));
         client
     }
 
@@ -89,7 +89,7 @@ impl Client {
 
     pub fn change(&mut self, uri: &str, version: u32, changes: &str, diagnostics: &str) {
         let answer = published(uri, version, diagnostics);
-        self.ask(&did_change(uri, version, changes), &answer);
+        self.ask(&did_change(uri, version, &format!("[{changes}]")), &answer);
     }
 
     /// Asks for a document's edits with an indent of two spaces; gives the result.
@@ -114,7 +114,7 @@ impl Client {
     pub fn shut_down(mut self) {
         self.ask(
             r#"{"jsonrpc":"2.0","id":"end","method":"shutdown"}"#,
-            r#"{"jsonrpc":"2.0","id":"end","result":null}"#,
+            &result("\"end\"", "null"),
         );
         self.send(r#"{"jsonrpc":"2.0","method":"exit"}"#);
         assert_eq!(self.end(), (Some(0), String::new()));
@@ -132,41 +132,69 @@ pub fn quoted(text: &str) -> String {
     format!("\"{}\"", escaped.concat())
 }
 
-pub fn opened(uri: &str, text: &str) -> String {
-    let text = quoted(text);
-    format!(
-        r#"{{"jsonrpc":"2.0","method":"textDocument/didOpen","params":{{"textDocument":{{"uri":"{uri}","languageId":"wirescript","version":1,"text":{text}}}}}}}"#
+pub fn notification(method: &str, params: &str) -> String {
+    format!(r#"{{"jsonrpc":"2.0","method":"{method}","params":{params}}}"#)
+}
+
+pub fn request(id: u32, method: &str, params: &str) -> String {
+    format!(r#"{{"jsonrpc":"2.0","id":{id},"method":"{method}","params":{params}}}"#)
+}
+
+/// What answers a request; the identifier as JSON.
+pub fn result(id: impl Display, value: &str) -> String {
+    format!(r#"{{"jsonrpc":"2.0","id":{id},"result":{value}}}"#)
+}
+
+pub fn error(id: impl Display, code: i32, message: &str) -> String {
+    format!(r#"{{"jsonrpc":"2.0","id":{id},"error":{{"code":{code},"message":"{message}"}}}}"#)
+}
+
+/// With the text as JSON.
+pub fn opened_as(uri: &str, version: u32, text: &str) -> String {
+    let named = format!(r#""uri":"{uri}","languageId":"wirescript""#);
+    let item = format!(r#"{{{named},"version":{version},"text":{text}}}"#);
+    notification(
+        "textDocument/didOpen",
+        &format!(r#"{{"textDocument":{item}}}"#),
     )
 }
 
+pub fn opened(uri: &str, text: &str) -> String {
+    opened_as(uri, 1, &quoted(text))
+}
+
+/// With the list of changes as JSON.
 pub fn did_change(uri: &str, version: u32, changes: &str) -> String {
-    format!(
-        r#"{{"jsonrpc":"2.0","method":"textDocument/didChange","params":{{"textDocument":{{"uri":"{uri}","version":{version}}},"contentChanges":[{changes}]}}}}"#
-    )
+    let item = format!(r#"{{"uri":"{uri}","version":{version}}}"#);
+    let params = format!(r#"{{"textDocument":{item},"contentChanges":{changes}}}"#);
+    notification("textDocument/didChange", &params)
 }
 
 pub fn published(uri: &str, version: u32, diagnostics: &str) -> String {
-    format!(
-        r#"{{"jsonrpc":"2.0","method":"textDocument/publishDiagnostics","params":{{"uri":"{uri}","version":{version},"diagnostics":[{diagnostics}]}}}}"#
-    )
+    let params = format!(r#"{{"uri":"{uri}","version":{version},"diagnostics":[{diagnostics}]}}"#);
+    notification("textDocument/publishDiagnostics", &params)
 }
 
 pub fn formatting(id: u32, uri: &str, size: u32, spaces: bool) -> String {
-    format!(
-        r#"{{"jsonrpc":"2.0","id":{id},"method":"textDocument/formatting","params":{{"textDocument":{{"uri":"{uri}"}},"options":{{"tabSize":{size},"insertSpaces":{spaces},"trimFinalNewlines":false}}}}}}"#
-    )
+    let options = format!(r#""tabSize":{size},"insertSpaces":{spaces},"trimFinalNewlines":false"#);
+    formatting_by(id, uri, &format!(r#","options":{{{options}}}"#))
+}
+
+/// With what stands behind the document as JSON.
+pub fn formatting_by(id: u32, uri: &str, more: &str) -> String {
+    let params = format!(r#"{{"textDocument":{{"uri":"{uri}"}}{more}}}"#);
+    request(id, "textDocument/formatting", &params)
 }
 
 pub fn tokens(id: u32, uri: &str) -> String {
-    format!(
-        r#"{{"jsonrpc":"2.0","id":{id},"method":"textDocument/semanticTokens/full","params":{{"textDocument":{{"uri":"{uri}"}}}}}}"#
-    )
+    let params = format!(r#"{{"textDocument":{{"uri":"{uri}"}}}}"#);
+    request(id, "textDocument/semanticTokens/full", &params)
 }
 
 pub fn range([line, character, end_line, end_character]: [u64; 4]) -> String {
-    format!(
-        r#"{{"start":{{"line":{line},"character":{character}}},"end":{{"line":{end_line},"character":{end_character}}}}}"#
-    )
+    let place = |line, character| format!(r#"{{"line":{line},"character":{character}}}"#);
+    let (start, end) = (place(line, character), place(end_line, end_character));
+    format!(r#"{{"start":{start},"end":{end}}}"#)
 }
 
 pub fn edit(place: [u64; 4], text: &str) -> String {

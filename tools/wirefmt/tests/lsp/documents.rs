@@ -58,9 +58,7 @@ fn line_endings() {
 #[test]
 fn a_lone_surrogate() {
     let mut client = Client::ready();
-    client.send(
-        r#"{"jsonrpc":"2.0","method":"textDocument/didOpen","params":{"textDocument":{"uri":"a","version":1,"text":"\ud83d ,b\n"}}}"#,
-    );
+    client.send(&opened_as("a", 1, r#""\ud83d ,b\n""#));
     client.expect(&published("a", 1, ""));
     assert_eq!(client.edits("a"), format!("[{}]", edit([0, 1, 0, 3], ", ")));
     client.shut_down();
@@ -109,11 +107,8 @@ fn a_document_over_the_limit() {
         &text,
         &diagnostic([5, column, 5, column + 1], 1, message),
     );
-    client.ask(
-        &formatting(1, "a", 2, true),
-        r#"{"jsonrpc":"2.0","id":1,"error":{"code":-32803,"message":"the source is over 1048576 bytes"}}"#,
-    );
-    client.ask(&tokens(2, "a"), r#"{"jsonrpc":"2.0","id":2,"result":null}"#);
+    client.ask(&formatting(1, "a", 2, true), &error(1, -32803, message));
+    client.ask(&tokens(2, "a"), &result(2, "null"));
     // at the limit it is formatted
     client.change("a", 2, &changed([5, 0, 5, 2], ""), "");
     assert_eq!(
@@ -170,14 +165,13 @@ fn a_refused_editorconfig() {
     let file = Configured::new();
     let mut client = Client::ready();
     file.write("[*]\nindent_size = 65\n");
-    let refused =
-        "its .editorconfig files: an option is not allowed: an indent is at most 64 spaces or tabs";
+    let refused = "its .editorconfig files: an indent is at most 64 spaces or tabs";
     let told = diagnostic([0, 0, 0, 0], 1, refused);
     let both = [told, open_bracket([0, 0, 0, 1])].join(",");
     client.open(&file.uri, "{", &both);
     client.ask(
         &formatting(1, &file.uri, 2, true),
-        &format!(r#"{{"jsonrpc":"2.0","id":1,"error":{{"code":-32803,"message":"{refused}"}}}}"#),
+        &error(1, -32803, refused),
     );
     client.shut_down();
 }

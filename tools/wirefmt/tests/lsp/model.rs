@@ -153,7 +153,8 @@ fn random_documents_and_changes() {
         client.receive();
         for version in 2..7 {
             let (place, text) = (model.range(&mut random), random.text(6));
-            client.send(&did_change("a", version, &changed(place, &text)));
+            let changes = format!("[{}]", changed(place, &text));
+            client.send(&did_change("a", version, &changes));
             client.receive();
             model.replace(place, &text);
             made += compare(&mut client, &model);

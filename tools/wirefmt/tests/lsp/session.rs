@@ -6,25 +6,23 @@ use crate::client::*;
 fn a_whole_conversation() {
     let mut client = Client::new();
     let uri = "untitled:Untitled-1";
-    client.ask(
-        r#"{"jsonrpc":"2.0","id":1,"method":"initialize","params":{"processId":null,"rootUri":null,"capabilities":{"general":{"positionEncodings":["utf-8","utf-16"]}}}}"#,
-        INITIALIZED,
-    );
-    client.send(r#"{"jsonrpc":"2.0","method":"initialized","params":{}}"#);
+    let general = r#"{"general":{"positionEncodings":["utf-8","utf-16"]}}"#;
+    let params = format!(r#"{{"processId":null,"rootUri":null,"capabilities":{general}}}"#);
+    client.ask(&request(1, "initialize", &params), INITIALIZED);
+    client.send(&notification("initialized", "{}"));
     client.open(uri, "f(a ,b)\n{\nx", &open_bracket([1, 0, 1, 1]));
     edited(&mut client, uri);
     client.change(uri, 4, r#"{"text":"a = \"b\" // c"}"#, "");
     client.ask(
         &tokens(5, uri),
-        r#"{"jsonrpc":"2.0","id":5,"result":{"data":[0,4,3,0,0,0,4,4,1,0]}}"#,
+        &result(5, r#"{"data":[0,4,3,0,0,0,4,4,1,0]}"#),
     );
-    client.send(&format!(
-        r#"{{"jsonrpc":"2.0","method":"textDocument/didClose","params":{{"textDocument":{{"uri":"{uri}"}}}}}}"#
-    ));
+    let item = format!(r#"{{"textDocument":{{"uri":"{uri}"}}}}"#);
+    client.send(&notification("textDocument/didClose", &item));
     client.expect(&published(uri, 4, ""));
     client.ask(
         &formatting(6, uri, 2, true),
-        r#"{"jsonrpc":"2.0","id":6,"error":{"code":-32602,"message":"untitled:Untitled-1 is not open"}}"#,
+        &error(6, -32602, "untitled:Untitled-1 is not open"),
     );
     client.shut_down();
 }
@@ -36,12 +34,7 @@ fn edited(client: &mut Client, uri: &str) {
         edit([1, 1, 2, 0], "\\n    "),
         edit([2, 1, 2, 1], "\\n"),
     ];
-    let answer = |id: u32, edits: &[String]| {
-        format!(
-            r#"{{"jsonrpc":"2.0","id":{id},"result":[{}]}}"#,
-            edits.join(",")
-        )
-    };
+    let answer = |id: u32, edits: &[String]| result(id, &format!("[{}]", edits.join(",")));
     client.ask(&formatting(2, uri, 4, true), &answer(2, &edits));
     // as an editor carries them out, the last first
     let changes = [
@@ -59,14 +52,14 @@ fn edited(client: &mut Client, uri: &str) {
 #[test]
 fn the_order_of_a_session() {
     let mut client = Client::new();
-    let not_yet = r#"{"jsonrpc":"2.0","id":1,"error":{"code":-32002,"message":"the server is not initialized"}}"#;
+    let not_yet = &error(1, -32002, "the server is not initialized");
     client.ask(&formatting(1, "a", 2, true), not_yet);
     client.ask(r#"{"jsonrpc":"2.0","id":1,"method":"shutdown"}"#, not_yet);
     // a notification before initialize is dropped
-    client.send(r#"{"jsonrpc":"2.0","method":"textDocument/didOpen","params":{"textDocument":{"uri":"a","version":1,"text":"("}}}"#);
+    client.send(&opened("a", "("));
     client.ask(
         r#"{"jsonrpc":"2.0","id":1,"method":"initialize","params":[]}"#,
-        r#"{"jsonrpc":"2.0","id":1,"error":{"code":-32602,"message":"the parameters of initialize are an object"}}"#,
+        &error(1, -32602, "the parameters of initialize are an object"),
     );
     client.ask(
         r#"{"jsonrpc":"2.0","id":1,"method":"initialize","params":{}}"#,
@@ -74,19 +67,19 @@ fn the_order_of_a_session() {
     );
     client.ask(
         r#"{"jsonrpc":"2.0","id":2,"method":"initialize","params":{}}"#,
-        r#"{"jsonrpc":"2.0","id":2,"error":{"code":-32600,"message":"the server is initialized"}}"#,
+        &error(2, -32600, "the server is initialized"),
     );
     client.ask(
         &formatting(3, "a", 2, true),
-        r#"{"jsonrpc":"2.0","id":3,"error":{"code":-32602,"message":"a is not open"}}"#,
+        &error(3, -32602, "a is not open"),
     );
     client.ask(
         r#"{"jsonrpc":"2.0","id":4,"method":"shutdown"}"#,
-        r#"{"jsonrpc":"2.0","id":4,"result":null}"#,
+        &result(4, "null"),
     );
     client.ask(
         r#"{"jsonrpc":"2.0","id":5,"method":"shutdown"}"#,
-        r#"{"jsonrpc":"2.0","id":5,"error":{"code":-32600,"message":"the server is shut down"}}"#,
+        &error(5, -32600, "the server is shut down"),
     );
     client.send(r#"{"jsonrpc":"2.0","method":"exit"}"#);
     // nothing is read behind exit
@@ -119,59 +112,65 @@ fn exit_without_shutdown_is_a_failure() {
     assert_eq!(client.end(), (Some(1), String::new()));
 }
 
-/// What is no message, what is no request, and what comes back.
-const MALFORMED: [(&str, &str); 13] = [
-    (
-        "",
-        r#"{"jsonrpc":"2.0","id":null,"error":{"code":-32700,"message":"no value at byte 0"}}"#,
-    ),
-    (
-        "{",
-        r#"{"jsonrpc":"2.0","id":null,"error":{"code":-32700,"message":"no name at byte 1"}}"#,
-    ),
+/// What is no message, what is no request, and what comes back: an identifier, a code and words, as JSON.
+const MALFORMED: [(&str, &str, i32, &str); 13] = [
+    ("", "null", -32700, "no value at byte 0"),
+    ("{", "null", -32700, "no name at byte 1"),
     (
         r#"{"jsonrpc":"2.0","id":1,"method":"shutdown"}}"#,
-        r#"{"jsonrpc":"2.0","id":null,"error":{"code":-32700,"message":"more than one value at byte 44"}}"#,
+        "null",
+        -32700,
+        "more than one value at byte 44",
     ),
-    (
-        "[]",
-        r#"{"jsonrpc":"2.0","id":null,"error":{"code":-32600,"message":"a message is an object"}}"#,
-    ),
-    (
-        "1",
-        r#"{"jsonrpc":"2.0","id":null,"error":{"code":-32600,"message":"a message is an object"}}"#,
-    ),
+    ("[]", "null", -32600, "a message is an object"),
+    ("1", "null", -32600, "a message is an object"),
     (
         r#"{"id":1,"method":"shutdown"}"#,
-        r#"{"jsonrpc":"2.0","id":1,"error":{"code":-32600,"message":"a message has \"jsonrpc\": \"2.0\""}}"#,
+        "1",
+        -32600,
+        r#"a message has \"jsonrpc\": \"2.0\""#,
     ),
     (
         r#"{"jsonrpc":"2.0","id":1}"#,
-        r#"{"jsonrpc":"2.0","id":1,"error":{"code":-32600,"message":"a message has a method"}}"#,
+        "1",
+        -32600,
+        "a message has a method",
     ),
     (
         r#"{"jsonrpc":"2.0","id":"x","method":7}"#,
-        r#"{"jsonrpc":"2.0","id":"x","error":{"code":-32600,"message":"a message has a method"}}"#,
+        r#""x""#,
+        -32600,
+        "a message has a method",
     ),
     (
         r#"{"jsonrpc":"2.0","id":{},"method":"shutdown"}"#,
-        r#"{"jsonrpc":"2.0","id":null,"error":{"code":-32600,"message":"an identifier is a number or a string"}}"#,
+        "null",
+        -32600,
+        "an identifier is a number or a string",
     ),
     (
         r#"{"jsonrpc":"2.0","id":-7,"method":"textDocument/onTypeFormatting"}"#,
-        r#"{"jsonrpc":"2.0","id":-7,"error":{"code":-32601,"message":"no method textDocument/onTypeFormatting"}}"#,
+        "-7",
+        -32601,
+        "no method textDocument/onTypeFormatting",
     ),
     (
         r#"{"jsonrpc":"2.0","id":2,"method":"$/what"}"#,
-        r#"{"jsonrpc":"2.0","id":2,"error":{"code":-32601,"message":"no method $/what"}}"#,
+        "2",
+        -32601,
+        "no method $/what",
     ),
     (
         r#"{"jsonrpc":"2.0","id":3,"method":"textDocument/formatting","params":{"textDocument":{}}}"#,
-        r#"{"jsonrpc":"2.0","id":3,"error":{"code":-32602,"message":"no textDocument.uri"}}"#,
+        "3",
+        -32602,
+        "no textDocument.uri",
     ),
     (
         r#"{"jsonrpc":"2.0","id":3,"method":"textDocument/semanticTokens/full","params":"x"}"#,
-        r#"{"jsonrpc":"2.0","id":3,"error":{"code":-32602,"message":"no textDocument.uri"}}"#,
+        "3",
+        -32602,
+        "no textDocument.uri",
     ),
 ];
 
@@ -179,18 +178,20 @@ const MALFORMED: [(&str, &str); 13] = [
 fn malformed_messages_are_answered_and_survived() {
     let mut client = Client::ready();
     client.open("a", "b ", "");
-    for (message, answer) in MALFORMED {
-        client.ask(message, answer);
+    for (message, id, code, words) in MALFORMED {
+        client.ask(message, &error(id, code, words));
     }
     client.send_bytes(b"Content-Length: 2\r\n\r\n\"\xff");
-    client.expect(
-        r#"{"jsonrpc":"2.0","id":null,"error":{"code":-32700,"message":"invalid utf-8 sequence of 1 bytes from index 1"}}"#,
-    );
+    client.expect(&error(
+        "null",
+        -32700,
+        "invalid utf-8 sequence of 1 bytes from index 1",
+    ));
     client.ask(
         &"[".repeat(100_000),
-        r#"{"jsonrpc":"2.0","id":null,"error":{"code":-32700,"message":"nested too deep at byte 129"}}"#,
+        &error("null", -32700, "nested too deep at byte 129"),
     );
-    let bad = r#"{"jsonrpc":"2.0","id":null,"error":{"code":-32700,"message":"a header without Content-Length"}}"#;
+    let bad = &error("null", -32700, "a header without Content-Length");
     client.send_bytes(b"Content-Type: application/vscode-jsonrpc\r\n\r\n");
     client.expect(bad);
     // the body of a message without a length stands before the next header
@@ -212,12 +213,8 @@ fn malformed_messages_are_answered_and_survived() {
 fn options_that_are_none() {
     let mut client = Client::ready();
     client.open("a", "b ", "");
-    let asked = |options: &str| {
-        format!(
-            r#"{{"jsonrpc":"2.0","id":1,"method":"textDocument/formatting","params":{{"textDocument":{{"uri":"a"}}{options}}}}}"#
-        )
-    };
-    let size = r#"{"jsonrpc":"2.0","id":1,"error":{"code":-32602,"message":"options.tabSize is a whole number"}}"#;
+    let asked = |options: &str| formatting_by(1, "a", options);
+    let size = &error(1, -32602, "options.tabSize is a whole number");
     client.ask(&asked(""), size);
     client.ask(
         &asked(r#","options":{"tabSize":"2","insertSpaces":true}"#),
@@ -233,11 +230,11 @@ fn options_that_are_none() {
     );
     client.ask(
         &asked(r#","options":{"tabSize":2,"insertSpaces":1}"#),
-        r#"{"jsonrpc":"2.0","id":1,"error":{"code":-32602,"message":"options.insertSpaces is true or false"}}"#,
+        &error(1, -32602, "options.insertSpaces is true or false"),
     );
     client.ask(
         &asked(r#","options":{"tabSize":65,"insertSpaces":true}"#),
-        r#"{"jsonrpc":"2.0","id":1,"error":{"code":-32803,"message":"an option is not allowed: an indent is at most 64 spaces or tabs"}}"#,
+        &error(1, -32803, "an indent is at most 64 spaces or tabs"),
     );
     client.shut_down();
 }
@@ -248,21 +245,21 @@ fn notifications_without_effect() {
     let mut client = Client::ready();
     client.open("a", "b ", "");
     for message in [
-        r#"{"jsonrpc":"2.0","method":"$/cancelRequest","params":{"id":7}}"#,
-        r#"{"jsonrpc":"2.0","method":"$/setTrace","params":{"value":"verbose"}}"#,
-        r#"{"jsonrpc":"2.0","method":"workspace/didChangeConfiguration","params":{"settings":{}}}"#,
-        r#"{"jsonrpc":"2.0","method":"textDocument/didSave","params":{"textDocument":{"uri":"a"}}}"#,
-        r#"{"jsonrpc":"2.0","method":"textDocument/formatting","params":{"textDocument":{"uri":"a"}}}"#,
-        r#"{"jsonrpc":"2.0","method":"textDocument/didOpen"}"#,
-        r#"{"jsonrpc":"2.0","method":"textDocument/didOpen","params":{"textDocument":{"uri":"b","text":7}}}"#,
-        r#"{"jsonrpc":"2.0","method":"textDocument/didChange","params":{"textDocument":{"uri":"c","version":2},"contentChanges":[{"text":"("}]}}"#,
-        r#"{"jsonrpc":"2.0","method":"textDocument/didChange","params":{"textDocument":{"uri":"a","version":2},"contentChanges":[{"text":"("},{"text":1}]}}"#,
-        r#"{"jsonrpc":"2.0","method":"textDocument/didChange","params":{"textDocument":{"uri":"a","version":2},"contentChanges":{"text":"("}}}"#,
-        r#"{"jsonrpc":"2.0","method":"textDocument/didClose","params":{"textDocument":{"uri":"d"}}}"#,
-        r#"{"jsonrpc":"2.0","id":9,"result":null}"#,
-        r#"{"jsonrpc":"2.0","id":9,"error":{"code":1,"message":"no"}}"#,
+        notification("$/cancelRequest", r#"{"id":7}"#),
+        notification("$/setTrace", r#"{"value":"verbose"}"#),
+        notification("workspace/didChangeConfiguration", r#"{"settings":{}}"#),
+        notification("textDocument/didSave", r#"{"textDocument":{"uri":"a"}}"#),
+        notification("textDocument/formatting", r#"{"textDocument":{"uri":"a"}}"#),
+        r#"{"jsonrpc":"2.0","method":"textDocument/didOpen"}"#.to_owned(),
+        opened_as("b", 1, "7"),
+        did_change("c", 2, r#"[{"text":"("}]"#),
+        did_change("a", 2, r#"[{"text":"("},{"text":1}]"#),
+        did_change("a", 2, r#"{"text":"("}"#),
+        notification("textDocument/didClose", r#"{"textDocument":{"uri":"d"}}"#),
+        result(9, "null"),
+        error(9, 1, "no"),
     ] {
-        client.send(message);
+        client.send(&message);
     }
     assert_eq!(
         client.edits("a"),
@@ -276,7 +273,13 @@ fn notifications_without_effect() {
 fn messages_together_and_in_pieces() {
     let mut client = Client::ready();
     client.open("a", "b", "");
-    let insert = |version| framed(&did_change("a", version, &changed([0, 0, 0, 0], "(")));
+    let insert = |version| {
+        framed(&did_change(
+            "a",
+            version,
+            &format!("[{}]", changed([0, 0, 0, 0], "(")),
+        ))
+    };
     let together: String = (2..50).map(insert).collect();
     client.send_bytes(together.as_bytes());
     client.expect(&published("a", 2, &open_bracket([0, 0, 0, 2])));
@@ -304,13 +307,16 @@ fn messages_together_and_in_pieces() {
 #[test]
 fn batches() {
     let mut client = Client::ready();
-    client.send(
-        r#"[{"jsonrpc":"2.0","method":"textDocument/didOpen","params":{"textDocument":{"uri":"a","version":5,"text":"b"}}},{"jsonrpc":"2.0","method":"initialized"}]"#,
-    );
+    let initialized = r#"{"jsonrpc":"2.0","method":"initialized"}"#;
+    client.send(&format!("[{},{initialized}]", opened_as("a", 5, r#""b""#)));
     client.expect(&published("a", 5, ""));
     client.ask(
         r#"[{"jsonrpc":"2.0","id":1,"method":"x"},{"jsonrpc":"2.0","method":"y"},7]"#,
-        r#"[{"jsonrpc":"2.0","id":1,"error":{"code":-32601,"message":"no method x"}},{"jsonrpc":"2.0","id":null,"error":{"code":-32600,"message":"a message is an object"}}]"#,
+        &format!(
+            "[{},{}]",
+            error(1, -32601, "no method x"),
+            error("null", -32600, "a message is an object")
+        ),
     );
     client.shut_down();
 }

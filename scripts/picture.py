@@ -278,10 +278,11 @@ def calls():
 
 
 def head(totals):
+    how = "A line goes down from a crate to what it needs; what another line leads to is left out."
     lines = [
         text(MARGIN, 34, 20, "Pwalimvoshi: the crates, and what is proved of each", "font-weight='bold'"),
         text(MARGIN, 58, SMALL_SIZE + 1, totals),
-        text(MARGIN, 76, SMALL_SIZE + 1, "A line goes down from a crate to what it needs; what another line leads to is left out."),
+        text(MARGIN, 76, SMALL_SIZE + 1, how),
         *legend(102),
         text(MARGIN, 134, SMALL_SIZE + 1, "Exported by wirescript, and the contract of each:", "font-weight='bold'"),
     ]
@@ -295,8 +296,8 @@ def head(totals):
 def totals():
     proved, refused = sum(map(functions, crates())), sum(map(edits, crates()))
     return (
-        f"{len(crates())} crates. Each of the {proved} functions (fn) is proved against its contract; each of the {refused} "
-        "must-fail edits (edits) is refused by the prover."
+        f"{len(crates())} crates. Each of the {proved} functions (fn) is proved against its contract; each of the "
+        f"{refused} must-fail edits (edits) is refused by the prover."
     )
 
 

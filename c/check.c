@@ -259,7 +259,9 @@ static void settings(void)
     CHECK(s.line_ending == 2 && s.final_newline == 1 && holds("   "));
     s = wirescript_indent_with(bytes("  "), 2, 0, 0, 0, 2, 1, 8, output, sizeof output);
     CHECK(s.indent_length == 1 && s.width_set == 0 && s.final_newline == 2 && holds("\t"));
-    s = wirescript_indent_with(bytes("  "), 2, 0, 0, 0, 2, 0, 65, output, sizeof output);
+    s = wirescript_indent_with(bytes("  "), 2, 0, 0, 0, 2, 0, WIRESCRIPT_MAX_INDENT, output, WIRESCRIPT_MAX_INDENT);
+    CHECK(s.refusal == 0 && s.indent_length == WIRESCRIPT_MAX_INDENT);
+    s = wirescript_indent_with(bytes("  "), 2, 0, 0, 0, 2, 0, WIRESCRIPT_MAX_INDENT + 1, output, sizeof output);
     CHECK(s.refusal == WIRESCRIPT_BAD_OPTION && s.indent_length == 0 && holds(""));
     s = wirescript_indent_with(bytes("  "), 2, 0, 0, 0, 2, 0, 5, output, 4);
     CHECK(s.refusal == WIRESCRIPT_OUTPUT_SHORT && s.place == 5);

@@ -1,18 +1,21 @@
 #!/usr/bin/env python3
-"""Fails where a document cites a function, a type or a definition file that is not there."""
+"""Fails where a document cites a function, a type, a definition file or a path that is not there."""
 import re
 import sys
+from pathlib import Path
 
 from repository import ROOT, crates, sources
 
 CITED = re.compile(r"\b([a-z][a-z_0-9]*)((?:::\w+)+)")
 FILE = re.compile(r"\b\w+\.antt\b")
+# a path from the repository's root; what is built is not looked for
+PATH = re.compile(r"(?<![\w/.-])((?:crates|rust|c|tools|docs|scripts)/[\w./-]*\w)")
 # a stand-in for any name, and a file that the toolchain generates
 ANY = {"FN.antt", "Lts.antt"}
 
 
 def documents():
-    return [ROOT / "README.md", *sorted((ROOT / "docs").glob("*.md"))]
+    return sorted(path for path in ROOT.rglob("*.md") if "target" not in path.parts)
 
 
 def is_missing(crate, path):
@@ -21,10 +24,16 @@ def is_missing(crate, path):
     return bool(text) and not re.search(rf"\b{path.split('::')[-1]}\b", text)
 
 
+def is_gone(path):
+    return "target" not in Path(path).parts and not (ROOT / path).exists()
+
+
 def missing(path, files):
     text = path.read_text()
     code = {crate + rest for crate, rest in CITED.findall(text) if is_missing(crate, rest)}
-    return [f"{path.relative_to(ROOT)}: {name} is not there" for name in sorted(code | set(FILE.findall(text)) - files)]
+    gone = {cited for cited in PATH.findall(text) if is_gone(cited)}
+    names = sorted(code | gone | set(FILE.findall(text)) - files)
+    return [f"{path.relative_to(ROOT)}: {name} is not there" for name in names]
 
 
 definitions = {path.name for path in (ROOT / "crates").rglob("*.antt")} | ANY

@@ -12,7 +12,7 @@ PAGE = ROOT / "docs" / "architecture.svg"
 FONT = "font-family='DejaVu Sans, Verdana, sans-serif'"
 NAME_SIZE, SMALL_SIZE = 13, 11
 LETTER = 0.66  # the width of a letter in its size, with room to spare
-BOX_HEIGHT, LAYER_STEP, GAP, WAY = 40, 104, 14, 12
+BOX_HEIGHT, LAYER_STEP, GAP, WAY = 54, 118, 14, 12
 MARGIN, SWEEPS = 24, 40
 
 COLOURS = {
@@ -21,6 +21,36 @@ COLOURS = {
     "code": ("#ffffff", "code, proved against them"),
     "program": ("#d8f0d0", "programs"),
 }
+
+# What the functions of a crate are proved against, the one that says most; of a crate without code, what its laws are
+# about. docs/ARCHITECTURE.md has the others.
+PROVED = {
+    "unicode": "WellFormed", "buffer": "Appended", "decimal": "DecimalPut", "lists": "Finishes",
+    "basics": "startsWith", "rules": "Kept (demand 3)", "quoted": "QuotedKept", "check_rules": "isFormatted",
+    "group_rules": "Groups", "config_rules": "readEditorConfig", "scan": "Classified", "marks": "ClassifiedAt",
+    "spacing": "Normalized", "brackets": "BracketsDone", "format": "Continues", "operators": "strengthsIn",
+    "top_level_ops": "OpStep", "split": "Measured", "split_import": "Given", "split_operation": "Broken",
+    "options": "withEditorConfig", "compare": "Compared", "text": "Finished", "line": "Stepped", "place": "Puts",
+    "step": "Stepped", "line_ends": "LineEnd", "lines": "AllRead", "answer": "answerOf", "call": "FormatAnswered",
+    "check_call": "CheckAnswered", "text_kind": "KindAnswered", "text_kinds": "KindsAnswered", "gaps": "GapEnd",
+    "changes": "Written", "caret": "CaretMoved", "edits": "ChangesAnswered, CaretAnswered", "group_read": "CodedAs",
+    "group_open": "OpenedAll", "group_close": "Appended", "group": "GroupAnswered", "glob_pass": "Passed",
+    "glob_name": "RawKinds", "ranges": "RangeNext", "glob_match": "matches", "config_lines": "KindOf",
+    "config_text": "settings", "config_read": "ConfigAnswered", "wirescript": "SettingsAnswered",
+    "wsfmt_run": "Printed", "replay_run": "CaseRead", "short_texts": "WholeRun", "short_sources": "Paged",
+}
+
+
+@cache
+def proved(crate):
+    """What is proved of a crate, which must be named in it; of a program, that its output is compared."""
+    folder = ROOT / "crates" / crate
+    if crate not in PROVED:
+        return "a stored run" if (folder / "stdout").exists() else ""
+    text = "".join(path.read_text() for path in folder.rglob("*") if path.suffix in (".rt", ".antt"))
+    for name in PROVED[crate].split(" (")[0].split(", "):
+        assert re.search(rf"\b{name}\b", text), f"{crate} has no {name}: picture.py says that it is proved of it"
+    return f"→ {PROVED[crate]}"
 
 
 @cache
@@ -162,7 +192,7 @@ def label(crate):
 def width(place):
     if isinstance(place, Way):
         return WAY
-    return max(len(place) * NAME_SIZE, len(label(place)) * SMALL_SIZE) * LETTER + 14
+    return max(len(place) * NAME_SIZE, len(label(place)) * SMALL_SIZE, len(proved(place)) * SMALL_SIZE) * LETTER + 14
 
 
 def spread(row, wanted):
@@ -242,8 +272,9 @@ def box(plan, crate):
     return [
         f"<rect x='{x - wide / 2:.1f}' y='{y - BOX_HEIGHT / 2:.1f}' width='{wide:.1f}' height='{BOX_HEIGHT}' rx='5' "
         f"fill='{fill}' stroke='#444'/>",
-        text(x, y - 3, NAME_SIZE, crate, "text-anchor='middle' font-weight='bold'"),
-        text(x, y + 13, SMALL_SIZE, label(crate), "text-anchor='middle' fill='#333'"),
+        text(x, y - 10, NAME_SIZE, crate, "text-anchor='middle' font-weight='bold'"),
+        text(x, y + 5, SMALL_SIZE, label(crate), "text-anchor='middle' fill='#333'"),
+        text(x, y + 20, SMALL_SIZE, proved(crate), "text-anchor='middle' fill='#333'"),
     ]
 
 
@@ -278,10 +309,14 @@ def calls():
 
 
 def head(totals):
+    how = (
+        "A line goes down from a crate to what it needs; what another line leads to is left out. Behind →, what its "
+        "functions or its laws are about."
+    )
     lines = [
         text(MARGIN, 34, 20, "Pwalimvoshi: the crates, and what is proved of each", "font-weight='bold'"),
         text(MARGIN, 58, SMALL_SIZE + 1, totals),
-        text(MARGIN, 76, SMALL_SIZE + 1, "A line goes down from a crate to what it needs; what another line leads to is left out."),
+        text(MARGIN, 76, SMALL_SIZE + 1, how),
         *legend(102),
         text(MARGIN, 134, SMALL_SIZE + 1, "Exported by wirescript, and the contract of each:", "font-weight='bold'"),
     ]
@@ -295,8 +330,8 @@ def head(totals):
 def totals():
     proved, refused = sum(map(functions, crates())), sum(map(edits, crates()))
     return (
-        f"{len(crates())} crates. Each of the {proved} functions (fn) is proved against its contract; each of the {refused} "
-        "must-fail edits (edits) is refused by the prover."
+        f"{len(crates())} crates. Each of the {proved} functions (fn) is proved against its contract; each of the "
+        f"{refused} must-fail edits (edits) is refused by the prover."
     )
 
 

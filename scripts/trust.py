@@ -15,6 +15,7 @@ WIDTH = 112
 # a definition file, or a type declared in code: the crate, then the path below its specs
 SPEC = re.compile(r"Rattle·(\w+?)(?:·specs)?\.specs\.((?:\w+\.)*\w+)")
 KIT = re.compile(r"\b((?:lib|mathlib|Prim)(?:\.\w+)+)\.\{([^}]*)\}")
+KIT_AS = re.compile(r"^use ((?:lib|mathlib|Prim)(?:\.\w+)+) as (\w+)", re.MULTILINE)
 EXPORT = re.compile(r'^#\[no_mangle\]\npub extern "C" fn (\w+)(.*?)^\{', re.MULTILINE | re.DOTALL)
 USE = re.compile(r"^(?:ghost )?use ([^;{]+?)(?:\.\{([^}]*)\})?;", re.MULTILINE)
 WORD = re.compile(r"[\w'·-]+")
@@ -197,22 +198,26 @@ def declared_name(crate, dotted):
 
 
 def kit_names(files):
-    """The toolchain's own definitions that the files use."""
+    """The toolchain's own definitions that the files use, by their names or through a module's short name."""
     used = {}
-    for path in files:
-        for module, names in KIT.findall(path.read_text()):
+    for text in (path.read_text() for path in files):
+        for module, names in KIT.findall(text):
             used.setdefault(module, set()).update(name.strip() for name in names.split(","))
+        for module, short in KIT_AS.findall(text):
+            used.setdefault(module, set()).update(re.findall(rf"(?<![\w.]){short}\.([^\s().]+)", text))
     return used
 
 
 def listing(named_sets):
-    rows = (f"- `{key}`: {', '.join(f'`{name}`' for name in sorted(names))}" for key, names in sorted(named_sets.items()))
+    quoted = {key: ", ".join(f"`{name}`" for name in sorted(names)) for key, names in named_sets.items()}
+    rows = (f"- `{key}`: {names}" for key, names in sorted(quoted.items()))
     return [line for row in rows for line in wrap(row, WIDTH, subsequent_indent="  ", break_on_hyphens=False)]
 
 
 def unsafe_blocks():
-    """The Rust that a host runs beside the library, with its unsafe blocks; runs and what they compare with are none."""
-    rust = (path for path in ROOT.rglob("*.rs") if not {"target", "runs", "upstream", "ec4rs", "tests"} & set(path.parts))
+    """The Rust that a host runs beside the library, with its unsafe blocks."""
+    others = {"target", "runs", "upstream", "ec4rs", "tests"}
+    rust = (path for path in ROOT.rglob("*.rs") if not others & set(path.parts))
     counts = {shown(path): len(re.findall(r"\bunsafe\b(?! extern)", path.read_text())) for path in sorted(rust)}
     return [f"- `{name}`: {count}" for name, count in counts.items() if count]
 

@@ -105,19 +105,6 @@ impl Options {
     }
 }
 
-/// The name that [`raw::ConfigAnswer`] had.
-#[doc(hidden)]
-#[deprecated(since = "0.2.0", note = "it is `raw::ConfigAnswer`")]
-pub type ConfigAnswer = raw::ConfigAnswer;
-
-/// The name that [`raw::read_editorconfig`] had.
-#[doc(hidden)]
-#[deprecated(since = "0.2.0", note = "it is `raw::read_editorconfig`")]
-#[must_use]
-pub fn raw(path: &[u8], texts: [&[u8]; TEXTS]) -> raw::ConfigAnswer {
-    raw::read_editorconfig(path, texts)
-}
-
 #[cfg(test)]
 mod tests {
     use super::*;

@@ -6,7 +6,7 @@ use alloc::string::String;
 use crate::formatter::utf8;
 use crate::{Formatter, Refusal, raw, size};
 
-/// The deepest bracket of a source.
+/// How deep the brackets of an expression may stand.
 pub const MAX_DEPTH: usize = 64;
 
 /// Writes an expression with every operation bracketed, so that it shows which operator binds
@@ -46,16 +46,4 @@ impl Formatter {
             self.with_room(source, |lent| raw::group(source, lent.output, lent.scratch))?;
         Ok(utf8(&self.output[..size(answer.length)]))
     }
-}
-
-/// The name that [`raw::GroupAnswer`] had.
-#[doc(hidden)]
-#[deprecated(since = "0.2.0", note = "it is `raw::GroupAnswer`")]
-pub type GroupAnswer = raw::GroupAnswer;
-
-/// The name that [`raw::group`] had.
-#[doc(hidden)]
-#[deprecated(since = "0.2.0", note = "it is `raw::group`")]
-pub fn raw(source: &[u8], output: &mut [u8], scratch: &mut [u8]) -> raw::GroupAnswer {
-    raw::group(source, output, scratch)
 }

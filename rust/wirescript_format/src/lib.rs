@@ -10,7 +10,7 @@ mod changes;
 mod check;
 pub mod editorconfig;
 mod formatter;
-pub mod group;
+mod group;
 mod interface;
 mod kinds;
 mod options;
@@ -25,7 +25,7 @@ pub use caret::{WithCaret, format_with_caret};
 pub use changes::{Change, Changes, apply, format_changes};
 pub use check::{Check, is_formatted};
 pub use formatter::{Formatted, Formatter, format};
-pub use group::group;
+pub use group::{MAX_DEPTH, group};
 pub use kinds::{TextKind, text_kind_at, text_kinds};
 pub use options::{
     EditorConfig, EndOfLine, FinalNewline, IndentSize, IndentStyle, LineEnding, MaxLineLength,

@@ -92,6 +92,10 @@ fn every_field() {
     let stable = format_stable(UNTIDY, &options).expect("accepted");
     assert_eq!((&*stable.text, stable.passes), (TIDY, 2));
     assert_eq!((stable.imports_split, stable.blank_names), (1, 2));
+    let mut formatter = Formatter::new();
+    let lent = formatter.format_stable(UNTIDY, &options).expect("accepted");
+    assert_eq!((lent.text, lent.passes, lent.stable), (TIDY, 2, true));
+    assert_eq!((lent.imports_split, lent.blank_names), (1, 2));
 }
 
 /// What the setters set, the getters give and the calls take.
@@ -458,7 +462,7 @@ fn tells_text_kinds_of_places() {
     );
 }
 
-/// Yes and no, and the lines read, as READINGS-02 has them.
+/// Yes and no, and the lines read.
 #[test]
 fn checks() {
     let lf = Options::new().line_ending(LineEnding::Lf);

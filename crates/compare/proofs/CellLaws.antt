@@ -1,11 +1,11 @@
 -- A number in three bytes, written and read.
-use Prim.Native.Nat.{ℕ, _+_, _*_, _/_, _%_, _≤_, _<_, _^_}
+use Prim.Native.Nat.{ℕ, _+_, _*_, _/_, _%_, _≤_, _<_, _^_, min}
 use native.Mathlib.Omega.{arith}
 use mathlib.Core.List.{List}
 use mathlib.Core.Path.{_≡_, refl, _∙_}
 use lib.ListN.{length, getD, set, length-set}
 use lib.Seq.{getD-set-same, getD-set-other}
-use Rattle.compare.specs.Common.{cellSize, cellOf, CellPut}
+use Rattle.compare.specs.Common.{cellSize, cellOf, CellPut, CellKept}
 
 pub cell-read : (x : List ℕ) (a b c : ℕ) → a ≡ getD x 0 0 → b ≡ getD x 1 0 → c ≡ getD x 2 0 → a + b * 256 + c * 65536 ≡ cellOf x
 unfolding cellOf
@@ -37,3 +37,15 @@ module _ (x : List ℕ) (n : ℕ) (h : cellSize ≤ length x) where
     where
       whole : n < 2 ^ 24 → n % 256 + n / 256 % 256 * 256 + n / 256 / 256 % 256 * 65536 ≡ n
       whole s = omega arith
+
+-- ---- how far a text that reaches up to next agrees
+
+module _ (x : List ℕ) (m n next : ℕ) where
+  pub kept-short : (x′ : List ℕ) → n < next → CellPut x n x′ → CellKept x m n next x′
+  kept-short x′ h p = record { size = p .size; is = λ s b c. let e = p .is (omega arith) in omega (arith, e) }
+
+  pub kept-more : (x′ : List ℕ) (c : ℕ) → next ≤ n → c ≡ cellOf x → c < next → CellPut x m x′ → CellKept x m n next x′
+  kept-more x′ c h q l p = record { size = p .size; is = λ s b d. let e = p .is s in omega (arith, e) }
+
+  pub kept-same : (c : ℕ) → next ≤ n → c ≡ cellOf x → next ≤ c → CellKept x m n next x
+  kept-same c h q l = record { size = refl; is = λ s b d. omega arith }

@@ -17,7 +17,7 @@ use Rattle.buffer.proofs.RepeatLaws.{times-snoc, times-split, times-nil, length
 use Rattle.buffer.proofs.AgreeLaws.{agree-nil, agree-cut, appended-agree}
 use Rattle.buffer.proofs.OverLaws.{length-over}
 use Rattle.rules.specs.Basics.{startsWith}
-use Rattle.compare.specs.Common.{common, cellSize, cellOf, CellPut, Tracks, Keeps, Compared, Tells}
+use Rattle.compare.specs.Common.{common, cellSize, cellOf, CellKept, Tracks, Keeps, Compared, Tells}
 use Rattle.compare.proofs.CommonLaws.{common-nil, common-text, common-model, common-short, common-full, common-cut, starts-common}
 
 -- ---- `agree_levels`: the indent agrees level times over, and at is its length so far
@@ -116,7 +116,7 @@ compared-short (a ∷ m) x l at n r some e c h =
 
 -- it agrees as far as it goes
 pub compared-on : (m x x′ l : List ℕ) (at c p n r : ℕ) → 0 < length m → r ≡ at + length l → c ≡ cellOf x → at ≤ c → p ≡ min at (length m)
-    → n ≡ common (take (length m - p) (drop p m)) l → CellPut x (at + n) x′ → Compared m x x′ at l r
+    → n ≡ common (take (length m - p) (drop p m)) l → CellKept x (length m) (at + n) r x′ → Compared m x x′ at l r
 compared-on [] x x′ l at c p n r some e k b q f w = absurd (omega arith)
 compared-on (a ∷ m) x x′ l at c p n r some e k b q f w =
     grows a m x x′ l at r e (w .size)
@@ -127,8 +127,8 @@ compared-on (a ∷ m) x x′ l at c p n r some e k b q f w =
     let j = common-text (drop (length text) (a ∷ m)) l in
     let o = common-full (a ∷ m) text l (omega (arith, t .same)) in
     let v = common-model (a ∷ m) (text ++ l) in
-    let y : cellOf x′ ≡ at + n = w .is (omega (arith, t .small, g, o)) in
-    record { room = omega (arith, t .room, w .size); small = t .small; same = omega (arith, t .same, g, j, y, o, length-append text l) })
+    let y : min (cellOf x′) r ≡ at + n = w .is (t .small) (omega (arith, g, o, v)) (omega (arith, g, j)) in
+    record { room = omega (arith, t .room, w .size); small = t .small; same = omega (arith, y, g, o, length-append text l) })
 
 -- in the terms of `track` and of `track_levels`
 module _ (m x l : List ℕ) (at : ℕ) (some : 0 < length m) where
@@ -139,7 +139,7 @@ module _ (m x l : List ℕ) (at : ℕ) (some : 0 < length m) where
   track-short n = compared-short m x l at n (at + length l) some refl
 
   pub track-on : (x′ : List ℕ) (c p n : ℕ) → c ≡ cellOf x → at ≤ c → p ≡ min at (length m) → n ≡ common (take (length m - p) (drop p m)) l
-      → CellPut x (at + n) x′ → Compared m x x′ at l (at + length l)
+      → CellKept x (length m) (at + n) (at + length l) x′ → Compared m x x′ at l (at + length l)
   track-on x′ c p n = compared-on m x x′ l at c p n (at + length l) some refl
 
 module _ (m x w : List ℕ) (levels at : ℕ) (some : 0 < length m) where
@@ -153,7 +153,9 @@ module _ (m x w : List ℕ) (levels at : ℕ) (some : 0 < length m) where
   levels-short n = compared-short m x (times levels w) at n (at + levels * length w) some long
 
   pub levels-on : (x′ : List ℕ) (c p n : ℕ) → c ≡ cellOf x → at ≤ c → p ≡ min at (length m)
-      → n ≡ common (take (length m - p) (drop p m)) (times levels w) → CellPut x (at + n) x′ → Compared m x x′ at (times levels w) (at + levels * length w)
+      → n ≡ common (take (length m - p) (drop p m)) (times levels w)
+      → CellKept x (length m) (at + n) (at + levels * length w) x′
+      → Compared m x x′ at (times levels w) (at + levels * length w)
   levels-on x′ c p n = compared-on m x x′ (times levels w) at c p n (at + levels * length w) some long
 
 pub compared-append : {m x y z l k : List ℕ} {at n r : ℕ} → Compared m x y at l n → Compared m y z n k r → Compared m x z at (l ++ k) r

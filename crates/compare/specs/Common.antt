@@ -6,6 +6,7 @@ use mathlib.Core.Path.{_≡_}
 use lib.Dec.{eqb}
 use lib.ListN.{length, take, drop, getD}
 use Rattle.buffer.specs.Buffer.{Agree}
+use Rattle.buffer.specs.Repeat.{times}
 use Rattle.rules.specs.Basics.{choose, startsWith}
 
 -- how many of the first elements of t are those of the model
@@ -26,6 +27,19 @@ pub record EndsAlike (m l : List ℕ) (n : ℕ) (r : Bool) : Type 0 where
 abbrev pub differAt : List ℕ → List ℕ → ℕ → Bool
 differAt m l i = not (eqb (getD m i 0) (getD l i 0))
 
+-- r is k where a and b differ, else 16
+pub record Marks (a b k r : ℕ) : Type 0 where
+  pub same : k < r → a ≡ b
+
+-- the first r elements are b
+pub record RunOf (m : List ℕ) (b r : ℕ) : Type 0 where
+  pub within : r ≤ 16
+  pub is : (j : ℕ) → j < r → getD m j 0 ≡ b
+
+-- r tells that the indent w, levels times over, agrees
+pub record RunAlike (m w : List ℕ) (levels : ℕ) (r : Bool) : Type 0 where
+  pub is : r ≡ true → levels * length w ≡ common m (times levels w)
+
 -- a number below 2 ^ 24 in three bytes
 abbrev pub cellSize : ℕ
 cellSize = 3
@@ -36,6 +50,11 @@ cellOf x = getD x 0 0 + getD x 1 0 * 256 + getD x 2 0 * 65536
 pub record CellPut (x : List ℕ) (n : ℕ) (x′ : List ℕ) : Type 0 where
   pub size : length x′ ≡ length x
   pub is : n < 2 ^ 24 → cellOf x′ ≡ n
+
+-- as far as next, the number kept is n
+pub record CellKept (x : List ℕ) (model n next : ℕ) (x′ : List ℕ) : Type 0 where
+  pub size : length x′ ≡ length x
+  pub is : model < 2 ^ 24 → n ≤ model → n ≤ next → min (cellOf x′) next ≡ n
 
 -- As far as the text goes, the number kept tells how long it agrees: so this holds of a text that is cut back, too.
 pub record Tracks (model x text : List ℕ) : Type 0 where

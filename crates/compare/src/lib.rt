@@ -6,8 +6,9 @@ ghost use mathlib.Core.List.{_++_};
 ghost use Prim.Native.Nat.{_+_, _<_, _≤_, _^_, min};
 ghost use lib.ListN.{length};
 ghost use Rattle.unicode.specs.Places.{NoneAmong};
+ghost use Rattle.buffer.specs.Buffer.{AllAre};
 ghost use Rattle.buffer.specs.Repeat.{times};
-ghost use Rattle.compare.specs.Common.{common, Agreeing, EndsAlike, differAt, cellSize, cellOf, CellPut, Compared, Tells};
+ghost use Rattle.compare.specs.Common.{common, Agreeing, EndsAlike, differAt, Marks, RunOf, RunAlike, cellSize, cellOf, CellPut, CellKept, Compared, Tells};
 
 // The bytes that keep how far the text agrees.
 pub const CELL: usize = 3;
@@ -21,6 +22,21 @@ fn differ_among(model: &[u8], line: &[u8], at: usize) -> bool
     let mut any = false;
     let mut k: usize = 0;
     while k < 16 {
+        any = any | (model[at + k] != line[at + k]);
+        k += 1;
+    }
+    any
+}
+
+// The same of 8 bytes.
+fn differ_eight(model: &[u8], line: &[u8], at: usize) -> bool
+    requires { ⌜ at + 8 ≤ length (now model) ⌝ }
+    requires { ⌜ at + 8 ≤ length (now line) ⌝ }
+    ensures { λ r. ⌜ NoneAmong (differAt (now (model .entry)) (now (line .entry))) at 8 r ⌝ }
+{
+    let mut any = false;
+    let mut k: usize = 0;
+    while k < 8 {
         any = any | (model[at + k] != line[at + k]);
         k += 1;
     }
@@ -42,15 +58,30 @@ fn agree_blocks(model: &[u8], line: &[u8], n: usize) -> usize
     i
 }
 
+// Whether fewer than 16 bytes agree, told by their first 8 and their last 8. It is not told of fewer than 8.
+fn alike_short(model: &[u8], line: &[u8], n: usize) -> bool
+    requires { ⌜ n ≡ min (length (now line)) (length (now model)) ⌝ }
+    requires { ⌜ n < 16 ⌝ }
+    ensures { λ r. ⌜ EndsAlike (now (model .entry)) (now (line .entry)) n r ⌝ }
+{
+    if n < 8 {
+        return false;
+    }
+    if differ_eight(model, line, 0) {
+        return false;
+    }
+    !differ_eight(model, line, n - 8)
+}
+
 // Whether the rest agrees too, where the first i of n bytes do: the last 16 are tested at once, and those before them
-// once more. It is not told of a longer rest, or where both have fewer bytes.
+// once more. It is not told of a longer rest.
 fn ends_alike(model: &[u8], line: &[u8], n: usize, i: usize) -> bool
     requires { ⌜ n ≡ min (length (now line)) (length (now model)) ⌝ }
     requires { ⌜ Agreeing (now model) (now line) n i ⌝ }
     ensures { λ r. ⌜ EndsAlike (now (model .entry)) (now (line .entry)) n r ⌝ }
 {
     if n < 16 {
-        return false;
+        return alike_short(model, line, n);
     }
     if n - i > 16 {
         return false;
@@ -77,13 +108,79 @@ fn agree(model: &[u8], line: &[u8]) -> usize
     n
 }
 
+fn lesser(a: u8, b: u8) -> u8
+    ensures { λ r. ⌜ r ≡ min a b ⌝ }
+{
+    if a < b { a } else { b }
+}
+
+// k where two bytes differ, else 16.
+fn unless_same(a: u8, b: u8, k: u8) -> u8
+    ensures { λ r. ⌜ Marks a b k r ⌝ }
+{
+    if a == b {
+        return 16;
+    }
+    k
+}
+
+// How many of the first 16 bytes are b, up to one that isn't. It makes no branch: indents differ from line to line.
+fn run_of(model: &[u8], b: u8) -> u8
+    requires { ⌜ 16 ≤ length (now model) ⌝ }
+    ensures { λ r. ⌜ RunOf (now (model .entry)) b r ⌝ }
+{
+    let mut n: u8 = 16;
+    let mut k: u8 = 0;
+    while k < 16 {
+        n = lesser(n, unless_same(model[k as usize], b, k));
+        k += 1;
+    }
+    n
+}
+
+// Whether every byte of s is b.
+fn one_kind(s: &[u8], b: u8) -> bool
+    ensures { λ r. ⌜ AllAre (now (s .entry)) b r ⌝ }
+{
+    let mut i = 0;
+    while i < s.len() {
+        if s[i] != b {
+            return false;
+        }
+        i += 1;
+    }
+    true
+}
+
+// Whether the indent, levels times over, agrees. It is told where that has at most 16 bytes, all of one kind, and the
+// model has 16.
+fn run_alike(model: &[u8], indent: &[u8], levels: usize) -> bool
+    requires { ⌜ length (times levels (now indent)) < 2 ^ 64 ⌝ }
+    requires { ⌜ 0 < length (now indent) ⌝ }
+    ensures { λ r. ⌜ RunAlike (now (model .entry)) (now (indent .entry)) levels r ⌝ }
+{
+    let n = levels * indent.len();
+    if model.len() < 16 {
+        return false;
+    }
+    let b = indent[0];
+    if one_kind(indent, b) {
+        return n <= wide(run_of(model, b));
+    }
+    false
+}
+
 // The same of the indent, levels times over; no more turns than the model has bytes.
 fn agree_levels(model: &[u8], indent: &[u8], levels: usize) -> usize
+    requires { ⌜ length (times levels (now indent)) < 2 ^ 64 ⌝ }
     ensures { λ r. ⌜ r ≡ common (now (model .entry)) (times levels (now (indent .entry))) ⌝ }
 {
     let n = indent.len();
     if n == 0 {
         return 0;
+    }
+    if run_alike(model, indent, levels) {
+        return levels * n;
     }
     let mut at = 0;
     let mut level = 0;
@@ -121,6 +218,21 @@ fn put_cell(cell: &mut [u8], n: usize)
     cell[2] = (q / 256 % 256) as u8;
 }
 
+// Keeps that a text which reaches up to next agrees up to n. Where it agrees whole, the model's length is kept, so that
+// nothing is written while it goes on so.
+fn keep(cell: &mut [u8], model: usize, n: usize, next: usize)
+    requires { ⌜ cellSize ≤ length (now cell) ⌝ }
+    ensures { λ _. ⌜ CellKept (now (cell .entry)) model n next (now (cell .exit)) ⌝ }
+{
+    if n < next {
+        put_cell(cell, n);
+        return;
+    }
+    if read_cell(cell) < next {
+        put_cell(cell, model);
+    }
+}
+
 // Compares line, where all of the text before it agrees.
 fn track(model: &[u8], cell: &mut [u8], at: usize, line: &[u8]) -> usize
     requires { ⌜ at + length (now line) < 2 ^ 64 ⌝ }
@@ -136,7 +248,7 @@ fn track(model: &[u8], cell: &mut [u8], at: usize, line: &[u8]) -> usize
     }
     let p = buffer::place(at, model.len());
     let n = agree(&model[p..], line);
-    put_cell(cell, at + n);
+    keep(cell, model.len(), at + n, next);
     next
 }
 
@@ -156,7 +268,7 @@ fn track_levels(model: &[u8], cell: &mut [u8], at: usize, indent: &[u8], levels:
     }
     let p = buffer::place(at, model.len());
     let n = agree_levels(&model[p..], indent, levels);
-    put_cell(cell, at + n);
+    keep(cell, model.len(), at + n, next);
     next
 }
 

@@ -34,11 +34,11 @@ part-agree-end c = search needs
 agree-requires : tie.Need-agree-requires
 agree-requires c κs = search needs
 
-add-put-cell : tie.Need-add-put-cell
-add-put-cell c = omega (arith, agree-small _ _ _ (c .before .agree .ensures))
+add-keep : tie.Need-add-keep
+add-keep c = omega (arith, agree-small _ _ _ (c .before .agree .ensures))
 
-put-cell-requires : tie.Need-put-cell-requires
-put-cell-requires c κs = search needs
+keep-requires : tie.Need-keep-requires
+keep-requires c κs = search needs
 
 same-length-2 : tie.Need-same-length-2
 same-length-2 c = search needs
@@ -50,4 +50,4 @@ pub track-spec : {M : Type 1} → statement M
 track-spec =
     tie.close
     (tie.spec add-next returns read-cell-requires same-length returns-2 place-requires sub-agree part-agree-start
-    part-agree-end agree-requires add-put-cell put-cell-requires same-length-2 returns-3)
+    part-agree-end agree-requires add-keep keep-requires same-length-2 returns-3)

@@ -38,11 +38,11 @@ part-agree-levels-end c = search needs
 agree-levels-requires : tie.Need-agree-levels-requires
 agree-levels-requires c κs = search needs
 
-add-put-cell : tie.Need-add-put-cell
-add-put-cell c = omega (arith, agree-small _ _ _ (c .before .agree-levels .ensures))
+add-keep : tie.Need-add-keep
+add-keep c = omega (arith, agree-small _ _ _ (c .before .agree-levels .ensures))
 
-put-cell-requires : tie.Need-put-cell-requires
-put-cell-requires c κs = search needs
+keep-requires : tie.Need-keep-requires
+keep-requires c κs = search needs
 
 same-length-2 : tie.Need-same-length-2
 same-length-2 c = search needs
@@ -54,5 +54,5 @@ pub track-levels-spec : {M : Type 1} → statement M
 track-levels-spec =
     tie.close
     (tie.spec mul-next add-next returns read-cell-requires same-length returns-2 place-requires sub-agree-levels
-    part-agree-levels-start part-agree-levels-end agree-levels-requires add-put-cell put-cell-requires same-length-2
+    part-agree-levels-start part-agree-levels-end agree-levels-requires add-keep keep-requires same-length-2
     returns-3)

@@ -32,7 +32,7 @@ fn main() -> ExitCode {
     let status = status.unwrap_or_else(|error| {
         // a reader who has seen enough needs no message
         if error.kind() != ErrorKind::BrokenPipe {
-            eprintln!("<stdout>:1:1: it can't be written: {error}");
+            let _ = writeln!(io::stderr(), "<stdout>:1:1: it can't be written: {error}");
         }
         Status::Trouble
     });

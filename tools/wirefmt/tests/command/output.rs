@@ -1,7 +1,6 @@
 //! What is shown: diffs, lists, brackets.
 
 use std::fs;
-use std::io::Write;
 use std::process::{Command, Stdio};
 
 use crate::folder::{Folder, SOURCE, TEXT};
@@ -40,37 +39,36 @@ fn diff_of_endings() {
     assert_eq!(body("", &[]), "@@ -0,0 +1 @@\n+\n");
 }
 
-/// A diff put through `patch` gives the text, whatever the name.
-#[test]
-fn a_diff_can_be_applied() {
+/// What the sources of the names become where a program takes their diff.
+fn applied(program: &mut Command, names: [&str; 4]) {
     let folder = Folder::new();
-    let sources = ["\n\n a\n", "f(a ,b)", "a\r\n  b\r\n", "f(\n[\n\n\na\n"];
-    let names = ["plain.ws", "with space.ws", "new\nline.ws", "tab\t\"é.ws"];
+    let sources = ["\n\n a\n", "f(a ,b)", "a\r\n  b\r\n", "f(\n[\r,\n\n\na\n"];
     for (name, source) in names.iter().zip(sources) {
         folder.write(name, source);
     }
     let diff = folder.run(&["--diff", "."]).output;
-    let mut patch = Command::new("patch");
-    let patch = patch
-        .args(["--strip=1", "--binary"])
-        .current_dir(folder.path());
-    let mut child = patch
-        .stdin(Stdio::piped())
-        .stdout(Stdio::piped())
-        .spawn()
-        .unwrap();
-    child
-        .stdin
-        .take()
-        .unwrap()
-        .write_all(diff.as_bytes())
-        .unwrap();
-    let ran = child.wait_with_output().unwrap();
+    folder.write("diff", &diff);
+    let ran = program.current_dir(folder.path()).output().unwrap();
     assert!(ran.status.success(), "{ran:?}\n{diff}");
     for (name, source) in names.iter().zip(sources) {
         assert_eq!(folder.read(name), folder.feed(&[], source).output, "{name}");
         assert_ne!(folder.read(name), source, "{name}");
     }
+}
+
+#[test]
+fn patch_applies_a_diff() {
+    let names = ["plain.ws", "with space.ws", "back\\slash.ws", "tab\t\"é.ws"];
+    let mut patch = Command::new("patch");
+    applied(patch.args(["--strip=1", "--binary", "--input=diff"]), names);
+}
+
+/// Names with a newline too, which newer versions of `patch` refuse.
+#[test]
+fn git_applies_a_diff() {
+    let names = ["plain.ws", "with space.ws", "new\nline.ws", "tab\t\"é.ws"];
+    let mut git = Command::new("git");
+    applied(git.args(["apply", "--whitespace=nowarn", "diff"]), names);
 }
 
 #[test]

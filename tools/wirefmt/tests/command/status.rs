@@ -208,4 +208,11 @@ fn a_full_standard_output() {
     let told = String::from_utf8(ran.stderr).unwrap();
     let full = "<stdout>:1:1: it can't be written: No space left on device (os error 28)\n";
     assert_eq!((ran.status.code(), told.as_str()), (Some(2), full));
+    // nowhere to tell it
+    let full = || std::fs::File::create("/dev/full").unwrap();
+    let ran = command.stdout(full()).stderr(full()).output().unwrap();
+    assert_eq!(ran.status.code(), Some(2));
+    let mut check = folder.command(&["--check", "."]);
+    let ran = check.stderr(full()).output().unwrap();
+    assert_eq!(ran.status.code(), Some(1));
 }

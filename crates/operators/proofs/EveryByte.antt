@@ -5,7 +5,6 @@ use mathlib.Core.Bool.{Bool, true, false, not, _&&_, _||_}
 use mathlib.Core.Logic.{_⊎_, inl, inr}
 use mathlib.Core.Path.{_≡_, refl, sym, _∙_}
 use lib.Dec.{eqb}
-use Rattle.unicode.specs.Unicode.{within}
 use Rattle.unicode.proofs.Tests.{and-left, and-right, split}
 use Rattle.rules.specs.Basics.{firstIs}
 use Rattle.rules.specs.Operators.{startsOne, startsOperator}
@@ -38,12 +37,13 @@ alike-eq false false e = refl
 
 -- ---- the first bytes of the operators, as the code tests them
 
-abbrev pub inRanges : ℕ → Bool
-inRanges c = eqb c 33 || within 37 38 c || within 42 43 c || within 45 47 c || within 60 62 c || eqb c 94 || eqb c 124
+abbrev pub firstByte : ℕ → Bool
+firstByte c =
+    eqb c 33 || eqb c 37 || eqb c 38 || eqb c 42 || eqb c 43 || eqb c 45 || eqb c 46 || eqb c 47 || eqb c 60 || eqb c 61 || eqb c 62 || eqb c 94 || eqb c 124
 
-every-first : every (λ c. alike (inRanges c) (startsOperator c)) 256 ≡ true
+every-first : every (λ c. alike (firstByte c) (startsOperator c)) 256 ≡ true
 unfolding every alike startsOperator startsOne firstIs
 every-first = refl
 
-pub first-byte : (c : ℕ) (r : Bool) → c < 256 → r ≡ inRanges c → r ≡ startsOperator c
-first-byte c r h e = e ∙ alike-eq (inRanges c) (startsOperator c) (at (λ c. alike (inRanges c) (startsOperator c)) 256 every-first c h)
+pub first-byte : (c : ℕ) (r : Bool) → c < 256 → r ≡ firstByte c → r ≡ startsOperator c
+first-byte c r h e = e ∙ alike-eq (firstByte c) (startsOperator c) (at (λ c. alike (firstByte c) (startsOperator c)) 256 every-first c h)

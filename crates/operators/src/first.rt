@@ -6,15 +6,21 @@ ghost use Rattle.unicode.specs.Places.{NoneAmong};
 ghost use Rattle.operators.specs.First.{operatorStartsAt, anyStarts, NoneBefore};
 ghost use Rattle.rules.specs.Operators.{startsOperator};
 
-// The first bytes of the operators, in ranges, without a branch.
+// The first bytes of the operators, without a branch: equalities alone, so that 16 bytes are tested at once.
 pub fn starts_operator(c: u8) -> bool
     ensures { λ r. ⌜ r ≡ startsOperator c ⌝ }
 {
     (c == b'!')
-        | ((37 <= c) & (c <= 38))
-        | ((42 <= c) & (c <= 43))
-        | ((45 <= c) & (c <= 47))
-        | ((60 <= c) & (c <= 62))
+        | (c == b'%')
+        | (c == b'&')
+        | (c == b'*')
+        | (c == b'+')
+        | (c == b'-')
+        | (c == b'.')
+        | (c == b'/')
+        | (c == b'<')
+        | (c == b'=')
+        | (c == b'>')
         | (c == b'^')
         | (c == b'|')
 }

@@ -15,11 +15,11 @@ use Rattle.buffer.specs.Repeat.{times}
 use Rattle.buffer.proofs.RegionLaws.{part-from, drop-take}
 use Rattle.buffer.proofs.RepeatLaws.{length-times}
 use Rattle.unicode.specs.Unicode.{isScalar, Scalars, encodeChar, encode, decode, size, WellFormed, units, width, trim, trimEnd}
-use Rattle.unicode.specs.Places.{unitsOf, TrimmedStart, TrimmedEnd}
+use Rattle.unicode.specs.Places.{AsciiRun, unitsOf, TrimmedStart, TrimmedEnd}
 use Rattle.unicode.proofs.Tests.{by-test}
 use Rattle.unicode.proofs.Table.{High, also, Bytes, single, several}
 use Rattle.unicode.proofs.Table.{bytes as bytes-of}
-use Rattle.unicode.proofs.Bytewise.{total, width-bytes, width-nil, width-cons}
+use Rattle.unicode.proofs.Bytewise.{total, SumScan, sum-begin, sum-turn, width-bytes, width-nil, width-cons}
 use Rattle.unicode.proofs.Decode.{Ascii, ascii-append, encode-nil, encode-cons, encode-ascii, size-append, decode-ascii, decode-encode, decode-scalars, wf-ascii, wf-encode}
 use Rattle.rules.proofs.Choose.{choose-true, choose-false}
 use Rattle.rules.proofs.Columns.{stop-left-over, after-tab, after-other, measure-append, measure-zero, measure-short, measure-grows, indent-levels}
@@ -124,6 +124,21 @@ module _ (r from : ℕ) (l : List ℕ) where
         }
 
 -- at ruler 0
+ascii-unit : (b : ℕ) → b < 0x80 → 1 ≡ unitsOf b
+unfolding unitsOf
+ascii-unit b h = rw (lt-ltb b 0x80 h)
+
+-- bytes that are ASCII take a unit each
+pub ascii-sum : (s : List ℕ) (r : ℕ) → AsciiRun s 0 r → SumScan unitsOf 2 s r r
+ascii-sum s r a = go r (omega arith)
+  where
+    go : (n : ℕ) → n ≤ r → SumScan unitsOf 2 s n n
+    go zero h = sum-begin unitsOf 2 s
+    go (suc n) h =
+        let e : n + 1 ≡ suc n = omega arith in
+        let low : getD s n 0 < 0x80 = rw zero-add at (a .ascii n (omega arith)) in
+        rw e at (sum-turn unitsOf 2 s n n 1 (go n (omega arith)) (omega (arith, a .within)) (ascii-unit (getD s n 0) low, omega arith))
+
 total-small : (s : List ℕ) → total unitsOf s ≤ 2 * length s
 total-small [] = omega arith
 total-small (b ∷ s) = let r = total-small s in omega (arith, byte-units b)

@@ -13,6 +13,7 @@ ghost use Rattle.split_operation.specs.Operation.{LineFits, Broken, line
 use operators::MAX_STRENGTH;
 use operators::first::has_operator;
 use pass::Break;
+use pass::Cut;
 use pass::find_break;
 use pass::next_op;
 use pass::unbroken;
@@ -50,22 +51,29 @@ fn line_of(r: OperationSplit) -> NewLine
     }
 }
 
+// What is left of a line: the strength that it is broken at, where its second piece starts, and the line that was
+// written last.
+pub struct Rest {
+    pub strength: u8,
+    pub cut: Cut,
+    pub first: NewLine,
+}
+
 // The pieces from an operator on, each a line, one level deeper than the first.
 fn write_rest(
     line: &[u8],
     class: &[u8],
-    b: Break,
+    rest: Rest,
     s: Breaking,
     indent: &[u8],
     model: &[u8],
     out: &mut [u8],
-    first: NewLine,
 ) -> NewLine
-    requires { ⌜ RestFits (strengthsIn (s .table)) (b .strength) (now line) (now class) (b .cut) (now indent)
-        (s .level + 1) (asStr (s .ending)) first ⌝ }
-    ensures { λ r. ⌜ RestWritten (strengthsIn (s .table)) (b .strength) (now (line .entry)) (now (class .entry))
-        (b .cut) (now (indent .entry)) (s .level + 1) (asStr (s .ending))
-        (now (model .entry)) (now (out .entry)) (now (out .exit)) first r ⌝ }
+    requires { ⌜ RestFits (strengthsIn (s .table)) (rest .strength) (now line) (now class) (rest .cut) (now indent)
+        (s .level + 1) (asStr (s .ending)) (rest .first) ⌝ }
+    ensures { λ r. ⌜ RestWritten (strengthsIn (s .table)) (rest .strength) (now (line .entry)) (now (class .entry))
+        (rest .cut) (now (indent .entry)) (s .level + 1) (asStr (s .ending))
+        (now (model .entry)) (now (out .entry)) (now (out .exit)) (rest .first) r ⌝ }
 {
     let ending = s.ending;
     let table = s.table;
@@ -76,9 +84,9 @@ fn write_rest(
         ending,
         strengths: Strengths { table },
     };
-    let strength = b.strength;
-    let mut c = b.cut;
-    let mut r = first;
+    let strength = rest.strength;
+    let mut c = rest.cut;
+    let mut r = rest.first;
     while c.place < line.len() {
         let from = c.place;
         let q = c.after;
@@ -148,7 +156,12 @@ fn break_first(
     let mut t = s;
     t.rounds = s.rounds - 1;
     let first = line_of(break_first(l, k, t, indent, model, out, at));
-    OperationSplit::Broken(write_rest(line, class, b, s, indent, model, out, first))
+    let rest = Rest {
+        strength: b.strength,
+        cut,
+        first,
+    };
+    OperationSplit::Broken(write_rest(line, class, rest, s, indent, model, out))
 }
 
 // An over-wide line of code and strings with its class bytes, broken before its loosest operators. Where there is

@@ -14,8 +14,8 @@ Inv-loop line class indent model out₀ s under strength c₀ r₀ out c r =
 abbrev μ-loop : tie.MeasureT-loop
 μ-loop line class indent model out₀ s under strength c₀ r₀ out c r = length line - c .place
 
-add-t22 : tie.Need-add-t22 Inv-loop μ-loop
-add-t22 c = search needs
+add-t21 : tie.Need-add-t21 Inv-loop μ-loop
+add-t21 c = search needs
 
 loop-holds : tie.Need-loop-holds Inv-loop μ-loop
 loop-holds c = search (needs, writing-start)
@@ -59,5 +59,5 @@ returns c = search (needs, writing-end)
 pub write-rest-spec : {M : Type 1} → statement M
 write-rest-spec =
     tie.close
-    (tie.spec Inv-loop μ-loop add-t22 loop-holds add-next-op next-op-requires trim-part-requires sub-write-line
+    (tie.spec Inv-loop μ-loop add-t21 loop-holds add-next-op next-op-requires trim-part-requires sub-write-line
     part-write-line-start part-write-line-end write-line-requires loop-less loop-again same-length returns)

@@ -1,0 +1,43 @@
+use Prim.Native.Nat.{_-_}
+use borrow.Author.Needs.{needs}
+use native.Mathlib.Omega.{arith}
+use lib.ListN.{length}
+use Rattle.unicode.specs.Places.{AsciiRun}
+use Rattle.unicode.proofs.Scan.{run-start, run-block}
+use Rattle.split.proofs.past_blocks.Statement.{statement}
+use Rattle.split.proofs.past_blocks.Tie as tie
+
+abbrev Inv-loop : tie.InvT-loop
+Inv-loop s i₀ i = AsciiRun s 0 i
+
+abbrev μ-loop : tie.MeasureT-loop
+μ-loop s i₀ i = length s - i
+
+loop-holds : tie.Need-loop-holds Inv-loop μ-loop
+loop-holds c = run-start _ 0 (omega arith)
+
+sub-loop : tie.Need-sub-loop Inv-loop μ-loop
+sub-loop c = omega arith
+
+has-high-requires : tie.Need-has-high-requires Inv-loop μ-loop
+has-high-requires c κs = omega arith
+
+returns : tie.Need-returns Inv-loop μ-loop
+returns c = search needs
+
+add-i : tie.Need-add-i Inv-loop μ-loop
+add-i c = omega arith
+
+loop-less : tie.Need-loop-less Inv-loop μ-loop
+loop-less c = omega arith
+
+loop-again : tie.Need-loop-again Inv-loop μ-loop
+loop-again c = run-block (c .before .before .before .loop .inv) (omega arith) (c .before .has-high .ensures) (c .if1 .left)
+
+returns-2 : tie.Need-returns-2 Inv-loop μ-loop
+returns-2 c = search needs
+
+pub past-blocks-spec : {M : Type 1} → statement M
+past-blocks-spec =
+    tie.close
+    (tie.spec Inv-loop μ-loop loop-holds sub-loop has-high-requires returns add-i loop-less loop-again returns-2)

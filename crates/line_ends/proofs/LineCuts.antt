@@ -63,15 +63,16 @@ pub ending-here : (s : List ℕ) (at : ℕ) → at < length s → getD s at 0 �
 ending-here s at h = ending-lf s at at (ending-start s at (omega arith)) h
 
 -- past n bytes of which none is an LF
-ending-none : (s : List ℕ) (at i : ℕ) → Ending s at i → (n : ℕ) → i + n ≤ length s → ((j : ℕ) → j < n → getD s (i + j) 0 ≡ 10 → ⊥) → Ending s at (i + n)
+pub ending-none : (s : List ℕ) (at i : ℕ) → Ending s at i → (n : ℕ) → i + n ≤ length s → ((j : ℕ) → j < n → getD s (i + j) 0 ≡ 10 → ⊥) → Ending s at (i + n)
 ending-none s at i r zero h none = rw add-zero r
 ending-none s at i r (suc n) h none =
     let q = ending-none s at i r n (omega arith) (λ j l. none j (omega arith)) in
     let e : i + n + 1 ≡ i + suc n = omega arith in
     rw e at (ending-more s at (i + n) q (omega arith) (none n (omega arith)))
 
-pub ending-block : {s : List ℕ} {at i : ℕ} {any : Bool} → Ending s at i → i + 16 ≤ length s → NoneAmong (lfAt s) i 16 any → any ≡ false → Ending s at (i + 16)
-ending-block {s} {at} {i} r h a e = ending-none s at i r 16 h (λ j l. eqb-false _ _ (a .none e j l))
+-- from one place to another, and on
+pub ending-then : {s : List ℕ} {at i j : ℕ} → Ending s at i → Ending s i j → Ending s at j
+ending-then p q = record { from = omega (arith, p .from, q .from); within = q .within; same = p .same ∙ q .same }
 
 -- ---- the pieces of a text, by the length of the first
 

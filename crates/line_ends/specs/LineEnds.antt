@@ -1,6 +1,6 @@
 -- Where a line ends.
-use Prim.Native.Nat.{ℕ, _+_, _≤_}
-use mathlib.Core.Bool.{Bool}
+use Prim.Native.Nat.{ℕ, zero, suc, _+_, _-_, _/_, _%_, _<_, _≤_}
+use mathlib.Core.Bool.{Bool, false, cond}
 use mathlib.Core.List.{List}
 use mathlib.Core.Path.{_≡_}
 use lib.Dec.{eqb}
@@ -22,3 +22,19 @@ pub record Ending (s : List ℕ) (at i : ℕ) : Type 0 where
 -- the byte at i is an LF
 abbrev pub lfAt : List ℕ → ℕ → Bool
 lfAt s i = eqb (getD s i 0) 10
+
+-- the binary digit of m of the weight 2 ^ j
+unfoldable pub digit : ℕ → ℕ → ℕ
+digit zero m = m % 2
+digit (suc j) m = digit j (m / 2)
+
+-- the highest of sixteen digits for an LF
+unfoldable pub weightOf : ℕ → ℕ
+weightOf b = cond (eqb b 10) 32768 0
+
+-- The k highest of m's sixteen digits stand for the k bytes from `at` on, the lowest of them for the first: where a
+-- digit is 0, its byte is no LF.
+pub record Masked (s : List ℕ) (at k m : ℕ) : Type 0 where
+  pub few : k ≤ 16
+  pub small : m < 65536
+  pub none : (j : ℕ) → j < k → digit (16 - k + j) m ≡ 0 → lfAt s (at + j) ≡ false

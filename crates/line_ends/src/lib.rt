@@ -1,10 +1,11 @@
 // Where a line of a source ends.
 ghost use mathlib.Core.Path.{_≡_};
+ghost use mathlib.Core.Bool.{cond};
 ghost use Prim.Native.Nat.{_+_, _≤_};
 ghost use lib.ListN.{length};
 ghost use Rattle.unicode.specs.Places.{NoneAmong};
 ghost use Rattle.rules.specs.Lines.{dropCr};
-ghost use Rattle.line_ends.specs.LineEnds.{lfAt, Ending, LineEnd};
+ghost use Rattle.line_ends.specs.LineEnds.{lfAt, weightOf, Masked, Ending, LineEnd};
 
 // Whether an LF stands among the 16 bytes from `at` on. It makes no branch, so that the 16 are tested at once.
 fn has_lf(source: &[u8], at: usize) -> bool
@@ -20,19 +21,77 @@ fn has_lf(source: &[u8], at: usize) -> bool
     any
 }
 
-// Past the blocks of 16 bytes without an LF.
+// n where t, else m.
+fn pick(t: bool, n: usize, m: usize) -> usize
+    ensures { λ r. ⌜ r ≡ cond t n m ⌝ }
+{
+    if t { n } else { m }
+}
+
+// Where the first block with an LF starts, of the four blocks of 16 bytes from `at` on, or where they end. It makes no
+// branch: lines differ in length, so that none could be predicted.
+fn past_four(source: &[u8], at: usize) -> usize
+    requires { ⌜ at + 64 ≤ length (now source) ⌝ }
+    ensures { λ r. ⌜ Ending (now (source .entry)) at r ⌝ }
+{
+    let a = has_lf(source, at);
+    let b = has_lf(source, at + 16);
+    let c = has_lf(source, at + 32);
+    let d = has_lf(source, at + 48);
+    at + pick(a, 0, pick(b, 16, pick(c, 32, pick(d, 48, 64))))
+}
+
+// Past the blocks of 16 bytes without an LF, while 64 bytes are left.
 fn past_blocks(source: &[u8], at: usize) -> usize
     requires { ⌜ at ≤ length (now source) ⌝ }
     ensures { λ r. ⌜ Ending (now (source .entry)) at r ⌝ }
 {
     let mut i = at;
-    while source.len() - i >= 16 {
-        if has_lf(source, i) {
-            return i;
+    while source.len() - i >= 64 {
+        let e = past_four(source, i);
+        if e < i + 64 {
+            return e;
         }
-        i += 16;
+        i = e;
     }
     i
+}
+
+// The highest of sixteen digits for an LF, 0 for another byte.
+fn weight(b: u8) -> u32
+    ensures { λ r. ⌜ (r ≡ weightOf b) × (r ≤ 32768) ⌝ }
+{
+    if b == b'\n' { 32768 } else { 0 }
+}
+
+// A digit for each of the 16 bytes from `at` on, the lowest for the first: 1 for an LF, else 0.
+fn lf_mask(source: &[u8], at: usize) -> u32
+    requires { ⌜ at + 16 ≤ length (now source) ⌝ }
+    ensures { λ r. ⌜ Masked (now (source .entry)) at 16 r ⌝ }
+{
+    let mut m: u32 = 0;
+    let mut k: usize = 0;
+    while k < 16 {
+        m = m / 2 + weight(source[at + k]);
+        k += 1;
+    }
+    m
+}
+
+// Up to the first LF of the 16 bytes from `at` on, or past them; where fewer are left, no byte is passed.
+fn past_block(source: &[u8], at: usize) -> usize
+    requires { ⌜ at ≤ length (now source) ⌝ }
+    ensures { λ r. ⌜ Ending (now (source .entry)) at r ⌝ }
+{
+    if source.len() - at < 16 {
+        return at;
+    }
+    let m = lf_mask(source, at);
+    let k = u32::trailing_zeros(m) as usize;
+    if k < 16 {
+        return at + k;
+    }
+    at + 16
 }
 
 // The place of the first LF from `at` on, or the source's end. An empty line is told at once.
@@ -45,7 +104,8 @@ pub fn line_end(source: &[u8], at: usize) -> usize
             return at;
         }
     }
-    let mut i = past_blocks(source, at);
+    let e = past_blocks(source, at);
+    let mut i = past_block(source, e);
     while i < source.len() {
         if source[i] == b'\n' {
             return i;

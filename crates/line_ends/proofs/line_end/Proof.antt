@@ -3,15 +3,15 @@ use Prim.Native.Nat.{_-_}
 use borrow.Author.Needs.{needs}
 use lib.ListN.{length}
 use Rattle.line_ends.specs.LineEnds.{Ending}
-use Rattle.line_ends.proofs.LineCuts.{ending-here, ending-more, ending-lf, ending-last}
+use Rattle.line_ends.proofs.LineCuts.{ending-here, ending-then, ending-more, ending-lf, ending-last}
 use Rattle.line_ends.proofs.line_end.Statement.{statement}
 use Rattle.line_ends.proofs.line_end.Tie as tie
 
 abbrev Inv-loop : tie.InvT-loop
-Inv-loop source at i₀ i = Ending source at i
+Inv-loop source at e i₀ i = Ending source at i
 
 abbrev μ-loop : tie.MeasureT-loop
-μ-loop source at i₀ i = length source - i
+μ-loop source at e i₀ i = length source - i
 
 shared-slice-read-if2 : tie.Need-shared-slice-read-if2 Inv-loop μ-loop
 shared-slice-read-if2 c = search needs
@@ -22,8 +22,11 @@ returns c = search (needs, ending-here)
 past-blocks-requires : tie.Need-past-blocks-requires Inv-loop μ-loop
 past-blocks-requires c κs = search needs
 
+past-block-requires : tie.Need-past-block-requires Inv-loop μ-loop
+past-block-requires c κs = search needs
+
 loop-holds : tie.Need-loop-holds Inv-loop μ-loop
-loop-holds c = search needs
+loop-holds c = search (needs, ending-then)
 
 shared-slice-read-if3 : tie.Need-shared-slice-read-if3 Inv-loop μ-loop
 shared-slice-read-if3 c = search needs
@@ -46,5 +49,5 @@ returns-3 c = search (needs, ending-last)
 pub line-end-spec : {M : Type 1} → statement M
 line-end-spec =
     tie.close
-    (tie.spec Inv-loop μ-loop shared-slice-read-if2 returns past-blocks-requires loop-holds shared-slice-read-if3
-    returns-2 add-i loop-less loop-again returns-3)
+    (tie.spec Inv-loop μ-loop shared-slice-read-if2 returns past-blocks-requires past-block-requires loop-holds
+    shared-slice-read-if3 returns-2 add-i loop-less loop-again returns-3)

@@ -1,5 +1,5 @@
 -- Laws of the stack in scratch, and the loops over a line's brackets.
-use Prim.Native.Nat.{ℕ, zero, suc, _+_, _-_, _*_, _/_, _%_, _≤_, _<_, zero-le}
+use Prim.Native.Nat.{ℕ, zero, suc, _+_, _-_, _*_, _/_, _%_, _≤_, _<_, min, zero-le}
 use mathlib.Core.Bool.{Bool, true, false, not, _||_, true≢false}
 use mathlib.Core.List.{List, [], _∷_, foldl}
 use mathlib.Core.Path.{_≡_, refl, sym, ap, subst, _∙_}
@@ -12,7 +12,8 @@ use lib.ListN.{length, getD, drop, set, length-set, drop-of-length-le}
 use lib.Seq.{getD-set-same, getD-set-other, drop-cons}
 use Rattle.unicode.specs.Places.{NoneAmong}
 use Rattle.buffer.specs.Buffer.{part}
-use Rattle.unicode.proofs.Tests.{by-test}
+use Rattle.unicode.specs.Unicode.{within}
+use Rattle.unicode.proofs.Tests.{by-test, in-range}
 use Rattle.rules.specs.Basics.{choose, isCloser, leading}
 use Rattle.rules.specs.Scan.{Cell, cell, isCode}
 use Rattle.rules.specs.ClassBytes.{classOf, cellsOf}
@@ -22,7 +23,7 @@ use Rattle.rules.proofs.Choose.{choose-case, choose-true, choose-false}
 use Rattle.rules.proofs.CellsLaws.{drop-cells, cells-at, cells-end}
 use Rattle.basics.specs.Region.{Only}
 use Rattle.basics.specs.Closers.{Closers}
-use Rattle.brackets.specs.Stack.{entrySize, addsOf, entryAt, stacked, EntryRoom, EntryPut, Nested, Popped, Tallies, mayTurn, turnsAt, IdleRun, StackRoom, Turned, StackFits, BracketsDone}
+use Rattle.brackets.specs.Stack.{entrySize, addsOf, entryAt, stacked, EntryRoom, EntryPut, Nested, Popped, Tallies, mayTurn, turnsAt, IdleRun, Less, Apart, TurnKey, TurnPlace, NoTurn, StackRoom, Turned, StackFits, BracketsDone}
 use Rattle.brackets.specs.declared.Nesting.{Nesting}
 use Rattle.brackets.specs.declared.Tally.{Tally}
 use Rattle.basics.proofs.OnlyLaws.{only-same, only-set, only-wider, only-then, only-at, only-past, read-now}
@@ -486,11 +487,99 @@ module _ {s : List ℕ} {at i : ℕ} (w : IdleRun s at i) where
       past : (j : ℕ) → at + j < i + n → i ≤ at + j → mayTurn (getD s (at + j) 0) ≡ false
       past j l g = let k : i + (at + j - i) ≡ at + j = omega arith in rw k at (a (at + j - i) (omega arith))
 
-  pub idle-block : {any : Bool} → i + 8 ≤ length s → NoneAmong (turnsAt s) i 8 any → any ≡ false → IdleRun s at (i + 8)
-  idle-block h a e = idle-more 8 h (a .none e)
+  pub idle-block : {any : Bool} → i + 16 ≤ length s → NoneAmong (turnsAt s) i 16 any → any ≡ false → IdleRun s at (i + 16)
+  idle-block h a e = idle-more 16 h (a .none e)
 
   pub idle-one : {r : Bool} → i < length s → r ≡ mayTurn (getD s i 0) → r ≡ false → IdleRun s at (i + 1)
   idle-one h e q = idle-more 1 (omega arith) (λ j l. let z : i + j ≡ i = omega (arith, l) in rw z (sym e ∙ q))
+
+pub idle-then : (s : List ℕ) (at i r : ℕ) → IdleRun s at i → IdleRun s i r → IdleRun s at r
+idle-then s at i r w v =
+    let e : i + (r - i) ≡ r = omega (arith, v .from) in
+    rw e at (idle-more w (r - i) (omega (arith, v .from, v .fits)) (λ j l. v .none j (omega (arith, v .from))))
+
+-- ---- the first of them in a block
+
+pub apart-none : (c low more d : ℕ) → Less c low d → more ≤ d → Apart c low more (d - more)
+apart-none c low more d w h = record { zero = λ l k. (let e = w .is l in omega arith) }
+
+-- a byte that may be one stands in one of the three ranges
+pub turn-key : (c x y z m r : ℕ) → Apart c 40 1 x → Apart c 91 2 y → Apart c 123 2 z → m ≡ min y z → r ≡ min x m → TurnKey c r
+unfolding mayTurn
+turn-key c x y z m r u v w p q =
+    record {
+      zero = λ e.
+          by-test (within 40 41 c) (λ a. (let l = in-range 40 41 c a in let k = u .zero (l .0) (l .1) in omega arith))
+          (λ a. by-test (within 91 93 c) (λ b. (let l = in-range 91 93 c b in let k = v .zero (l .0) (l .1) in omega arith))
+          (λ b. (let l = in-range 123 125 c (rw (a, b) at e) in let k = w .zero (l .0) (l .1) in omega arith)));
+    }
+
+pub place-turn : (c k at key r : ℕ) → TurnKey c key → key ≡ 0 → Less k at r → TurnPlace c k at r
+place-turn c k at key r w e l = record { none = λ h n. absurd (let z = l .is h in omega arith) }
+
+pub place-none : (c k at key : ℕ) → TurnKey c key → (key ≡ 0 → ⊥) → TurnPlace c k at 255
+place-none c k at key w n = record { none = λ h l. by-test (mayTurn c) (λ e. absurd (n (w .zero e))) (λ e. e) }
+
+module _ (p : ℕ → Bool) (from a at : ℕ) where
+  pub no-turn-start : (m : ℕ) → NoTurn p from a a at m
+  no-turn-start m = record { none = λ j h l. absurd (omega arith) }
+
+  no-turn-more : (e m r n : ℕ) → NoTurn p from a e at m → (at ≤ e → e < at + r → p (from + e) ≡ false) → n ≤ m → n ≤ r → NoTurn p from a (e + 1) at n
+  no-turn-more e m r n w q h k =
+      record {
+        none = λ j x y u v. by-test (ltb j e) (λ l. w .none j x (ltb-true j e l) u (omega arith))
+            (λ l. (let i : j ≡ e = (let z = ltb-false j e l in omega arith) in rw i (q (rw i at u) (let z = rw i at v in omega arith))));
+      }
+
+pub first-more : (line : List ℕ) (from at k m r n : ℕ) → NoTurn (turnsAt line) from 0 k at m → TurnPlace (getD line (from + k) 0) k at r → n ≡ min m r
+    → NoTurn (turnsAt line) from 0 (k + 1) at n
+first-more line from at k m r n w t e = no-turn-more (turnsAt line) from 0 at k m r n w (t .none) (omega arith) (omega arith)
+
+pub first-all : (line : List ℕ) (from at k m : ℕ) → NoTurn (turnsAt line) from 0 k at m → 16 ≤ k → NoTurn (turnsAt line) from 0 16 at m
+first-all line from at k m w h = record { none = λ j x y u v. w .none j x (omega arith) u v }
+
+-- of the loop over the first eight and the last eight bytes
+pub record Halves (line : List ℕ) (last at k m : ℕ) : Type 0 where
+  pub front : NoTurn (turnsAt line) 0 0 k at m
+  pub back : NoTurn (turnsAt line) 0 last (last + k) at m
+
+pub halves-start : (line : List ℕ) (last at : ℕ) → Halves line last at 0 255
+halves-start line last at =
+    record { front = no-turn-start (turnsAt line) 0 0 at 255; back = rw (add-zero last) (no-turn-start (turnsAt line) 0 last at 255) }
+
+pub halves-more : (line : List ℕ) (last at k m r s q n : ℕ) → Halves line last at k m → TurnPlace (getD line k 0) k at r → TurnPlace (getD line (last + k) 0) (last + k) at s
+    → q ≡ min r s → n ≡ min m q → Halves line last at (k + 1) n
+halves-more line last at k m r s q n w t u f g =
+    let e : last + k + 1 ≡ last + (k + 1) = omega arith in
+    record {
+      front = no-turn-more (turnsAt line) 0 0 at k m r n (w .front) (rw (zero-add k) (t .none)) (omega arith) (omega arith);
+      back = rw e at (no-turn-more (turnsAt line) 0 last at (last + k) m s n (w .back) (rw (zero-add (last + k)) (u .none)) (omega arith) (omega arith));
+    }
+
+pub halves-all : (line : List ℕ) (last at k m : ℕ) → (last + 8 ≡ length line) × (last ≤ 8) → Halves line last at k m → 8 ≤ k → NoTurn (turnsAt line) 0 0 (length line) at m
+halves-all line last at k m h w l =
+    record {
+      none = λ j x y u v. by-test (ltb j 8) (λ e. w .front .none j x (let z = ltb-true j 8 e in omega arith) u v)
+          (λ e. (let z = ltb-false j 8 e in w .back .none j (omega (arith, h .1)) (omega (arith, h .0)) u v));
+    }
+
+pub turn-next : (line : List ℕ) (at from m n : ℕ) → (16 ≤ length line) × (at ≤ length line) → from ≡ min at (length line - 16)
+    → NoTurn (turnsAt line) from 0 16 (at - from) m → n ≡ min m (16 - (at - from)) → IdleRun line at (at + n)
+turn-next line at from m n h e w f =
+    record {
+      from = omega arith;
+      fits = omega (arith, h .0, h .1);
+      none = λ j l. (let k : from + (at - from + j) ≡ at + j = omega (arith, h .0, h .1) in
+          rw k at (w .none (at - from + j) (omega arith) (omega (arith, h .0, h .1)) (omega arith) (omega (arith, h .0, h .1))));
+    }
+
+pub short-next : (line : List ℕ) (at m n : ℕ) → at ≤ length line → NoTurn (turnsAt line) 0 0 (length line) at m → n ≡ min m (length line - at) → IdleRun line at (at + n)
+short-next line at m n h w f =
+    record {
+      from = omega arith;
+      fits = omega arith;
+      none = λ j l. rw (zero-add (at + j)) at (w .none (at + j) (omega arith) (omega arith) (omega arith) (omega arith));
+    }
 
 -- a line in scratch
 module _ (buf₀ : List ℕ) (at n class base : ℕ) (b : Nesting) (skip : ℕ) (buf : List ℕ) (t : Tally) (i : ℕ) (f : (StackFits buf₀ class n base b) × (at + n ≤ base))

@@ -1,6 +1,6 @@
 -- The stack of open brackets as it lies in scratch: from base on, the oldest first, three bytes for each.
 use Prim.Native.Nat.{ℕ, zero, suc, _+_, _-_, _*_, _/_, _%_, _≤_, _<_}
-use mathlib.Core.Bool.{Bool, not, _||_, false}
+use mathlib.Core.Bool.{Bool, not, _||_, true, false}
 use mathlib.Core.List.{List, [], _∷_}
 use mathlib.Core.Path.{_≡_}
 use lib.Dec.{eqb, ltb}
@@ -86,6 +86,28 @@ pub record IdleRun (s : List ℕ) (at r : ℕ) : Type 0 where
   pub from : at ≤ r
   pub fits : r ≤ length s
   pub none : (j : ℕ) → at + j < r → mayTurn (getD s (at + j) 0) ≡ false
+
+-- ---- the first of them in a block
+
+-- a less b, where b is not greater
+pub record Less (a b r : ℕ) : Type 0 where
+  pub is : b ≤ a → b + r ≡ a
+
+-- 0 for a number c from low to low + more
+pub record Apart (c low more r : ℕ) : Type 0 where
+  pub zero : low ≤ c → c ≤ low + more → r ≡ 0
+
+pub record TurnKey (c r : ℕ) : Type 0 where
+  pub zero : mayTurn c ≡ true → r ≡ 0
+
+-- the byte c at the place k is none, if k stands before at + r and not before `at`
+pub record TurnPlace (c k at r : ℕ) : Type 0 where
+  pub none : at ≤ k → k < at + r → mayTurn c ≡ false
+
+-- none of the places from a up to e passes the test p, counted from `from` on, that stand before at + r and not before
+-- `at`
+pub record NoTurn (p : ℕ → Bool) (from a e at r : ℕ) : Type 0 where
+  pub none : (j : ℕ) → a ≤ j → j < e → at ≤ j → j < at + r → p (from + j) ≡ false
 
 -- there is room for one more
 pub record StackRoom (buf : List ℕ) (base : ℕ) (t : Tally) : Type 0 where

@@ -2,7 +2,7 @@
 // bit tells whether it added a level, its other bits and the two bytes after it are the source line of the opener.
 ghost use mathlib.Core.Path.{_≡_};
 ghost use mathlib.Core.Bool.{not, _||_};
-ghost use Prim.Native.Nat.{_+_, _-_, _*_, _≤_, _<_};
+ghost use Prim.Native.Nat.{_+_, _-_, _*_, _≤_, _<_, min};
 ghost use lib.ListN.{length, drop};
 ghost use Rattle.unicode.specs.Places.{NoneAmong};
 ghost use Rattle.buffer.specs.Buffer.{part};
@@ -11,7 +11,7 @@ ghost use Rattle.rules.specs.Scan.{cell};
 ghost use Rattle.rules.specs.ClassBytes.{classOf, cellsOf};
 ghost use Rattle.rules.specs.Brackets.{push, pop, bracketStep, scanBrackets, openLines};
 ghost use Rattle.basics.specs.Closers.{Closers};
-ghost use Rattle.brackets.specs.Stack.{addsOf, entryAt, entrySize, stacked, Nested, Popped, EntryRoom, EntryPut, StackRoom, Turned, StackFits, BracketsDone, mayTurn, turnsAt, IdleRun, lineAt, Listed};
+ghost use Rattle.brackets.specs.Stack.{addsOf, entryAt, entrySize, stacked, Nested, Popped, EntryRoom, EntryPut, StackRoom, Turned, StackFits, BracketsDone, mayTurn, turnsAt, IdleRun, Less, Apart, TurnKey, TurnPlace, NoTurn, lineAt, Listed};
 use basics::is_closer;
 use basics::is_opener;
 
@@ -191,41 +191,41 @@ fn is_idle(c: u8, esc: bool) -> bool
     !(esc | may_turn(c))
 }
 
-// Whether one of the eight bytes from `at` on may be one. It makes no branch, so that the eight are tested at once.
+// Whether one of the sixteen bytes from `at` on may be one. It makes no branch, so that they are tested at once.
 fn any_turn(line: &[u8], at: usize) -> bool
-    requires { ⌜ at + 8 ≤ length (now line) ⌝ }
-    ensures { λ r. ⌜ NoneAmong (turnsAt (now (line .entry))) at 8 r ⌝ }
+    requires { ⌜ at + 16 ≤ length (now line) ⌝ }
+    ensures { λ r. ⌜ NoneAmong (turnsAt (now (line .entry))) at 16 r ⌝ }
 {
     let mut any = false;
     let mut k: usize = 0;
-    while k < 8 {
+    while k < 16 {
         any = any | may_turn(line[at + k]);
         k += 1;
     }
     any
 }
 
-// Past the bytes that are none, eight at a time.
-fn idle_eights(line: &[u8], at: usize) -> usize
+// Past the bytes that are none, sixteen at a time.
+fn idle_blocks(line: &[u8], at: usize) -> usize
     requires { ⌜ at ≤ length (now line) ⌝ }
     ensures { λ r. ⌜ IdleRun (now (line .entry)) at r ⌝ }
 {
     let mut i = at;
-    while line.len() - i >= 8 {
+    while line.len() - i >= 16 {
         if any_turn(line, i) {
             return i;
         }
-        i += 8;
+        i += 16;
     }
     i
 }
 
-// Past the bytes that are none.
-fn idle_to(line: &[u8], at: usize) -> usize
+// Past the bytes that are none, one at a time.
+fn idle_bytes(line: &[u8], at: usize) -> usize
     requires { ⌜ at ≤ length (now line) ⌝ }
     ensures { λ r. ⌜ IdleRun (now (line .entry)) at r ⌝ }
 {
-    let mut i = idle_eights(line, at);
+    let mut i = at;
     while i < line.len() {
         if may_turn(line[i]) {
             return i;
@@ -233,6 +233,112 @@ fn idle_to(line: &[u8], at: usize) -> usize
         i += 1;
     }
     i
+}
+
+// The first byte of a block that may be one is found by the least of sixteen numbers, without a branch: these functions
+// compile to a few instructions for all sixteen.
+
+fn least(a: u8, b: u8) -> u8
+    ensures { λ r. ⌜ r ≡ min a b ⌝ }
+{
+    if a < b { a } else { b }
+}
+
+// a less b, or, where b is greater, 256 more.
+fn less(a: u8, b: u8) -> u8
+    ensures { λ r. ⌜ Less a b r ⌝ }
+{
+    if b <= a { a - b } else { a + (255 - b) + 1 }
+}
+
+// 0 for c among the bytes from low on, `more` after it.
+fn apart(c: u8, low: u8, more: u8) -> u8
+    ensures { λ r. ⌜ Apart c low more r ⌝ }
+{
+    let d = less(c, low);
+    if d < more { 0 } else { d - more }
+}
+
+// 0 for a byte that may be one.
+fn turn_key(c: u8) -> u8
+    ensures { λ r. ⌜ TurnKey c r ⌝ }
+{
+    least(apart(c, 40, 1), least(apart(c, 91, 2), apart(c, 123, 2)))
+}
+
+// How far from `at` on the byte c stands at place k, if it may be one; else 255.
+fn turn_place(c: u8, k: u8, at: u8) -> u8
+    ensures { λ r. ⌜ TurnPlace c k at r ⌝ }
+{
+    if turn_key(c) == 0 { less(k, at) } else { 255 }
+}
+
+// How far from the place `at` of the sixteen bytes from `from` on the first one that may be one stands, or more than
+// are left.
+fn first_turn(line: &[u8], from: usize, at: u8) -> u8
+    requires { ⌜ from + 16 ≤ length (now line) ⌝ }
+    ensures { λ r. ⌜ NoTurn (turnsAt (now (line .entry))) from 0 16 at r ⌝ }
+{
+    let mut m: u8 = 255;
+    let mut k: u8 = 0;
+    while k < 16 {
+        m = least(m, turn_place(line[from + k as usize], k, at));
+        k += 1;
+    }
+    m
+}
+
+// The same of a line of 8 to 16 bytes, its first eight and its last eight, which start at `last`.
+fn first_short(line: &[u8], last: u8, at: u8) -> u8
+    requires { ⌜ (last + 8 ≡ length (now line)) × (last ≤ 8) ⌝ }
+    ensures { λ r. ⌜ NoTurn (turnsAt (now (line .entry))) 0 0 (length (now (line .entry))) at r ⌝ }
+{
+    let mut m: u8 = 255;
+    let mut k: u8 = 0;
+    while k < 8 {
+        let i = last + k;
+        let front = turn_place(line[k as usize], k, at);
+        m = least(m, least(front, turn_place(line[i as usize], i, at)));
+        k += 1;
+    }
+    m
+}
+
+// Up to the next byte that may be one, or past the sixteen bytes that are tested: those from `at` on, or the last ones.
+fn next_turn(line: &[u8], at: usize) -> usize
+    requires { ⌜ (16 ≤ length (now line)) × (at ≤ length (now line)) ⌝ }
+    ensures { λ r. ⌜ IdleRun (now (line .entry)) at r ⌝ }
+{
+    let from = buffer::place(at, line.len() - 16);
+    let k = at - from;
+    let m = first_turn(line, from, k as u8) as usize;
+    at + buffer::place(m, 16 - k)
+}
+
+fn next_short(line: &[u8], at: usize) -> usize
+    requires { ⌜ (8 ≤ length (now line)) × (length (now line) ≤ 16) ⌝ }
+    requires { ⌜ at ≤ length (now line) ⌝ }
+    ensures { λ r. ⌜ IdleRun (now (line .entry)) at r ⌝ }
+{
+    let n = line.len();
+    let m = first_short(line, (n - 8) as u8, at as u8) as usize;
+    at + buffer::place(m, n - at)
+}
+
+// Past the bytes that are none.
+fn idle_to(line: &[u8], at: usize) -> usize
+    requires { ⌜ at ≤ length (now line) ⌝ }
+    ensures { λ r. ⌜ IdleRun (now (line .entry)) at r ⌝ }
+{
+    let n = line.len();
+    if 16 <= n {
+        let i = idle_blocks(line, at);
+        return next_turn(line, i);
+    }
+    if 8 <= n {
+        return next_short(line, at);
+    }
+    idle_bytes(line, at)
 }
 
 // A byte c of class k.

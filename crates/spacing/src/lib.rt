@@ -4,14 +4,14 @@ ghost use mathlib.Core.Bool.{_&&_, true, false};
 ghost use Rattle.unicode.specs.Places.{NoneAmong};
 ghost use Rattle.rules.specs.declared.Gap.{Gap};
 ghost use mathlib.Core.List.{_++_, _∷_, []};
-ghost use Prim.Native.Nat.{_+_, _<_, _≤_};
+ghost use Prim.Native.Nat.{_+_, _-_, _<_, _≤_};
 ghost use lib.ListN.{length};
 ghost use Rattle.buffer.specs.Buffer.{part};
 ghost use Rattle.rules.specs.Basics.{choose, isBlank};
 ghost use Rattle.rules.specs.Scan.{cell, isCode};
 ghost use Rattle.rules.specs.ClassBytes.{classOf, cellsOf};
 ghost use Rattle.rules.specs.Spacing.{spaced, putPlain, putAfterComma, putAt};
-ghost use Rattle.spacing.specs.Respaced.{textAt, Trimmed, Wrote, Plain, Dropped, otherAt, Run, Place, Normalized, InCode, KeptAt, NoBlank, Keeping, odd, oddAt, Clear, Unchanged};
+ghost use Rattle.spacing.specs.Respaced.{textAt, Trimmed, Wrote, Plain, Dropped, otherAt, Run, Place, Normalized, InCode, KeptAt, NoBlank, Keeping, odd, oddAt, oddEnd, Unchanged};
 use basics::is_blank;
 use basics::is_closer;
 use rules::Gap;
@@ -376,16 +376,36 @@ fn is_odd(x: u8, y: u8, z: u8, k: u8, l: u8) -> bool
         | ((k == 0) & (((x == b'\\') | ((x == b' ') & (y == b' '))) | ((x == b',') & gap)))
 }
 
-// The same of eight bytes from `at` on, and of sixteen.
-fn odd_eight(line: &[u8], class: &[u8], at: usize) -> bool
-    requires { ⌜ (at + 10 ≤ length (now line)) × (length (now line) ≤ length (now class)) ⌝ }
-    ensures { λ r. ⌜ NoneAmong (oddAt (now (line .entry)) (now (class .entry))) at 8 r ⌝ }
+// The same of the byte at i.
+fn odd_at(line: &[u8], class: &[u8], i: usize) -> bool
+    requires { ⌜ (i + 3 ≤ length (now line)) × (length (now line) ≤ length (now class)) ⌝ }
+    ensures { λ r. ⌜ r ≡ oddAt (now (line .entry)) (now (class .entry)) i ⌝ }
+{
+    is_odd(line[i], line[i + 1], line[i + 2], class[i], class[i + 1])
+}
+
+// Whether one of the first n bytes is odd, of four from `at` on, and of sixteen.
+fn odd_few(line: &[u8], class: &[u8], n: usize) -> bool
+    requires { ⌜ (n + 2 ≤ length (now line)) × (length (now line) ≤ length (now class)) ⌝ }
+    ensures { λ r. ⌜ NoneAmong (oddAt (now (line .entry)) (now (class .entry))) 0 n r ⌝ }
 {
     let mut any = false;
     let mut k: usize = 0;
-    while k < 8 {
-        let i = at + k;
-        any = any | is_odd(line[i], line[i + 1], line[i + 2], class[i], class[i + 1]);
+    while k < n {
+        any = any | odd_at(line, class, k);
+        k += 1;
+    }
+    any
+}
+
+fn odd_four(line: &[u8], class: &[u8], at: usize) -> bool
+    requires { ⌜ (at + 6 ≤ length (now line)) × (length (now line) ≤ length (now class)) ⌝ }
+    ensures { λ r. ⌜ NoneAmong (oddAt (now (line .entry)) (now (class .entry))) at 4 r ⌝ }
+{
+    let mut any = false;
+    let mut k: usize = 0;
+    while k < 4 {
+        any = any | odd_at(line, class, at + k);
         k += 1;
     }
     any
@@ -398,75 +418,84 @@ fn odd_sixteen(line: &[u8], class: &[u8], at: usize) -> bool
     let mut any = false;
     let mut k: usize = 0;
     while k < 16 {
-        let i = at + k;
-        any = any | is_odd(line[i], line[i + 1], line[i + 2], class[i], class[i + 1]);
+        any = any | odd_at(line, class, at + k);
         k += 1;
     }
     any
 }
 
-// Whether no byte is odd but for the last two, by two blocks that may overlap.
-fn is_clear_short(line: &[u8], class: &[u8]) -> bool
-    requires { ⌜ (10 ≤ length (now line)) × (length (now line) ≤ 18) ⌝ }
+// Whether one of the bytes is odd that two bytes follow, by blocks that may overlap: in a line of 6 to 10 bytes, of 10
+// to 18, and of more.
+fn odd_fours(line: &[u8], class: &[u8]) -> bool
+    requires { ⌜ (6 ≤ length (now line)) × (length (now line) ≤ 10) ⌝ }
     requires { ⌜ length (now line) ≤ length (now class) ⌝ }
-    ensures { λ r. ⌜ Clear (now (line .entry)) (now (class .entry)) r ⌝ }
+    ensures { λ r. ⌜ NoneAmong (oddAt (now (line .entry)) (now (class .entry))) 0 (length (now (line .entry)) - 2) r ⌝ }
 {
-    if odd_eight(line, class, 0) {
-        return false;
-    }
-    if odd_eight(line, class, line.len() - 10) {
-        return false;
-    }
-    true
+    odd_four(line, class, 0) | odd_four(line, class, line.len() - 6)
 }
 
-// The same of a longer line, by as many blocks as it takes.
-fn is_clear_long(line: &[u8], class: &[u8]) -> bool
+fn odd_eights(line: &[u8], class: &[u8], last: usize) -> bool
+    requires { ⌜ (last + 10 ≡ length (now line)) × (last ≤ 8) ⌝ }
+    requires { ⌜ length (now line) ≤ length (now class) ⌝ }
+    ensures { λ r. ⌜ NoneAmong (oddAt (now (line .entry)) (now (class .entry))) 0 (length (now (line .entry)) - 2) r ⌝ }
+{
+    let mut any = false;
+    let mut k: usize = 0;
+    while k < 8 {
+        any = any | (odd_at(line, class, k) | odd_at(line, class, last + k));
+        k += 1;
+    }
+    any
+}
+
+fn odd_sixteens(line: &[u8], class: &[u8]) -> bool
     requires { ⌜ 18 ≤ length (now line) ⌝ }
     requires { ⌜ length (now line) ≤ length (now class) ⌝ }
-    ensures { λ r. ⌜ Clear (now (line .entry)) (now (class .entry)) r ⌝ }
+    ensures { λ r. ⌜ NoneAmong (oddAt (now (line .entry)) (now (class .entry))) 0 (length (now (line .entry)) - 2) r ⌝ }
 {
     let last = line.len() - 18;
     let mut i = 0;
     while i < last {
         if odd_sixteen(line, class, i) {
-            return false;
+            return true;
         }
         i += 16;
     }
-    if odd_sixteen(line, class, last) {
-        return false;
-    }
-    true
+    odd_sixteen(line, class, last)
 }
 
+// The same of the byte that one byte follows. A space stands for what follows that, so that a comma is odd.
+fn odd_end(line: &[u8], class: &[u8]) -> bool
+    requires { ⌜ 2 ≤ length (now line) ⌝ }
+    requires { ⌜ length (now line) ≤ length (now class) ⌝ }
+    ensures { λ r. ⌜ r ≡ oddEnd (now (line .entry)) (now (class .entry)) ⌝ }
+{
+    let i = line.len() - 2;
+    is_odd(line[i], line[i + 1], b' ', class[i], class[i + 1])
+}
+
+// Whether no byte is odd, so that spacing leaves the line as it is.
 fn is_clear(line: &[u8], class: &[u8]) -> bool
     requires { ⌜ length (now line) ≤ length (now class) ⌝ }
-    ensures { λ r. ⌜ Clear (now (line .entry)) (now (class .entry)) r ⌝ }
+    ensures { λ r. ⌜ Unchanged (now (line .entry)) (now (class .entry)) r ⌝ }
 {
     let n = line.len();
-    if n < 10 {
+    if n < 2 {
+        return true;
+    }
+    if odd_end(line, class) {
         return false;
     }
-    if n < 18 {
-        return is_clear_short(line, class);
+    if 18 <= n {
+        return !odd_sixteens(line, class);
     }
-    is_clear_long(line, class)
-}
-
-// How many bytes a first look finds to stay as they are: all but two or three, or none.
-fn kept_prefix(line: &[u8], class: &[u8]) -> usize
-    requires { ⌜ length (now line) ≤ length (now class) ⌝ }
-    ensures { λ r. ⌜ Keeping (now (line .entry)) (now (class .entry)) r ⌝ }
-{
-    if is_clear(line, class) {
-        let e = line.len() - 2;
-        if line[e - 1] == b',' {
-            return e - 1;
-        }
-        return e;
+    if 10 <= n {
+        return !odd_eights(line, class, n - 10);
     }
-    0
+    if 6 <= n {
+        return !odd_fours(line, class);
+    }
+    !odd_few(line, class, n - 2)
 }
 
 // Whether spacing leaves the line as it is, as far as a look at each byte and its neighbours tells.
@@ -474,7 +503,10 @@ pub fn is_spaced(line: &[u8], class: &[u8]) -> bool
     requires { ⌜ length (now line) ≤ length (now class) ⌝ }
     ensures { λ r. ⌜ Unchanged (now (line .entry)) (now (class .entry)) r ⌝ }
 {
-    let mut i = kept_prefix(line, class);
+    if is_clear(line, class) {
+        return true;
+    }
+    let mut i = 0;
     while i < line.len() {
         let n = kept_at(line, class, i);
         if n == 0 {

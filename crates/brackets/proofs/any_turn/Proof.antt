@@ -11,7 +11,7 @@ abbrev Inv-loop : tie.InvT-loop
 Inv-loop line at any₀ k₀ any k = NoneAmong (turnsAt line) at k any
 
 abbrev μ-loop : tie.MeasureT-loop
-μ-loop line at any₀ k₀ any k = 8 - k
+μ-loop line at any₀ k₀ any k = 16 - k
 
 loop-holds : tie.Need-loop-holds Inv-loop μ-loop
 loop-holds c = among-start _ _

@@ -1,46 +1,37 @@
-use Prim.Native.Nat.{_-_}
 use borrow.Author.Needs.{needs}
-use lib.ListN.{length}
-use Rattle.brackets.specs.Stack.{IdleRun}
-use Rattle.brackets.proofs.StackLaws.{idle-one}
+use Rattle.brackets.proofs.StackLaws.{idle-then}
 use Rattle.brackets.proofs.idle_to.Statement.{statement}
 use Rattle.brackets.proofs.idle_to.Tie as tie
 
-abbrev Inv-loop : tie.InvT-loop
-Inv-loop line at i₀ i = IdleRun line at i
+idle-blocks-requires : tie.Need-idle-blocks-requires
+idle-blocks-requires c κs = search needs
 
-abbrev μ-loop : tie.MeasureT-loop
-μ-loop line at i₀ i = length line - i
+next-turn-requires : tie.Need-next-turn-requires
+next-turn-requires c κs = search needs
 
-idle-eights-requires : tie.Need-idle-eights-requires Inv-loop μ-loop
-idle-eights-requires c κs = search needs
+returns : tie.Need-returns
+returns c = search (needs, idle-then)
 
-loop-holds : tie.Need-loop-holds Inv-loop μ-loop
-loop-holds c = search needs
+next-short-requires : tie.Need-next-short-requires
+next-short-requires c κs = search needs
 
-shared-slice-read-may-turn : tie.Need-shared-slice-read-may-turn Inv-loop μ-loop
-shared-slice-read-may-turn c = search needs
-
-may-turn-requires : tie.Need-may-turn-requires Inv-loop μ-loop
-may-turn-requires c κs = search needs
-
-returns : tie.Need-returns Inv-loop μ-loop
-returns c = search needs
-
-add-i : tie.Need-add-i Inv-loop μ-loop
-add-i c = search needs
-
-loop-less : tie.Need-loop-less Inv-loop μ-loop
-loop-less c = search needs
-
-loop-again : tie.Need-loop-again Inv-loop μ-loop
-loop-again c = search (needs, idle-one)
-
-returns-2 : tie.Need-returns-2 Inv-loop μ-loop
+returns-2 : tie.Need-returns-2
 returns-2 c = search needs
+
+idle-bytes-requires : tie.Need-idle-bytes-requires
+idle-bytes-requires c κs = search needs
+
+returns-3 : tie.Need-returns-3
+returns-3 c = search needs
 
 pub idle-to-spec : {M : Type 1} → statement M
 idle-to-spec =
     tie.close
-    (tie.spec Inv-loop μ-loop idle-eights-requires loop-holds shared-slice-read-may-turn may-turn-requires returns
-    add-i loop-less loop-again returns-2)
+    (tie.spec
+    idle-blocks-requires
+    next-turn-requires
+    returns
+    next-short-requires
+    returns-2
+    idle-bytes-requires
+    returns-3)

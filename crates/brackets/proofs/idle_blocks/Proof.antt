@@ -4,8 +4,8 @@ use native.Mathlib.Omega.{arith}
 use lib.ListN.{length}
 use Rattle.brackets.specs.Stack.{IdleRun}
 use Rattle.brackets.proofs.StackLaws.{idle-start, idle-block}
-use Rattle.brackets.proofs.idle_eights.Statement.{statement}
-use Rattle.brackets.proofs.idle_eights.Tie as tie
+use Rattle.brackets.proofs.idle_blocks.Statement.{statement}
+use Rattle.brackets.proofs.idle_blocks.Tie as tie
 
 abbrev Inv-loop : tie.InvT-loop
 Inv-loop line at i₀ i = IdleRun line at i
@@ -37,7 +37,7 @@ loop-again c = idle-block (c .before .before .before .loop .inv) (omega arith) (
 returns-2 : tie.Need-returns-2 Inv-loop μ-loop
 returns-2 c = search needs
 
-pub idle-eights-spec : {M : Type 1} → statement M
-idle-eights-spec =
+pub idle-blocks-spec : {M : Type 1} → statement M
+idle-blocks-spec =
     tie.close
     (tie.spec Inv-loop μ-loop loop-holds sub-loop any-turn-requires returns add-i loop-less loop-again returns-2)

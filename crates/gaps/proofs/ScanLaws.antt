@@ -1,26 +1,27 @@
 -- One character that is not kept, and the scan for a gap's end.
+--     gap-byte                     an ASCII byte that is not kept
 --     unkept-comma, unkept-white   what `unkept_at` gives, for a comma and for another character
 --     GapScan                      the loop of `gap_end`
 use Prim.Native.Nat.{ℕ, zero, suc, _+_, _-_, _<_, _≤_}
-use mathlib.Core.Bool.{Bool, true, false, not, _&&_}
+use mathlib.Core.Bool.{Bool, true, false, not, _&&_, _||_, or-false}
 use mathlib.Core.List.{List, [], _∷_, _++_, append-assoc}
 use mathlib.Core.Path.{_≡_, refl, sym, ap, _∙_}
 use native.Mathlib.Nat.{le-refl}
 use native.Mathlib.Omega.{arith}
 use borrow.Author.Tests.{ne-eqb, eq-eqb, lt-ltb}
-use lib.Dec.{ltb, eqb}
+use lib.Dec.{ltb, leb, eqb}
 use lib.ListN.{length, getD, take, drop}
 use lib.Seq.{take-at, drop-length}
 use Rattle.unicode.specs.Unicode.{encodeChar, encode, chars, decode, WellFormed, seqAt, codeAt, isWhite}
 use Rattle.unicode.specs.Places.{Step, WhiteAt}
 use Rattle.unicode.proofs.Decode.{encode-nil, encode-one, encode-append}
 use Rattle.unicode.proofs.Scan.{ascii, ascii-step, not-ascii}
-use Rattle.unicode.proofs.TrimScan.{first-char}
+use Rattle.unicode.proofs.TrimScan.{low-white, first-char}
 use Rattle.buffer.specs.Buffer.{part}
 use Rattle.buffer.proofs.RegionLaws.{part-join}
 use Rattle.rules.specs.Basics.{is}
 use Rattle.rules.specs.Demand3.{isKept}
-use Rattle.gaps.specs.Gaps.{gap, Unkept, From, UnkeptAt, GapEnd}
+use Rattle.gaps.specs.Gaps.{gap, Unkept, From, GapByte, UnkeptAt, GapEnd}
 use Rattle.gaps.proofs.GapLaws.{gap-kept, gap-other}
 
 -- ---- one character
@@ -36,6 +37,22 @@ other-kept c false e h = ap (λ (t : Bool). not t && not (is "," c)) e ∙ ap no
 not-some : (n : ℕ) → not (ltb 0 n) ≡ eqb n 0
 not-some zero = refl
 not-some (suc n) = ap not (lt-ltb 0 (suc n) (omega arith)) ∙ sym (ne-eqb (suc n) 0 (λ e. omega arith))
+
+pub gap-byte : (b : ℕ) → GapByte b (eqb b 44 || eqb b 32 || (leb 9 b && leb b 13))
+gap-byte b = record { is = λ h. ap (λ (t : Bool). not t && not (eqb b 44)) (white h) ∙ flip (eqb b 44) (eqb b 32) (leb 9 b && leb b 13) }
+  where
+    white : b < 0x80 → isWhite b ≡ (leb 9 b && leb b 13 || eqb b 32)
+    white h = low-white b (omega arith) ∙ simp (ne-eqb b 0x85 (omega arith), ne-eqb b 0xA0 (omega arith), ne-eqb b 0x1680 (omega arith), or-false)
+
+    flip : (x y z : Bool) → not (z || y) && not x ≡ not (x || y || z)
+    flip true true true = refl
+    flip true true false = refl
+    flip true false true = refl
+    flip true false false = refl
+    flip false true true = refl
+    flip false true false = refl
+    flip false false true = refl
+    flip false false false = refl
 
 pub unkept-comma : (s : List ℕ) (i : ℕ) → i < length s → getD s i 0 ≡ 44 → UnkeptAt s i 1
 unkept-comma s i h e =

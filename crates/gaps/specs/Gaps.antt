@@ -1,6 +1,6 @@
 -- The gaps between the characters that are kept: a source and its text differ in gaps alone.
 use Prim.Native.Nat.{ℕ, _+_, _≤_, _<_, _^_}
-use mathlib.Core.Bool.{true, false}
+use mathlib.Core.Bool.{Bool, true, false, not}
 use mathlib.Core.List.{List, [], _∷_, _++_}
 use mathlib.Core.Path.{_≡_}
 use lib.Dec.{eqb}
@@ -33,6 +33,10 @@ pub record Alike (source text : List ℕ) : Type 0 where
   pub struck : strike (decode text) ≡ strike (decode source)
 
 -- ---- what the contracts say of places in a list s of bytes
+
+-- the character of an ASCII byte is not kept, if r is true
+pub record GapByte (b : ℕ) (r : Bool) : Type 0 where
+  pub is : b < 0x80 → isKept b ≡ not r
 
 -- a character starts at i, or s ends there
 pub record From (s : List ℕ) (i : ℕ) : Type 0 where

@@ -2,7 +2,14 @@
 ghost use Prim.Native.Nat.{_<_};
 ghost use lib.ListN.{length, drop};
 ghost use Rattle.unicode.specs.Unicode.{WellFormed};
-ghost use Rattle.gaps.specs.Gaps.{From, UnkeptAt, GapEnd};
+ghost use Rattle.gaps.specs.Gaps.{From, GapByte, UnkeptAt, GapEnd};
+
+// Whether an ASCII byte is white space or a comma. It makes no branch, so that the bytes of a block are tested at once.
+pub fn is_gap_byte(b: u8) -> bool
+    ensures { λ r. ⌜ GapByte b r ⌝ }
+{
+    (b == b',') | (b == b' ') | ((9 <= b) & (b <= 13))
+}
 
 // How many bytes the character at i takes if it is not kept, else 0.
 pub fn unkept_at(s: &[u8], i: usize) -> usize

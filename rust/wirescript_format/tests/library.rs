@@ -175,6 +175,18 @@ fn refuses() {
     assert_eq!(format(b"\xff", &table), Err(Refusal::StrengthsLength));
     let table = options.clone().strengths([0x11; 11]);
     assert_eq!(format(b"\xff", &table), Err(Refusal::StrengthsBits));
+    // 300 lines, much more than the first guess
+    let deep = "(\n".repeat(300);
+    let exact = Formatter::new()
+        .most(90_300)
+        .format(&deep, &options)
+        .map(|f| f.text.len());
+    assert_eq!(exact, Ok(90_300));
+    let short = Formatter::new()
+        .most(90_299)
+        .format(&deep, &options)
+        .map(|f| f.text.len());
+    assert_eq!(short, Err(Refusal::OutputShort { needed: 90_300 }));
     let mut small = Formatter::new().most(3);
     assert_eq!(
         small.format("abc", &options),

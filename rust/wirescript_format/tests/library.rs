@@ -226,11 +226,8 @@ fn defaults_of_a_formatter() {
         (67_108_864, 1000)
     );
     let open = "(".repeat(1001);
-    let formatted = formatter.format(&open, &Options::new()).expect("accepted");
-    assert_eq!(
-        (formatted.open_brackets, formatted.opened.len()),
-        (1001, 1000)
-    );
+    let listed = formatter.format(&open, &Options::new()).expect("accepted");
+    assert_eq!((listed.open_brackets, listed.opened.len()), (1001, 1000));
     // n levels, each line with two bytes and two for each level above it, come to n * (n + 1)
     let refused = formatter.format("(\n".repeat(8192), &Options::new());
     assert_eq!(refused, Err(Refusal::OutputShort { needed: 67_117_056 }));

@@ -217,6 +217,19 @@ fn limits() {
     assert_eq!(config(MAX_TEXT + 1), Err(Refusal::ConfigTooLong));
 }
 
+/// A file that is too long is read as far as it takes to refuse it.
+#[cfg(feature = "std")]
+#[test]
+fn a_file_that_is_too_long() {
+    let folder = std::path::Path::new(env!("CARGO_TARGET_TMPDIR")).join("too_long");
+    std::fs::create_dir_all(&folder).expect("made");
+    std::fs::write(folder.join(".editorconfig"), "#".repeat(MAX_TEXT + 9)).expect("written");
+    let files = wirescript_format::editorconfig::find(folder.join("a.ws")).expect("read");
+    assert_eq!(files.texts[0].len(), MAX_TEXT + 1);
+    let refused = Options::from_editorconfig(&files.path, &files.texts);
+    assert_eq!(refused, Err(Refusal::ConfigTooLong));
+}
+
 /// The limits that a formatter sets by itself.
 #[test]
 fn defaults_of_a_formatter() {

@@ -9,7 +9,7 @@ MOST = 120
 
 def written():
     documents = (path for path in ROOT.rglob("*.md") if "target" not in path.parts)
-    return sorted([*documents, *(ROOT / "scripts").glob("*.py"), *(ROOT / "c").iterdir()])
+    return sorted({*documents, *(ROOT / "scripts").glob("*.py"), *(ROOT / "c").iterdir()})
 
 
 def wide(path):

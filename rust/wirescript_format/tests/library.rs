@@ -2,9 +2,9 @@
 
 use wirescript_format::{
     EditorConfig, EndOfLine, FinalNewline, Formatter, IndentSize, IndentStyle, LineEnding,
-    MAX_SOURCE, MaxLineLength, Operator, Options, Refusal, Strengths, TextKind, apply, format,
-    format_changes, format_stable, format_with_caret, group, is_formatted, text_kind_at,
-    text_kinds,
+    MAX_DEPTH, MAX_INDENT, MAX_RULER, MAX_SOURCE, MaxLineLength, Operator, Options, Refusal,
+    Strengths, TextKind, apply, editorconfig::MAX_TEXT, format, format_changes, format_stable,
+    format_with_caret, group, is_formatted, text_kind_at, text_kinds,
 };
 
 fn text(source: &str, options: &Options) -> String {
@@ -175,12 +175,75 @@ fn refuses() {
     assert_eq!(format(b"\xff", &table), Err(Refusal::StrengthsLength));
     let table = options.clone().strengths([0x11; 11]);
     assert_eq!(format(b"\xff", &table), Err(Refusal::StrengthsBits));
+    // 300 lines, much more than the first guess
+    let deep = "(\n".repeat(300);
+    let exact = Formatter::new()
+        .most(90_300)
+        .format(&deep, &options)
+        .map(|f| f.text.len());
+    assert_eq!(exact, Ok(90_300));
+    let short = Formatter::new()
+        .most(90_299)
+        .format(&deep, &options)
+        .map(|f| f.text.len());
+    assert_eq!(short, Err(Refusal::OutputShort { needed: 90_300 }));
     let mut small = Formatter::new().most(3);
     assert_eq!(
         small.format("abc", &options),
         Err(Refusal::OutputShort { needed: 4 })
     );
     assert_eq!(small.format("ab", &options).map(|f| f.text), Ok("ab\n"));
+}
+
+/// The limits that the crate names are the library's: at each a call passes, and one over is refused.
+#[test]
+fn limits() {
+    let options = Options::new();
+    let indent = |bytes| format("", &options.clone().indent(" ".repeat(bytes)));
+    assert!(indent(MAX_INDENT).is_ok());
+    assert_eq!(indent(MAX_INDENT + 1), Err(Refusal::BadOption));
+    let ruler = |columns| format("", &options.clone().ruler_tab(columns));
+    assert!(ruler(MAX_RULER).is_ok());
+    assert_eq!(ruler(MAX_RULER + 1), Err(Refusal::RulerTooWide));
+    let long = |bytes| text_kind_at("a".repeat(bytes), 0, 0);
+    assert_eq!(long(MAX_SOURCE), Ok(TextKind::Code));
+    assert_eq!(long(MAX_SOURCE + 1), Err(Refusal::SourceTooLong));
+    let deep = |brackets| group("(".repeat(brackets) + "a" + &")".repeat(brackets));
+    let place = MAX_DEPTH as u64;
+    assert_eq!(deep(MAX_DEPTH).as_deref(), Ok("a"));
+    assert_eq!(deep(MAX_DEPTH + 1), Err(Refusal::TooDeep { place }));
+    let config = |bytes| EditorConfig::read("a", &["#".repeat(bytes)]);
+    assert_eq!(config(MAX_TEXT), Ok(EditorConfig::new()));
+    assert_eq!(config(MAX_TEXT + 1), Err(Refusal::ConfigTooLong));
+}
+
+/// A file that is too long is read as far as it takes to refuse it.
+#[cfg(feature = "std")]
+#[test]
+fn a_file_that_is_too_long() {
+    let folder = std::path::Path::new(env!("CARGO_TARGET_TMPDIR")).join("too_long");
+    std::fs::create_dir_all(&folder).expect("made");
+    std::fs::write(folder.join(".editorconfig"), "#".repeat(MAX_TEXT + 9)).expect("written");
+    let files = wirescript_format::editorconfig::find(folder.join("a.ws")).expect("read");
+    assert_eq!(files.texts[0].len(), MAX_TEXT + 1);
+    let refused = Options::from_editorconfig(&files.path, &files.texts);
+    assert_eq!(refused, Err(Refusal::ConfigTooLong));
+}
+
+/// The limits that a formatter sets by itself.
+#[test]
+fn defaults_of_a_formatter() {
+    let mut formatter = Formatter::new();
+    assert_eq!(
+        (formatter.get_most(), formatter.get_listed()),
+        (67_108_864, 1000)
+    );
+    let open = "(".repeat(1001);
+    let listed = formatter.format(&open, &Options::new()).expect("accepted");
+    assert_eq!((listed.open_brackets, listed.opened.len()), (1001, 1000));
+    // n levels, each line with two bytes and two for each level above it, come to n * (n + 1)
+    let refused = formatter.format("(\n".repeat(8192), &Options::new());
+    assert_eq!(refused, Err(Refusal::OutputShort { needed: 67_117_056 }));
 }
 
 /// A text much longer than its source, between short ones, in the same buffers.

@@ -145,8 +145,3 @@ module _ (s : List ℕ) (w : WellFormed s) (t : trimEnd (decode s) ≡ decode s)
   pub takes-none : b ≡ false → false ≡ joinable (decode s)
   unfolding joinable
   takes-none e = sym (rw (ends-same ∙ e))
-
--- whether an `else` may join the line
-pub joinable-by : {s : List ℕ} {r : LineFacts} → Facts s r → joinable (decode s) ≡ (r .brace && not (r .«else_first»))
-unfolding joinable
-joinable-by f = rw (f .brace, f .starts)

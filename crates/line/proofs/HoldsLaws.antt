@@ -1,6 +1,6 @@
 -- What every kind of line uses.
---     initial-holds, initial-runs, initial-small            before the first line
---     first-line, takes-join              what the kind of the newest line says of the lines
+--     initial-holds, initial-runs         before the first line
+--     first-line                          what the kind of the newest line says of the lines
 --     declaration-bytes, brace-bytes, prev-bytes, carry-bytes     facts of a line, found on its bytes
 --     length-stacked                      so many entries
 --     stack-scanned, stack-counted        the stack after `scan_brackets` on a line's bytes is the definition's on its characters
@@ -76,17 +76,11 @@ pub initial-runs : (unit : ℕ) (scratch : List ℕ) → Runs unit initial scrat
 unfolding stacked levels
 initial-runs unit scratch = record { is = refl }
 
-pub initial-small : Small initial
-initial-small = record { ordered = nothing-ordered; at = omega arith }
-
 -- ---- the lines, by the kind of the newest
 
 module _ {model eol : List ℕ} {unit : ℕ} {f : Formatter} {st : Record} {out scratch : List ℕ} (h : Holds model eol unit f st out scratch) where
   pub first-line : isFirst (st .text .last) ≡ isEmpty (f .lines)
   first-line = ap isFirst (h .text .last) ∙ kind-first (f .lines)
-
-  pub takes-join : isJoinable (st .text .last) ≡ canJoin (f .lines)
-  takes-join = ap isJoinable (h .text .last) ∙ kind-joinable (f .lines)
 
 -- ---- facts of a line, found on its bytes
 

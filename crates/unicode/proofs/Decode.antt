@@ -84,10 +84,6 @@ read s n h e = go (subst (λ (m : ℕ). Good m (getD s 0 0) (getD s 1 0) (getD s
 
 -- ---- scalar values of joined texts
 
-pub scalars-append : (a b : List ℕ) → Scalars a → Scalars b → Scalars (a ++ b)
-scalars-append [] b s t = t
-scalars-append (c ∷ a) b s t = (s .0, scalars-append a b (s .1) t)
-
 pub scalars-left : (a b : List ℕ) → Scalars (a ++ b) → Scalars a
 scalars-left [] b s = tt
 scalars-left (c ∷ a) b s = (s .0, scalars-left a b (s .1))
@@ -199,9 +195,6 @@ pub prefix-split : (s : List ℕ) → take (prefixLen s) s ≡ encode (decode s)
 prefix-split s =
     let r = chars-split 0 s in
     ap (take (prefixLen s)) (r .1) ∙ take-append-seam (encode (decode s)) (r .0)
-
-pub prefix-fits : (s : List ℕ) → prefixLen s ≤ length s
-prefix-fits s = omega (arith, ap length (prefix-split s), length-take (prefixLen s) s)
 
 pub prefix-longest : (s cs t : List ℕ) → Scalars cs → s ≡ encode cs ++ t → size cs ≤ prefixLen s
 prefix-longest s cs t h e =

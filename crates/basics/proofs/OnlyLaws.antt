@@ -1,13 +1,12 @@
 -- Laws on a buffer of which at most a region changed.
 use Prim.Native.Nat.{ℕ, zero, suc, _+_, _-_, _≤_, _<_}
-use mathlib.Core.List.{List, [], _∷_, _++_, append-assoc}
+use mathlib.Core.List.{List, [], _∷_}
 use mathlib.Core.Path.{_≡_, refl, sym, ap, _∙_}
 use native.Mathlib.Nat.{le-refl}
 use native.Mathlib.Omega.{arith}
-use lib.ListN.{length, getD, take, drop, set, length-set, length-append}
-use lib.Seq.{length-take-le, take-take, drop-drop, getD-take, getD-drop, take-set-le, drop-set-lt, take-at, drop-at, take-nil}
-use Rattle.buffer.specs.Buffer.{part, put}
-use Rattle.buffer.proofs.RegionLaws.{length-put}
+use lib.ListN.{getD, take, drop, set, length-set}
+use lib.Seq.{take-take, drop-drop, getD-take, getD-drop, take-set-le, drop-set-lt, take-nil}
+use Rattle.buffer.specs.Buffer.{part}
 use Rattle.basics.specs.Region.{Only}
 
 pub only-same : (x : List ℕ) (a e : ℕ) → Only x x a e

@@ -1,13 +1,13 @@
 -- Laws on parts of a buffer: what a region that is written holds, what the other regions then hold, and what comes back
 -- of a part that was lent.
-use mathlib.Core.Path.{_≡_, refl, sym, ap, _∙_}
+use mathlib.Core.Path.{_≡_, sym, ap, _∙_}
 use mathlib.Core.List.{List, [], _∷_, _++_, append-assoc, append-nil}
 use Prim.Native.Nat.{ℕ, zero, suc, _+_, _-_, _≤_, _<_}
 use native.Mathlib.Nat.{add-zero}
 use native.Mathlib.Numerals.{add-one}
 use native.Mathlib.Omega.{arith}
-use lib.ListN.{length, getD, take, drop, set, length-append, length-drop, length-set, take-append-drop, drop-of-length-le}
-use lib.Seq.{length-take-le, take-add, take-all, take-nil, take-at, drop-at, set-at, drop-cons, append-snoc, take-append-le, drop-append-le, drop-drop, paste, set-split, take-suc, getD-drop, getD-set-same}
+use lib.ListN.{length, getD, take, drop, set, length-append, length-drop, take-append-drop, drop-of-length-le}
+use lib.Seq.{length-take-le, take-add, take-all, take-nil, take-at, drop-at, set-at, drop-cons, append-snoc, drop-drop, set-split, take-suc, getD-drop}
 use Rattle.buffer.specs.Buffer.{part, put}
 
 -- a part that runs to the end, `&s[a..]`

@@ -28,7 +28,7 @@ use Rattle.rules.specs.Scan.{classify, carryAfter}
 use Rattle.rules.specs.ClassBytes.{classBytes, cellsOf}
 use Rattle.rules.specs.Brackets.{Entry, leadingClosers, scanBrackets, countBrackets, levels}
 use Rattle.rules.specs.Options.{allBlank}
-use Rattle.rules.specs.Else.{joinable, canJoin}
+use Rattle.rules.specs.Else.{joinable}
 use Rattle.rules.specs.Line.{Formatter, start}
 use Rattle.rules.specs.declared.Carry.{Carry}
 use Rattle.rules.proofs.StartsBytes.{on-decode, steady-is, starts-encode, last-encode, closers-encode}
@@ -48,10 +48,10 @@ use Rattle.format.specs.Else.{Facts}
 use Rattle.format.specs.declared.else_line.LineFacts.{LineFacts}
 use Rattle.brackets.proofs.StackLaws.{stacked-drop, stacked-past}
 use Rattle.compare.specs.Common.{Keeps}
-use Rattle.text.specs.Text.{isFirst, isJoinable, Line}
-use Rattle.text.proofs.LinesLaws.{kind-first, kind-joinable}
-use Rattle.text.proofs.StepLaws.{text-nothing, nothing-ordered}
-use Rattle.line.specs.Holds.{Record, prevOf, initial, Holds, Runs, Small, Ready, Stepped, TrimmedLine, Classes}
+use Rattle.text.specs.Text.{isFirst, Line}
+use Rattle.text.proofs.LinesLaws.{kind-first}
+use Rattle.text.proofs.StepLaws.{text-nothing}
+use Rattle.line.specs.Holds.{Record, prevOf, initial, Holds, Runs, Ready, Stepped, TrimmedLine, Classes}
 use Rattle.line.specs.Scratch.{stackAt}
 
 -- ---- before the first line

@@ -1,6 +1,6 @@
 // The line that goes on, put into the text: joined to the newest line, or indented, or split.
 ghost use mathlib.Core.Path.{_≡_};
-ghost use mathlib.Core.Bool.{true, false, _&&_};
+ghost use mathlib.Core.Bool.{true, _&&_};
 ghost use Rattle.rules.specs.Basics.{choose};
 ghost use Prim.Native.Nat.{_+_, _*_, _≤_, _<_};
 ghost use lib.ListN.{length};

@@ -11,7 +11,7 @@ use lib.ListN.{length, getD}
 use mathlib.Core.Logic.{_⊎_, inl, inr}
 use Rattle.unicode.specs.Places.{NoneAmong}
 use Rattle.unicode.proofs.Tests.{by-test, split, neither-left}
-use Rattle.rules.specs.Basics.{is, isBlank, isCloser}
+use Rattle.rules.specs.Basics.{isBlank, isCloser}
 use Rattle.rules.specs.Scan.{isCode}
 use Rattle.rules.specs.ClassBytes.{classOf}
 use Rattle.spacing.specs.Respaced.{InCode, NoBlank, Keeping, sieve, oddAt, Clear}

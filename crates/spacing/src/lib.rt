@@ -1,6 +1,6 @@
 // Spacing: the respaced line, written into scratch, and the test whether a line is spaced already.
 ghost use mathlib.Core.Path.{_≡_};
-ghost use mathlib.Core.Bool.{_&&_, true, false};
+ghost use mathlib.Core.Bool.{_&&_, false};
 ghost use Rattle.unicode.specs.Places.{NoneAmong};
 ghost use Rattle.rules.specs.declared.Gap.{Gap};
 ghost use mathlib.Core.List.{_++_, _∷_, []};

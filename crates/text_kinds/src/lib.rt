@@ -1,7 +1,7 @@
 // text_kinds: the text kinds of a list of places, in one reading of the source.
 ghost use mathlib.Core.Path.{_≡_};
 ghost use mathlib.Core.Bool.{true};
-ghost use Prim.Native.Nat.{_+_, _<_};
+ghost use Prim.Native.Nat.{_<_};
 ghost use lib.ListN.{length};
 ghost use Rattle.rules.specs.TextKind.{kindNumber};
 ghost use Rattle.text_kinds.specs.Places.{placeAt, placesIn, notAfter, ascending, listTests, kindsVerdict};

@@ -13,7 +13,7 @@ use Rattle.unicode.specs.Unicode.{Scalars, encodeChar, encode, size, dec
 use Rattle.unicode.specs.Places.{Step}
 use Rattle.unicode.proofs.Table.{Shape, one, two, three, four, shape}
 use Rattle.unicode.proofs.Tests.{split}
-use Rattle.unicode.proofs.Decode.{encode-append, decode-append, decode-encode, decode-scalars, scalars-left, scalars-right, wf-encode}
+use Rattle.unicode.proofs.Decode.{encode-append, decode-encode, decode-scalars, scalars-left, scalars-right, wf-encode}
 use Rattle.unicode.proofs.Scan.{ascii, ascii-step}
 
 -- a byte that starts a character

@@ -11,7 +11,7 @@ use mathlib.Core.Bool.{true, false}
 use mathlib.Core.List.{List, [], _∷_, _++_, append-nil, append-assoc, append-cancel-left}
 use mathlib.Core.Path.{_≡_, refl, sym, ap, _∙_, subst}
 use native.Mathlib.Omega.{arith}
-use lib.ListN.{length, getD, take, drop, length-append, length-take, take-append-drop}
+use lib.ListN.{length, getD, take, drop, length-append, take-append-drop}
 use lib.Seq.{drop-append-seam, take-append-seam, length-take-le, take-all}
 use lib.Dec.{T}
 use borrow.Author.Tests.{eq-eqb, ne-eqb, eqb-true}

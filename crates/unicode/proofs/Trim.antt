@@ -9,9 +9,8 @@ use mathlib.Core.List.{List, [], _∷_, _++_, append-nil}
 use mathlib.Core.Path.{_≡_, refl, sym, ap, _∙_, subst}
 use native.Mathlib.Omega.{arith}
 use lib.ListN.{length, length-append}
-use Rattle.unicode.specs.Unicode.{Scalars, isWhite, trimStart, consTrimmed, trimEnd, trim}
+use Rattle.unicode.specs.Unicode.{isWhite, trimStart, consTrimmed, trimEnd, trim}
 use Rattle.unicode.proofs.Tests.{by-test}
-use Rattle.unicode.proofs.Decode.{scalars-left, scalars-right}
 
 -- every character is white space
 abbrev pub White : List ℕ → Type 0

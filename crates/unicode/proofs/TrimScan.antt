@@ -13,7 +13,7 @@ use borrow.Author.Tests.{lt-ltb, le-ltb, le-leb, lt-leb, ne-eqb}
 use lib.ListN.{length, getD, take, drop, length-drop}
 use lib.Seq.{take-length, drop-length}
 use lib.Dec.{ltb, eqb}
-use Rattle.unicode.specs.Unicode.{encode, seqAt, codeAt, chars, decode, WellFormed, within, isWhite, firstIsWhite, trimStart, trimEnd}
+use Rattle.unicode.specs.Unicode.{seqAt, codeAt, chars, decode, WellFormed, within, isWhite, firstIsWhite, trimStart, trimEnd}
 use Rattle.unicode.specs.Places.{Step, Back, WhiteAt, WhiteBefore, TrimmedStart, TrimmedEnd}
 use Rattle.unicode.proofs.Scan.{step, ascii, ascii-step, wf-sequence}
 use Rattle.unicode.proofs.Back.{back-1}

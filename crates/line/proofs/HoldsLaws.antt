@@ -3,11 +3,13 @@
 --     first-line                          what the kind of the newest line says of the lines
 --     declaration-bytes, brace-bytes, prev-bytes, carry-bytes     facts of a line, found on its bytes
 --     length-stacked                      so many entries
---     stack-scanned, stack-counted        the stack after `scan_brackets` on a line's bytes is the definition's on its characters
+--     stack-scanned, stack-counted        the stack after `scan_brackets` on a line's bytes is the definition's on
+--                                         its characters
 --     cells-decoded                       the cells of a line and its class bytes are those of its characters
---     classes-front, front-only           the class bytes that `classify` wrote to the front of scratch; the rest is as it was
+--     classes-front, front-only           the class bytes that `classify` wrote to the front of scratch; the rest is
+--                                         as it was
 --     start-within, trimmed-line          a line trimmed at its end and then at its start
---     line-room, front-size, classify-room, stack-room, stack-nested, push-room     there is room for a line that is to come
+--     line-room, front-size, classify-room, stack-room, stack-nested, push-room     room for a line that is to come
 --     line-told, line-none, indent-none   what `push_line` is told of a line
 use Prim.Native.Nat.{ℕ, zero, suc, _+_, _-_, _*_, _^_, _≤_, _<_}
 use native.Mathlib.Omega.{arith}

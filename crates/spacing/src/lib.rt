@@ -11,7 +11,8 @@ ghost use Rattle.rules.specs.Basics.{choose, isBlank};
 ghost use Rattle.rules.specs.Scan.{cell, isCode};
 ghost use Rattle.rules.specs.ClassBytes.{classOf, cellsOf};
 ghost use Rattle.rules.specs.Spacing.{spaced, putPlain, putAfterComma, putAt};
-ghost use Rattle.spacing.specs.Respaced.{textAt, Trimmed, Wrote, Plain, Dropped, otherAt, Run, Place, Normalized, InCode, KeptAt, NoBlank, Keeping, odd, oddAt, Clear, Unchanged};
+ghost use Rattle.spacing.specs.Respaced.{textAt, Trimmed, Wrote, Plain, Dropped, otherAt, Run, Place, Normalized};
+ghost use Rattle.spacing.specs.Respaced.{InCode, KeptAt, NoBlank, Keeping, odd, oddAt, Clear, Unchanged};
 use basics::is_blank;
 use basics::is_closer;
 use rules::Gap;
@@ -494,7 +495,8 @@ pub fn line_that_goes_on<'a>(
     len: usize,
 ) -> &'a [u8]
     requires { ⌜ at + len ≤ length (now scratch) ⌝ }
-    ensures { λ r. ⌜ now r ≡ choose unchanged (now («source_line» .entry)) (part (now (scratch .entry)) at (at + len)) ⌝ }
+    ensures { λ r. ⌜ now r ≡ choose unchanged (now («source_line» .entry))
+        (part (now (scratch .entry)) at (at + len)) ⌝ }
 {
     if unchanged {
         return source_line;

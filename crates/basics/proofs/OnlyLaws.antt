@@ -1,13 +1,12 @@
 -- Laws on a buffer of which at most a region changed.
 use Prim.Native.Nat.{ℕ, zero, suc, _+_, _-_, _≤_, _<_}
-use mathlib.Core.List.{List, [], _∷_, _++_, append-assoc}
+use mathlib.Core.List.{List, [], _∷_}
 use mathlib.Core.Path.{_≡_, refl, sym, ap, _∙_}
 use native.Mathlib.Nat.{le-refl}
 use native.Mathlib.Omega.{arith}
-use lib.ListN.{length, getD, take, drop, set, length-set, length-append}
-use lib.Seq.{length-take-le, take-take, drop-drop, getD-take, getD-drop, take-set-le, drop-set-lt, take-at, drop-at, take-nil}
-use Rattle.buffer.specs.Buffer.{part, put}
-use Rattle.buffer.proofs.RegionLaws.{length-put}
+use lib.ListN.{getD, take, drop, set, length-set}
+use lib.Seq.{take-take, drop-drop, getD-take, getD-drop, take-set-le, drop-set-lt, take-nil}
+use Rattle.buffer.specs.Buffer.{part}
 use Rattle.basics.specs.Region.{Only}
 
 pub only-same : (x : List ℕ) (a e : ℕ) → Only x x a e
@@ -15,17 +14,6 @@ only-same x a e = record { long = refl; front = refl; back = refl }
 
 pub only-set : (x : List ℕ) (i v a e : ℕ) → a ≤ i → i < e → Only x (set x i v) a e
 only-set x i v a e h k = record { long = length-set x i v; front = take-set-le a x i v h; back = drop-set-lt e x i v k }
-
--- a region that is put over
-pub only-put : (d : List ℕ) (at : ℕ) (x : List ℕ) → at + length x ≤ length d → Only d (put d at x) at (at + length x)
-unfolding put
-only-put d at x h =
-    let n : length (take at d ++ x) ≡ at + length x = length-append (take at d) x ∙ ap (λ (m : ℕ). m + length x) (length-take-le at d (omega arith)) in
-    record {
-      long = length-put d at x h;
-      front = rw append-assoc (take-at (take at d) (x ++ drop (at + length x) d) at (length-take-le at d (omega arith)));
-      back = drop-at (take at d ++ x) (drop (at + length x) d) (at + length x) n;
-    }
 
 -- a larger region
 pub only-wider : {x y : List ℕ} {a e : ℕ} (b f : ℕ) → Only x y a e → b ≤ a → e ≤ f → Only x y b f
@@ -62,11 +50,6 @@ only-past {x} {y} {a} {e} w i h =
 pub only-part-before : {x y : List ℕ} {a e : ℕ} → Only x y a e → (b f : ℕ) → b ≤ f → f ≤ a → part y b f ≡ part x b f
 only-part-before {x} {y} {a} w b f h k =
     rw (← part-front y b f h, ← part-front x b f h, only-wider f _ w k (le-refl _) .front)
-
-pub only-part-after : {x y : List ℕ} {a e : ℕ} → Only x y a e → (b f : ℕ) → e ≤ b → part y b f ≡ part x b f
-only-part-after {x} {y} {a} {e} w b f h =
-    let m : e + (b - e) ≡ b = omega arith in
-    rw (← m, ← drop-drop (b - e) e y, ← drop-drop (b - e) e x, w .back)
 
 -- an element of a part
 part-at : (x : List ℕ) (a e i : ℕ) → a + i < e → getD (part x a e) i 0 ≡ getD x (a + i) 0

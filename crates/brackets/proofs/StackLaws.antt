@@ -108,10 +108,6 @@ stacked-past w base zero h = refl
 stacked-past {x} {y} w base (suc n) h =
     rw (entry-same x y (base + entrySize * n) (λ i l k. only-past w i (omega arith)), stacked-past w base n h)
 
-pub nested-past : {x y : List ℕ} {a e : ℕ} {base : ℕ} {b : Nesting} → Only x y a e → e ≤ base → Nested x base b → Nested y base b
-nested-past {base = base} {b = b} w h n =
-    record { fits = omega (arith, n .fits, w .long); runs = n .runs ∙ ap levels (sym (stacked-past w base (b .depth) h)); line = n .line }
-
 -- ---- the levels of the stack
 
 levels-cons : (x : Entry) (s : List Entry) → levels (x ∷ s) ≡ choose (x .adds) 1 0 + levels s

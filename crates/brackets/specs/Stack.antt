@@ -27,7 +27,8 @@ lineOf a b c = a / 2 * 65536 + b + c * 256
 
 -- the entry that stands at p
 unfoldable pub entryAt : List ℕ → ℕ → Entry
-entryAt buf p = record { adds = addsOf (getD buf p 0); line = lineOf (getD buf p 0) (getD buf (p + 1) 0) (getD buf (p + 2) 0) }
+entryAt buf p =
+    record { adds = addsOf (getD buf p 0); line = lineOf (getD buf p 0) (getD buf (p + 1) 0) (getD buf (p + 2) 0) }
 
 -- the stack of n entries, the newest first
 unfoldable pub stacked : List ℕ → ℕ → ℕ → List Entry
@@ -131,7 +132,8 @@ pub record StackFits (buf : List ℕ) (class n base : ℕ) (b : Nesting) : Type 
   pub line : b .line ≤ maxSource
 
 -- a line of n characters: the stack s after it
-pub record BracketsDone (before after : List ℕ) (base : ℕ) (b : Nesting) (n : ℕ) (s : List Entry) (r : Nesting) : Type 0 where
+pub record BracketsDone (before after : List ℕ) (base : ℕ) (b : Nesting) (n : ℕ) (s : List Entry)
+    (r : Nesting) : Type 0 where
   pub is : stacked after base (r .depth) ≡ s
   pub runs : r .levels ≡ levels (stacked after base (r .depth))
   pub most : r .depth ≤ b .depth + n

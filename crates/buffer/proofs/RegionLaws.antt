@@ -1,13 +1,13 @@
 -- Laws on parts of a buffer: what a region that is written holds, what the other regions then hold, and what comes back
 -- of a part that was lent.
-use mathlib.Core.Path.{_≡_, refl, sym, ap, _∙_}
+use mathlib.Core.Path.{_≡_, sym, ap, _∙_}
 use mathlib.Core.List.{List, [], _∷_, _++_, append-assoc, append-nil}
 use Prim.Native.Nat.{ℕ, zero, suc, _+_, _-_, _≤_, _<_}
 use native.Mathlib.Nat.{add-zero}
 use native.Mathlib.Numerals.{add-one}
 use native.Mathlib.Omega.{arith}
-use lib.ListN.{length, getD, take, drop, set, length-append, length-drop, length-set, take-append-drop, drop-of-length-le}
-use lib.Seq.{length-take-le, take-add, take-all, take-nil, take-at, drop-at, set-at, drop-cons, append-snoc, take-append-le, drop-append-le, drop-drop, paste, set-split, take-suc, getD-drop, getD-set-same}
+use lib.ListN.{length, getD, take, drop, set, length-append, length-drop, take-append-drop, drop-of-length-le}
+use lib.Seq.{length-take-le, take-add, take-all, take-nil, take-at, drop-at, set-at, drop-cons, append-snoc, drop-drop, set-split, take-suc, getD-drop}
 use Rattle.buffer.specs.Buffer.{part, put}
 
 -- a part that runs to the end, `&s[a..]`
@@ -65,34 +65,6 @@ put-put d at x y h =
     let e : at + length (x ++ y) ≡ k + length y = omega (arith, length-append x y) in
     rw (front, back, e, ← append-assoc)
 
--- what stands before the region, in it, and after it
-part-front : (d r : List ℕ) (at b f : ℕ) → b ≤ f → f ≤ at → at ≤ length d → part (take at d ++ r) b f ≡ part (take at d) b f
-part-front d r at b f h k l =
-    let n = length-take-le at d l in
-    let m = length-drop b (take at d) in
-    ap (take (f - b)) (drop-append-le b (take at d) r (omega arith)) ∙ take-append-le (f - b) (drop b (take at d)) r (omega arith)
-
-pub part-put-before : (d : List ℕ) (at : ℕ) (x : List ℕ) (b f : ℕ) → b ≤ f → f ≤ at → at ≤ length d → part (put d at x) b f ≡ part d b f
-unfolding put
-part-put-before d at x b f h k l =
-    rw append-assoc (part-front d (x ++ drop (at + length x) d) at b f h k l ∙ sym (part-front d (drop at d) at b f h k l) ∙ ap (λ (r : List ℕ). part r b f) (take-append-drop at d))
-
-pub part-put-same : (d : List ℕ) (at : ℕ) (x : List ℕ) → at ≤ length d → part (put d at x) at (at + length x) ≡ x
-unfolding put
-part-put-same d at x h =
-    let e : at + length x - at ≡ length x = omega arith in
-    rw (e, append-assoc, drop-at (take at d) (x ++ drop (at + length x) d) at (length-take-le at d h)) (take-at x (drop (at + length x) d) (length x) refl)
-
-pub part-put-after : (d : List ℕ) (at : ℕ) (x : List ℕ) (b f : ℕ) → at + length x ≤ b → at + length x ≤ length d → part (put d at x) b f ≡ part d b f
-unfolding put
-part-put-after d at x b f h l =
-    let k = at + length x in
-    let p = take at d ++ x in
-    let n : length p ≡ k = head-length d at x (omega arith) in
-    let e : k + (b - k) ≡ b = omega arith in
-    let g : drop b (p ++ drop k d) ≡ drop b d = ap (λ (j : ℕ). drop j (p ++ drop k d)) (sym e) ∙ sym (drop-drop (b - k) k (p ++ drop k d)) ∙ ap (drop (b - k)) (drop-at p (drop k d) k n) ∙ drop-drop (b - k) k d ∙ ap (λ (j : ℕ). drop j d) e in
-    ap (take (f - b)) g
-
 -- what comes back of a part that was lent, `g(&mut s[a..e])`, where the callee left y in it
 pub put-back : (d y : List ℕ) (a k : ℕ) → length y ≡ k → take a d ++ (y ++ drop k (drop a d)) ≡ put d a y
 unfolding put
@@ -116,16 +88,3 @@ part-join s i a e h k =
     let n : e - i ≡ (a - i) + (e - a) = omega arith in
     let m : i + (a - i) ≡ a = omega arith in
     rw (n, take-add (a - i) (e - a) (drop i s), drop-drop (a - i) i s, m)
-
--- a push: the stack is the part from base on, n high
-pub part-push : (d : List ℕ) (base n v : ℕ) → base + n < length d
-    → part (set d (base + n) v) base (base + n + 1) ≡ part d base (base + n) ++ v ∷ []
-part-push d base n v h =
-    let l : base + n < length (set d (base + n) v) = simp length-set (omega arith) in
-    part-more (set d (base + n) v) base (base + n) (omega arith) l
-    ∙ rw (getD-set-same d (base + n) v 0 h, set-put d (base + n) v h, part-put-before d (base + n) (v ∷ []) base (base + n) (omega arith) (omega arith) (omega arith))
-
--- a copy of the first n elements of x
-pub paste-put : (d : List ℕ) (at : ℕ) (x : List ℕ) (n : ℕ) → n ≤ length x → paste d at x n ≡ put d at (take n x)
-unfolding put
-paste-put d at x n h = rw (length-take-le n x h)

@@ -10,7 +10,7 @@ use native.Mathlib.Omega.{arith}
 use lib.Dec.{T}
 use lib.ListN.{length, take, drop, length-append, length-drop, take-append-drop}
 use lib.Seq.{take-at, drop-at, drop-drop}
-use Rattle.unicode.specs.Unicode.{Scalars, encodeChar, encode, size, chars, decode, WellFormed}
+use Rattle.unicode.specs.Unicode.{Scalars, encodeChar, encode, size, decode, WellFormed}
 use Rattle.unicode.proofs.Tests.{by-test}
 use Rattle.unicode.proofs.Table.{front}
 use Rattle.unicode.proofs.Decode.{encode-append, encode-one}

@@ -22,7 +22,9 @@ use Rattle.check_call.specs.declared.CheckOutcome.{CheckOutcome}
 -- 12, 13, 1, 2, 11, 3 and 4; an ending that is kept is a bad option
 unfoldable pub verdictOf : Choices → List ℕ → ℕ → Verdict
 verdictOf c source scratch =
-    tested (formatTests (c .strengths) source (not (validOptions c) || eqb (c .numbers .«line_ending») 0) (c .numbers .«ruler_tab») scratch)
+    tested
+    (formatTests (c .strengths) source (not (validOptions c) || eqb (c .numbers .«line_ending») 0)
+    (c .numbers .«ruler_tab») scratch)
 
 abbrev pub findingOf : Checked → Finding
 findingOf r = record { yes = r .yes; read = r .read }
@@ -32,7 +34,8 @@ outcomeAfter Verdict.Accepted f = CheckOutcome.Found f
 outcomeAfter (Verdict.Refused why) f = CheckOutcome.Refused why
 
 unfoldable pub outcomeOf : Choices → List ℕ → ℕ → CheckOutcome
-outcomeOf c source scratch = outcomeAfter (verdictOf c source scratch) (findingOf (isFormatted (optionsOf c) (decode source)))
+outcomeOf c source scratch =
+    outcomeAfter (verdictOf c source scratch) (findingOf (isFormatted (optionsOf c) (decode source)))
 
 abbrev pub oneIf : Bool → ℕ
 oneIf b = choose b 1 0
@@ -40,7 +43,8 @@ oneIf b = choose b 1 0
 -- what the host reads: a refused call gives number and place, other fields 0
 abbrev pub answerOf : CheckOutcome → CheckAnswer
 answerOf (CheckOutcome.Found f) = record { refusal = 0; place = 0; formatted = oneIf (f .yes); «lines_read» = f .read }
-answerOf (CheckOutcome.Refused why) = record { refusal = numberOf why; place = placeOf why; formatted = 0; «lines_read» = 0 }
+answerOf (CheckOutcome.Refused why) =
+    record { refusal = numberOf why; place = placeOf why; formatted = 0; «lines_read» = 0 }
 
 -- r tells whether a text of n bytes that was compared with the source is the source
 pub record Compares (source cell : List ℕ) (n : ℕ) (r : Bool) : Type 0 where

@@ -1,6 +1,6 @@
 -- What is settled stays: after each line it is a beginning of what is settled later, and of the finished text.
 use Prim.Native.Nat.{ℕ}
-use mathlib.Core.Bool.{Bool, true, false, true≢false}
+use mathlib.Core.Bool.{Bool, true, true≢false}
 use mathlib.Core.List.{List, [], _∷_, _++_, reverseAux, append-assoc, append-nil}
 use mathlib.Core.Path.{_≡_, refl, sym, ap, _∙_}
 use Rattle.unicode.specs.Unicode.{trim, trimEnd}

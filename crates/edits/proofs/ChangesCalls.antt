@@ -1,5 +1,5 @@
 -- The calls with a list of changes, by what each step gives.
-use Prim.Native.Nat.{ℕ, _*_, _/_, _-_, _<_, _≤_}
+use Prim.Native.Nat.{ℕ, _*_, _/_, _<_, _≤_}
 use mathlib.Core.List.{List}
 use mathlib.Core.Path.{_≡_, sym, ap, _∙_, subst}
 use native.Mathlib.Omega.{arith}

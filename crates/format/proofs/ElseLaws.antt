@@ -1,6 +1,6 @@
 -- A plain `else`, and the facts of a line, found on bytes.
 use Prim.Native.Nat.{ℕ, _-_, _≤_, _<_}
-use mathlib.Core.Bool.{Bool, true, false, not, _&&_, and-true}
+use mathlib.Core.Bool.{Bool, true, false, not, and-true}
 use mathlib.Core.List.{List, [], _∷_}
 use mathlib.Core.Path.{_≡_, refl, sym, ap, _∙_}
 use native.Mathlib.Omega.{arith}
@@ -16,7 +16,6 @@ use Rattle.rules.proofs.Leading.{last-at}
 use Rattle.rules.proofs.StartsBytes.{on-decode, steady-is, steady-not, steady-ident, starts-encode, starts-length, starts-column, empty-encode, then-encode, last-encode}
 use Rattle.format.specs.Words.{whiteOr}
 use Rattle.format.specs.Else.{ifWord, plainRest, Facts}
-use Rattle.format.specs.declared.else_line.LineFacts.{LineFacts}
 use Rattle.format.proofs.StartsLaws.{then-no, then-end, then-next}
 use Rattle.format.proofs.WordLaws.{first-white, on-bytes}
 
@@ -145,8 +144,3 @@ module _ (s : List ℕ) (w : WellFormed s) (t : trimEnd (decode s) ≡ decode s)
   pub takes-none : b ≡ false → false ≡ joinable (decode s)
   unfolding joinable
   takes-none e = sym (rw (ends-same ∙ e))
-
--- whether an `else` may join the line
-pub joinable-by : {s : List ℕ} {r : LineFacts} → Facts s r → joinable (decode s) ≡ (r .brace && not (r .«else_first»))
-unfolding joinable
-joinable-by f = rw (f .brace, f .starts)

@@ -11,7 +11,7 @@ use Rattle.unicode.specs.Unicode.{encode, chars, decode, WellFormed, isWhite, f
 use Rattle.unicode.proofs.Tests.{by-test, and-left, and-right}
 use Rattle.unicode.proofs.Scan.{ascii-step}
 use Rattle.buffer.proofs.RegionLaws.{part-from}
-use Rattle.rules.specs.Basics.{choose, is, codes, at, isEmpty, same, oneOf, startsWith, firstIs, startsThen}
+use Rattle.rules.specs.Basics.{choose, codes, at, isEmpty, same, oneOf, startsWith, firstIs, startsThen}
 use Rattle.rules.specs.Brackets.{leadingClosers}
 use Rattle.rules.specs.Operators.{operators}
 use Rattle.rules.specs.Words.{startsWithWord, whiteOrParen, startsWithOneOf, startsWithBinaryOp, sameDeclaration}

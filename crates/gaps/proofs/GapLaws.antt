@@ -1,7 +1,7 @@
 -- Laws of the gap at the start of a text.
 --     cut-none, cut-some   a text is its gap, or its gap, the first kept character, and what is after it
 --     cut-at               that is the only way to take a text apart so
-use Prim.Native.Nat.{ℕ, _+_, _-_}
+use Prim.Native.Nat.{ℕ}
 use mathlib.Core.Bool.{Bool, true, false}
 use mathlib.Core.List.{List, [], _∷_, _++_, append-cancel-left}
 use mathlib.Core.Path.{_≡_, refl, sym, ap, _∙_, subst}

@@ -1,13 +1,15 @@
 -- What every kind of line uses.
---     initial-holds, initial-runs, initial-small            before the first line
---     first-line, takes-join              what the kind of the newest line says of the lines
+--     initial-holds, initial-runs         before the first line
+--     first-line                          what the kind of the newest line says of the lines
 --     declaration-bytes, brace-bytes, prev-bytes, carry-bytes     facts of a line, found on its bytes
 --     length-stacked                      so many entries
---     stack-scanned, stack-counted        the stack after `scan_brackets` on a line's bytes is the definition's on its characters
+--     stack-scanned, stack-counted        the stack after `scan_brackets` on a line's bytes is the definition's on
+--                                         its characters
 --     cells-decoded                       the cells of a line and its class bytes are those of its characters
---     classes-front, front-only           the class bytes that `classify` wrote to the front of scratch; the rest is as it was
+--     classes-front, front-only           the class bytes that `classify` wrote to the front of scratch; the rest is
+--                                         as it was
 --     start-within, trimmed-line          a line trimmed at its end and then at its start
---     line-room, front-size, classify-room, stack-room, stack-nested, push-room     there is room for a line that is to come
+--     line-room, front-size, classify-room, stack-room, stack-nested, push-room     room for a line that is to come
 --     line-told, line-none, indent-none   what `push_line` is told of a line
 use Prim.Native.Nat.{ℕ, zero, suc, _+_, _-_, _*_, _^_, _≤_, _<_}
 use native.Mathlib.Omega.{arith}
@@ -28,7 +30,7 @@ use Rattle.rules.specs.Scan.{classify, carryAfter}
 use Rattle.rules.specs.ClassBytes.{classBytes, cellsOf}
 use Rattle.rules.specs.Brackets.{Entry, leadingClosers, scanBrackets, countBrackets, levels}
 use Rattle.rules.specs.Options.{allBlank}
-use Rattle.rules.specs.Else.{joinable, canJoin}
+use Rattle.rules.specs.Else.{joinable}
 use Rattle.rules.specs.Line.{Formatter, start}
 use Rattle.rules.specs.declared.Carry.{Carry}
 use Rattle.rules.proofs.StartsBytes.{on-decode, steady-is, starts-encode, last-encode, closers-encode}
@@ -48,10 +50,10 @@ use Rattle.format.specs.Else.{Facts}
 use Rattle.format.specs.declared.else_line.LineFacts.{LineFacts}
 use Rattle.brackets.proofs.StackLaws.{stacked-drop, stacked-past}
 use Rattle.compare.specs.Common.{Keeps}
-use Rattle.text.specs.Text.{isFirst, isJoinable, Line}
-use Rattle.text.proofs.LinesLaws.{kind-first, kind-joinable}
-use Rattle.text.proofs.StepLaws.{text-nothing, nothing-ordered}
-use Rattle.line.specs.Holds.{Record, prevOf, initial, Holds, Runs, Small, Ready, Stepped, TrimmedLine, Classes}
+use Rattle.text.specs.Text.{isFirst, Line}
+use Rattle.text.proofs.LinesLaws.{kind-first}
+use Rattle.text.proofs.StepLaws.{text-nothing}
+use Rattle.line.specs.Holds.{Record, prevOf, initial, Holds, Runs, Ready, Stepped, TrimmedLine, Classes}
 use Rattle.line.specs.Scratch.{stackAt}
 
 -- ---- before the first line
@@ -76,17 +78,11 @@ pub initial-runs : (unit : ℕ) (scratch : List ℕ) → Runs unit initial scrat
 unfolding stacked levels
 initial-runs unit scratch = record { is = refl }
 
-pub initial-small : Small initial
-initial-small = record { ordered = nothing-ordered; at = omega arith }
-
 -- ---- the lines, by the kind of the newest
 
 module _ {model eol : List ℕ} {unit : ℕ} {f : Formatter} {st : Record} {out scratch : List ℕ} (h : Holds model eol unit f st out scratch) where
   pub first-line : isFirst (st .text .last) ≡ isEmpty (f .lines)
   first-line = ap isFirst (h .text .last) ∙ kind-first (f .lines)
-
-  pub takes-join : isJoinable (st .text .last) ≡ canJoin (f .lines)
-  takes-join = ap isJoinable (h .text .last) ∙ kind-joinable (f .lines)
 
 -- ---- facts of a line, found on its bytes
 

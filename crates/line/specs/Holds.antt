@@ -88,7 +88,8 @@ abbrev pub growth : ℕ
 growth = 2 ^ 29
 
 -- what a step from the record f to g f gives, for a line of n bytes
-pub record Stepped (g : Formatter → Formatter) (n unit : ℕ) (model eol : List ℕ) (st : Record) (out scratch : List ℕ) (st′ : Record) (out′ scratch′ : List ℕ) : Type 0 where
+pub record Stepped (g : Formatter → Formatter) (n unit : ℕ) (model eol : List ℕ) (st : Record) (out scratch : List ℕ)
+    (st′ : Record) (out′ scratch′ : List ℕ) : Type 0 where
   pub holds : (f : Formatter) → Holds model eol unit f st out scratch → Holds model eol unit (g f) st′ out′ scratch′
   pub ordered : Ordered (st′ .text)
   pub at : st′ .text .at .0 ≤ st .text .at .0 + (n + 1) * growth

@@ -31,8 +31,11 @@ pub record Starts (model out : List ℕ) : Type 0 where
   pub none : Keeps model out []
 
 -- all lines of the source are formatted: the state and the output hold the definition's record
-pub record LinesDone (source indent : List ℕ) (style : Style) (model : List ℕ) (st : Record) (out scratch : List ℕ) : Type 0 where
-  pub holds : (o : Options) → Uses o indent style → Holds model (asStr (style .ending)) (length source) (formatLines o (linesOf (decode source)) start) st out scratch
+pub record LinesDone (source indent : List ℕ) (style : Style) (model : List ℕ) (st : Record)
+    (out scratch : List ℕ) : Type 0 where
+  pub holds : (o : Options) → Uses o indent style
+      → Holds model (asStr (style .ending)) (length source) (formatLines o (linesOf (decode source)) start) st out
+      scratch
   pub small : Small st
   pub stack : stackAt (length source) + entrySize * st .nesting .depth ≤ length scratch
 
@@ -52,9 +55,11 @@ pub record Differs (checks : Bool) (model out : List ℕ) (k : ℕ) (r : Bool) :
 
 -- The lines of the source were read: all of them, or, where the text is compared with the source, up to the first whose
 -- settled text differs. Then the definition's answer is known but for the finished text.
-pub record AllRead (source indent : List ℕ) (style : Style) (checks : Bool) (model : List ℕ) (r : LinesRead) (out scratch : List ℕ) : Type 0 where
+pub record AllRead (source indent : List ℕ) (style : Style) (checks : Bool) (model : List ℕ) (r : LinesRead)
+    (out scratch : List ℕ) : Type 0 where
   pub done : r .all ≡ true → LinesDone source indent style model (r .st) out scratch
   pub all : checks ≡ false → r .all ≡ true
-  pub answer : checks ≡ true → model ≡ source → (o : Options) → Uses o indent style → Scalars (wholeText o (decode source) (asStr (style .ending)))
+  pub answer : checks ≡ true → model ≡ source → (o : Options) → Uses o indent style
+      → Scalars (wholeText o (decode source) (asStr (style .ending)))
       → checkLines o (decode source) (asStr (style .ending)) (linesOf (decode source)) start 0
       ≡ answerAt o (decode source) (asStr (style .ending)) (r .all) (r .st .nesting .line)

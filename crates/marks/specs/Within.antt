@@ -21,7 +21,9 @@ pub record ClassRoom (buf : List ℕ) (at n class : ℕ) : Type 0 where
 
 -- the bytes that marks are told by: \ " ' / $ { } * `
 unfoldable pub telling : ℕ → Bool
-telling b = eqb b 92 || (eqb b 34 || (eqb b 39 || (eqb b 47 || (eqb b 36 || (eqb b 123 || (eqb b 125 || (eqb b 42 || eqb b 96)))))))
+telling b =
+    eqb b 92
+    || (eqb b 34 || (eqb b 39 || (eqb b 47 || (eqb b 36 || (eqb b 123 || (eqb b 125 || (eqb b 42 || eqb b 96)))))))
 
 -- a mark at its end, of the class that a character that means nothing has after it
 unfoldable pub atRest : Mark → Bool

@@ -1,5 +1,5 @@
 -- A line laid out at its level.
-use Prim.Native.Nat.{ℕ, _+_, _≤_}
+use Prim.Native.Nat.{ℕ, _≤_}
 use mathlib.Core.Bool.{Bool, true, false}
 use mathlib.Core.List.{List, _++_, reverseAux}
 use mathlib.Core.Path.{_≡_, refl, sym, ap, _∙_, subst}

@@ -1,6 +1,6 @@
 -- A line placed: its level, the blank before it and the width that it may be broken at, as the code finds them, are
 -- those of the rules.
-use Prim.Native.Nat.{ℕ, _+_, _-_}
+use Prim.Native.Nat.{ℕ, _+_}
 use mathlib.Core.Bool.{Bool, true, false, not, _&&_}
 use mathlib.Core.List.{List, _++_}
 use mathlib.Core.Path.{_≡_, refl, sym, ap, _∙_, subst}

@@ -61,10 +61,14 @@ abbrev pub respacedGrowth : ℕ
 respacedGrowth = 2 ^ 28
 
 -- the line of characters l was put into the text, as the step g says
-pub record Puts (g : Options → Formatter → Formatter) (indent : List ℕ) (style : Style) (model eol : List ℕ) (n : ℕ) (b : Before) (out : List ℕ) (r : Placed) (out′ : List ℕ) : Type 0 where
-  pub text : (o : Options) (f : Formatter) → Uses o indent style → Knows model eol f b out → Text model eol (g o f .lines) (r .text) out′
-  pub imports : (o : Options) (f : Formatter) → Uses o indent style → Knows model eol f b out → g o f .importsSplit ≡ f .importsSplit + r .imports
-  pub blanks : (o : Options) (f : Formatter) → Uses o indent style → Knows model eol f b out → g o f .blankNames ≡ f .blankNames + r .blanks
+pub record Puts (g : Options → Formatter → Formatter) (indent : List ℕ) (style : Style) (model eol : List ℕ) (n : ℕ)
+    (b : Before) (out : List ℕ) (r : Placed) (out′ : List ℕ) : Type 0 where
+  pub text : (o : Options) (f : Formatter) → Uses o indent style → Knows model eol f b out
+      → Text model eol (g o f .lines) (r .text) out′
+  pub imports : (o : Options) (f : Formatter) → Uses o indent style → Knows model eol f b out
+      → g o f .importsSplit ≡ f .importsSplit + r .imports
+  pub blanks : (o : Options) (f : Formatter) → Uses o indent style → Knows model eol f b out
+      → g o f .blankNames ≡ f .blankNames + r .blanks
   pub ordered : Ordered (r .text)
   pub at : r .text .at .0 ≤ b .text .at .0 + (n + 1) * respacedGrowth
   pub few : r .imports ≤ 1
@@ -87,8 +91,10 @@ pub record LaidBy (o : Options) (indent : List ℕ) (ruler : ℕ) (st : Strength
 
 -- the line of characters l was laid out at a level as `splitWide` says for the width w, after an empty newest line was
 -- dropped if `drops` says so
-pub record Lays (ruler : ℕ) (w : PrintWidth) (indent : List ℕ) (st : Strengths) (l : List ℕ) (level : ℕ) (model eol : List ℕ) (drops : Bool) (n : ℕ) (out : List ℕ) (t : Written) (r : Placed) (out′ : List ℕ) : Type 0 where
-  pub text : (o : Options) (ls : List (List ℕ)) → LaidBy o indent ruler st → Text model eol ls t out → Text model eol (reverseAux (splitWide w o level l .lines) (choose drops (dropBlank ls) ls)) (r .text) out′
+pub record Lays (ruler : ℕ) (w : PrintWidth) (indent : List ℕ) (st : Strengths) (l : List ℕ) (level : ℕ)
+    (model eol : List ℕ) (drops : Bool) (n : ℕ) (out : List ℕ) (t : Written) (r : Placed) (out′ : List ℕ) : Type 0 where
+  pub text : (o : Options) (ls : List (List ℕ)) → LaidBy o indent ruler st → Text model eol ls t out
+      → Text model eol (reverseAux (splitWide w o level l .lines) (choose drops (dropBlank ls) ls)) (r .text) out′
   pub imports : (o : Options) → LaidBy o indent ruler st → r .imports ≡ splitWide w o level l .importsSplit
   pub blanks : (o : Options) → LaidBy o indent ruler st → r .blanks ≡ splitWide w o level l .blankNames
   pub ordered : Ordered (r .text)
@@ -104,11 +110,14 @@ breakWidth width marker continued closers =
 -- whether a line is broken: at width w, if it reaches the column `reached` and all of it is code and strings
 unfoldable pub fitBy : PrintWidth → ℕ → Bool → Fit
 fitBy PrintWidth.Off reached code = Fit.Whole
-fitBy (PrintWidth.Columns max) reached code = choose (ltb max reached) (choose code (Fit.Broken max) Fit.Whole) Fit.Whole
+fitBy (PrintWidth.Columns max) reached code =
+    choose (ltb max reached) (choose code (Fit.Broken max) Fit.Whole) Fit.Whole
 
 -- the line of characters l was broken at a level as `broken` says
-pub record Breaks (ruler max : ℕ) (indent : List ℕ) (st : Strengths) (l : List ℕ) (level : ℕ) (model eol : List ℕ) (drops : Bool) (n : ℕ) (out : List ℕ) (t : Written) (r : Placed) (out′ : List ℕ) : Type 0 where
-  pub text : (o : Options) (ls : List (List ℕ)) → LaidBy o indent ruler st → Text model eol ls t out → Text model eol (reverseAux (broken o max level l .lines) (choose drops (dropBlank ls) ls)) (r .text) out′
+pub record Breaks (ruler max : ℕ) (indent : List ℕ) (st : Strengths) (l : List ℕ) (level : ℕ) (model eol : List ℕ)
+    (drops : Bool) (n : ℕ) (out : List ℕ) (t : Written) (r : Placed) (out′ : List ℕ) : Type 0 where
+  pub text : (o : Options) (ls : List (List ℕ)) → LaidBy o indent ruler st → Text model eol ls t out
+      → Text model eol (reverseAux (broken o max level l .lines) (choose drops (dropBlank ls) ls)) (r .text) out′
   pub imports : (o : Options) → LaidBy o indent ruler st → r .imports ≡ broken o max level l .importsSplit
   pub blanks : (o : Options) → LaidBy o indent ruler st → r .blanks ≡ broken o max level l .blankNames
   pub ordered : Ordered (r .text)

@@ -1,6 +1,6 @@
 // The line that goes on, put into the text: joined to the newest line, or indented, or split.
 ghost use mathlib.Core.Path.{_≡_};
-ghost use mathlib.Core.Bool.{true, false, _&&_};
+ghost use mathlib.Core.Bool.{true, _&&_};
 ghost use Rattle.rules.specs.Basics.{choose};
 ghost use Prim.Native.Nat.{_+_, _*_, _≤_, _<_};
 ghost use lib.ListN.{length};
@@ -16,7 +16,8 @@ ghost use Rattle.rules.specs.Scan.{classify, allCodeOrStr};
 ghost use Rattle.rules.specs.declared.Carry.{Carry};
 ghost use Rattle.rules.specs.declared.PrintWidth.{PrintWidth};
 ghost use Rattle.line.specs.Holds.{ValidIndent};
-ghost use Rattle.place.specs.Placing.{GoesOn, Heads, Asks, Puts, spacedBy, placedBy, dropsBlank, aloneIn, breakWidth, fitBy, Lays, Breaks};
+ghost use Rattle.place.specs.Placing.{GoesOn, Heads, Asks, Puts, spacedBy, placedBy, dropsBlank, aloneIn};
+ghost use Rattle.place.specs.Placing.{breakWidth, fitBy, Lays, Breaks};
 use format::words::Declaration;
 use line::formatter::Prev;
 use line::style::Style;
@@ -121,7 +122,8 @@ fn push_one(
 fn join_one(line: &[u8], class: &[u8], model: &[u8], out: &mut [u8], t: Written) -> Written
     requires { ⌜ GoesOn (now line) (now class) ⌝ }
     requires { ⌜ Ordered t × (t .at .0 ≤ farPlace) ⌝ }
-    ensures { λ r. ⌜ Joins (decode (now (line .entry))) (now (model .entry)) (now (out .entry)) t (now (out .exit)) r ⌝ }
+    ensures { λ r. ⌜ Joins (decode (now (line .entry))) (now (model .entry)) (now (out .entry)) t (now (out .exit)) r
+        ⌝ }
 {
     let brace = format::else_line::ends_in_brace(line);
     text::join_else(model, out, t, line, brace)

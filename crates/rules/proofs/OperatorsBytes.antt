@@ -13,8 +13,7 @@ use lib.Seq.{getD-take}
 use borrow.Author.Tests.{eqb-true, ne-eqb, le-ltb}
 use Rattle.unicode.specs.Unicode.{tail, encodeChar, encode}
 use Rattle.unicode.proofs.Tests.{and-left, and-right, by-test}
-use Rattle.unicode.proofs.Machine.{not-tail-low, not-tail-high}
-use Rattle.unicode.proofs.Table.{Shape, one, two, three, four, shape, tail-make, Bytes, single, several, bytes}
+use Rattle.unicode.proofs.Table.{Shape, one, two, three, four, shape, tail-make, not-tail-low, not-tail-high, Bytes, single, several, bytes}
 use Rattle.rules.specs.declared.Class.{Class}
 use Rattle.rules.specs.Basics.{choose, is, codes, at, same, oneOf, startsWith, firstIs, Pieces}
 use Rattle.rules.specs.Scan.{Cell, cell, charsOf, isStr}

@@ -56,7 +56,8 @@ pub record Moved (line : List ℕ) (a : ℕ) (before : List ℕ) (e : ℕ) (afte
 -- The mark t stands before place a of the line. From there to place e the class bytes were written, and u is the mark
 -- before e: the classes of the rest of the line, and what is open after it, are those that follow u. Nothing is written
 -- past the line.
-pub record Scanned (line : List ℕ) (t : Mark) (a : ℕ) (before : List ℕ) (u : Mark) (e : ℕ) (after : List ℕ) : Type 0 where
+pub record Scanned (line : List ℕ) (t : Mark) (a : ℕ) (before : List ℕ) (u : Mark) (e : ℕ)
+    (after : List ℕ) : Type 0 where
   pub moved : Moved line a before e after
   pub bytes : take a before ++ classBytes (scan t (drop a line)) ≡ take e after ++ classBytes (scan u (drop e line))
   pub carry : openAfter (final t (drop a line) .mode) ≡ openAfter (final u (drop e line) .mode)
@@ -65,7 +66,8 @@ pub record Scanned (line : List ℕ) (t : Mark) (a : ℕ) (before : List ℕ) (u
 -- over a mark of two bytes of the class byte k at place a, or its first byte at the line's end
 pub record PairRead (line : List ℕ) (a k : ℕ) (before : List ℕ) (e : ℕ) (after : List ℕ) : Type 0 where
   pub moved : Moved line (a + 1) before e after
-  pub scanned : (m u : Mode) (x : Class) → k ≡ classByte x → markAt m (drop a line) ≡ long 1 x u → Scanned line (fresh m) a before (fresh u) e after
+  pub scanned : (m u : Mode) (x : Class) → k ≡ classByte x → markAt m (drop a line) ≡ long 1 x u
+      → Scanned line (fresh m) a before (fresh u) e after
 
 -- over the rest of a string inside a `${`, which k ends, wherever the `${` stands
 pub record InnerRead (line : List ℕ) (a : ℕ) (k : Bool) (before : List ℕ) (e : ℕ) (after : List ℕ) : Type 0 where

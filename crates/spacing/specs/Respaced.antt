@@ -98,7 +98,9 @@ sieve b d k e s n c l m = (b && d) || (k && ((e || (s && n)) || (c && ((not n ||
 
 -- the byte x of class k, followed by y of class l and by z
 abbrev pub odd : ℕ → ℕ → ℕ → ℕ → ℕ → Bool
-odd x y z k l = sieve (isBlank x) (is "," y) (eqb k 0) (is "\\" x) (is " " x) (is " " y) (is "," x) (eqb l 0) (isBlank z || isCloser z)
+odd x y z k l =
+    sieve (isBlank x) (is "," y) (eqb k 0) (is "\\" x) (is " " x) (is " " y) (is "," x) (eqb l 0)
+    (isBlank z || isCloser z)
 
 abbrev pub oddAt : List ℕ → List ℕ → ℕ → Bool
 oddAt line ks i = odd (getD line i 0) (getD line (i + 1) 0) (getD line (i + 2) 0) (getD ks i 0) (getD ks (i + 1) 0)

@@ -62,4 +62,5 @@ pub record Braces (line : List ℕ) (start end : ℕ) (indent : List ℕ) (level
 
 -- the import that it is
 abbrev pub partsOf : Options → ℕ → ℕ → List ℕ → ℕ → ℕ → Option Laid
-partsOf o max level line start end = importParts o max level (decode (take start line)) (parts (part line (start + 1) end)) (decode (drop end line))
+partsOf o max level line start end =
+    importParts o max level (decode (take start line)) (parts (part line (start + 1) end)) (decode (drop end line))

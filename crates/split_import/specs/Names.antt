@@ -81,7 +81,8 @@ pub record NameFits (indent : List ℕ) (level : ℕ) (eol name : List ℕ) (f :
 abbrev pub namesText : List ℕ → List (List ℕ) → List ℕ
 namesText eol lines = following eol (map encode (reverse lines))
 
-pub record OnNewLine (ruler : ℕ) (indent : List ℕ) (level : ℕ) (eol name model out out′ : List ℕ) (f r : Filled) : Type 0 where
+pub record OnNewLine (ruler : ℕ) (indent : List ℕ) (level : ℕ) (eol name model out out′ : List ℕ)
+    (f r : Filled) : Type 0 where
   pub text : Compared model out out′ (f .at) (eol ++ lay indent level (name ++ 44 ∷ [])) (r .at)
   pub column : r .column .0 ≡ measure ruler 0 (times level indent ++ withComma (decode name))
   pub small : r .column .0 ≤ lastIndent + 255 * length name + 255
@@ -92,14 +93,18 @@ abbrev pub addIf : Options → ℕ → List ℕ → List (List ℕ) → List ℕ
 addIf o max cont lines [] = lines
 addIf o max cont lines (c ∷ cs) = addName o max cont lines (c ∷ cs)
 
-pub record AddedTo (ruler : ℕ) (lines lines′ : List (List ℕ)) (eol model out out′ : List ℕ) (f r : Filled) : Type 0 where
+pub record AddedTo (ruler : ℕ) (lines lines′ : List (List ℕ)) (eol model out out′ : List ℕ)
+    (f r : Filled) : Type 0 where
   pub column : NewestAt ruler lines′ r
   pub grown : List ℕ
   pub text : Compared model out out′ (f .at) grown (r .at)
   pub grows : namesText eol lines′ ≡ namesText eol lines ++ grown
 
-pub record Added (ruler : ℕ) (indent : List ℕ) (level : ℕ) (eol : List ℕ) (max : ℕ) (name model out out′ : List ℕ) (f r : Filled) : Type 0 where
-  pub to : (lines : List (List ℕ)) → NewestAt ruler lines f → AddedTo ruler lines (addIf (indented indent ruler) max (times level indent) lines (decode name)) eol model out out′ f r
+pub record Added (ruler : ℕ) (indent : List ℕ) (level : ℕ) (eol : List ℕ) (max : ℕ) (name model out out′ : List ℕ)
+    (f r : Filled) : Type 0 where
+  pub to : (lines : List (List ℕ)) → NewestAt ruler lines f
+      → AddedTo ruler lines (addIf (indented indent ruler) max (times level indent) lines (decode name)) eol model out
+      out′ f r
   pub small : (n : ℕ) → lastIndent ≤ n → f .column .0 ≤ n → r .column .0 ≤ n + 255 * length name + 510
   pub room : r .at ≤ f .at + (67108931 + length name)
 
@@ -110,6 +115,8 @@ pub record NamesFit (s indent : List ℕ) (level : ℕ) (eol : List ℕ) (at : �
   pub end : length eol ≤ 2
   pub room : at + (length s + 1) * lineRoom < 2 ^ 64
 
-pub record NamesWritten (ruler : ℕ) (s indent : List ℕ) (level : ℕ) (eol : List ℕ) (max : ℕ) (model out out′ : List ℕ) (at r : ℕ) : Type 0 where
-  pub text : Compared model out out′ at (namesText eol (fillNames (indented indent ruler) max (times level indent) (namesOf (parts s)))) r
+pub record NamesWritten (ruler : ℕ) (s indent : List ℕ) (level : ℕ) (eol : List ℕ) (max : ℕ) (model out out′ : List ℕ)
+    (at r : ℕ) : Type 0 where
+  pub text : Compared model out out′ at
+      (namesText eol (fillNames (indented indent ruler) max (times level indent) (namesOf (parts s)))) r
   pub room : r ≤ at + (length s + 1) * lineRoom

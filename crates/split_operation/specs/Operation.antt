@@ -32,7 +32,8 @@ isBroken (OperationSplit.Whole w) = false
 isBroken (OperationSplit.Broken w) = true
 
 -- the lines of an expression, written
-pub record Broken (eol : List ℕ) (lines : List (List ℕ)) (model out out′ : List ℕ) (at : ℕ) (r : OperationSplit) : Type 0 where
+pub record Broken (eol : List ℕ) (lines : List (List ℕ)) (model out out′ : List ℕ) (at : ℕ)
+    (r : OperationSplit) : Type 0 where
   pub written : Written eol lines model out out′ at (lineOf r .start) (lineOf r .next)
   pub more : isBroken r ≡ ltb 1 (length lines)
 
@@ -44,7 +45,8 @@ trimBytes p = encode (trim (decode p))
 abbrev pub restLines : List ℕ → ℕ → List (List ℕ) → List (List ℕ)
 restLines indent level ps = map (λ (p : List ℕ). lay indent level (trimBytes p)) ps
 
-pub record RestFits (table : List ℕ) (strength : ℕ) (line class : List ℕ) (cut : Cut) (indent : List ℕ) (level : ℕ) (eol : List ℕ) (first : NewLine) : Type 0 where
+pub record RestFits (table : List ℕ) (strength : ℕ) (line class : List ℕ) (cut : Cut) (indent : List ℕ) (level : ℕ)
+    (eol : List ℕ) (first : NewLine) : Type 0 where
   pub some : strength ≡ 0 → ⊥
   pub within : cut .place ≤ length line
   pub breaks : Breakable line class
@@ -59,7 +61,8 @@ pub record After (eol : List ℕ) (ls : List (List ℕ)) (model out out′ : Lis
   pub text : Compared model out out′ (first .next) (following eol ls) (r .next)
   pub last : (l : List ℕ) → first .start + length l ≡ first .next → r .start + length (lastOf l ls) ≡ r .next
 
-pub record RestWritten (table : List ℕ) (strength : ℕ) (line class : List ℕ) (cut : Cut) (indent : List ℕ) (level : ℕ) (eol model out out′ : List ℕ) (first r : NewLine) : Type 0 where
+pub record RestWritten (table : List ℕ) (strength : ℕ) (line class : List ℕ) (cut : Cut) (indent : List ℕ) (level : ℕ)
+    (eol model out out′ : List ℕ) (first r : NewLine) : Type 0 where
   pub after : After eol (restLines indent level (restFrom table strength line class cut)) model out out′ first r
   pub room : r .next ≤ first .next + (length line - cut .place) * lineRoom
 
@@ -84,7 +87,8 @@ roundStrength table ruler indent level max rounds line cells =
     choose (eqb rounds 0) 0
     (choose (ltb max (measure ruler 0 (times level indent ++ decode line))) (breakStrength table cells) 0)
 
-pub record RoundBreak (table : List ℕ) (ruler : ℕ) (indent : List ℕ) (level max rounds : ℕ) (line class : List ℕ) (r : Break) : Type 0 where
+pub record RoundBreak (table : List ℕ) (ruler : ℕ) (indent : List ℕ) (level max rounds : ℕ) (line class : List ℕ)
+    (r : Break) : Type 0 where
   pub strength : r .strength ≡ roundStrength table ruler indent level max rounds line (cellsOf line class)
   pub cut : (r .strength ≡ 0 → ⊥) → NextOp table (r .strength) line class 0 lineStart (r .cut)
 
@@ -95,15 +99,20 @@ firstLine indent level p = lay indent level (encode (p .first))
 abbrev pub otherLines : List ℕ → ℕ → Pieces → List (List ℕ)
 otherLines indent level p = map (λ (l : List ℕ). lay indent (suc level) (encode l)) (p .rest)
 
-pub record PiecesWritten (indent : List ℕ) (level : ℕ) (eol : List ℕ) (p : Pieces) (model out out′ : List ℕ) (at : ℕ) (r : NewLine) : Type 0 where
-  pub text : Compared model out out′ at (firstLine indent level p ++ following eol (otherLines indent level p)) (r .next)
+pub record PiecesWritten (indent : List ℕ) (level : ℕ) (eol : List ℕ) (p : Pieces) (model out out′ : List ℕ) (at : ℕ)
+    (r : NewLine) : Type 0 where
+  pub text : Compared model out out′ at (firstLine indent level p ++ following eol (otherLines indent level p))
+      (r .next)
   pub last : r .start + length (lastOf (firstLine indent level p) (otherLines indent level p)) ≡ r .next
 
 -- the pieces that a line alone becomes in so many rounds
 abbrev pub brokenIn : List ℕ → ℕ → List ℕ → ℕ → ℕ → ℕ → List ℕ → Pieces
-brokenIn table ruler indent level max rounds line = breakFirst table (indented indent ruler) max level rounds (record { first = decode line; rest = [] })
+brokenIn table ruler indent level max rounds line =
+    breakFirst table (indented indent ruler) max level rounds (record { first = decode line; rest = [] })
 
-pub record FirstBroken (table : List ℕ) (ruler : ℕ) (line indent : List ℕ) (level : ℕ) (eol : List ℕ) (max rounds : ℕ) (model out out′ : List ℕ) (at : ℕ) (r : OperationSplit) : Type 0 where
-  pub pieces : PiecesWritten indent level eol (brokenIn table ruler indent level max rounds line) model out out′ at (lineOf r)
+pub record FirstBroken (table : List ℕ) (ruler : ℕ) (line indent : List ℕ) (level : ℕ) (eol : List ℕ) (max rounds : ℕ)
+    (model out out′ : List ℕ) (at : ℕ) (r : OperationSplit) : Type 0 where
+  pub pieces : PiecesWritten indent level eol (brokenIn table ruler indent level max rounds line) model out out′ at
+      (lineOf r)
   pub more : isBroken r ≡ not (isEmpty (brokenIn table ruler indent level max rounds line .rest))
   pub room : lineOf r .next ≤ at + (length line + 1) * lineRoom

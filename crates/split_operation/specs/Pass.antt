@@ -10,7 +10,8 @@ use Rattle.buffer.specs.Buffer.{part}
 use Rattle.rules.specs.Basics.{choose, oneOf, Pieces}
 use Rattle.rules.specs.Scan.{Cell}
 use Rattle.rules.specs.ClassBytes.{cellsOf, cellAt}
-use Rattle.rules.specs.SplitOperation.{OpMark, noOps, balanceStep, isZero, isBalanced, inWord, wordOn, hasWordFrom, hasWord, keywords, looser, loosest, cutBefore}
+use Rattle.rules.specs.SplitOperation.{OpMark, noOps, balanceStep, isZero, isBalanced, inWord, wordOn, hasWordFrom}
+use Rattle.rules.specs.SplitOperation.{hasWord, keywords, looser, loosest, cutBefore}
 use Rattle.rules.specs.OperatorBytes.{byteMarks}
 use Rattle.top_level_ops.specs.Steps.{opsOf}
 use Rattle.top_level_ops.specs.declared.OpFound.{OpFound}
@@ -65,7 +66,8 @@ cutsAt table strength s line class i = cutBefore strength (marksAt table s line 
 unfoldable pub restFrom : List ℕ → ℕ → List ℕ → List ℕ → Cut → List (List ℕ)
 restFrom table strength line class c =
     choose (ltb (c .place) (length line))
-    ((getD line (c .place) 0 ∷ cutsAt table strength (c .after) line class (c .place + 1) .first) ∷ cutsAt table strength (c .after) line class (c .place + 1) .rest)
+    ((getD line (c .place) 0 ∷ cutsAt table strength (c .after) line class (c .place + 1) .first)
+    ∷ cutsAt table strength (c .after) line class (c .place + 1) .rest)
     []
 
 -- a line and its classes
@@ -80,7 +82,8 @@ pub record Cutting (strength : ℕ) (line class : List ℕ) (from : ℕ) (start 
   pub sound : Sound start from
 
 -- c is the next cut from `from` on
-pub record NextOp (table : List ℕ) (strength : ℕ) (line class : List ℕ) (from : ℕ) (start : OpState) (c : Cut) : Type 0 where
+pub record NextOp (table : List ℕ) (strength : ℕ) (line class : List ℕ) (from : ℕ) (start : OpState)
+    (c : Cut) : Type 0 where
   pub after : from ≤ c .place
   pub fits : c .place ≤ length line
   pub first : cutsAt table strength start line class from .first ≡ part line from (c .place)
@@ -88,13 +91,15 @@ pub record NextOp (table : List ℕ) (strength : ℕ) (line class : List ℕ) (f
   pub sound : c .place < length line → Sound (c .after) (c .place + 1)
 
 -- none of the strength stands before i
-pub record Seeking (table : List ℕ) (strength : ℕ) (line class : List ℕ) (from : ℕ) (start s : OpState) (i : ℕ) : Type 0 where
+pub record Seeking (table : List ℕ) (strength : ℕ) (line class : List ℕ) (from : ℕ) (start s : OpState)
+    (i : ℕ) : Type 0 where
   pub some : strength ≡ 0 → ⊥
   pub after : from ≤ i
   pub within : i ≤ length line
   pub breaks : Breakable line class
   pub sound : Sound s i
-  pub first : cutsAt table strength start line class from .first ≡ part line from i ++ cutsAt table strength s line class i .first
+  pub first : cutsAt table strength start line class from .first
+      ≡ part line from i ++ cutsAt table strength s line class i .first
   pub rest : cutsAt table strength start line class from .rest ≡ cutsAt table strength s line class i .rest
 
 -- ---- the strength that a line is broken at
@@ -148,7 +153,8 @@ pub record OpsAt (table line class : List ℕ) (b : Loosest) (i : ℕ) : Type 0 
   pub within : i ≤ length line
   pub breaks : Breakable line class
   pub sound : Sound (b .ops) i
-  pub loosest : loosest (marksAt table lineStart line class 0) ≡ looser (b .strength) (loosest (marksAt table (b .ops) line class i))
+  pub loosest : loosest (marksAt table lineStart line class 0)
+      ≡ looser (b .strength) (loosest (marksAt table (b .ops) line class i))
   pub clear : (p : ℕ) → 0 < p → (0 < b .strength → p < b .strength) → Seeking table p line class 0 lineStart (b .ops) i
   pub found : 0 < b .strength → NextOp table (b .strength) line class 0 lineStart (b .cut)
 
@@ -160,7 +166,8 @@ pub record Pass : Type 0 where
   pub depth : ℕ
 
 abbrev pub passAt : OpState → ℕ → ℕ → Break → Pass
-passAt s start depth b = record { ops = record { ops = s; strength = b .strength; cut = b .cut }; start = start; depth = depth }
+passAt s start depth b =
+    record { ops = record { ops = s; strength = b .strength; cut = b .cut }; start = start; depth = depth }
 
 -- a line broken at what was found at i
 abbrev pub brokenAt : ℕ → OpFound → Break
@@ -171,8 +178,10 @@ pub record Passing (table line class : List ℕ) (p : Pass) (i : ℕ) : Type 0 w
   pub ops : OpsAt table line class (p .ops) i
   pub start : p .start ≤ i
   pub deep : p .depth ≤ i + 1
-  pub words : hasWord keywords (cellsOf line class) ≡ hasWordFrom keywords (reverse (part line (p .start) i)) (cellsOf (drop i line) (drop i class))
-  pub balance : isBalanced (cellsOf line class) ≡ isZero (foldl balanceStep (depthAs (p .depth)) (cellsOf (drop i line) (drop i class)))
+  pub words : hasWord keywords (cellsOf line class)
+      ≡ hasWordFrom keywords (reverse (part line (p .start) i)) (cellsOf (drop i line) (drop i class))
+  pub balance : isBalanced (cellsOf line class)
+      ≡ isZero (foldl balanceStep (depthAs (p .depth)) (cellsOf (drop i line) (drop i class)))
 
 pub record Unbroken (r : Break) : Type 0 where
   pub none : r .strength ≡ 0
@@ -183,4 +192,5 @@ pub record BreakFound (table line class : List ℕ) (r : Break) : Type 0 where
 
 -- what a pass over the whole line says
 pub record PassEnd (line : List ℕ) (start depth : ℕ) (b r : Break) : Type 0 where
-  pub found : (table class : List ℕ) (s : OpState) → Passing table line class (passAt s start depth b) (length line) → BreakFound table line class r
+  pub found : (table class : List ℕ) (s : OpState) → Passing table line class (passAt s start depth b) (length line)
+      → BreakFound table line class r

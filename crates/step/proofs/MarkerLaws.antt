@@ -1,5 +1,5 @@
 -- The marker of a line, found on its bytes; a marker that stands alone is no plain else.
-use Prim.Native.Nat.{ℕ, _+_, _-_, _≤_}
+use Prim.Native.Nat.{ℕ, _-_, _≤_}
 use native.Mathlib.Omega.{arith}
 use mathlib.Core.Bool.{Bool, true, false, not}
 use mathlib.Core.List.{List, [], _∷_, _++_}
@@ -12,7 +12,7 @@ use Rattle.unicode.specs.Unicode.{Scalars, encode, decode, WellFormed, isWhite,
 use Rattle.unicode.proofs.Tests.{and-left}
 use Rattle.unicode.proofs.Decode.{decode-encode, decode-scalars, wf-encode, scalars-left, scalars-right}
 use Rattle.buffer.proofs.RegionLaws.{part-from}
-use Rattle.rules.specs.Basics.{choose, is, isEmpty, startsWith, startsThen, keep, leading}
+use Rattle.rules.specs.Basics.{choose, isEmpty, startsWith, startsThen, keep, leading}
 use Rattle.rules.specs.Scan.{Cell, charsOf, classify, before, from, codePart, commentPart, isLineComment}
 use Rattle.rules.specs.ClassBytes.{classBytes, cellsOf}
 use Rattle.rules.specs.Words.{isMarkerText, isMarker, hasCode}

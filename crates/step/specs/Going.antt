@@ -78,7 +78,8 @@ pub record Goes (line scratch : List ℕ) (unit : ℕ) (g : Going) : Type 0 wher
   pub long : length (goingLine line scratch unit g) ≡ g .len
   pub well : WellFormed (goingLine line scratch unit g)
   pub text : decode (goingLine line scratch unit g) ≡ respaced (decode line)
-  pub classes : part scratch (g .«class_at») (g .«class_at» + g .len) ≡ classBytes (classify Carry.Code (goingLine line scratch unit g))
+  pub classes : part scratch (g .«class_at») (g .«class_at» + g .len)
+      ≡ classBytes (classify Carry.Code (goingLine line scratch unit g))
   pub leaves : g .carry ≡ carryAfter Carry.Code (goingLine line scratch unit g)
   pub depth : carryDepth (g .carry) ≤ g .len
   pub most : g .len ≤ 2 * length line
@@ -91,7 +92,8 @@ pub record Went (line before after : List ℕ) (unit : ℕ) (g : Going) : Type 0
 
 -- the brackets of a line of n bytes, which goes on as the characters l, were counted after its leading closers popped
 pub record BracketsCounted (l before after : List ℕ) (base : ℕ) (left : Nesting) (n : ℕ) (r : Nesting) : Type 0 where
-  pub stack : stacked after base (r .depth) ≡ scanBrackets (left .line) (drop (leadingClosers l) (classify Carry.Code l)) (stacked before base (left .depth))
+  pub stack : stacked after base (r .depth)
+      ≡ scanBrackets (left .line) (drop (leadingClosers l) (classify Carry.Code l)) (stacked before base (left .depth))
   pub runs : r .levels ≡ levels (stacked after base (r .depth))
   pub most : r .depth ≤ left .depth + n
   pub line : r .line ≡ left .line
@@ -136,10 +138,14 @@ afterLine st p deep ignore carry =
     }
 
 -- a line of n bytes, which goes on as the characters l, was put into the text
-pub record PutOn (marker : Bool) (l indent : List ℕ) (style : Style) (model eol : List ℕ) (n unit : ℕ) (st : Record) (out scratch : List ℕ) (r : Put) (out′ : List ℕ) : Type 0 where
-  pub text : (o : Options) (f : Formatter) → Uses o indent style → Holds model eol unit f st out scratch → Text model eol (spacedBy marker l o f .lines) (r .text) out′
-  pub imports : (o : Options) (f : Formatter) → Uses o indent style → Holds model eol unit f st out scratch → spacedBy marker l o f .importsSplit ≡ f .importsSplit + r .imports
-  pub blanks : (o : Options) (f : Formatter) → Uses o indent style → Holds model eol unit f st out scratch → spacedBy marker l o f .blankNames ≡ f .blankNames + r .blanks
+pub record PutOn (marker : Bool) (l indent : List ℕ) (style : Style) (model eol : List ℕ) (n unit : ℕ) (st : Record)
+    (out scratch : List ℕ) (r : Put) (out′ : List ℕ) : Type 0 where
+  pub text : (o : Options) (f : Formatter) → Uses o indent style → Holds model eol unit f st out scratch
+      → Text model eol (spacedBy marker l o f .lines) (r .text) out′
+  pub imports : (o : Options) (f : Formatter) → Uses o indent style → Holds model eol unit f st out scratch
+      → spacedBy marker l o f .importsSplit ≡ f .importsSplit + r .imports
+  pub blanks : (o : Options) (f : Formatter) → Uses o indent style → Holds model eol unit f st out scratch
+      → spacedBy marker l o f .blankNames ≡ f .blankNames + r .blanks
   pub closers : Closers (encode l) (r .closers)
   pub left : Popped scratch (stackAt unit) (st .nesting) (r .closers) (r .left)
   pub own : r .own ≡ prevOf l

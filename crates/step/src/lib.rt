@@ -1,7 +1,7 @@
 // One line of the source, of any kind.
 ghost use mathlib.Core.Path.{_≡_};
 ghost use mathlib.Core.Bool.{false};
-ghost use Prim.Native.Nat.{_+_, _*_, _≤_, _<_, _^_};
+ghost use Prim.Native.Nat.{_+_, _≤_, _<_, _^_};
 ghost use lib.ListN.{length};
 ghost use Rattle.unicode.specs.Unicode.{encode, decode, WellFormed};
 ghost use Rattle.rules.specs.Basics.{isEmpty};
@@ -17,7 +17,8 @@ ghost use Rattle.brackets.specs.Stack.{Nested};
 ghost use Rattle.line.specs.Scratch.{stackAt};
 ghost use Rattle.line.specs.Holds.{Classes, Ready, Stepped, TrimmedLine, Uses, ValidIndent};
 ghost use Rattle.place.specs.Placing.{spacedBy};
-ghost use Rattle.step.specs.Going.{markerIn, isKept, isAlone, SolidLine, Marks, LineRoom, Goes, Went, BracketsCounted, beforeOf, PutOn, afterLine, codeLineBy, anyLineBy, ignoreOf};
+ghost use Rattle.step.specs.Going.{markerIn, isKept, isAlone, SolidLine, Marks, LineRoom, Goes, Went};
+ghost use Rattle.step.specs.Going.{BracketsCounted, beforeOf, PutOn, afterLine, codeLineBy, anyLineBy, ignoreOf};
 use brackets::Nesting;
 use line::formatter::Formatter;
 use line::formatter::Prev;

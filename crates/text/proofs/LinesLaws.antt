@@ -2,7 +2,7 @@
 use Prim.Native.Nat.{ℕ, _+_, _≤_}
 use mathlib.Core.Bool.{Bool, true, false}
 use mathlib.Core.Path.{_≡_, refl, sym, ap, _∙_}
-use mathlib.Core.List.{List, [], _∷_, _++_, append-assoc, append-nil, reverse, reverseAux, reverseAux-eq, reverse-cons, reverse-append, reverse-reverse}
+use mathlib.Core.List.{List, [], _∷_, _++_, append-assoc, append-nil}
 use native.Mathlib.Omega.{arith}
 use lib.Dec.{eqb}
 use lib.ListN.{take}
@@ -55,15 +55,6 @@ module _ (eol : List ℕ) where
   encode-append-lines m ms ls =
       ap encode (joined-append m ms ls ∙ sym (append-assoc (joined eol ls) (sepOf eol (newestOf ls)) (joined eol (m ∷ ms))))
       ∙ encode-append (joined eol ls ++ sepOf eol (newestOf ls)) (joined eol (m ∷ ms))
-
-  -- one more
-  pub encode-one-line : (l : List ℕ) → encode (joined eol (l ∷ [])) ≡ encode l
-  unfolding joined
-  encode-one-line l = refl
-
-  pub encode-more-lines : (l m : List ℕ) (ms : List (List ℕ)) → encode (joined eol (l ∷ m ∷ ms)) ≡ encode (joined eol (m ∷ ms)) ++ (encode eol ++ encode l)
-  unfolding joined
-  encode-more-lines l m ms = encode-append (joined eol (m ∷ ms)) (eol ++ l) ∙ ap (λ (x : List ℕ). encode (joined eol (m ∷ ms)) ++ x) (encode-append eol l)
 
   -- what the last empty lines are in the text
   restOf : List (List ℕ) → List ℕ
@@ -124,18 +115,6 @@ pub below-line : (l : List ℕ) (ls : List (List ℕ)) → 1 ≤ size l → drop
 unfolding dropBlank encode
 below-line [] ls h = absurd (omega arith)
 below-line (c ∷ cs) ls h = refl
-
--- ---- lines in order, put on others: the last becomes the newest
-
-pub laid-lines : (laid : List (List ℕ)) (m : List ℕ) (ms : List (List ℕ)) → reverse laid ≡ m ∷ ms → (ls : List (List ℕ)) → reverseAux laid ls ≡ (m ∷ ms) ++ ls
-laid-lines laid m ms e ls = reverseAux-eq laid ls ∙ ap (λ (x : List (List ℕ)). x ++ ls) e
-
-pub laid-last : (xs : List (List ℕ)) (m : List ℕ) → reverse (xs ++ (m ∷ [])) ≡ m ∷ reverse xs
-laid-last xs m = reverse-append xs (m ∷ [])
-
--- a first line, lines that are held the newest first, and a last
-pub laid-between : (l : List ℕ) (ns : List (List ℕ)) (m : List ℕ) → reverse (l ∷ (reverse ns ++ (m ∷ []))) ≡ m ∷ (ns ++ (l ∷ []))
-laid-between l ns m = laid-last (l ∷ reverse ns) m ∙ ap (λ (x : List (List ℕ)). m ∷ x) (reverse-cons l (reverse ns) ∙ ap (λ (x : List (List ℕ)). x ++ (l ∷ [])) (reverse-reverse ns))
 
 -- ---- the kind of the newest line
 

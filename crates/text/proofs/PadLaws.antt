@@ -70,10 +70,6 @@ char-some c (four h e) = rw e (omega arith)
 pub some-size : (c : ℕ) (cs : List ℕ) → 1 ≤ size (c ∷ cs)
 some-size c cs = omega (arith, ap length (encode-cons c cs), length-append (encodeChar c) (encode cs), char-some c (shape c))
 
-pub size-some : (cs : List ℕ) → 1 ≤ length cs → 1 ≤ size cs
-size-some [] h = absurd (omega arith)
-size-some (c ∷ cs) h = some-size c cs
-
 pub some-chars : (cs : List ℕ) → 1 ≤ size cs → 1 ≤ length cs
 some-chars [] h = absurd (omega (arith, ap length encode-nil))
 some-chars (c ∷ cs) h = omega arith

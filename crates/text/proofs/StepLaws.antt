@@ -351,9 +351,6 @@ pub text-nothing : (model eol out : List ℕ) → Keeps model out [] → Text mo
 unfolding joined encode trimNewest dropEmpty dropBlank newestOf closed settledLines
 text-nothing model eol out k = record { at = refl; holds = k; cut = refl; full = refl; last = refl; below = refl; alone = refl; settles = refl }
 
-pub nothing-ordered : Ordered nothing
-nothing-ordered = record { cut = omega arith; full = omega arith; below = omega arith }
-
 pub grown-ordered : {t u : Written} {n : ℕ} → Grown t n u → Ordered u
 grown-ordered g = record { cut = g .cut; full = g .full; below = g .below }
 

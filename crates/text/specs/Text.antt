@@ -73,7 +73,15 @@ nothing = record { at = record { 0 = 0 }; cut = 0; full = 0; below = 0; alone = 
 -- after several lines that reach up to next, of which the newest, from `last` on, is trimmed and not empty
 abbrev pub afterLines : ℕ → ℕ → Bool → Written
 afterLines last next joins =
-    record { at = record { 0 = next }; cut = next; full = next; below = next; alone = false; last = newestBy 1 joins; settled = last }
+    record {
+      at = record { 0 = next };
+      cut = next;
+      full = next;
+      below = next;
+      alone = false;
+      last = newestBy 1 joins;
+      settled = last;
+    }
 
 -- what the caller tells of a line: its length trimmed at its end, and whether it can take an else
 pub record Line (line : List ℕ) (tail : ℕ) (joins : Bool) : Type 0 where
@@ -119,18 +127,22 @@ pub record From (drops : Bool) (t : Written) (r : ℕ) : Type 0 where
   pub small : r ≤ t .at .0
 
 -- a line l of characters is added, after an empty newest line is dropped if `drops` says so
-pub record Adds (eol : List ℕ) (drops : Bool) (l model out : List ℕ) (t : Written) (out′ : List ℕ) (u : Written) : Type 0 where
+pub record Adds (eol : List ℕ) (drops : Bool) (l model out : List ℕ) (t : Written) (out′ : List ℕ)
+    (u : Written) : Type 0 where
   pub text : (ls : List (List ℕ)) → Text model eol ls t out → Text model eol (l ∷ keptLines drops ls) u out′
   pub grown : Grown t (size l + 2) u
 
 -- an else, trimmed, is joined to the newest line
 pub record Joins (line model out : List ℕ) (t : Written) (out′ : List ℕ) (u : Written) : Type 0 where
-  pub text : (eol : List ℕ) (ls : List (List ℕ)) → Text model eol ls t out → canJoin ls ≡ true → Text model eol (joinElse line ls) u out′
+  pub text : (eol : List ℕ) (ls : List (List ℕ)) → Text model eol ls t out → canJoin ls ≡ true
+      → Text model eol (joinElse line ls) u out′
   pub grown : Grown t (size line + 1) u
 
 -- the separator before new lines was written; the first of them starts at r
-pub record Continued (eol : List ℕ) (drops : Bool) (model out : List ℕ) (t : Written) (out′ : List ℕ) (r : ℕ) : Type 0 where
-  pub place : (ls : List (List ℕ)) → Text model eol ls t out → r ≡ size (joined eol (keptLines drops ls) ++ sepOf eol (newestOf (keptLines drops ls)))
+pub record Continued (eol : List ℕ) (drops : Bool) (model out : List ℕ) (t : Written) (out′ : List ℕ)
+    (r : ℕ) : Type 0 where
+  pub place : (ls : List (List ℕ)) → Text model eol ls t out
+      → r ≡ size (joined eol (keptLines drops ls) ++ sepOf eol (newestOf (keptLines drops ls)))
   pub holds : (ls : List (List ℕ)) → Text model eol ls t out
       → Keeps model out′ (encode (joined eol (keptLines drops ls) ++ sepOf eol (newestOf (keptLines drops ls))))
   pub small : r ≤ t .at .0 + 2
@@ -138,12 +150,14 @@ pub record Continued (eol : List ℕ) (drops : Bool) (model out : List ℕ) (t :
 -- the last ending was written: the text's length, and the text
 pub record Ended (eol rest model out : List ℕ) (t : Written) (out′ : List ℕ) (r : ℕ) : Type 0 where
   pub long : (ls : List (List ℕ)) → Text model eol ls t out → r ≡ size (joined eol (dropEmpty ls) ++ rest)
-  pub text : (ls : List (List ℕ)) → Text model eol ls t out → Keeps model out′ (encode (joined eol (dropEmpty ls) ++ rest))
+  pub text : (ls : List (List ℕ)) → Text model eol ls t out
+      → Keeps model out′ (encode (joined eol (dropEmpty ls) ++ rest))
   pub room : length out′ ≡ length out
 
 -- the text is finished: its length, and the output, which is the text and then zeros, or all zeros where it does not
 -- fit
 pub record Finished (eol rest out : List ℕ) (t : Written) (out′ : List ℕ) (r : ℕ) : Type 0 where
   pub long : (ls : List (List ℕ)) → Text [] eol ls t out → r ≡ size (joined eol (dropEmpty ls) ++ rest)
-  pub text : (ls : List (List ℕ)) → Text [] eol ls t out → r ≤ length out → out′ ≡ filled (length out) (encode (joined eol (dropEmpty ls) ++ rest))
+  pub text : (ls : List (List ℕ)) → Text [] eol ls t out → r ≤ length out
+      → out′ ≡ filled (length out) (encode (joined eol (dropEmpty ls) ++ rest))
   pub zeros : length out + 1 ≤ r → out′ ≡ replicate (length out) 0

@@ -11,7 +11,9 @@ ghost use Rattle.compare.specs.Common.{Compared};
 ghost use Rattle.rules.specs.Basics.{choose};
 ghost use Rattle.rules.specs.Lines.{asStr};
 ghost use Rattle.rules.specs.Options.{allBlank};
-ghost use Rattle.text.specs.Text.{nothing, sepBy, aloneAfter, tailOf, newestBy, fullOf, isFirst, isJoinable, afterLines, Ordered, Line, ElseLine, From, Adds, Joins, Continued, Ended, Finished};
+ghost use Rattle.text.specs.Text.{nothing, sepBy, aloneAfter, tailOf, newestBy, fullOf, isFirst, isJoinable};
+ghost use Rattle.text.specs.Text.{afterLines, Ordered, Line, ElseLine, From, Adds, Joins, Continued, Ended};
+ghost use Rattle.text.specs.Text.{Finished};
 use rules::LineEnding;
 use unicode::ByteOffset;
 
@@ -216,7 +218,8 @@ pub fn join_else(model: &[u8], out: &mut [u8], t: Written, line: &[u8], joins: b
     requires { ⌜ ElseLine (now line) joins ⌝ }
     requires { ⌜ t .cut ≤ t .at .0 ⌝ }
     requires { ⌜ t .at .0 + 1 + length (now line) < 2 ^ 64 ⌝ }
-    ensures { λ r. ⌜ Joins (decode (now (line .entry))) (now (model .entry)) (now (out .entry)) t (now (out .exit)) r ⌝ }
+    ensures { λ r. ⌜ Joins (decode (now (line .entry))) (now (model .entry)) (now (out .entry)) t (now (out .exit)) r
+        ⌝ }
 {
     let cut = t.cut;
     let settled = t.settled;

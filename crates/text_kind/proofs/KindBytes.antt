@@ -8,9 +8,8 @@ use mathlib.Core.List.{List, [], _∷_, _++_, map}
 use mathlib.Core.Path.{_≡_, refl, sym, ap, _∙_}
 use lib.ListN.{length}
 use Rattle.unicode.specs.Unicode.{encodeChar, encode, tail, decode, WellFormed}
-use Rattle.unicode.proofs.Table.{Shape, one, two, three, four, shape, tail-view, tail-make}
+use Rattle.unicode.proofs.Table.{Shape, one, two, three, four, shape, tail-view, tail-make, not-tail-low, not-tail-high}
 use Rattle.unicode.proofs.Decode.{encode-cons}
-use Rattle.unicode.proofs.Machine.{not-tail-low, not-tail-high}
 use Rattle.rules.specs.declared.Carry.{Carry}
 use Rattle.rules.specs.declared.Mode.{Mode}
 use Rattle.rules.specs.declared.Mark.{Mark}

@@ -1,5 +1,6 @@
 -- Lines on bytes.
---     line-last, line-more          the first line, as Rust's `lines` cuts it; kind-past, kind-more, kind-here the kind asked for
+--     line-last, line-more          the first line, as Rust's `lines` cuts it
+--     kind-past, kind-more, kind-here the kind asked for
 --     Seeking                       the loop of `text_kind_at`, over the lines before the one asked for
 use Prim.Native.Nat.{ℕ, zero, suc, _+_, _-_, _<_, _≤_, _^_, zero-le}
 use native.Mathlib.Omega.{arith}

@@ -1,5 +1,5 @@
 -- The loop of `kinds_in_line`: before byte i of the line, with the mark t, so many characters are read.
-use Prim.Native.Nat.{ℕ, suc, _+_, _-_, _<_, _≤_, zero-le}
+use Prim.Native.Nat.{ℕ, suc, _+_, _<_, _≤_, zero-le}
 use native.Mathlib.Omega.{arith}
 use native.Mathlib.Numerals.{add-one}
 use mathlib.Core.Bool.{Bool, true, false}

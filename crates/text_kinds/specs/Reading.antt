@@ -16,7 +16,8 @@ use Rattle.rules.specs.TextKind.{rustLines, textKindAt, kindNumber}
 use Rattle.basics.specs.Depth.{carryDepth}
 use Rattle.unicode.specs.Unicode.{decode}
 use Rattle.text_kind.specs.Kind.{byteKinds, kindFrom}
-use Rattle.text_kinds.specs.Places.{Place, placeAt, placesIn, ascending, kindOfPlace, linesAsked, linesClassified, kindsVerdict, kindsAnswer, kindsLeft, kindsOf}
+use Rattle.text_kinds.specs.Places.{Place, placeAt, placesIn, ascending, kindOfPlace, linesAsked, linesClassified}
+use Rattle.text_kinds.specs.Places.{kindsVerdict, kindsAnswer, kindsLeft, kindsOf}
 use Rattle.text_kinds.specs.declared.Progress.{Progress}
 use Rattle.text_kinds.specs.declared.Kinds.{Kinds}
 
@@ -66,7 +67,8 @@ pub record Listed (list kinds : List ℕ) : Type 0 where
   pub room : placeCount list ≤ length kinds
 
 -- all places from entry k on that are this one have the answer `kind`
-pub record Answered (list : List ℕ) (line column kind k : ℕ) (kinds : List ℕ) (next : ℕ) (kinds′ : List ℕ) : Type 0 where
+pub record Answered (list : List ℕ) (line column kind k : ℕ) (kinds : List ℕ) (next : ℕ)
+    (kinds′ : List ℕ) : Type 0 where
   pub long : length kinds′ ≡ length kinds
   pub filled : (f : Place → ℕ) → f (placeAt line column) ≡ kind
       → Filled f list (suc line) k kinds → Filled f list (suc line) next kinds′
@@ -84,7 +86,8 @@ pub record Shallow (carry : Carry) (n : ℕ) : Type 0 where
   pub deep : carryDepth carry + n + 1 < 2 ^ 32
 
 -- all places of a line are answered; `after` is open behind it
-pub record LineAnswered (line : List ℕ) (carry : Carry) (number : ℕ) (list : List ℕ) (k : ℕ) (kinds : List ℕ) (after : Carry) (next : ℕ) (kinds′ : List ℕ) : Type 0 where
+pub record LineAnswered (line : List ℕ) (carry : Carry) (number : ℕ) (list : List ℕ) (k : ℕ) (kinds : List ℕ)
+    (after : Carry) (next : ℕ) (kinds′ : List ℕ) : Type 0 where
   pub opens : after ≡ carryAfter carry line
   pub depth : carryDepth after ≤ carryDepth carry + length line
   pub long : length kinds′ ≡ length kinds

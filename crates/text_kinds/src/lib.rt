@@ -1,11 +1,12 @@
 // text_kinds: the text kinds of a list of places, in one reading of the source.
 ghost use mathlib.Core.Path.{_≡_};
 ghost use mathlib.Core.Bool.{true};
-ghost use Prim.Native.Nat.{_+_, _<_};
+ghost use Prim.Native.Nat.{_<_};
 ghost use lib.ListN.{length};
 ghost use Rattle.rules.specs.TextKind.{kindNumber};
 ghost use Rattle.text_kinds.specs.Places.{placeAt, placesIn, notAfter, ascending, listTests, kindsVerdict};
-ghost use Rattle.text_kinds.specs.Reading.{IsPlace, IsOn, Listed, Answered, PassedOver, Ahead, Shallow, LineAnswered, placeCount, Read, KindsFound, RefusedKinds, KindsGiven};
+ghost use Rattle.text_kinds.specs.Reading.{IsPlace, IsOn, Listed, Answered, PassedOver, Ahead, Shallow};
+ghost use Rattle.text_kinds.specs.Reading.{LineAnswered, placeCount, Read, KindsFound, RefusedKinds, KindsGiven};
 ghost use Rattle.rules.specs.Refusals.{tested};
 ghost use Rattle.text_kind.specs.Kind.{SourceFits};
 use answer::number_of;

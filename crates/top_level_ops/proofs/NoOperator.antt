@@ -1,6 +1,6 @@
 -- A line without a byte that starts an operator has none: no byte of it has a strength.
 use Prim.Native.Nat.{ℕ, zero, suc}
-use mathlib.Core.Bool.{true, false, not, true≢false}
+use mathlib.Core.Bool.{false, not, true≢false}
 use mathlib.Core.List.{List, [], _∷_}
 use mathlib.Core.Path.{_≡_, refl, sym, ap, _∙_}
 use lib.Dec.{eqb}

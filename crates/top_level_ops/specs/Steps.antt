@@ -8,7 +8,8 @@ use lib.ListN.{length, take, drop, getD}
 use Rattle.unicode.specs.Unicode.{tail}
 use Rattle.rules.specs.Basics.{choose, is, at, isBlank, isOpener, isCloser}
 use Rattle.rules.specs.Scan.{Cell, isStr}
-use Rattle.rules.specs.SplitOperation.{Ops, OpStep, endsOperand, token, escape, bracket, atomLen, startsPair, twoCharStep, oneCharStep}
+use Rattle.rules.specs.SplitOperation.{Ops, OpStep, endsOperand, token, escape, bracket, atomLen, startsPair}
+use Rattle.rules.specs.SplitOperation.{twoCharStep, oneCharStep}
 use Rattle.top_level_ops.specs.declared.OpState.{OpState}
 use Rattle.top_level_ops.specs.declared.OpFound.{OpFound}
 use Rattle.top_level_ops.specs.declared.Token.{Token}
@@ -42,7 +43,8 @@ signStep table s l =
 -- the tests of `codeStep` but for blanks and brackets
 unfoldable pub tokenStep : List ℕ → Ops → List ℕ → OpStep
 tokenStep table s l =
-    choose (is ":" (getD l 0 0) && not (s .operand) && not (eqb (atomLen (drop 1 l)) 0)) (token s (endsOperand (getD l (atomLen (drop 1 l)) 0)) (atomLen (drop 1 l)))
+    choose (is ":" (getD l 0 0) && not (s .operand) && not (eqb (atomLen (drop 1 l)) 0))
+    (token s (endsOperand (getD l (atomLen (drop 1 l)) 0)) (atomLen (drop 1 l)))
     (signStep table s l)
 
 -- the step that a token says in the state s: its strength counts outside brackets
@@ -62,11 +64,17 @@ stepOr false t r = record { strength = 0; after = opsOf r }
 
 abbrev pub passedIn : OpState → Bool → Bool → ℕ → PlainStep
 passedIn s operand esc skip =
-    record { token = false; after = record { opened = s .opened; closed = s .closed; operand = operand; esc = esc; skip = skip } }
+    record {
+      token = false;
+      after = record { opened = s .opened; closed = s .closed; operand = operand; esc = esc; skip = skip };
+    }
 
 abbrev pub bracketIn : ℕ → ℕ → Bool → PlainStep
 bracketIn opened closed operand =
-    record { token = false; after = record { opened = opened; closed = closed; operand = operand; esc = false; skip = 0 } }
+    record {
+      token = false;
+      after = record { opened = opened; closed = closed; operand = operand; esc = false; skip = 0 };
+    }
 
 unfoldable pub codeOr : OpStep → Ops → ℕ → OpStep
 codeOr t s c =
@@ -77,7 +85,11 @@ codeOr t s c =
 
 unfoldable pub freshOr : OpStep → Ops → Cell → OpStep
 freshOr t s x =
-    choose (isStr (x .class)) (record { strength = 0; after = record { opened = s .opened; closed = s .closed; operand = true; esc = s .esc; skip = 0 } })
+    choose (isStr (x .class))
+    (record {
+      strength = 0;
+      after = record { opened = s .opened; closed = s .closed; operand = true; esc = s .esc; skip = 0 };
+    })
     (choose (s .esc) (escape s false)
     (choose (is "\\" (x .ch)) (escape s true)
     (codeOr t s (x .ch))))

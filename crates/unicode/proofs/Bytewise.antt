@@ -90,9 +90,6 @@ unfolding width
 width-total [] = refl
 width-total (c ∷ cs) = let r = width-total cs in omega arith
 
-pub width-append : (a b : List ℕ) → width (a ++ b) ≡ width a + width b
-width-append a b = rw (width-total (a ++ b), width-total a, width-total b) (total-append units a b)
-
 pub width-bytes : (s : List ℕ) → WellFormed s → total unitsOf s ≡ width (decode s)
 unfolding unitsOf units
 width-bytes s w =

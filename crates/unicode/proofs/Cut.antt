@@ -2,7 +2,6 @@
 -- of the two sides.
 --     Cut, cut        the cut before a byte that starts a character
 --     ascii-cut       the cut around a byte below 80 hex, as a line feed or a comma: that byte is a character
---     join            two well-formed lists make one
 use Prim.Native.Nat.{ℕ, zero, suc, _+_, _-_, _<_, _≤_}
 use mathlib.Core.List.{List, [], _∷_, _++_}
 use mathlib.Core.Logic.{_⊎_, inl, inr}
@@ -14,7 +13,7 @@ use Rattle.unicode.specs.Unicode.{Scalars, encodeChar, encode, size, dec
 use Rattle.unicode.specs.Places.{Step}
 use Rattle.unicode.proofs.Table.{Shape, one, two, three, four, shape}
 use Rattle.unicode.proofs.Tests.{split}
-use Rattle.unicode.proofs.Decode.{encode-append, decode-append, decode-encode, decode-scalars, scalars-left, scalars-right, wf-encode}
+use Rattle.unicode.proofs.Decode.{encode-append, decode-encode, decode-scalars, scalars-left, scalars-right, wf-encode}
 use Rattle.unicode.proofs.Scan.{ascii, ascii-step}
 
 -- a byte that starts a character
@@ -107,11 +106,3 @@ ascii-cut s i w h b =
       right = t .well (q .right);
       text = q .text ∙ rw (t .chars, ascii s i b .1);
     }
-
--- ---- joined
-
-pub join-text : (s t : List ℕ) → WellFormed s → decode (s ++ t) ≡ decode s ++ decode t
-join-text s t w = ap (λ (x : List ℕ). decode (x ++ t)) (sym w) ∙ decode-append (decode s) t (decode-scalars s)
-
-pub join : (s t : List ℕ) → WellFormed s → WellFormed t → WellFormed (s ++ t)
-join s t v w = ap encode (join-text s t v) ∙ encode-append (decode s) (decode t) ∙ rw (v, w)

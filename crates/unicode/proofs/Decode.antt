@@ -11,7 +11,7 @@ use mathlib.Core.Bool.{true, false}
 use mathlib.Core.List.{List, [], _∷_, _++_, append-nil, append-assoc, append-cancel-left}
 use mathlib.Core.Path.{_≡_, refl, sym, ap, _∙_, subst}
 use native.Mathlib.Omega.{arith}
-use lib.ListN.{length, getD, take, drop, length-append, length-take, take-append-drop}
+use lib.ListN.{length, getD, take, drop, length-append, take-append-drop}
 use lib.Seq.{drop-append-seam, take-append-seam, length-take-le, take-all}
 use lib.Dec.{T}
 use borrow.Author.Tests.{eq-eqb, ne-eqb, eqb-true}
@@ -83,10 +83,6 @@ read s n h e = go (subst (λ (m : ℕ). Good m (getD s 0 0) (getD s 1 0) (getD s
         }
 
 -- ---- scalar values of joined texts
-
-pub scalars-append : (a b : List ℕ) → Scalars a → Scalars b → Scalars (a ++ b)
-scalars-append [] b s t = t
-scalars-append (c ∷ a) b s t = (s .0, scalars-append a b (s .1) t)
 
 pub scalars-left : (a b : List ℕ) → Scalars (a ++ b) → Scalars a
 scalars-left [] b s = tt
@@ -199,9 +195,6 @@ pub prefix-split : (s : List ℕ) → take (prefixLen s) s ≡ encode (decode s)
 prefix-split s =
     let r = chars-split 0 s in
     ap (take (prefixLen s)) (r .1) ∙ take-append-seam (encode (decode s)) (r .0)
-
-pub prefix-fits : (s : List ℕ) → prefixLen s ≤ length s
-prefix-fits s = omega (arith, ap length (prefix-split s), length-take (prefixLen s) s)
 
 pub prefix-longest : (s cs t : List ℕ) → Scalars cs → s ≡ encode cs ++ t → size cs ≤ prefixLen s
 prefix-longest s cs t h e =

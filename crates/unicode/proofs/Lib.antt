@@ -6,7 +6,6 @@ pub mod Scan
 pub mod Back
 pub mod Cut
 pub mod Bytewise
-pub mod Machine
 pub mod Column
 pub mod Trim
 pub mod TrimScan

@@ -4,13 +4,13 @@
 --     good            a sequence of Table 3-7 is the encoding of its code point, a scalar value
 --     front           the encoding of a scalar value is such a sequence, with that code point
 use Prim.Native.Nat.{ℕ, zero, suc, pred, _+_, _*_, _/_, _%_, _<_, _≤_}
-use mathlib.Core.Bool.{Bool, true, _&&_}
+use mathlib.Core.Bool.{Bool, true, false, _&&_}
 use mathlib.Core.List.{List, [], _∷_, _++_}
 use mathlib.Core.Logic.{_⊎_, inl, inr, ⊎-elim}
 use mathlib.Core.Path.{_≡_, refl, _∙_}
 use native.Mathlib.Omega.{arith}
 use native.Mathlib.Nat.{le-of-suc-le-suc}
-use borrow.Author.Tests.{lt-ltb, le-ltb, le-leb, ne-eqb, ltb-true, ltb-false, eqb-true, eqb-false}
+use borrow.Author.Tests.{lt-ltb, le-ltb, le-leb, lt-leb, ne-eqb, ltb-true, ltb-false, eqb-true, eqb-false}
 use lib.ListN.{length, getD, take}
 use lib.Dec.{T, ltb, eqb}
 use Rattle.unicode.proofs.Tests.{cond-elim, split, T-of, of-T, and-left, and-right, in-range, range}
@@ -92,18 +92,6 @@ bytes c = go (shape c)
         rw e
         (several {b = 0xF0 + c / 262144} (omega arith) (omega arith)
         (also {b = 0x80 + c / 4096 % 64} (omega arith) (also {b = 0x80 + c / 64 % 64} (omega arith) (also {b = 0x80 + c % 64} (omega arith) none))))
-
-pub high-byte : (c k : ℕ) → 0x80 ≤ c → k < length (encodeChar c) → 0x80 ≤ getD (encodeChar c) k 0
-high-byte c k h l = go (encodeChar c) (bytes c) k l
-  where
-    at : (bs : List ℕ) → High bs → (k : ℕ) → k < length bs → 0x80 ≤ getD bs k 0
-    at [] none k l = absurd (omega arith)
-    at (b ∷ bs) (also p q) zero l = p
-    at (b ∷ bs) (also p q) (suc k) l = at bs q k (omega arith)
-
-    go : (bs : List ℕ) → Bytes c bs → (k : ℕ) → k < length bs → 0x80 ≤ getD bs k 0
-    go (b ∷ bs) (single p) k l = absurd (omega arith)
-    go (b ∷ bs) (several p q r) k l = at (b ∷ bs) (also q r) k l
 
 -- ---- code points of sequences, by the first byte
 
@@ -197,6 +185,14 @@ tail-view b e = in-range 0x80 0xBF b e
 pub tail-make : (b : ℕ) → 0x80 ≤ b → b ≤ 0xBF → tail b ≡ true
 unfolding tail
 tail-make b p q = range 0x80 0xBF b p q
+
+pub not-tail-low : (b : ℕ) → b < 0x80 → tail b ≡ false
+unfolding tail
+not-tail-low b h = simp (lt-leb 0x80 b h)
+
+pub not-tail-high : (b : ℕ) → 0xC0 ≤ b → tail b ≡ false
+unfolding tail
+not-tail-high b h = simp (le-leb 0x80 b (omega arith), lt-leb b 0xBF h)
 
 -- ---- from Table 3-7 to encodings
 

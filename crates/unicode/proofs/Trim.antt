@@ -1,7 +1,7 @@
 -- Laws of trimming.
---     start-append, end-append            what is trimmed of a joined text, by where its first or last other character stands
+--     end-append                          what is trimmed of a joined text, by where its last other character stands
 --     start-split, end-split, trim-split  a trimmed text is a part: what is left out is white space
---     start-twice, end-twice, trim-twice  a trimmed text is trimmed
+--     end-twice, trim-trimEnd             a trimmed text is trimmed
 --     trim-swap                           the order of the two ends is free
 use Prim.Native.Nat.{ℕ, _≤_}
 use mathlib.Core.Bool.{true, false}
@@ -9,9 +9,8 @@ use mathlib.Core.List.{List, [], _∷_, _++_, append-nil}
 use mathlib.Core.Path.{_≡_, refl, sym, ap, _∙_, subst}
 use native.Mathlib.Omega.{arith}
 use lib.ListN.{length, length-append}
-use Rattle.unicode.specs.Unicode.{Scalars, isWhite, trimStart, consTrimmed, trimEnd, trim}
+use Rattle.unicode.specs.Unicode.{isWhite, trimStart, consTrimmed, trimEnd, trim}
 use Rattle.unicode.proofs.Tests.{by-test}
-use Rattle.unicode.proofs.Decode.{scalars-left, scalars-right}
 
 -- every character is white space
 abbrev pub White : List ℕ → Type 0
@@ -40,12 +39,6 @@ pub start-append-white : (a b : List ℕ) → White a → trimStart (a ++ b) ≡
 start-append-white [] b w = refl
 start-append-white (c ∷ a) b w = start-white c (a ++ b) (w .0) ∙ start-append-white a b (w .1)
 
-pub start-append : (a b : List ℕ) (d : ℕ) (ds : List ℕ) → trimStart a ≡ d ∷ ds → trimStart (a ++ b) ≡ d ∷ (ds ++ b)
-start-append [] b d ds e = let z : _≡_ {A = List ℕ} [] (d ∷ ds) = sym start-nil ∙ e in cc
-start-append (c ∷ a) b d ds e =
-    by-test (isWhite c) (λ w. start-white c (a ++ b) w ∙ start-append a b d ds (sym (start-white c a w) ∙ e))
-    (λ w. start-other c (a ++ b) w ∙ ap {B = List ℕ} (λ l. l ++ b) (sym (start-other c a w) ∙ e))
-
 pub start-split : (l : List ℕ) → (w : List ℕ) × White w × (l ≡ w ++ trimStart l)
 start-split [] = ([], tt, sym start-nil)
 start-split (c ∷ cs) =
@@ -56,24 +49,8 @@ start-split (c ∷ cs) =
 pub start-none : (l : List ℕ) → White l → trimStart l ≡ []
 start-none l w = ap trimStart (sym (append-nil l)) ∙ start-append-white l [] w ∙ start-nil
 
-pub start-first : (l : List ℕ) (d : ℕ) (ds : List ℕ) → trimStart l ≡ d ∷ ds → isWhite d ≡ false
-start-first [] d ds e = let z : _≡_ {A = List ℕ} [] (d ∷ ds) = sym start-nil ∙ e in cc
-start-first (c ∷ cs) d ds e =
-    by-test (isWhite c) (λ w. start-first cs d ds (sym (start-white c cs w) ∙ e))
-    (λ w. let z : _≡_ {A = List ℕ} (c ∷ cs) (d ∷ ds) = sym (start-other c cs w) ∙ e in let y : c ≡ d = cc in ap isWhite (sym y) ∙ w)
-
-pub start-twice : (l : List ℕ) → trimStart (trimStart l) ≡ trimStart l
-start-twice l = go (trimStart l) refl
-  where
-    go : (t : List ℕ) → trimStart l ≡ t → trimStart t ≡ t
-    go [] e = start-nil
-    go (d ∷ ds) e = start-other d ds (start-first l d ds e)
-
 pub length-trimStart : (l : List ℕ) → length (trimStart l) ≤ length l
 length-trimStart l = let r = start-split l in omega (arith, ap length (r .2), length-append (r .0) (trimStart l))
-
-pub scalars-trimStart : (l : List ℕ) → Scalars l → Scalars (trimStart l)
-scalars-trimStart l s = let r = start-split l in scalars-right (r .0) (trimStart l) (subst Scalars (r .2) s)
 
 -- ---- at the end
 
@@ -139,9 +116,6 @@ end-twice l = let r = end-split l in sym (end-append-white (trimEnd l) (r .0) (r
 pub length-trimEnd : (l : List ℕ) → length (trimEnd l) ≤ length l
 length-trimEnd l = let r = end-split l in omega (arith, ap length (r .2), length-append (trimEnd l) (r .0))
 
-pub scalars-trimEnd : (l : List ℕ) → Scalars l → Scalars (trimEnd l)
-scalars-trimEnd l s = let r = end-split l in scalars-left (trimEnd l) (r .0) (subst Scalars (r .2) s)
-
 -- ---- at both ends
 
 start-cons : (c : ℕ) (l : List ℕ) → isWhite c ≡ true → trimStart (consTrimmed c l) ≡ trimStart l
@@ -155,17 +129,9 @@ trim-swap (c ∷ cs) =
     by-test (isWhite c) (λ w. ap trimStart (end-cons c cs) ∙ start-cons c (trimEnd cs) w ∙ trim-swap cs ∙ ap trimEnd (sym (start-white c cs w)))
     (λ w. ap trimStart (end-first c cs w) ∙ start-other c (trimEnd cs) w ∙ sym (ap trimEnd (start-other c cs w) ∙ end-first c cs w))
 
-pub trim-trimStart : (l : List ℕ) → trimStart (trim l) ≡ trim l
-unfolding trim
-trim-trimStart l = trim-swap (trimStart l) ∙ ap trimEnd (start-twice l)
-
 pub trim-trimEnd : (l : List ℕ) → trimEnd (trim l) ≡ trim l
 unfolding trim
 trim-trimEnd l = end-twice (trimStart l)
-
-pub trim-twice : (l : List ℕ) → trim (trim l) ≡ trim l
-unfolding trim
-trim-twice l = ap trimEnd (trim-trimStart l) ∙ trim-trimEnd l
 
 pub trim-split : (l : List ℕ) → (v : List ℕ) × (w : List ℕ) × White v × White w × (l ≡ v ++ (trim l ++ w))
 unfolding trim
@@ -187,7 +153,3 @@ trim-empty l e =
 pub length-trim : (l : List ℕ) → length (trim l) ≤ length l
 unfolding trim
 length-trim l = omega (arith, length-trimEnd (trimStart l), length-trimStart l)
-
-pub scalars-trim : (l : List ℕ) → Scalars l → Scalars (trim l)
-unfolding trim
-scalars-trim l s = scalars-trimEnd (trimStart l) (scalars-trimStart l s)

@@ -4,7 +4,6 @@
 --     before-ascii, before-ascii-other, before-more, before-other  the same before a place
 --     start-begin, start-turn, start-found, start-end   the scan from the start
 --     end-begin, end-turn, end-found, end-all           the scan from the end
---     trimmed-start-bytes, trimmed-end-bytes            the bytes that are left
 use Prim.Native.Nat.{ℕ, _+_, _-_, _<_, _≤_}
 use mathlib.Core.Bool.{Bool, true, false, _||_, or-false}
 use mathlib.Core.List.{List, [], _∷_}
@@ -14,7 +13,7 @@ use borrow.Author.Tests.{lt-ltb, le-ltb, le-leb, lt-leb, ne-eqb}
 use lib.ListN.{length, getD, take, drop, length-drop}
 use lib.Seq.{take-length, drop-length}
 use lib.Dec.{ltb, eqb}
-use Rattle.unicode.specs.Unicode.{encode, seqAt, codeAt, chars, decode, WellFormed, within, isWhite, firstIsWhite, trimStart, trimEnd}
+use Rattle.unicode.specs.Unicode.{seqAt, codeAt, chars, decode, WellFormed, within, isWhite, firstIsWhite, trimStart, trimEnd}
 use Rattle.unicode.specs.Places.{Step, Back, WhiteAt, WhiteBefore, TrimmedStart, TrimmedEnd}
 use Rattle.unicode.proofs.Scan.{step, ascii, ascii-step, wf-sequence}
 use Rattle.unicode.proofs.Back.{back-1}
@@ -158,11 +157,3 @@ end-all s e q h =
     let m : e ≡ 0 = omega arith in
     let d : take e s ≡ [] = ap (λ (k : ℕ). take k s) m in
     record { fits = q .fits; well = q .well; text = ap decode d ∙ sym (q .text ∙ ap (λ (l : List ℕ). trimEnd (decode l)) d ∙ end-nil) }
-
--- ---- the bytes that are left
-
-pub trimmed-start-bytes : (s : List ℕ) (r : ℕ) → TrimmedStart s r → drop r s ≡ encode (trimStart (decode s))
-trimmed-start-bytes s r q = sym (q .well) ∙ ap encode (q .text)
-
-pub trimmed-end-bytes : (s : List ℕ) (r : ℕ) → TrimmedEnd s r → take r s ≡ encode (trimEnd (decode s))
-trimmed-end-bytes s r q = sym (q .well) ∙ ap encode (q .text)

@@ -5,7 +5,8 @@ use mathlib.Core.List.{List, [], _∷_, _++_}
 use mathlib.Core.Path.{_≡_}
 use lib.ListN.{length, getD, take, drop}
 use lib.Dec.{T, ltb}
-use Rattle.unicode.specs.Unicode.{isScalar, encodeChar, seqAt, codeAt, decode, prefixLen, WellFormed, isWhite, trimStart, trimEnd}
+use Rattle.unicode.specs.Unicode.{isScalar, encodeChar, seqAt, codeAt, decode, prefixLen, WellFormed, isWhite}
+use Rattle.unicode.specs.Unicode.{trimStart, trimEnd}
 
 -- the well-formed sequence at i takes r bytes, or there is none and r is 0
 pub record SeqAt (s : List ℕ) (i r : ℕ) : Type 0 where

@@ -1,10 +1,12 @@
 // Unicode by bytes: UTF-8, White_Space and UTF-16 lengths. What a slice's characters are is the specification's
 // `decode` (specs/Unicode.antt).
 ghost use mathlib.Core.Path.{_≡_};
-ghost use Prim.Native.Nat.{_+_, _-_, _≤_, _<_};
+ghost use Prim.Native.Nat.{_+_, _≤_, _<_};
 ghost use lib.ListN.{length, getD, take, drop};
-ghost use Rattle.unicode.specs.Unicode.{within, tail, second, seqLen, prefixLen, codeOf, codeAt, decode, WellFormed, width, isWhite, firstIsWhite};
-ghost use Rattle.unicode.specs.Places.{SeqAt, NoneAmong, highAt, AsciiRun, Step, Back, WhiteAt, WhiteBefore, TrimmedStart, TrimmedEnd, Column, unitsOf, leadOf};
+ghost use Rattle.unicode.specs.Unicode.{within, tail, second, seqLen, prefixLen, codeOf, codeAt, decode};
+ghost use Rattle.unicode.specs.Unicode.{WellFormed, width, isWhite, firstIsWhite};
+ghost use Rattle.unicode.specs.Places.{SeqAt, NoneAmong, highAt, AsciiRun, Step, Back, WhiteAt, WhiteBefore};
+ghost use Rattle.unicode.specs.Places.{TrimmedStart, TrimmedEnd, Column, unitsOf, leadOf};
 
 // A place in a slice: how many bytes stand before it.
 pub struct ByteOffset(pub usize);

@@ -1,3 +1,5 @@
+-- `starts_with` meets its contract: the invariant is `Left`, the answer is that for what follows the first k bytes of
+-- both; its laws are in proofs/StartsLaws.antt.
 use borrow.Author.Needs.{needs}
 use Prim.Native.Nat.{_-_}
 use lib.ListN.{length}

@@ -1,3 +1,5 @@
+-- `idle_eights` meets its contract: the invariant is `IdleRun` of specs/Stack.antt, no byte from `at` up to i may be a
+-- bracket or a backslash; its laws are in proofs/StackLaws.antt.
 use Prim.Native.Nat.{_-_}
 use borrow.Author.Needs.{needs}
 use native.Mathlib.Omega.{arith}

@@ -1,3 +1,5 @@
+-- `leading_closers` meets its contract: the invariant is `Closing`, the first i bytes are closers; its laws are in
+-- proofs/StackLaws.antt.
 use borrow.Author.Needs.{needs}
 use Prim.Native.Nat.{_-_}
 use lib.ListN.{length}

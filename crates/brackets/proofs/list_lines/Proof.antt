@@ -1,3 +1,5 @@
+-- `list_lines` meets its contract: the invariant is `Listing`, the first i numbers of the list are the lines of the
+-- stack's entries; its laws are in proofs/ListLaws.antt.
 use borrow.Author.Needs.{needs}
 use Rattle.brackets.proofs.ListLaws.{Listing, listing-start, listing-more, listing-end}
 use Prim.Native.Nat.{_-_}

@@ -1,3 +1,5 @@
+-- `pop_closers` meets its contract: the invariant is `Popping`, `levels` is the number of levels of the entries left;
+-- its laws are in proofs/StackLaws.antt.
 use borrow.Author.Needs.{needs}
 use Rattle.brackets.proofs.StackLaws.{Popping, popping-start, popping-less, popping-more, popping-end}
 use Rattle.brackets.proofs.pop_closers.Statement.{statement}

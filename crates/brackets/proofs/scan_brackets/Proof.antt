@@ -1,3 +1,5 @@
+-- `scan_brackets` meets its contract: the invariant is `Scanning`, the stack and the tally are those before byte i, and
+-- the bytes from i on make of them what the line makes; its laws are in proofs/StackLaws.antt.
 use borrow.Author.Needs.{needs}
 use Prim.Native.Nat.{_+_, _-_}
 use lib.ListN.{length}

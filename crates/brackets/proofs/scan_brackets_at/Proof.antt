@@ -1,3 +1,5 @@
+-- `scan_brackets_at` meets its contract: the invariant is `Scanning`, as in `scan_brackets`, here of a line in the
+-- scratch; its laws are in proofs/StackLaws.antt.
 use borrow.Author.Needs.{needs}
 use Prim.Native.Nat.{_+_, _-_}
 use Rattle.buffer.specs.Buffer.{part}

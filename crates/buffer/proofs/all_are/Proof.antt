@@ -1,3 +1,5 @@
+-- `all_are` meets its contract: the invariant is `Matching`, the first i bytes are b; its laws are in
+-- proofs/LoopLaws.antt.
 use borrow.Author.Needs.{needs}
 use Prim.Native.Nat.{_-_}
 use lib.ListN.{length}

@@ -1,3 +1,5 @@
+-- `fill` meets its contract: the invariant is `Filling`, the first i bytes are b, the others as they were; its laws are
+-- in proofs/LoopLaws.antt.
 use borrow.Author.Needs.{needs}
 use Prim.Native.Nat.{_-_}
 use lib.ListN.{length}

@@ -1,3 +1,5 @@
+-- `put_levels` meets its contract: the invariant is `Indenting`, `level` indents are written over the front of out; its
+-- laws are in proofs/LoopLaws.antt.
 use borrow.Author.Needs.{needs}
 use native.Mathlib.Omega.{arith}
 use Prim.Native.Nat.{_-_}

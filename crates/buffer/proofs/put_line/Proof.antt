@@ -1,3 +1,5 @@
+-- `put_line` meets its contract: the invariant is `Copying`, the line's first i bytes are written over the front of
+-- out; its laws are in proofs/LoopLaws.antt.
 use borrow.Author.Needs.{needs}
 use Prim.Native.Nat.{_-_}
 use Rattle.buffer.proofs.LoopLaws.{Copying, copying-start, copying-more, copying-end}

@@ -1,3 +1,5 @@
+-- `write_changes` meets its contract: the invariant is `Walk`, the changes before i and j are written, and the next
+-- gaps end at a and b; its laws are in proofs/WalkLaws.antt.
 use borrow.Author.Needs.{needs}
 use Rattle.changes.proofs.WalkLaws.{walk-source, walk-text, walk-source-on, walk-text-on}
 use Rattle.changes.proofs.WalkLaws.{Walk, walk-begin, walk-pair, walk-turn, walk-end}

@@ -1,3 +1,5 @@
+-- `agree_blocks` meets its contract: the invariant is `Agreeing` of specs/Common.antt, the first i bytes of both agree;
+-- its laws are in proofs/CommonLaws.antt.
 use Prim.Native.Nat.{_-_}
 use borrow.Author.Needs.{needs}
 use Rattle.compare.specs.Common.{Agreeing}

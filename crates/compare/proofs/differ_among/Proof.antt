@@ -1,4 +1,4 @@
--- `differ_among` meets its contract: the invariant is `NoneAmong`.
+-- `differ_among` meets its contract: the invariant is `NoneAmong`, whose laws are in unicode/proofs/Among.antt.
 use Prim.Native.Nat.{_-_}
 use native.Mathlib.Omega.{arith}
 use mathlib.Core.Path.{refl}

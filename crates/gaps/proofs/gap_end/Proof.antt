@@ -1,3 +1,5 @@
+-- `gap_end` meets its contract: the invariant is `GapScan`, no character from i up to a is kept; its laws are in
+-- proofs/ScanLaws.antt.
 use Rattle.gaps.proofs.ScanLaws.{GapScan, gap-begin, gap-turn, gap-found, gap-last}
 use Prim.Native.Nat.{_-_}
 use lib.ListN.{length}

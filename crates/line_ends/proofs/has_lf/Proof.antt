@@ -1,4 +1,4 @@
--- `has_lf` meets its contract: the invariant is `NoneAmong`.
+-- `has_lf` meets its contract: the invariant is `NoneAmong`, whose laws are in unicode/proofs/Among.antt.
 use Prim.Native.Nat.{_-_}
 use native.Mathlib.Omega.{arith}
 use mathlib.Core.Path.{refl}

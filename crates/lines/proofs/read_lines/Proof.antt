@@ -1,3 +1,5 @@
+-- `read_lines` meets its contract: the invariant is `Looked`, the lines before `at` are in record, output and scratch,
+-- and the check comes to that of the lines left; its laws are in proofs/CheckLaws.antt and LoopLaws.antt.
 use mathlib.Core.Path.{_∙_}
 use native.Mathlib.Omega.{arith}
 use borrow.Author.Needs.{needs}

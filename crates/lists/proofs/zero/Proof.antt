@@ -1,3 +1,5 @@
+-- `zero` meets its contract: the invariant is `Filling`, the first i numbers are 0, the others as they were; its laws
+-- are in buffer/proofs/LoopLaws.antt.
 use Rattle.buffer.proofs.LoopLaws.{Filling, filling-start, filling-more, filling-end}
 use Prim.Native.Nat.{_-_}
 use lib.ListN.{length}

@@ -1,3 +1,5 @@
+-- `all_code_or_str` meets its contract: the invariant is `Checked`, the answer is that for the class bytes from i on;
+-- its laws are in proofs/CodeEnd.antt.
 use native.Mathlib.Omega.{arith}
 use Prim.Native.Nat.{_-_}
 use lib.ListN.{length}

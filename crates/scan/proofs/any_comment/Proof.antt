@@ -1,3 +1,5 @@
+-- `any_comment` meets its contract: the invariant is `NoneAmong`, `any` is false only if none of the first k class
+-- bytes is a `//` comment's; its laws are in unicode/proofs/Among.antt.
 use borrow.Author.Needs.{needs}
 use Prim.Native.Nat.{_-_}
 use native.Mathlib.Omega.{arith}

@@ -1,3 +1,5 @@
+-- `block` meets its contract: the invariant is `InBlock`, the line is classified up to i, where d block comments are
+-- open; its laws are in proofs/CodeLaws.antt.
 use native.Mathlib.Omega.{arith}
 use Prim.Native.Nat.{_-_}
 use lib.ListN.{length}

@@ -1,3 +1,5 @@
+-- `classify` meets its contract: the invariant is `Reached`, the line is classified up to i, where y is open; its laws
+-- are in proofs/ClassifyLaws.antt.
 use native.Mathlib.Omega.{arith}
 use Prim.Native.Nat.{_-_}
 use lib.ListN.{length}

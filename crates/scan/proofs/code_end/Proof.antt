@@ -1,3 +1,5 @@
+-- `code_end` meets its contract: the invariant is `Passed`, none of the first i class bytes is a `//` comment's; its
+-- laws are in proofs/CodeEnd.antt.
 use borrow.Author.Needs.{needs}
 use mathlib.Core.Path.{sym}
 use native.Mathlib.Omega.{arith}

@@ -1,3 +1,5 @@
+-- `has_no_comment` meets its contract: the invariant is `Passed`, none of the first i class bytes is a `//` comment's;
+-- its laws are in proofs/CodeEnd.antt.
 use Prim.Native.Nat.{_-_}
 use native.Mathlib.Omega.{arith}
 use Rattle.scan.proofs.CodeEnd.{Passed, passed-start, passed-block, no-comment, no-comment-no}

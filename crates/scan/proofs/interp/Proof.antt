@@ -1,3 +1,5 @@
+-- `interp` meets its contract: the invariant is `InInterp`, the line is classified up to i, which is inside of `${`, d
+-- braces deep; its laws are in proofs/StringLaws.antt.
 use native.Mathlib.Omega.{arith}
 use Prim.Native.Nat.{_-_}
 use lib.ListN.{length}

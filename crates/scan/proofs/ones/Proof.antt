@@ -1,3 +1,5 @@
+-- `ones` meets its contract: the invariant is `Scanned` of specs/Stretch.antt, the line is classified as code up to i;
+-- its laws are in proofs/ScannedLaws.antt and CodeLaws.antt.
 use borrow.Author.Needs.{needs}
 use native.Mathlib.Omega.{arith}
 use Prim.Native.Nat.{_-_}

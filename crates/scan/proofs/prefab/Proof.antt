@@ -1,3 +1,5 @@
+-- `prefab` meets its contract: the invariant is `InPrefab`, the line is classified up to i, which is in the prefab; its
+-- laws are in proofs/CodeLaws.antt.
 use borrow.Author.Needs.{needs}
 use native.Mathlib.Omega.{arith}
 use Prim.Native.Nat.{_-_}

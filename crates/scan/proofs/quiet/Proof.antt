@@ -1,3 +1,5 @@
+-- `quiet` meets its contract: the invariant is `NoneAmong`, `any` is false only if none of the first k bytes starts
+-- something in code; its laws are in unicode/proofs/Among.antt.
 use borrow.Author.Needs.{needs}
 use native.Mathlib.Omega.{arith}
 use Prim.Native.Nat.{_-_}

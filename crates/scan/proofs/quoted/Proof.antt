@@ -1,3 +1,5 @@
+-- `quoted` meets its contract: the invariant is `InQuoted`, the line is classified up to i, which is in the string; its
+-- laws are in proofs/StringLaws.antt.
 use borrow.Author.Needs.{needs}
 use native.Mathlib.Omega.{arith}
 use Prim.Native.Nat.{_-_}

@@ -1,3 +1,5 @@
+-- `any_other` meets its contract: the invariant is `NoneAmong`, `any` is false only if the first k bytes are spaces;
+-- its laws are in unicode/proofs/Among.antt.
 use borrow.Author.Needs.{needs}
 use Prim.Native.Nat.{_-_}
 use mathlib.Core.Path.{refl}

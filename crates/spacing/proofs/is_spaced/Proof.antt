@@ -1,3 +1,5 @@
+-- `is_spaced` meets its contract: the invariant is `Keeping` of specs/Respaced.antt, spacing leaves the first i bytes
+-- as they are; its laws are in proofs/KeptLaws.antt.
 use borrow.Author.Needs.{needs}
 use Prim.Native.Nat.{_-_}
 use lib.ListN.{length}

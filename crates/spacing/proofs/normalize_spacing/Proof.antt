@@ -1,3 +1,5 @@
+-- `normalize_spacing` meets its contract: the invariant is `Reached`, the first i bytes are respaced into scratch, with
+-- the gap after them in t; its laws are in proofs/SpacingLaws.antt.
 use borrow.Author.Needs.{needs}
 use Prim.Native.Nat.{_+_, _-_}
 use lib.ListN.{length}

@@ -1,3 +1,5 @@
+-- `odd_sixteen` meets its contract: the invariant is `NoneAmong`, `any` is false only if none of the first k bytes is
+-- odd; its laws are in unicode/proofs/Among.antt.
 use borrow.Author.Needs.{needs}
 use Prim.Native.Nat.{_-_}
 use Rattle.unicode.specs.Places.{NoneAmong}

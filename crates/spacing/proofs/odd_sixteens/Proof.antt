@@ -1,3 +1,5 @@
+-- `is_clear_long` meets its contract: the invariant is `Cleared`, none of the first i bytes is odd; its laws are in
+-- proofs/OddLaws.antt.
 use borrow.Author.Needs.{needs}
 use Prim.Native.Nat.{_-_}
 use native.Mathlib.Omega.{arith}

@@ -1,3 +1,5 @@
+-- `past_sixteens` meets its contract: the invariant is `Run` of specs/Respaced.antt, only spaces stand from `at` up to
+-- i; its laws are in proofs/SpacingLaws.antt.
 use borrow.Author.Needs.{needs}
 use Prim.Native.Nat.{_-_}
 use native.Mathlib.Omega.{arith}

@@ -1,3 +1,5 @@
+-- `trim_blanks` meets its contract: the invariant is `Trimming`, the text's first m bytes, trimmed, are the whole text,
+-- trimmed; its laws are in proofs/SpacingLaws.antt.
 use borrow.Author.Needs.{needs}
 use Rattle.spacing.proofs.SpacingLaws.{Trimming, trimming-start, trimming-more, trimming-stop, trimming-end}
 use Rattle.spacing.proofs.trim_blanks.Statement.{statement}

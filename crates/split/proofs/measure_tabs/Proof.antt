@@ -1,3 +1,5 @@
+-- `measure_tabs` meets its contract: the invariant is `Measuring`, the first i bytes reach this column; its laws are in
+-- proofs/MeasureLaws.antt.
 use borrow.Author.Needs.{needs}
 use native.Mathlib.Omega.{arith}
 use Prim.Native.Nat.{_-_}

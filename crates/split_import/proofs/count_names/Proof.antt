@@ -1,3 +1,5 @@
+-- `count_names` meets its contract: the invariant is `Counting`, the parts before byte a are counted, names and blank
+-- ones; its laws are in proofs/NameLaws.antt.
 use borrow.Author.Needs.{needs}
 use Prim.Native.Nat.{_+_, _-_}
 use lib.ListN.{length}

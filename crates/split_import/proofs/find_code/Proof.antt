@@ -1,3 +1,5 @@
+-- `find_code` meets its contract: the invariant is `Finding` of rules/proofs/CellsLaws.antt, no code character c stands
+-- before i; its laws for c are in proofs/ImportLaws.antt.
 use borrow.Author.Needs.{needs}
 use Prim.Native.Nat.{_-_}
 use lib.ListN.{length}

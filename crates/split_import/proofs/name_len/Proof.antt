@@ -1,3 +1,5 @@
+-- `name_len` meets its contract: the invariant is `NameScan`, no comma stands before i; its laws are in
+-- proofs/NameLaws.antt.
 use borrow.Author.Needs.{needs}
 use Prim.Native.Nat.{_-_}
 use lib.ListN.{length}

@@ -1,3 +1,5 @@
+-- `write_names` meets its contract: the invariant is `Filling`, the names before byte a are filled into lines, which
+-- are written, and f has the place and the column reached; its laws are in proofs/NameLaws.antt.
 use borrow.Author.Needs.{needs}
 use Prim.Native.Nat.{_+_, _-_}
 use lib.ListN.{length}

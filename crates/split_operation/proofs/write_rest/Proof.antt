@@ -1,3 +1,5 @@
+-- `write_rest` meets its contract: the invariant is `Writing`, the pieces before the cut c are written, the last of
+-- them up to r; its laws are in proofs/OperationLaws.antt.
 use borrow.Author.Needs.{needs}
 use Prim.Native.Nat.{_-_}
 use lib.ListN.{length}

@@ -1,3 +1,5 @@
+-- `answer_place` meets its contract: the invariant is `Answering`, the entries from k up to `next` are this place and
+-- have its kind; its laws are in proofs/FillLaws.antt.
 use Prim.Native.Nat.{_-_}
 use native.Mathlib.Omega.{arith}
 use borrow.Author.Needs.{needs}

@@ -1,3 +1,5 @@
+-- `is_ascending` meets its contract: the invariant is `Ascends`, the answer is that for the entries from k - 1 on; its
+-- laws are in proofs/PlaceLaws.antt.
 use Prim.Native.Nat.{_-_}
 use borrow.Author.Needs.{needs}
 use Rattle.text_kinds.proofs.PlaceLaws.{Ascends, ascends-start, ascends-more, ascends-not, ascends-end}

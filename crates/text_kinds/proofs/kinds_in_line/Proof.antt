@@ -1,3 +1,5 @@
+-- `kinds_in_line` meets its contract: the invariant is `InLine`, the line is read up to i, which is at this column, and
+-- the entries before `next` have their kinds; its laws are in proofs/LineLaws.antt.
 use Prim.Native.Nat.{_-_}
 use mathlib.Core.Path.{ap}
 use native.Mathlib.Omega.{arith}

@@ -1,3 +1,5 @@
+-- `pass_line` meets its contract: the invariant is `Passing`, the zeros of the entries from k up to `next` are their
+-- kinds, since they stand past the line's end; its laws are in proofs/FillLaws.antt.
 use Prim.Native.Nat.{_-_}
 use native.Mathlib.Omega.{arith}
 use borrow.Author.Needs.{needs}

@@ -1,3 +1,5 @@
+-- `text_kinds` meets its contract: the invariant is `Read` of specs/Reading.antt, the lines before p are read and the
+-- entries before its next have their kinds; its laws are in proofs/ReadLaws.antt.
 use Prim.Native.Nat.{_+_, _-_}
 use mathlib.Core.Path.{_≡_, refl}
 use native.Mathlib.Omega.{arith}

@@ -1,3 +1,5 @@
+-- `atom_len` meets its contract: the invariant is `AtomScan`, the first i bytes are of an atom's name; its laws are in
+-- proofs/StepLaws.antt.
 use borrow.Author.Needs.{needs}
 use Prim.Native.Nat.{_-_}
 use lib.ListN.{length}

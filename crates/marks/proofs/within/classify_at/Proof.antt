@@ -1,3 +1,5 @@
+-- `classify_at` meets its contract: the invariant is `Marking`, the first i class bytes are written, t is the mark
+-- before byte i, and beside it stand its class byte and whether it rests; its laws are in proofs/WithinLaws.antt.
 use mathlib.Core.Path.{ap}
 use Rattle.rules.specs.declared.Mark.{Mark}
 use Rattle.basics.specs.Depth.{depthOf}

@@ -1,3 +1,5 @@
+-- `any_starts` meets its contract: the invariant is `NoneAmong`, `any` is false only if no operator starts at the first
+-- k bytes; its laws are in unicode/proofs/Among.antt.
 use borrow.Author.Needs.{needs}
 use native.Mathlib.Omega.{arith}
 use Prim.Native.Nat.{_-_}

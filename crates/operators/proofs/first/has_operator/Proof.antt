@@ -1,3 +1,5 @@
+-- `has_operator` meets its contract: the invariant is `NoneBefore` of specs/First.antt, the answer is that for the
+-- bytes from i on; its laws are in proofs/FirstLaws.antt.
 use Prim.Native.Nat.{_-_}
 use borrow.Author.Needs.{needs}
 use lib.ListN.{length}

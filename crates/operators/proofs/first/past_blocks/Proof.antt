@@ -1,3 +1,5 @@
+-- `past_blocks` meets its contract: the invariant is `NoneBefore` of specs/First.antt, no operator starts before i; its
+-- laws are in proofs/FirstLaws.antt.
 use Prim.Native.Nat.{_-_}
 use borrow.Author.Needs.{needs}
 use native.Mathlib.Omega.{arith}

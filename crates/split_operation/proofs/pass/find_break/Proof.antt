@@ -1,3 +1,5 @@
+-- `find_break` meets its contract: the invariant is `Passing` of specs/Pass.antt, what the first i bytes say of words,
+-- brackets and operators; its laws are in proofs/PassLaws.antt and IdentLaws.antt.
 use borrow.Author.Needs.{needs}
 use native.Mathlib.Omega.{arith}
 use mathlib.Core.Path.{refl}

@@ -1,3 +1,5 @@
+-- `ident_end` meets its contract: the invariant is `IdentRun` of specs/Pass.antt, the bytes from `from` up to i are of
+-- one word; its laws are in proofs/IdentLaws.antt.
 use borrow.Author.Needs.{needs}
 use Prim.Native.Nat.{_-_}
 use lib.ListN.{length}

@@ -1,3 +1,5 @@
+-- `next_op` meets its contract: the invariant is `Seeking` of specs/Pass.antt, no operator of the strength stands from
+-- `from` up to i; its laws are in proofs/PassLaws.antt and IdentLaws.antt.
 use borrow.Author.Needs.{needs}
 use Prim.Native.Nat.{_-_}
 use lib.ListN.{length}

@@ -230,6 +230,20 @@ fn a_file_that_is_too_long() {
     assert_eq!(refused, Err(Refusal::ConfigTooLong));
 }
 
+/// A path with `..` in it has the files of the folders that it ends in, not of those that it passes through.
+#[cfg(feature = "std")]
+#[test]
+fn a_path_through_another_folder() {
+    let folder = std::path::Path::new(env!("CARGO_TARGET_TMPDIR")).join("passed_through");
+    std::fs::create_dir_all(folder.join("b")).expect("made");
+    std::fs::write(folder.join(".editorconfig"), "# here").expect("written");
+    std::fs::write(folder.join("b/.editorconfig"), "# passed through").expect("written");
+    let find = |name: &str| wirescript_format::editorconfig::find(folder.join(name)).expect("read");
+    assert_eq!(find("b/../a.ws"), find("a.ws"));
+    assert_eq!(find("b/../a.ws").texts[0], b"# here");
+    assert_eq!(find("b/a.ws").texts[0], b"# passed through");
+}
+
 /// The limits that a formatter sets by itself.
 #[test]
 fn defaults_of_a_formatter() {

@@ -1,14 +1,12 @@
 //! The options of a file: the defaults, what its .editorconfig files say, then the command line.
 
-use std::borrow::Cow;
-use std::path::{Component, Path};
+use std::path::Path;
 
 use wirescript_format::editorconfig::{self, Files};
 use wirescript_format::{EditorConfig, Options, Refusal};
 
 use crate::arguments::Job;
 use crate::report::{Trouble, words};
-use crate::walk::whole;
 
 /// The options for a file; where there is none (standard input without a path), without .editorconfig.
 pub fn options(job: &Job, file: Option<&Path>) -> Result<Options, Trouble> {
@@ -23,19 +21,10 @@ pub fn options(job: &Job, file: Option<&Path>) -> Result<Options, Trouble> {
 /// Options with what the .editorconfig files of a file set.
 pub fn configured(options: &Options, file: &Path) -> Result<Options, Trouble> {
     let what = "its .editorconfig files can't be read";
-    let files = editorconfig::find(direct(file)).map_err(|error| Trouble::io(what, &error))?;
+    let files = editorconfig::find(file).map_err(|error| Trouble::io(what, &error))?;
     let Files { path, texts } = files;
     let config = EditorConfig::read(path, &texts).map_err(refused)?;
     options.with_editorconfig(config).map_err(refused)
-}
-
-/// The path itself or, where it has a `..`, one that leads through no folder that the file isn't in.
-fn direct(file: &Path) -> Cow<'_, Path> {
-    if file.components().any(|part| part == Component::ParentDir) {
-        whole(file).into()
-    } else {
-        file.into()
-    }
 }
 
 fn refused(refusal: Refusal) -> Trouble {

@@ -18,7 +18,8 @@ pub struct Files {
 }
 
 /// Finds the .editorconfig files of a file: the texts of its directory and of up to seven above it.
-/// The file itself need not be there. A path that isn't absolute starts at the current directory.
+/// The file itself need not be there. A path that isn't absolute starts at the current directory; one
+/// with a `..` in it leads through no directory that the file isn't in.
 /// A file that is missing is an empty text; of one that is too long no more is read than it takes to
 /// refuse it.
 ///
@@ -39,7 +40,7 @@ pub struct Files {
 /// # Errors
 /// Where the current directory or a file can't be read, or the path isn't UTF-8.
 pub fn find(file: impl AsRef<Path>) -> io::Result<Files> {
-    let file = std::path::absolute(file)?;
+    let file = direct(&std::path::absolute(file)?);
     let directories: Vec<PathBuf> = file
         .ancestors()
         .skip(1)
@@ -62,6 +63,18 @@ pub fn find(file: impl AsRef<Path>) -> io::Result<Files> {
         path: parts.join("/"),
         texts,
     })
+}
+
+/// The path itself or, where it has a `..`, its directory's own path and its name. It stays as it is
+/// where there is no such directory.
+fn direct(file: &Path) -> PathBuf {
+    if !file.components().any(|part| part == Component::ParentDir) {
+        return file.to_path_buf();
+    }
+    match (file.parent().map(Path::canonicalize), file.file_name()) {
+        (Some(Ok(directory)), Some(name)) => directory.join(name),
+        _ => file.to_path_buf(),
+    }
 }
 
 /// The text of a file, cut one byte behind the longest; empty where there is none.

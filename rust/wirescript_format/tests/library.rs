@@ -236,6 +236,7 @@ fn a_file_that_is_too_long() {
 fn a_path_through_another_folder() {
     let folder = std::path::Path::new(env!("CARGO_TARGET_TMPDIR")).join("passed_through");
     std::fs::create_dir_all(folder.join("b")).expect("made");
+    let folder = folder.canonicalize().expect("made");
     std::fs::write(folder.join(".editorconfig"), "# here").expect("written");
     std::fs::write(folder.join("b/.editorconfig"), "# passed through").expect("written");
     let find = |name: &str| wirescript_format::editorconfig::find(folder.join(name)).expect("read");

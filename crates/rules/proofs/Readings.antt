@@ -1,5 +1,5 @@
 -- Readings of document 01, as the Rust has them: one list of the rules' results. The numbers are those of
--- docs/READINGS.md.
+-- docs/TERMS.md.
 use mathlib.Core.List.{List, [], _∷_, map}
 use mathlib.Core.Path.{_≡_, refl}
 use Rattle.rules.specs.Options.{defaults}

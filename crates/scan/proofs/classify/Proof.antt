@@ -1,37 +1,49 @@
 -- `classify` meets its contract: the invariant is `Reached`, the line is classified up to i, where y is open; its laws
 -- are in proofs/ClassifyLaws.antt.
 use native.Mathlib.Omega.{arith}
-use Prim.Native.Nat.{_-_}
-use lib.ListN.{length}
-use Rattle.scan.proofs.ClassifyLaws.{Reached, reached-start, reached-more, reached-end}
+use borrow.Author.Needs.{needs}
+use lib.ListN.{length-take}
+use Rattle.scan.proofs.QuietLaws.{plain-classified}
 use Rattle.scan.proofs.classify.Statement.{statement}
 use Rattle.scan.proofs.classify.Tie as tie
 
-abbrev Inv-loop : tie.InvT-loop
-Inv-loop line class₀ i₀ y₀ class i y = Reached line y₀ class₀ class i y
+is-plain-requires : tie.Need-is-plain-requires
+is-plain-requires c κs = search needs
 
-abbrev μ-loop : tie.MeasureT-loop
-μ-loop line class₀ i₀ y₀ class i y = length line - i
+slice-relend-prefix-fill : tie.Need-slice-relend-prefix-fill
+slice-relend-prefix-fill c = search needs
 
-loop-holds : tie.Need-loop-holds Inv-loop μ-loop
-loop-holds c = reached-start _ _ _
+slice-aggregate-fill : tie.Need-slice-aggregate-fill
+slice-aggregate-fill c = simp length-take (omega arith)
 
-stretch-requires : tie.Need-stretch-requires Inv-loop μ-loop
-stretch-requires c κs = record { inside = omega arith; room = omega arith; few = omega arith }
+fill-requires : tie.Need-fill-requires
+fill-requires c κs = search needs
 
-loop-less : tie.Need-loop-less Inv-loop μ-loop
-loop-less c = omega arith
+same-length : tie.Need-same-length
+same-length c = search needs
 
-loop-again : tie.Need-loop-again Inv-loop μ-loop
-loop-again c = reached-more (c .before .before .before .before .before .loop .inv) (c .before .before .stretch .ensures)
+returns : tie.Need-returns
+returns c = search (needs, plain-classified)
 
-same-length : tie.Need-same-length Inv-loop μ-loop
-same-length c = c .before .loop .inv .scanned .moved .as-long
+stretches-requires : tie.Need-stretches-requires
+stretches-requires c κs = search needs
 
-returns : tie.Need-returns Inv-loop μ-loop
-returns c = reached-end (c .before .loop .inv) (omega arith)
+same-length-2 : tie.Need-same-length-2
+same-length-2 c = search needs
+
+returns-2 : tie.Need-returns-2
+returns-2 c = search needs
 
 pub classify-spec : {M : Type 1} → statement M
 classify-spec =
     tie.close
-    (tie.spec Inv-loop μ-loop loop-holds stretch-requires loop-less loop-again same-length returns)
+    (tie.spec
+    is-plain-requires
+    slice-relend-prefix-fill
+    slice-aggregate-fill
+    fill-requires
+    same-length
+    returns
+    stretches-requires
+    same-length-2
+    returns-2)

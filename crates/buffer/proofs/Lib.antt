@@ -5,3 +5,4 @@ pub mod AgreeLaws
 pub mod RepeatLaws
 pub mod WriteLaws
 pub mod LoopLaws
+pub mod CopyLaws

@@ -12,7 +12,7 @@ use borrow.Author.Fill.{fill-more}
 use Rattle.buffer.specs.Buffer.{over, Wrote, AllAre}
 use Rattle.buffer.specs.Repeat.{times}
 use Rattle.buffer.proofs.RegionLaws.{part-from, back-from}
-use Rattle.buffer.proofs.OverLaws.{over-nil, over-more, over-min, over-full, over-next, length-over}
+use Rattle.buffer.proofs.OverLaws.{over-nil, over-full, over-next, length-over}
 use Rattle.buffer.proofs.RepeatLaws.{length-times, times-snoc, times-split}
 
 -- ---- `fill`: i elements of s₀ are b
@@ -38,30 +38,6 @@ module _ (s₀ : List ℕ) (b : ℕ) (s : List ℕ) (i : ℕ) (r : Filling s₀ 
   filling-end h =
       let e : i ≡ length s₀ = omega (arith, r .within, r .long) in
       r .is ∙ rw (e, drop-of-length-le s₀ {i = length s₀} (le-refl (length s₀)), append-nil)
-
--- ---- `put_line`: i elements of line stand over the front, of the n that fit
-
-pub record Copying (out₀ line : List ℕ) (n : ℕ) (out : List ℕ) (i : ℕ) : Type 0 where
-  pub within : i ≤ n
-  pub is : out ≡ over out₀ (take i line)
-  pub long : length out ≡ length out₀
-
-pub copying-start : (out line : List ℕ) (n : ℕ) → Copying out line n out 0
-copying-start out line n = record { within = zero-le; is = sym (over-nil out); long = refl }
-
-module _ (out₀ line : List ℕ) (n : ℕ) (out : List ℕ) (i : ℕ) (r : Copying out₀ line n out i) (fits : n ≡ min (length line) (length out₀)) where
-  pub copying-more : i < n → Copying out₀ line n (set out i (getD line i 0)) (i + 1)
-  copying-more h =
-      record {
-        within = omega arith;
-        is = ap (λ (o : List ℕ). set o i (getD line i 0)) (r .is) ∙ over-more out₀ line i (omega arith);
-        long = length-set out i (getD line i 0) ∙ r .long;
-      }
-
-  pub copying-end : n ≤ i → Wrote out₀ out line (length line)
-  copying-end h =
-      let e : i ≡ min (length line) (length out₀) = omega (arith, r .within) in
-      record { size = refl; is = r .is ∙ rw e (over-min out₀ line) }
 
 -- ---- `all_are`: i elements of s are b
 

@@ -18,24 +18,6 @@ length-over [] t = refl
 length-over (x ∷ d) [] = refl
 length-over (x ∷ d) (a ∷ t) = ap suc (length-over d t)
 
--- one more element
-over-suc : (d t : List ℕ) (i : ℕ) → i < length t → set (over d (take i t)) i (getD t i 0) ≡ over d (take (suc i) t)
-unfolding over
-over-suc [] t i h = refl
-over-suc (x ∷ d) [] i h = absurd (not-suc-le-zero h)
-over-suc (x ∷ d) (a ∷ t) zero h = ap (λ (l : List ℕ). a ∷ l) (sym (over-nil d))
-over-suc (x ∷ d) (a ∷ t) (suc i) h = ap (λ (l : List ℕ). a ∷ l) (over-suc d t i (le-of-suc-le-suc h))
-
-pub over-more : (d t : List ℕ) (i : ℕ) → i < length t → set (over d (take i t)) i (getD t i 0) ≡ over d (take (i + 1) t)
-over-more d t i h = rw add-one (over-suc d t i h)
-
--- the elements that fit are all that is written
-pub over-min : (d t : List ℕ) → over d (take (min (length t) (length d)) t) ≡ over d t
-unfolding over
-over-min [] t = refl
-over-min (x ∷ d) [] = rw zero-min
-over-min (x ∷ d) (a ∷ t) = rw suc-min-suc (ap (λ (l : List ℕ). a ∷ l) (over-min d t))
-
 -- what comes after a text that fills the buffer is left out
 pub over-full : (d t l : List ℕ) → length d ≤ length t → over d (t ++ l) ≡ over d t
 unfolding over

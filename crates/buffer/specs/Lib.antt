@@ -1,3 +1,4 @@
 -- What the contracts cite.
 pub mod Buffer
 pub mod Repeat
+pub mod Copy

@@ -4,6 +4,7 @@ ghost use Prim.Native.Nat.{_+_, _≤_, _<_, _^_, min};
 ghost use mathlib.Core.List.{_++_};
 ghost use lib.ListN.{length, replicate};
 ghost use Rattle.buffer.specs.Buffer.{Wrote, Appended, Finishes, AllAre};
+ghost use Rattle.buffer.specs.Copy.{Block, BlockPut, Copies};
 ghost use Rattle.buffer.specs.Repeat.{times};
 
 // Sets every byte of s to b.
@@ -31,16 +32,92 @@ pub fn place(at: usize, n: usize) -> usize
     if at < n { at } else { n }
 }
 
+// The w bytes of line from `at` on.
+fn block(line: &[u8], at: usize, w: usize) -> [u8; 16]
+    requires { ⌜ (at + w ≤ length (now line)) × (w ≤ 16) ⌝ }
+    ensures { λ r. ⌜ Block r (now (line .entry)) at w ⌝ }
+{
+    let mut b = [0u8; 16];
+    let mut k: usize = 0;
+    while k < w {
+        b[k] = line[at + k];
+        k += 1;
+    }
+    b
+}
+
+// Writes the first w bytes of b into out from `at` on.
+fn put_block(out: &mut [u8], at: usize, b: [u8; 16], w: usize)
+    requires { ⌜ (at + w ≤ length (now out)) × (w ≤ 16) ⌝ }
+    ensures { λ _. ⌜ BlockPut (now (out .entry)) (now (out .exit)) b at w ⌝ }
+{
+    let mut k: usize = 0;
+    while k < w {
+        out[at + k] = b[k];
+        k += 1;
+    }
+}
+
+// Copies w bytes from `at` on. All are read before one is written, so that it is one load and one store.
+fn copy_block(out: &mut [u8], line: &[u8], at: usize, w: usize)
+    requires { ⌜ (at + w ≤ length (now out)) × (at + w ≤ length (now line)) ⌝ }
+    requires { ⌜ w ≤ 16 ⌝ }
+    ensures { λ _. ⌜ Copies (now (out .entry)) (now (out .exit)) (now (line .entry)) at w ⌝ }
+{
+    put_block(out, at, block(line, at, w), w);
+}
+
+// Copies the first n bytes: from 16 on by blocks of 16, of which the last may overlap, and below by two blocks.
+fn copy_long(out: &mut [u8], line: &[u8], n: usize)
+    requires { ⌜ (n ≤ length (now out)) × (n ≤ length (now line)) ⌝ }
+    requires { ⌜ 16 ≤ n ⌝ }
+    ensures { λ _. ⌜ Copies (now (out .entry)) (now (out .exit)) (now (line .entry)) 0 n ⌝ }
+{
+    let last = n - 16;
+    let mut i = 0;
+    while i < last {
+        copy_block(out, line, i, 16);
+        i += 16;
+    }
+    copy_block(out, line, last, 16);
+}
+
+fn copy_twice(out: &mut [u8], line: &[u8], n: usize, w: usize)
+    requires { ⌜ (n ≤ length (now out)) × (n ≤ length (now line)) ⌝ }
+    requires { ⌜ (w ≤ n) × (n ≤ w + w) ⌝ }
+    requires { ⌜ w ≤ 16 ⌝ }
+    ensures { λ _. ⌜ Copies (now (out .entry)) (now (out .exit)) (now (line .entry)) 0 n ⌝ }
+{
+    copy_block(out, line, 0, w);
+    copy_block(out, line, n - w, w);
+}
+
+// The same of any number.
+fn copy(out: &mut [u8], line: &[u8], n: usize)
+    requires { ⌜ (n ≤ length (now out)) × (n ≤ length (now line)) ⌝ }
+    ensures { λ _. ⌜ Copies (now (out .entry)) (now (out .exit)) (now (line .entry)) 0 n ⌝ }
+{
+    if 16 <= n {
+        return copy_long(out, line, n);
+    }
+    if 8 <= n {
+        return copy_twice(out, line, n, 8);
+    }
+    if 4 <= n {
+        return copy_twice(out, line, n, 4);
+    }
+    if 2 <= n {
+        return copy_twice(out, line, n, 2);
+    }
+    copy_block(out, line, 0, n);
+}
+
 // Writes as much of line as fits over the front of out, and gives the line's whole length.
 pub fn put_line(out: &mut [u8], line: &[u8]) -> usize
     ensures { λ r. ⌜ Wrote (now (out .entry)) (now (out .exit)) (now (line .entry)) r ⌝ }
 {
     let n = place(line.len(), out.len());
-    let mut i = 0;
-    while i < n {
-        out[i] = line[i];
-        i += 1;
-    }
+    copy(out, line, n);
     line.len()
 }
 

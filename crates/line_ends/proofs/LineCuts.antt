@@ -1,5 +1,5 @@
 -- Lines, cut on bytes.
---     Ending                        the loops of `past_blocks` and `line_end`, for the first LF
+--     Ending                        the first LF, from place to place
 --     Last, More, cut, whole, part-of   a text's pieces: all of it, or up to its first LF and from there on
 --     cr-none, cr-goes, cr-stays    one CR at a line's end; cr-fits, cr-scalars
 use Prim.Native.Nat.{ℕ, zero, suc, _+_, _-_, _<_, _≤_, zero-le}
@@ -14,11 +14,10 @@ use borrow.Author.Tests.{eq-eqb, ne-eqb, eqb-true, eqb-false}
 use lib.ListN.{length, getD, take, drop, length-take, length-drop, drop-of-length-le}
 use lib.Seq.{drop-cons}
 use Rattle.unicode.specs.Unicode.{isScalar, Scalars}
-use Rattle.unicode.specs.Places.{NoneAmong}
 use Rattle.unicode.proofs.Tests.{by-test}
 use Rattle.rules.specs.Basics.{choose, is, Pieces, pieces, atSep, splitOn}
 use Rattle.rules.specs.Lines.{dropCr}
-use Rattle.line_ends.specs.LineEnds.{lfAt, Ending, LineEnd}
+use Rattle.line_ends.specs.LineEnds.{Ending, LineEnd}
 
 -- ---- the first piece of a text
 

@@ -32,34 +32,27 @@ use Rattle.line.proofs.HoldsLaws.{first-line, prev-bytes, carry-bytes, 
 
 -- ---- a blank line
 
-blank-same : (model eol : List ℕ) (st : Record) (out : List ℕ) → Small st
-    → ((unit : ℕ) (scratch : List ℕ) (f : Formatter) → Holds model eol unit f st out scratch → (f .prevBlank || isEmpty (f .lines)) ≡ true)
-    → Blanked model eol st out st out
-unfolding blankLine
-blank-same model eol st out s e =
-    record {
-      step = λ unit scratch. record {
-        holds = λ f h. rw (choose-true (f .prevBlank || isEmpty (f .lines)) f _ (e unit scratch f h)) h;
-        ordered = s .ordered;
-        at = omega arith;
-        runs = λ q. q;
-        depth = omega arith;
-        line = omega arith;
-        carry = omega arith;
-        imports = omega arith;
-        blanks = omega arith;
-      };
-    }
-
-pub blank-again : (model eol : List ℕ) (st : Record) (out : List ℕ) → Small st → st .blank ≡ true → Blanked model eol st out st out
-blank-again model eol st out s e = blank-same model eol st out s (λ unit scratch f h. ap (λ (b : Bool). b || isEmpty (f .lines)) (sym (h .blank) ∙ e))
-
-module _ (model eol : List ℕ) (st : Record) (out : List ℕ) (r : Bool) (s : Small st) (e : st .blank ≡ false) (q : r ≡ isFirst (st .text .last)) where
+module _ (model eol : List ℕ) (st : Record) (out : List ℕ) (r : Bool) (s : Small st) (q : r ≡ (st .blank || isFirst (st .text .last))) where
   blank-test : {unit : ℕ} {scratch : List ℕ} (f : Formatter) → Holds model eol unit f st out scratch → (f .prevBlank || isEmpty (f .lines)) ≡ r
-  blank-test f h = rw (← h .blank, e) (sym (first-line h) ∙ sym q)
+  blank-test f h = rw (← h .blank) (ap (λ (b : Bool). st .blank || b) (sym (first-line h)) ∙ sym q)
 
-  pub blank-first : r ≡ true → Blanked model eol st out st out
-  blank-first t = blank-same model eol st out s (λ unit scratch f h. blank-test f h ∙ t)
+  -- it adds nothing
+  pub blank-same : r ≡ true → Blanked model eol st out st out
+  unfolding blankLine
+  blank-same t =
+      record {
+        step = λ unit scratch. record {
+          holds = λ f h. rw (choose-true (f .prevBlank || isEmpty (f .lines)) f _ (blank-test f h ∙ t)) h;
+          ordered = s .ordered;
+          at = omega arith;
+          runs = λ q. q;
+          depth = omega arith;
+          line = omega arith;
+          carry = omega arith;
+          imports = omega arith;
+          blanks = omega arith;
+        };
+      }
 
   pub blank-new : (out′ : List ℕ) (u : Written) → r ≡ false → Adds eol false (times 0 [] ++ decode []) model out (st .text) out′ u
       → Blanked model eol st out

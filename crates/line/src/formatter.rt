@@ -6,6 +6,7 @@ use format::words::Declaration;
 use rules::Carry;
 use rules::Ignore;
 use text::Written;
+use unicode::ByteOffset;
 
 // What later lines ask of a line: which declaration it is, and whether it ends in `}`.
 pub struct Prev {
@@ -57,5 +58,47 @@ impl Formatter {
             imports: 0,
             blanks: 0,
         }
+    }
+
+    // The same, field by field: the bytes between the fields are then never copied.
+    pub fn remade(self) -> Self
+        ensures { λ r. ⌜ r ≡ self ⌝ }
+    {
+        let t = self.text;
+        let last = t.last;
+        let at = t.at;
+        let nesting = self.nesting;
+        let prev = self.prev;
+        let carry = self.carry;
+        let ignore = self.ignore;
+        let same = same_ignore(ignore);
+        Self {
+            text: Written {
+                at: ByteOffset(at.0),
+                cut: t.cut,
+                full: t.full,
+                below: t.below,
+                alone: t.alone,
+                last,
+                settled: t.settled,
+            },
+            nesting,
+            blank: self.blank,
+            prev,
+            carry,
+            ignore: same,
+            imports: self.imports,
+            blanks: self.blanks,
+        }
+    }
+}
+
+fn same_ignore(ignore: Ignore) -> Ignore
+    ensures { λ r. ⌜ r ≡ ignore ⌝ }
+{
+    match ignore {
+        Ignore::Nothing => Ignore::Nothing,
+        Ignore::NextLine => Ignore::NextLine,
+        Ignore::Block(depth) => Ignore::Block(depth),
     }
 }

@@ -5,6 +5,7 @@ ghost use lib.ListN.{length, take};
 ghost use Rattle.unicode.specs.Unicode.{decode, WellFormed};
 ghost use Rattle.rules.specs.Lines.{asStr};
 ghost use Rattle.rules.specs.Line.{inBlock, inCodeNow, blockAfter, protectedAfter};
+ghost use Rattle.text.specs.Text.{isFirst};
 ghost use Rattle.line.specs.Holds.{Small, Ready, Stepped, Blanked, TrimmedLine, Classes, shownLen, partOf};
 ghost use Rattle.line.specs.Holds.{ClosersOf, ShownPart, keptBy, rawBy};
 use crate::formatter::Formatter;
@@ -15,6 +16,7 @@ use rules::Carry;
 use rules::Ignore;
 use rules::LineEnding;
 use text::Adding;
+use text::Last;
 
 // Whether an else can be joined to a line with these facts.
 fn takes_else(facts: LineFacts) -> bool
@@ -207,6 +209,16 @@ pub fn raw_line(
     kept_line(raw, line, k, model, out, scratch, st)
 }
 
+// Whether a blank line changes nothing: it follows another, or stands before the first line.
+pub fn adds_nothing(blank: bool, last: Last) -> bool
+    ensures { λ r. ⌜ r ≡ (blank || isFirst last) ⌝ }
+{
+    if blank {
+        return true;
+    }
+    text::is_first(last)
+}
+
 // Of blank lines in a row one is written, and none before the first line. A pending marker stays pending.
 pub fn blank_line(model: &[u8], out: &mut [u8], ending: LineEnding, st: Formatter) -> Formatter
     requires { ⌜ Small st ⌝ }
@@ -214,10 +226,7 @@ pub fn blank_line(model: &[u8], out: &mut [u8], ending: LineEnding, st: Formatte
 {
     let t = st.text;
     let last = t.last;
-    if st.blank {
-        return st;
-    }
-    if text::is_first(last) {
+    if adds_nothing(st.blank, last) {
         return st;
     }
     let nesting = st.nesting;

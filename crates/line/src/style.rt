@@ -10,3 +10,9 @@ pub struct Style {
     pub ending: LineEnding,
     pub strengths: Strengths,
 }
+
+// What every line is formatted with: the style, and the unit of the scratch's regions, the source's length.
+pub struct Setup {
+    pub style: Style,
+    pub unit: usize,
+}

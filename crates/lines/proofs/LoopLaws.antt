@@ -93,6 +93,13 @@ read-on h =
       blanks = h .blanks;
     }
 
+-- a step, where its record is made anew
+pub as-made : {indent model out scratch out′ scratch′ : List ℕ} {style : Style} {n : ℕ} {st a r : Record} (raw : List ℕ) → r ≡ a
+    → ((o : Options) → Uses o indent style → Stepped (λ f. anyLine o f (decode raw)) (length raw) n model (asStr (style .ending)) st out scratch a out′ scratch′)
+    → (o : Options) → Uses o indent style → Stepped (λ f. anyLine o f (decode raw)) (length raw) n model (asStr (style .ending)) st out scratch r out′ scratch′
+as-made {model = model} {out} {scratch} {out′} {scratch′} {style} {n} {st} raw e w o u =
+    subst (λ (x : Record). Stepped (λ f. anyLine o f (decode raw)) (length raw) n model (asStr (style .ending)) st out scratch x out′ scratch′) (sym e) (w o u)
+
 -- ---- the invariant
 
 -- options with this indent and this style

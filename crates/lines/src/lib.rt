@@ -1,6 +1,7 @@
 // The lines of a source, one after the other.
 ghost use Rattle.lines.specs.Lines.{Passed, Starts, Differs, AllRead};
 use line::formatter::Formatter;
+use line::style::Setup;
 use line::style::Style;
 use line_ends::line_end;
 use line_ends::without_cr;
@@ -39,12 +40,14 @@ pub fn read_lines(
         (now (out .exit)) (now (scratch .exit)) ⌝ }
 {
     let unit = source.len();
+    let setup = Setup { style, unit };
     let mut st = Formatter::new();
     let mut at = 0;
     while at <= unit {
         let end = line_end(source, at);
         let raw = without_cr(&source[at..end]);
-        st = line_step(raw, indent, style, model, out, scratch, unit, st);
+        let after = line_step(raw, indent, setup, model, out, scratch, st);
+        st = after.remade();
         let next = st.nesting.line + 1;
         st.nesting.line = next;
         at = end + 1;

@@ -1,6 +1,6 @@
 -- What putting a line into the text does.
 use Prim.Native.Nat.{ℕ, _+_, _*_, _≤_, _<_, _^_}
-use mathlib.Core.Bool.{Bool, false}
+use mathlib.Core.Bool.{Bool, true, false}
 use mathlib.Core.List.{List, reverseAux}
 use mathlib.Core.Path.{_≡_}
 use lib.Dec.{eqb, ltb}
@@ -21,7 +21,7 @@ use Rattle.format.specs.Words.{sameOf}
 use Rattle.format.specs.declared.words.Declaration.{Declaration}
 use Rattle.text.specs.Text.{Text, Ordered, farPlace}
 use Rattle.text.specs.declared.Written.{Written}
-use Rattle.split.specs.Measure.{InUse}
+use Rattle.split.specs.Measure.{InUse, Wide}
 use Rattle.line.specs.Holds.{Uses, prevOf}
 use Rattle.line.specs.declared.style.Style.{Style}
 use Rattle.place.specs.declared.Before.{Before}
@@ -106,6 +106,10 @@ pub record Lays (ruler : ℕ) (w : PrintWidth) (indent : List ℕ) (st : Strengt
 abbrev pub breakWidth : PrintWidth → Bool → Bool → ℕ → PrintWidth
 breakWidth width marker continued closers =
     choose continued PrintWidth.Off (choose (eqb closers 0) (choose marker PrintWidth.Off width) PrintWidth.Off)
+
+-- if r, an indented line is not wider than max
+pub record Short (ruler : ℕ) (indent : List ℕ) (level : ℕ) (line : List ℕ) (max : ℕ) (r : Bool) : Type 0 where
+  pub fits : r ≡ true → Wide ruler indent level line max false
 
 -- whether a line is broken: at width w, if it reaches the column `reached` and all of it is code and strings
 unfoldable pub fitBy : PrintWidth → ℕ → Bool → Fit

@@ -2,7 +2,7 @@
 ghost use mathlib.Core.Path.{_≡_};
 ghost use mathlib.Core.Bool.{true, _&&_};
 ghost use Rattle.rules.specs.Basics.{choose};
-ghost use Prim.Native.Nat.{_+_, _*_, _≤_, _<_};
+ghost use Prim.Native.Nat.{_+_, _*_, _≤_, _<_, _^_};
 ghost use lib.ListN.{length};
 ghost use Rattle.unicode.specs.Unicode.{decode, trimEnd, WellFormed};
 ghost use Rattle.buffer.specs.Repeat.{times};
@@ -16,7 +16,8 @@ ghost use Rattle.rules.specs.Scan.{classify, allCodeOrStr};
 ghost use Rattle.rules.specs.declared.Carry.{Carry};
 ghost use Rattle.rules.specs.declared.PrintWidth.{PrintWidth};
 ghost use Rattle.line.specs.Holds.{ValidIndent};
-ghost use Rattle.place.specs.Placing.{GoesOn, Heads, Asks, Puts, spacedBy, placedBy, dropsBlank, aloneIn};
+ghost use Rattle.split.specs.Measure.{Indent};
+ghost use Rattle.place.specs.Placing.{GoesOn, Short, Heads, Asks, Puts, spacedBy, placedBy, dropsBlank, aloneIn};
 ghost use Rattle.place.specs.Placing.{breakWidth, fitBy, Lays, Breaks};
 use format::words::Declaration;
 use line::formatter::Prev;
@@ -60,11 +61,13 @@ pub enum Fit {
     Broken(usize),
 }
 
-// Where a line is put: the text so far, the level of the line's indent, and whether an empty newest line goes first.
+// Where a line is put: the text so far, the level of the line's indent, whether an empty newest line goes first, and the
+// width that the line may be broken at.
 pub struct Slot {
     pub text: Written,
     pub level: usize,
     pub drops: bool,
+    pub width: PrintWidth,
 }
 
 // The levels left after the leading closers, and one more if the line continues the one before.
@@ -157,21 +160,44 @@ fn break_width(width: PrintWidth, marker: bool, continued: bool, closers: usize)
     PrintWidth::Off
 }
 
+// Whether a line is known to fit without being measured, its indent included: a character takes no more columns than
+// bytes, a tab at most the ruler more.
+fn is_short(line: &[u8], indent: &[u8], level: usize, ruler: u8, max: usize) -> bool
+    requires { ⌜ Indent (now indent) level ⌝ }
+    requires { ⌜ WellFormed (now line) × (length (now line) < 2 ^ 31) ⌝ }
+    ensures { λ r. ⌜ Short ruler (now (indent .entry)) level (now (line .entry)) max r ⌝ }
+{
+    let bytes = level * indent.len() + line.len();
+    if bytes * (ruler as usize + 1) <= max {
+        return true;
+    }
+    false
+}
+
 // Whether the line is broken: it is wider than the width, and all of it is code and strings.
-fn fit_of(line: &[u8], class: &[u8], indent: &[u8], style: Style, level: usize) -> Fit
+fn fit_of(
+    line: &[u8],
+    class: &[u8],
+    indent: &[u8],
+    style: Style,
+    level: usize,
+    width: PrintWidth,
+) -> Fit
     requires { ⌜ ValidIndent (now indent) ⌝ }
     requires { ⌜ level ≤ maxSource ⌝ }
     requires { ⌜ GoesOn (now line) (now class) ⌝ }
-    ensures { λ r. ⌜ r ≡ fitBy (style .width) (measure (style .ruler) 0
+    ensures { λ r. ⌜ r ≡ fitBy width (measure (style .ruler) 0
         (times level (now (indent .entry)) ++ decode (now (line .entry))))
         (allCodeOrStr (classify Carry.Code (now (line .entry)))) ⌝ }
 {
-    let width = style.width;
-    let ending = style.ending;
-    let strengths = style.strengths;
     match width {
         PrintWidth::Off => Fit::Whole,
         PrintWidth::Columns(max) => {
+            if is_short(line, indent, level, style.ruler, max) {
+                return Fit::Whole;
+            }
+            let ending = style.ending;
+            let strengths = style.strengths;
             let s = Layout {
                 level,
                 max: Utf16Column(max),
@@ -206,13 +232,14 @@ fn fit_line(
     requires { ⌜ GoesOn (now line) (now class) ⌝ }
     requires { ⌜ Ordered (slot .text) × (slot .text .at .0 ≤ farPlace) ⌝ }
     ensures { λ r. ⌜ Lays (style .ruler) (choose (allCodeOrStr (classify Carry.Code (decode (now (line .entry)))))
-        (style .width) PrintWidth.Off) (now (indent .entry)) (style .strengths) (decode (now (line .entry)))
+        (slot .width) PrintWidth.Off) (now (indent .entry)) (style .strengths) (decode (now (line .entry)))
         (slot .level) (now (model .entry)) (asStr (style .ending)) (slot .drops) (length (now (line .entry)))
         (now (out .entry)) (slot .text) r (now (out .exit)) ⌝ }
 {
     let ending = style.ending;
     let strengths = style.strengths;
-    match fit_of(line, class, indent, style, slot.level) {
+    let width = slot.width;
+    match fit_of(line, class, indent, style, slot.level, width) {
         Fit::Whole => alone(push_one(line, indent, ending, slot, model, out)),
         Fit::Broken(max) => {
             let s = Layout {
@@ -255,22 +282,15 @@ fn lay_line(
     let continued = format::words::continues(line, closers, prev.brace);
     let level = level_of(b.levels, continued);
     let drops = drops_blank(depth, d, before);
-    let width = style.width;
-    let ending = style.ending;
-    let strengths = style.strengths;
-    let max = break_width(width, b.marker, continued, closers);
-    let used = Style {
-        width: max,
-        ruler: style.ruler,
-        ending,
-        strengths,
-    };
+    let max = style.width;
+    let width = break_width(max, b.marker, continued, closers);
     let slot = Slot {
         text: t,
         level,
         drops,
+        width,
     };
-    fit_line(line, class, indent, used, slot, model, out)
+    fit_line(line, class, indent, style, slot, model, out)
 }
 
 // Whether the line is a plain else that the newest line can take.

@@ -1,12 +1,12 @@
 -- The step of a line in code, and of any line.
-use Prim.Native.Nat.{ℕ, _+_, _-_, _≤_}
+use Prim.Native.Nat.{ℕ, _+_, _-_, _≤_, _<_, _^_}
 use native.Mathlib.Omega.{arith}
 use mathlib.Core.Bool.{Bool, true, false, not, _&&_, _||_, or-true, true≢false, false≢true}
-use mathlib.Core.List.{List, _++_}
+use mathlib.Core.List.{List, [], _∷_, _++_}
 use mathlib.Core.Path.{_≡_, refl, sym, ap, _∙_, subst}
 use lib.ListN.{length, take, drop, length-drop}
 use lib.Seq.{take-length, length-take-le}
-use Rattle.unicode.specs.Unicode.{chars, decode, trimEnd, trim}
+use Rattle.unicode.specs.Unicode.{chars, decode, trimEnd, trimStart, trim}
 use Rattle.unicode.specs.Places.{TrimmedStart, TrimmedEnd}
 use Rattle.unicode.proofs.Tests.{and-left}
 use Rattle.unicode.proofs.Trim.{trim-trimEnd}
@@ -17,12 +17,14 @@ use Rattle.rules.specs.Brackets.{leadingClosers, countBrackets, levels}
 use Rattle.rules.specs.Words.{isMarker, hasCode}
 use Rattle.rules.specs.Else.{isPlainElse, canJoin}
 use Rattle.rules.specs.Options.{Options}
+use Rattle.rules.specs.Refusals.{maxSource}
 use Rattle.rules.specs.Line.{Formatter, elseLine, placedLine, spacedLine, protects, protectedLine, codeLine, inBlock, inCodeNow, blankLine, anyLine}
 use Rattle.rules.specs.Spacing.{respaced}
 use Rattle.rules.specs.declared.Carry.{Carry}
 use Rattle.rules.specs.declared.Ignore.{Ignore}
 use Rattle.rules.proofs.Choose.{choose-true, choose-false, choose-case}
 use Rattle.scan.specs.Classified.{Classified}
+use Rattle.basics.specs.Depth.{carryDepth}
 use Rattle.basics.specs.Region.{Only}
 use Rattle.basics.proofs.OnlyLaws.{only-same}
 use Rattle.brackets.specs.Stack.{stacked}
@@ -33,12 +35,13 @@ use Rattle.line.specs.Scratch.{stackAt}
 use Rattle.format.proofs.ElseLaws.{decode-some}
 use Rattle.line.specs.Holds.{Record, prevOf, Holds, Ready, Stepped, TrimmedLine, Classes, Uses, keptBy, rawBy}
 use Rattle.line.specs.declared.style.Style.{Style}
-use Rattle.line.proofs.HoldsLaws.{ready-as, holds-past, stepped-as, carry-bytes, classes-front, front-only, line-room, trimmed-line, start-within}
+use Rattle.line.proofs.HoldsLaws.{ready-as, stepped-as, carry-bytes, classes-front, front-only, trimmed-line, start-within}
 use Rattle.place.specs.Placing.{spacedBy}
 use Rattle.step.specs.declared.Going.{Going}
 use Rattle.step.specs.declared.Marker.{Marker}
 use Rattle.step.specs.declared.Put.{Put}
-use Rattle.step.specs.Going.{markerIn, isKept, isAlone, SolidLine, Marks, LineRoom, goingLine, Went, BracketsCounted, PutOn, afterLine, codeLineBy, anyLineBy, ignoreOf}
+use Rattle.step.specs.declared.Scanned.{Scanned}
+use Rattle.step.specs.Going.{markerIn, isKept, isAlone, SolidLine, Marks, LineRoom, goingLine, Goes, BracketsCounted, PutOn, afterLine, LineScanned, codeLineBy, anyLineBy, ignoreOf}
 use Rattle.step.proofs.MarkerLaws.{found, else-closers, alone-other}
 use Rattle.step.proofs.GoingLaws.{front-part}
 
@@ -68,19 +71,18 @@ leaves o f marker l n = choose-case (Leaves marker l f) (λ h. joined marker n h
         let y : _≡_ {A = ℕ} 0 1 = cc in absurd (omega arith)
     joined false n h = record { stack = rw (else-closers l (and-left (isPlainElse l) (canJoin (f .lines)) h)); number = refl; blank = refl; prev = refl; ignore = refl; carry = refl }
 
-pub spaced-step : (line model eol out out′ s₀ s₁ s₂ indent : List ℕ) (style : Style) (unit : ℕ) (marker : Bool) (st : Record) (g : Going) (p : Put) (deep : Nesting) (ignore : Ignore) (r : Record)
-    → Marks marker line → Went line s₀ s₁ unit g
+pub spaced-step : (line model eol out out′ s₁ s₂ indent : List ℕ) (style : Style) (unit : ℕ) (marker : Bool) (st : Record) (g : Going) (p : Put) (deep : Nesting) (ignore : Ignore) (r : Record)
+    → Marks marker line → Goes line s₁ unit g
     → PutOn marker (respaced (decode line)) indent style model eol (length line) unit st out s₁ p out′
     → BracketsCounted (respaced (decode line)) s₁ s₂ (stackAt unit) (p .left) (length line) deep → ignore ≡ ignoreOf marker → r ≡ afterLine st p deep ignore (g .carry)
     → (o : Options) → Uses o indent style
-    → Stepped (spacedBy marker (respaced (decode line)) o) (length line) unit model eol st out s₀ r out′ s₂
+    → Stepped (spacedBy marker (respaced (decode line)) o) (length line) unit model eol st out s₁ r out′ s₂
 unfolding countBrackets
-spaced-step line model eol out out′ s₀ s₁ s₂ indent style unit marker st g p deep ignore r n w q v i e o u =
-    subst (λ (x : Record). Stepped (spacedBy marker (respaced (decode line)) o) (length line) unit model eol st out s₀ x out′ s₂) (sym e)
+spaced-step line model eol out out′ s₁ s₂ indent style unit marker st g p deep ignore r n w q v i e o u =
+    subst (λ (x : Record). Stepped (spacedBy marker (respaced (decode line)) o) (length line) unit model eol st out s₁ x out′ s₂) (sym e)
     (record {
-      holds = λ f h₀.
-          (let h : Holds model eol unit f st out s₁ = holds-past (w .only) (omega arith) h₀ in
-          let k = leaves o f marker (respaced (decode line)) (n .other) in
+      holds = λ f h.
+          (let k = leaves o f marker (respaced (decode line)) (n .other) in
           record {
             text = q .text o f u h;
             stack = stack-after f h ∙ sym (k .stack);
@@ -89,7 +91,7 @@ spaced-step line model eol out out′ s₀ s₁ s₂ indent style unit marker st
             blank = sym (k .blank);
             prev = q .own ∙ ap prevOf (sym (k .prev));
             ignore = i ∙ sym (k .ignore);
-            carry = w .goes .leaves ∙ carry-bytes Carry.Code (goingLine line s₁ unit g) (w .goes .well) ∙ ap (carryAfter Carry.Code) (w .goes .text) ∙ sym (k .carry);
+            carry = w .leaves ∙ carry-bytes Carry.Code (goingLine line s₁ unit g) (w .well) ∙ ap (carryAfter Carry.Code) (w .text) ∙ sym (k .carry);
             imports = ap (λ (m : ℕ). m + p .imports) (h .imports) ∙ sym (q .imports o f u h);
             blanks = ap (λ (m : ℕ). m + p .blanks) (h .blanks) ∙ sym (q .blanks o f u h);
           });
@@ -98,7 +100,7 @@ spaced-step line model eol out out′ s₀ s₁ s₂ indent style unit marker st
       runs = λ x. record { is = v .runs };
       depth = omega (arith, v .most, q .left .depth);
       line = omega (arith, v .line, q .left .line);
-      carry = omega (arith, w .goes .depth, w .goes .most);
+      carry = omega (arith, w .depth, w .most);
       imports = omega (arith, q .few);
       blanks = omega (arith, q .fewer);
     })
@@ -145,54 +147,54 @@ opens l i Marker.Nothing d e = let x = found l Marker.Nothing d in record { free
 opens l i Marker.Alone d e = let x = found l Marker.Alone d in record { free = e; marks = x .marks; none = rw (x .marks) (x .code (x .marks)) }
 opens l i Marker.AfterCode d e = absurd (true≢false e)
 
+-- what scanning it asks, and what it gives: its class bytes stand at the front of scratch
+pub scan-room : (line s₀ : List ℕ) → length line ≤ length s₀ → length line ≤ maxSource
+    → (length line ≤ length (take (length line) s₀)) × (carryDepth Carry.Code + length line + 1 < 2 ^ 32)
+scan-room line s₀ h k = (omega (arith, length-take-le (length line) s₀ h), omega (arith, k))
+
+module _ (line s₀ w : List ℕ) {after : Carry} (h : length line ≤ length s₀) (c : Classified Carry.Code line (take (length line) s₀) w after) where
+  pub scanned : (m : Marker) → m ≡ markerIn (decode line) → LineScanned line s₀ (w ++ drop (length line) s₀) (record { after = after; marker = m })
+  scanned m e = record { classes = classes-front line s₀ w h c; marker = e; only = front-only line s₀ w h c }
+
+  pub scanned-front : length line ≡ length (take (length line) (w ++ drop (length line) s₀))
+  scanned-front = sym (length-take-le (length line) (w ++ drop (length line) s₀) (omega (arith, h, front-only line s₀ w h c .long)))
+
+  pub scanned-bytes : take (length line) (w ++ drop (length line) s₀) ≡ classBytes (classify Carry.Code line)
+  scanned-bytes = sym (front-part (w ++ drop (length line) s₀) (length line)) ∙ classes-front line s₀ w h c .bytes
+
 module _
-    {st : Record} {s₀ : List ℕ} {unit : ℕ} {raw line : List ℕ} (w : List ℕ) (after : Carry)
-    (ready : Ready st s₀ unit (length raw)) (t : TrimmedLine raw line) (c : Classified Carry.Code line (take (length line) s₀) w after)
+    {st : Record} {s₀ s₁ : List ℕ} {unit : ℕ} {raw line : List ℕ} {x : Scanned}
+    (ready : Ready st s₀ unit (length raw)) (t : TrimmedLine raw line) (c : LineScanned line s₀ s₁ x)
   where
-    room : length line ≤ length s₀
-    room = line-room ready line (t .short)
-
-    pub code-classes : Classes Carry.Code line (w ++ drop (length line) s₀) 0 after
-    code-classes = classes-front line s₀ w room c
-
-    pub code-bytes : take (length line) (w ++ drop (length line) s₀) ≡ classBytes (classify Carry.Code line)
-    code-bytes = sym (front-part (w ++ drop (length line) s₀) (length line)) ∙ code-classes .bytes
-
-    only : Only s₀ (w ++ drop (length line) s₀) 0 (length line)
-    only = front-only line s₀ w room c
-
-    pub code-long : length (w ++ drop (length line) s₀) ≡ length s₀
-    code-long = only .long
-
     within : length line ≤ stackAt unit
     within = omega (arith, t .short, ready .depth)
 
-    pub code-ready : Ready st (w ++ drop (length line) s₀) unit (length raw)
-    code-ready = ready-as _ _ _ ready only within (omega arith)
+    pub code-ready : Ready st s₁ unit (length raw)
+    code-ready = ready-as _ _ _ ready (c .only) within (omega arith)
 
-    pub line-ready : Ready st (w ++ drop (length line) s₀) unit (length line)
-    line-ready = ready-as _ _ _ ready only within (t .short)
+    pub line-ready : Ready st s₁ unit (length line)
+    line-ready = ready-as _ _ _ ready (c .only) within (t .short)
 
-    module _ {model eol out out′ s₂ : List ℕ} {r : Record} where
+    module _ {model eol out out′ s₂ : List ℕ} {r : Record} (b : Bool) (e : b ≡ isKept (st .ignore) (x .marker)) where
       -- kept as written
-      pub code-protected : (m : Marker) (b : Bool) → m ≡ markerIn (decode line) → b ≡ isKept (st .ignore) m → b ≡ true
-          → Stepped (keptBy (decode (take (length raw) raw)) (decode raw)) (length raw) unit model eol st out (w ++ drop (length line) s₀) r out′ s₂
+      pub code-protected : b ≡ true
+          → Stepped (keptBy (decode (take (length raw) raw)) (decode raw)) (length raw) unit model eol st out s₁ r out′ s₂
           → (o : Options) → Stepped (codeLineBy o (decode raw)) (length raw) unit model eol st out s₀ r out′ s₂
-      code-protected m b d e q v o =
-          stepped-as _ _ s₀ only within (omega arith)
+      code-protected q v o =
+          stepped-as _ _ s₀ (c .only) within (omega arith)
           (λ f h. ap (λ (x : List ℕ). keptBy (decode x) (decode raw) f) (take-length raw)
-          ∙ code-kept o f (decode raw) (decode line) (t .text) (rw (h .ignore) at (keeps (decode line) (st .ignore) m d (sym e ∙ q))))
+          ∙ code-kept o f (decode raw) (decode line) (t .text) (rw (h .ignore) at (keeps (decode line) (st .ignore) (x .marker) (c .marker) (sym e ∙ q))))
           v
 
-      -- spaced, with or without a marker that stands alone
-      pub code-open : (m : Marker) (b a : Bool) → m ≡ markerIn (decode line) → b ≡ isKept (st .ignore) m → b ≡ false → a ≡ isAlone m → (o : Options)
-          → Stepped (spacedBy a (respaced (decode line)) o) (length line) unit model eol st out (w ++ drop (length line) s₀) r out′ s₂
+      -- spaced, with or without a marker that stands alone; scratch was used before the stack
+      pub code-open : (a : Bool) → b ≡ false → a ≡ isAlone (x .marker) → (s : List ℕ) → Only s₁ s 0 (stackAt unit) → (o : Options)
+          → Stepped (spacedBy a (respaced (decode line)) o) (length line) unit model eol st out s r out′ s₂
           → Stepped (codeLineBy o (decode raw)) (length raw) unit model eol st out s₀ r out′ s₂
-      code-open m b a d e q k o v =
-          let x = opens (decode line) (st .ignore) m d (sym e ∙ q) in
-          stepped-as _ _ s₀ only within (t .short)
-          (λ f h. code-not o f (decode raw) (decode line) a (t .text) (rw (h .ignore) at (x .free)) (x .marks ∙ sym k) (x .none))
-          v
+      code-open a q k s only o v =
+          let d = opens (decode line) (st .ignore) (x .marker) (c .marker) (sym e ∙ q) in
+          stepped-as _ _ s₀ (c .only) within (t .short)
+          (λ f h. code-not o f (decode raw) (decode line) a (t .text) (rw (h .ignore) at (d .free)) (d .marks ∙ sym k) (d .none))
+          (stepped-as (spacedBy a (respaced (decode line)) o) _ s₁ only (omega arith) (omega arith) (λ f h. refl) v)
 
 -- what `spaced_line` asks
 pub solid : (raw line : List ℕ) → TrimmedLine raw line → isEmpty (decode line) ≡ false → SolidLine line
@@ -218,6 +220,9 @@ looked true b y e q = absurd (true≢false (sym e ∙ q))
 looked false b Carry.Code e q = record { free = refl; code = refl }
 looked false b (Carry.Block d) e q = absurd (true≢false (sym e ∙ q))
 looked false b Carry.Prefab e q = absurd (true≢false (sym e ∙ q))
+
+pub code-free : (p b : Bool) (y : Carry) (i : Ignore) → p ≡ inBlock i → b ≡ (p || not (inCodeNow y)) → b ≡ false → inBlock i ≡ false
+code-free p b y i e t q = sym e ∙ looked p b y t q .free
 
 pub code-carry : (p b : Bool) (y : Carry) → b ≡ (p || not (inCodeNow y)) → b ≡ false → y ≡ Carry.Code
 code-carry p b y e q = go y (looked p b y e q .code)
@@ -271,7 +276,12 @@ module _ {st : Record} {s₀ out model eol : List ℕ} {unit : ℕ} (p b : Bool)
           stepped-as _ _ s₀ (only-same s₀ 0 0) (omega arith) (omega arith)
           (λ f h. sym (choose-false _ _ _ (free q h) ∙ choose-true _ _ _ (in-now q h) ∙ choose-true _ _ _ z)) v
 
--- a trimmed line, blank or not
+-- an empty line, and a trimmed one, blank or not
+pub empty-trim : (raw : List ℕ) → length raw ≡ 0 → isEmpty (trim (decode raw)) ≡ true
+unfolding chars trim trimEnd trimStart
+empty-trim [] e = refl
+empty-trim (c ∷ cs) e = absurd (omega arith)
+
 module _ (raw : List ℕ) (tail start : ℕ) (e : TrimmedEnd raw tail) (s : TrimmedStart (take tail raw) start) where
   pub blank-trim : start ≡ tail → isEmpty (trim (decode raw)) ≡ true
   unfolding chars

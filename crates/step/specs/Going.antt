@@ -27,12 +27,13 @@ use Rattle.text.specs.Text.{Text, Ordered}
 use Rattle.place.specs.Placing.{spacedBy, respacedGrowth}
 use Rattle.place.specs.declared.Before.{Before}
 use Rattle.line.specs.Scratch.{respacedAt, stackAt, scratchUsed}
-use Rattle.line.specs.Holds.{Record, prevOf, Holds, Uses}
+use Rattle.line.specs.Holds.{Record, prevOf, Holds, Classes, Uses}
 use Rattle.line.specs.declared.formatter.Prev.{Prev}
 use Rattle.line.specs.declared.style.Style.{Style}
 use Rattle.step.specs.declared.Going.{Going}
 use Rattle.step.specs.declared.Marker.{Marker}
 use Rattle.step.specs.declared.Put.{Put}
+use Rattle.step.specs.declared.Scanned.{Scanned}
 
 -- the marker of a line, and whether code stands before it
 abbrev pub markerOf : Bool → Bool → Marker
@@ -84,6 +85,12 @@ pub record Goes (line scratch : List ℕ) (unit : ℕ) (g : Going) : Type 0 wher
   pub depth : carryDepth (g .carry) ≤ g .len
   pub most : g .len ≤ 2 * length line
   pub fits : g .«class_at» + g .len ≤ stackAt unit
+
+-- the class bytes of a line stand at the front of scratch, and the rest is as it was
+pub record LineScanned (line before after : List ℕ) (r : Scanned) : Type 0 where
+  pub classes : Classes Carry.Code line after 0 (r .after)
+  pub marker : r .marker ≡ markerIn (decode line)
+  pub only : Only before after 0 (length line)
 
 -- and the stack is as it was
 pub record Went (line before after : List ℕ) (unit : ℕ) (g : Going) : Type 0 where

@@ -4,10 +4,10 @@ ghost use mathlib.Core.Bool.{false};
 ghost use Prim.Native.Nat.{_+_, _≤_, _<_, _^_};
 ghost use lib.ListN.{length};
 ghost use Rattle.unicode.specs.Unicode.{encode, decode, WellFormed};
-ghost use Rattle.rules.specs.Basics.{isEmpty};
 ghost use Rattle.rules.specs.Lines.{asStr};
-ghost use Rattle.rules.specs.Line.{protects};
+ghost use Rattle.rules.specs.Line.{protects, inBlock};
 ghost use Rattle.rules.specs.Options.{Options};
+ghost use Rattle.rules.specs.Refusals.{maxSource};
 ghost use Rattle.rules.specs.Scan.{classify};
 ghost use Rattle.rules.specs.Spacing.{respaced};
 ghost use Rattle.rules.specs.ClassBytes.{classBytes};
@@ -15,10 +15,10 @@ ghost use Rattle.rules.specs.declared.Carry.{Carry};
 ghost use Rattle.basics.specs.Closers.{Closers};
 ghost use Rattle.brackets.specs.Stack.{Nested};
 ghost use Rattle.line.specs.Scratch.{stackAt};
-ghost use Rattle.line.specs.Holds.{Classes, Ready, Stepped, TrimmedLine, Uses, ValidIndent};
+ghost use Rattle.line.specs.Holds.{Classes, Ready, Stepped, Uses, ValidIndent};
 ghost use Rattle.place.specs.Placing.{spacedBy};
 ghost use Rattle.step.specs.Going.{markerIn, isKept, isAlone, SolidLine, Marks, LineRoom, Goes, Went};
-ghost use Rattle.step.specs.Going.{BracketsCounted, beforeOf, PutOn, afterLine, codeLineBy, anyLineBy, ignoreOf};
+ghost use Rattle.step.specs.Going.{BracketsCounted, beforeOf, PutOn, afterLine, LineScanned, anyLineBy, ignoreOf};
 use brackets::Nesting;
 use line::formatter::Formatter;
 use line::formatter::Prev;
@@ -27,6 +27,7 @@ use line::kept::Kept;
 use line::scratch::RECLASSED;
 use line::scratch::RESPACED;
 use line::scratch::STACK;
+use line::style::Setup;
 use line::style::Style;
 use place::Before;
 use rules::Carry;
@@ -47,6 +48,21 @@ pub struct Going {
     pub len: usize,
     pub class_at: usize,
     pub carry: Carry,
+}
+
+// What a line leaves open, and its marker.
+pub struct Scanned {
+    pub after: Carry,
+    pub marker: Marker,
+}
+
+// What a line of code is formatted with: the style, the unit of the scratch's regions, whether the line is a marker, and
+// how it goes on.
+pub struct LineSetup {
+    pub style: Style,
+    pub unit: usize,
+    pub marker: bool,
+    pub going: Going,
 }
 
 // The text after the line, what the line adds to the counts, its leading closers, what is open after these popped, and
@@ -138,36 +154,35 @@ fn before_of(st: Formatter, levels: usize, closers: usize, own: Prev, marker: bo
 fn put_going<'a>(
     line: &'a [u8],
     scratch: &'a [u8],
-    unit: usize,
-    g: Going,
-    marker: bool,
+    k: LineSetup,
     indent: &[u8],
-    style: Style,
     model: &[u8],
     out: &mut [u8],
     st: Formatter,
 ) -> Put
-    requires { ⌜ Ready st (now scratch) unit (length (now line)) ⌝ }
+    requires { ⌜ Ready st (now scratch) (k .unit) (length (now line)) ⌝ }
     requires { ⌜ SolidLine (now line) ⌝ }
-    requires { ⌜ Goes (now line) (now scratch) unit g ⌝ }
+    requires { ⌜ Goes (now line) (now scratch) (k .unit) (k .going) ⌝ }
     requires { ⌜ ValidIndent (now indent) ⌝ }
-    ensures { λ r. ⌜ PutOn marker (respaced (decode (now (line .entry)))) (now (indent .entry)) style
-        (now (model .entry)) (asStr (style .ending)) (length (now (line .entry))) unit st (now (out .entry))
+    ensures { λ r. ⌜ PutOn (k .marker) (respaced (decode (now (line .entry)))) (now (indent .entry)) (k .style)
+        (now (model .entry)) (asStr (k .style .ending)) (length (now (line .entry))) (k .unit) st (now (out .entry))
         (now (scratch .entry)) r (now (out .exit)) ⌝ }
 {
+    let g = k.going;
     let own = g.own;
     let len = g.len;
     let class_at = g.class_at;
     let end = class_at + len;
-    let at = RESPACED * unit;
+    let at = RESPACED * k.unit;
     let l = spacing::line_that_goes_on(line, scratch, own, at, len);
     let class = &scratch[class_at..end];
     let closers = brackets::leading_closers(l);
     let nesting = st.nesting;
-    let base = STACK * unit;
+    let base = STACK * k.unit;
     let left = brackets::pop_closers(scratch, base, nesting, closers);
     let own = prev_of(l);
-    let b = before_of(st, left.levels, closers, own, marker);
+    let b = before_of(st, left.levels, closers, own, k.marker);
+    let style = k.style;
     let p = place::place_line(l, class, indent, style, model, out, b);
     let text = p.text;
     Put {
@@ -211,46 +226,32 @@ fn after_line(st: Formatter, p: Put, deep: Nesting, ignore: Ignore, carry: Carry
     }
 }
 
-// A line of code that is not protected; its class bytes stand at the front of scratch, and it leaves `after` open.
+// A line of code that is not protected, spaced.
 fn spaced_line(
     line: &[u8],
-    scratch: &mut [u8],
-    unit: usize,
-    after: Carry,
-    marker: bool,
+    k: LineSetup,
     indent: &[u8],
-    style: Style,
     model: &[u8],
     out: &mut [u8],
+    scratch: &mut [u8],
     st: Formatter,
 ) -> Formatter
-    requires { ⌜ Ready st (now scratch) unit (length (now line)) ⌝ }
+    requires { ⌜ Ready st (now scratch) (k .unit) (length (now line)) ⌝ }
     requires { ⌜ SolidLine (now line) ⌝ }
-    requires { ⌜ Marks marker (now line) ⌝ }
-    requires { ⌜ Classes Carry.Code (now line) (now scratch) 0 after ⌝ }
+    requires { ⌜ Marks (k .marker) (now line) ⌝ }
+    requires { ⌜ Goes (now line) (now scratch) (k .unit) (k .going) ⌝ }
     requires { ⌜ ValidIndent (now indent) ⌝ }
-    ensures { λ r. ⌜ ((o : Options) → Uses o (now (indent .entry)) style → Stepped
-        (spacedBy marker (respaced (decode (now (line .entry)))) o) (length (now (line .entry))) unit
-        (now (model .entry)) (asStr (style .ending)) st (now (out .entry)) (now (scratch .entry)) r (now (out .exit))
-        (now (scratch .exit))) ⌝ }
+    ensures { λ r. ⌜ ((o : Options) → Uses o (now (indent .entry)) (k .style) → Stepped
+        (spacedBy (k .marker) (respaced (decode (now (line .entry)))) o) (length (now (line .entry))) (k .unit)
+        (now (model .entry)) (asStr (k .style .ending)) st (now (out .entry)) (now (scratch .entry)) r
+        (now (out .exit)) (now (scratch .exit))) ⌝ }
 {
-    let g = go_on(line, scratch, unit, after);
-    let p = put_going(
-        line,
-        scratch,
-        unit,
-        g,
-        marker,
-        indent,
-        style,
-        model,
-        out,
-        st,
-    );
+    let p = put_going(line, scratch, k, indent, model, out, st);
+    let g = k.going;
     let left = p.left;
-    let deep = count_going(line, scratch, unit, g, p.closers, left);
+    let deep = count_going(line, scratch, k.unit, g, p.closers, left);
     let carry = g.carry;
-    after_line(st, p, deep, ignore_of(marker), carry)
+    after_line(st, p, deep, ignore_of(k.marker), carry)
 }
 
 // The marker of a line with its class bytes.
@@ -302,35 +303,53 @@ fn is_alone(marker: Marker) -> bool
     }
 }
 
-// A line that starts in code and is not blank. line is raw trimmed.
-fn code_line<'a>(
-    raw: &'a [u8],
-    line: &'a [u8],
-    scratch: &mut [u8],
-    unit: usize,
-    indent: &[u8],
-    style: Style,
-    model: &[u8],
-    out: &mut [u8],
-    st: Formatter,
-) -> Formatter
-    requires { ⌜ Ready st (now scratch) unit (length (now raw)) ⌝ }
-    requires { ⌜ st .carry ≡ Carry.Code ⌝ }
-    requires { ⌜ WellFormed (now raw) ⌝ }
-    requires { ⌜ TrimmedLine (now raw) (now line) ⌝ }
-    requires { ⌜ isEmpty (decode (now line)) ≡ false ⌝ }
-    requires { ⌜ ValidIndent (now indent) ⌝ }
-    ensures { λ r. ⌜ ((o : Options) → Uses o (now (indent .entry)) style → Stepped
-        (codeLineBy o (decode (now (raw .entry)))) (length (now (raw .entry))) unit (now (model .entry))
-        (asStr (style .ending)) st (now (out .entry)) (now (scratch .entry)) r (now (out .exit)) (now (scratch .exit)))
-        ⌝ }
+// The line's class bytes go to the front of scratch.
+fn scan_line(line: &[u8], scratch: &mut [u8]) -> Scanned
+    requires { ⌜ WellFormed (now line) ⌝ }
+    requires { ⌜ length (now line) ≤ length (now scratch) ⌝ }
+    requires { ⌜ length (now line) ≤ maxSource ⌝ }
+    ensures { λ r. ⌜ LineScanned (now (line .entry)) (now (scratch .entry)) (now (scratch .exit)) r ⌝ }
 {
     let n = line.len();
     let after = scan::classify(line, Carry::Code, &mut scratch[..n]);
-    let pending = st.ignore;
     let marker = marker_in(line, &scratch[..n]);
+    Scanned { after, marker }
+}
+
+// A line that starts in code and is not one of a protected block.
+fn code_line(
+    raw: &[u8],
+    indent: &[u8],
+    setup: Setup,
+    model: &[u8],
+    out: &mut [u8],
+    scratch: &mut [u8],
+    st: Formatter,
+) -> Formatter
+    requires { ⌜ Ready st (now scratch) (setup .unit) (length (now raw)) ⌝ }
+    requires { ⌜ st .carry ≡ Carry.Code ⌝ }
+    requires { ⌜ inBlock (st .ignore) ≡ false ⌝ }
+    requires { ⌜ WellFormed (now raw) ⌝ }
+    requires { ⌜ ValidIndent (now indent) ⌝ }
+    ensures { λ r. ⌜ ((o : Options) → Uses o (now (indent .entry)) (setup .style) → Stepped
+        (anyLineBy o (decode (now (raw .entry)))) (length (now (raw .entry))) (setup .unit) (now (model .entry))
+        (asStr (setup .style .ending)) st (now (out .entry)) (now (scratch .entry)) r (now (out .exit))
+        (now (scratch .exit))) ⌝ }
+{
+    let tail = unicode::trim_end(raw);
+    let start = unicode::trim_start(&raw[..tail]);
+    let style = setup.style;
+    let unit = setup.unit;
+    let ending = style.ending;
+    if start == tail {
+        return line::kept::blank_line(model, out, ending, st);
+    }
+    let line = &raw[start..tail];
+    let s = scan_line(line, scratch);
+    let after = s.after;
+    let marker = s.marker;
+    let pending = st.ignore;
     if is_kept(pending, marker) {
-        let ending = style.ending;
         let k = Kept {
             shown: raw.len(),
             after,
@@ -343,54 +362,51 @@ fn code_line<'a>(
         return kept;
     }
     let alone = is_alone(marker);
-    spaced_line(
-        line,
-        scratch,
-        unit,
-        after,
-        alone,
-        indent,
+    let going = go_on(line, scratch, unit, after);
+    let k = LineSetup {
         style,
-        model,
-        out,
-        st,
-    )
+        unit,
+        marker: alone,
+        going,
+    };
+    spaced_line(line, k, indent, model, out, scratch, st)
 }
 
 // One line, of any kind.
 pub fn line_step(
     raw: &[u8],
     indent: &[u8],
-    style: Style,
+    setup: Setup,
     model: &[u8],
     out: &mut [u8],
     scratch: &mut [u8],
-    unit: usize,
     st: Formatter,
 ) -> Formatter
-    requires { ⌜ Ready st (now scratch) unit (length (now raw)) ⌝ }
+    requires { ⌜ Ready st (now scratch) (setup .unit) (length (now raw)) ⌝ }
     requires { ⌜ WellFormed (now raw) ⌝ }
     requires { ⌜ ValidIndent (now indent) ⌝ }
-    ensures { λ r. ⌜ ((o : Options) → Uses o (now (indent .entry)) style → Stepped
-        (anyLineBy o (decode (now (raw .entry)))) (length (now (raw .entry))) unit (now (model .entry))
-        (asStr (style .ending)) st (now (out .entry)) (now (scratch .entry)) r (now (out .exit)) (now (scratch .exit)))
-        ⌝ }
+    ensures { λ r. ⌜ ((o : Options) → Uses o (now (indent .entry)) (setup .style) → Stepped
+        (anyLineBy o (decode (now (raw .entry)))) (length (now (raw .entry))) (setup .unit) (now (model .entry))
+        (asStr (setup .style .ending)) st (now (out .entry)) (now (scratch .entry)) r (now (out .exit))
+        (now (scratch .exit))) ⌝ }
 {
     let pending = st.ignore;
     let carry = st.carry;
-    let ending = style.ending;
     let guarded = line::kept::in_block(pending);
     if line::kept::is_raw(guarded, carry) {
+        let style = setup.style;
+        let ending = style.ending;
         // A copy, as in `code_line`.
         let before = st;
-        let after = line::kept::raw_line(raw, ending, model, out, scratch, unit, before);
+        let after = line::kept::raw_line(raw, ending, model, out, scratch, setup.unit, before);
         return after;
     }
-    let tail = unicode::trim_end(raw);
-    let start = unicode::trim_start(&raw[..tail]);
-    if start == tail {
-        return line::kept::blank_line(model, out, ending, st);
+    if raw.len() == 0 {
+        let text = st.text;
+        let last = text.last;
+        if line::kept::adds_nothing(st.blank, last) {
+            return st;
+        }
     }
-    let line = &raw[start..tail];
-    code_line(raw, line, scratch, unit, indent, style, model, out, st)
+    code_line(raw, indent, setup, model, out, scratch, st)
 }

@@ -5,16 +5,16 @@ use native.Mathlib.Omega.{arith}
 use borrow.Author.Needs.{needs}
 use Prim.Native.Nat.{_-_, _+_}
 use lib.ListN.{length}
-use Rattle.lines.proofs.LoopLaws.{reached-ready, reached-well, number-fits}
+use Rattle.lines.proofs.LoopLaws.{as-made, reached-ready, reached-well, number-fits}
 use Rattle.lines.proofs.CheckLaws.{Looked, looked-start, looked-more, looked-stop, looked-end}
 use Rattle.lines.proofs.read_lines.Statement.{statement}
 use Rattle.lines.proofs.read_lines.Tie as tie
 
 abbrev Inv-loop : tie.InvT-loop
-Inv-loop source indent style checks model out₀ scratch₀ unit st₀ at₀ out scratch st at = Looked source indent style checks model out₀ scratch₀ out scratch st at
+Inv-loop source indent checks model out₀ scratch₀ unit setup st₀ at₀ out scratch st at = Looked source indent (setup .style) checks model out₀ scratch₀ out scratch st at
 
 abbrev μ-loop : tie.MeasureT-loop
-μ-loop source indent style checks model out₀ scratch₀ unit st₀ at₀ out scratch st at = length source + 1 - at
+μ-loop source indent checks model out₀ scratch₀ unit setup st₀ at₀ out scratch st at = length source + 1 - at
 
 new-requires : tie.Need-new-requires Inv-loop μ-loop
 new-requires c κs = search needs
@@ -47,37 +47,61 @@ line-step-requires c κs =
     let i = c .before .before .before .before .before .before .loop .inv .reached in
     (reached-ready i (s .pre .0) (omega arith) (q .line-end .ensures) (a .without-cr .ensures), (reached-well i (s .pre .0) (omega arith) (q .line-end .ensures) (a .without-cr .ensures), s .pre .0 .indents))
 
+remade-requires : tie.Need-remade-requires Inv-loop μ-loop
+remade-requires c κs = search needs
+
 add-next : tie.Need-add-next Inv-loop μ-loop
 add-next c =
-    omega (
-      arith,
-      number-fits (c .before .before .before .before .before .before .before .before .before .before .before .before .loop .inv .reached) (c .before .before .before .before .before .before .before .before .before .before .before .before .before .before .before .before .before .before .before .pre .0) (omega arith) (c .before .before .before .before .before .before .before .before .before .before .line-end .ensures) (c .before .before .before .before .before .before .before .before .without-cr .ensures) (c .before .before .before .before .before .line-step .ensures),
-    )
+    let r = c .before in
+    let w = r .before .before .before .before .before in
+    let l = w .before .before .before in
+    let q = l .before .before in
+    let i = q .before .before in
+    let s = i .before .before .before .before .before .before .before in
+    omega (arith, number-fits (i .loop .inv .reached) (s .pre .0) (omega arith) (q .line-end .ensures) (l .without-cr .ensures) (as-made _ (r .remade .ensures) (w .line-step .ensures)))
 
 add-at : tie.Need-add-at Inv-loop μ-loop
-add-at c = omega (arith, c .before .before .before .before .before .before .before .before .before .before .before .line-end .ensures .fits, c .before .before .before .before .before .before .before .before .before .before .before .before .before .before .before .before .before .before .before .before .pre .0 .limit)
+add-at c =
+    let q = c .before .before .before .before .before .before .before .before .before .before .before .before in
+    omega (arith, q .line-end .ensures .fits, (q .before .before .before .before .before .before .before .before .before) .pre .0 .limit)
 
 differs-requires : tie.Need-differs-requires Inv-loop μ-loop
 differs-requires c κs = search needs
 
 same-length : tie.Need-same-length Inv-loop μ-loop
-same-length c = c .before .before .before .before .before .before .before .before .before .out .given ∙ c .before .before .before .before .before .before .before .before .before .before .before .before .before .before .before .before .before .loop .inv .reached .as-long
+same-length c =
+    let o = c .before .before .before .before .before .before .before .before .before .before in
+    o .out .given ∙ (o .before .before .before .before .before .before .before .before) .loop .inv .reached .as-long
 
 same-length-2 : tie.Need-same-length-2 Inv-loop μ-loop
-same-length-2 c = c .before .before .before .before .before .before .before .scratch .given ∙ c .before .before .before .before .before .before .before .before .before .before .before .before .before .before .before .before .before .loop .inv .reached .as-wide
+same-length-2 c =
+    let o = c .before .before .before .before .before .before .before .before in
+    o .scratch .given ∙ (o .before .before .before .before .before .before .before .before .before .before) .loop .inv .reached .as-wide
 
 returns : tie.Need-returns Inv-loop μ-loop
 returns c =
-    looked-stop (c .before .before .before .before .before .before .before .before .before .before .before .before .before .before .before .before .before .loop .inv) (c .before .before .before .before .before .before .before .before .before .before .before .before .before .before .before .before .before .before .before .before .before .before .before .before .pre .0) (omega arith) (c .before .before .before .before .before .before .before .before .before .before .before .before .before .before .before .line-end .ensures) (c .before .before .before .before .before .before .before .before .before .before .before .before .before .without-cr .ensures) (c .before .before .before .before .before .before .before .before .before .before .line-step .ensures)
-    (c .before .differs .ensures) (c .if1 .taken)
+    let r = c .before .before .before .before .before .before in
+    let w = r .before .before .before .before .before in
+    let l = w .before .before .before in
+    let q = l .before .before in
+    let i = q .before .before in
+    let s = i .before .before .before .before .before .before .before in
+    looked-stop (i .loop .inv) (s .pre .0) (omega arith) (q .line-end .ensures) (l .without-cr .ensures) (as-made _ (r .remade .ensures) (w .line-step .ensures)) (c .before .differs .ensures) (c .if1 .taken)
 
 loop-less : tie.Need-loop-less Inv-loop μ-loop
-loop-less c = omega (arith, c .before .before .before .before .before .before .before .before .before .before .before .before .before .before .before .line-end .ensures .from, c .before .before .before .before .before .before .before .before .before .before .before .before .before .before .before .before .loop-test .taken)
+loop-less c =
+    let q = c .before .before .before .before .before .before .before .before .before .before .before .before .before .before .before .before in
+    omega (arith, q .line-end .ensures .from, q .before .loop-test .taken)
 
 loop-again : tie.Need-loop-again Inv-loop μ-loop
 loop-again c =
-    looked-more (c .before .before .before .before .before .before .before .before .before .before .before .before .before .before .before .before .before .loop .inv) (c .before .before .before .before .before .before .before .before .before .before .before .before .before .before .before .before .before .before .before .before .before .before .before .before .pre .0) (omega arith) (c .before .before .before .before .before .before .before .before .before .before .before .before .before .before .before .line-end .ensures) (c .before .before .before .before .before .before .before .before .before .before .before .before .before .without-cr .ensures) (c .before .before .before .before .before .before .before .before .before .before .line-step .ensures)
-    (c .before .differs .ensures) (c .if1 .left) (c .before .before .before .before .before .before .before .before .before .out .given) (c .before .before .before .before .before .before .before .scratch .given)
+    let r = c .before .before .before .before .before .before in
+    let w = r .before .before .before .before .before in
+    let l = w .before .before .before in
+    let q = l .before .before in
+    let i = q .before .before in
+    let s = i .before .before .before .before .before .before .before in
+    looked-more (i .loop .inv) (s .pre .0) (omega arith) (q .line-end .ensures) (l .without-cr .ensures) (as-made _ (r .remade .ensures) (w .line-step .ensures)) (c .before .differs .ensures) (c .if1 .left) ((c .before .before .before .before .before .before .before .before .before .before) .out .given) ((c .before .before .before .before .before .before .before .before) .scratch .given)
 
 same-length-3 : tie.Need-same-length-3 Inv-loop μ-loop
 same-length-3 c = search needs
@@ -92,5 +116,5 @@ pub read-lines-spec : {M : Type 1} → statement M
 read-lines-spec =
     tie.close
     (tie.spec Inv-loop μ-loop new-requires loop-holds line-end-requires sub-without-cr part-without-cr-start
-    part-without-cr-end without-cr-requires line-step-requires add-next add-at differs-requires same-length
+    part-without-cr-end without-cr-requires line-step-requires remade-requires add-next add-at differs-requires same-length
     same-length-2 returns loop-less loop-again same-length-3 same-length-4 returns-2)

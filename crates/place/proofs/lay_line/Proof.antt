@@ -18,7 +18,7 @@ break-width-requires c κs = search needs
 
 fit-line-requires : tie.Need-fit-line-requires
 fit-line-requires c κs =
-    let a = c .before .before .before .before in
+    let a = c .before .before .before in
     let s = a .before .before .before .before .before .before .before .before .before .before in
     (search needs, (level-small _ _ _ (a .level-of .ensures) (s .pre .1 .1 .1 .few), (search needs, (search needs, search needs))))
 
@@ -29,7 +29,7 @@ returns : tie.Need-returns
 returns c =
     let a = c .before .before in
     let b = a .before .before in
-    let d = b .before .before in
+    let d = b .before in
     let e = d .before in
     let g = e .before in
     let s = g .before .before .before .before .before .before .before .before .before in

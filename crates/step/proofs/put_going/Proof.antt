@@ -28,12 +28,12 @@ leading-closers-requires c κs = search needs
 
 mul-base : tie.Need-mul-base
 mul-base c =
-    let s = c .before .before .before .before .before .before .before .before .before in
+    let s = c .before .before .before .before .before .before .before .before .before .before .before .before in
     record { fits = omega (arith, s .pre .0 .limit) }
 
 pop-closers-requires : tie.Need-pop-closers-requires
 pop-closers-requires c κs =
-    let s = c .before .before .before .before .before .before .before .before .before in
+    let s = c .before .before .before .before .before .before .before .before .before .before .before .before in
     stack-nested (s .pre .0)
 
 prev-of-requires : tie.Need-prev-of-requires
@@ -44,12 +44,12 @@ before-of-requires c κs = search needs
 
 place-line-requires : tie.Need-place-line-requires
 place-line-requires c κs =
-    let a = c .before in
+    let a = c .before .before in
     let b = a .before in
     let d = b .before in
-    let e = d .before .before in
+    let e = d .before .before .before in
     let g = e .before .before in
-    let s = g .before .before .before .before .before .before in
+    let s = g .before .before .before .before .before .before .before .before in
     let s0 = s .pre .0 in
     let s1 = s .pre .1 .0 in
     let s2 = s .pre .1 .1 .0 in
@@ -62,12 +62,12 @@ same-length c = search needs
 returns : tie.Need-returns
 returns c =
     let a = c .before .before .before in
-    let b = a .before .before in
+    let b = a .before .before .before in
     let d = b .before in
     let e = d .before in
-    let g = e .before .before in
+    let g = e .before .before .before in
     let h = g .before .before in
-    let s = h .before .before .before .before .before .before in
+    let s = h .before .before .before .before .before .before .before .before in
     put-on _ _ _ _ (s .pre .0) (s .pre .1 .0) _ (s .pre .1 .1 .0) _ (h .line-that-goes-on .ensures) _ _ _ _ _ _ _ _ _ _ _ _
     (b .before-of .ensures) (a .place-line .ensures) (g .leading-closers .ensures) (e .pop-closers .ensures) (d .prev-of .ensures)
 

@@ -60,8 +60,8 @@ pub enum Fit {
     Broken(usize),
 }
 
-// Where a line is put: the text so far, the level of the line's indent, whether an empty newest line goes first, and the
-// width that the line may be broken at.
+// Where a line is put: the text so far, the level of the line's indent, whether an empty newest line goes first, and
+// the width that the line may be broken at.
 pub struct Slot {
     pub text: Written,
     pub level: usize,
@@ -124,7 +124,8 @@ fn push_one(
 fn join_one(line: &[u8], class: &[u8], model: &[u8], out: &mut [u8], t: Written) -> Written
     requires { ⌜ GoesOn (now line) (now class) ⌝ }
     requires { ⌜ Ordered t × (t .at .0 ≤ farPlace) ⌝ }
-    ensures { λ r. ⌜ Joins (decode (now (line .entry))) (now (model .entry)) (now (out .entry)) t (now (out .exit)) r ⌝ }
+    ensures { λ r. ⌜ Joins (decode (now (line .entry))) (now (model .entry)) (now (out .entry)) t (now (out .exit)) r
+        ⌝ }
 {
     let brace = format::else_line::ends_in_brace(line);
     text::join_else(model, out, t, line, brace)

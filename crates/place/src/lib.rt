@@ -61,8 +61,8 @@ pub enum Fit {
     Broken(usize),
 }
 
-// Where a line is put: the text so far, the level of the line's indent, whether an empty newest line goes first, and the
-// width that the line may be broken at.
+// Where a line is put: the text so far, the level of the line's indent, whether an empty newest line goes first, and
+// the width that the line may be broken at.
 pub struct Slot {
     pub text: Written,
     pub level: usize,

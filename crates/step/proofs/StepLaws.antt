@@ -33,7 +33,7 @@ use Rattle.brackets.proofs.StackLaws.{stacked-drop}
 use Rattle.rules.proofs.StartsBytes.{closers-encode}
 use Rattle.line.specs.Scratch.{stackAt}
 use Rattle.format.proofs.ElseLaws.{decode-some}
-use Rattle.line.specs.Holds.{Record, prevOf, Holds, Ready, Stepped, TrimmedLine, Classes, Uses, keptBy, rawBy}
+use Rattle.line.specs.Holds.{Record, prevOf, Holds, Ready, Stepped, TrimmedLine, Uses, keptBy, rawBy}
 use Rattle.line.specs.declared.style.Style.{Style}
 use Rattle.line.proofs.HoldsLaws.{ready-as, stepped-as, carry-bytes, classes-front, front-only, trimmed-line, start-within}
 use Rattle.place.specs.Placing.{spacedBy}

@@ -56,8 +56,8 @@ pub struct Scanned {
     pub marker: Marker,
 }
 
-// What a line of code is formatted with: the style, the unit of the scratch's regions, whether the line is a marker, and
-// how it goes on.
+// What a line of code is formatted with: the style, the unit of the scratch's regions, whether the line is a marker,
+// and how it goes on.
 pub struct LineSetup {
     pub style: Style,
     pub unit: usize,

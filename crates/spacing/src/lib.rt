@@ -7,7 +7,7 @@ ghost use mathlib.Core.List.{_++_, _∷_, []};
 ghost use Prim.Native.Nat.{_+_, _-_, _<_, _≤_};
 ghost use lib.ListN.{length};
 ghost use Rattle.buffer.specs.Buffer.{part};
-ghost use Rattle.rules.specs.Basics.{choose, isBlank};
+ghost use Rattle.rules.specs.Basics.{choose, is, isBlank};
 ghost use Rattle.rules.specs.Scan.{cell, isCode};
 ghost use Rattle.rules.specs.ClassBytes.{classOf, cellsOf};
 ghost use Rattle.rules.specs.Spacing.{spaced, putPlain, putAfterComma, putAt};
@@ -81,12 +81,25 @@ fn put_plain(c: u8, k: u8, scratch: &mut [u8], at: usize, n: usize) -> Respaced
     put(c, Gap::Nothing, scratch, at, n)
 }
 
-// A space, and then the byte.
+// A comma of code: a byte c of class k.
+fn is_code_comma(c: u8, k: u8) -> bool
+    ensures { λ r. ⌜ r ≡ (isCode (classOf k) && is "," c) ⌝ }
+{
+    if k != 0 {
+        return false;
+    }
+    c == b','
+}
+
+// A space, and then the byte. Before a comma of code the space would go again, so it isn't written.
 fn put_apart(c: u8, k: u8, scratch: &mut [u8], at: usize, n: usize) -> Respaced
     requires { ⌜ at + n + 1 < length (now scratch) ⌝ }
     ensures { λ r. ⌜ Wrote (putPlain (textAt (now (scratch .entry)) at n ++ (32 ∷ [])) (cell c (classOf k))) 2
         (now (scratch .entry)) at n (now (scratch .exit)) r ⌝ }
 {
+    if is_code_comma(c, k) {
+        return put_plain(c, k, scratch, at, n);
+    }
     scratch[at + n] = b' ';
     put_plain(c, k, scratch, at, n + 1)
 }

@@ -1,5 +1,6 @@
 -- Laws of changes.
 pub mod Examples
 pub mod WalkLaws
+pub mod PassLaws
 pub mod ChangeLaws
 pub mod ListLaws

@@ -24,6 +24,7 @@ use Rattle.rules.proofs.Choose.{choose-true, choose-false}
 use Rattle.gaps.specs.Gaps.{gap, after, Alike, From, GapEnd}
 use Rattle.gaps.proofs.GapLaws.{Cut, CutAt, cut-some, cut-at, strike-nil, strike-unkept, unkept-gap}
 use Rattle.changes.specs.Changes.{change, changeAt, changesFrom, changes, numbers}
+use Rattle.changes.specs.Passing.{Passed}
 use Rattle.changes.specs.Writing.{Noted, GapPair, NotedGap, Written}
 use Rattle.changes.specs.declared.Change.{Change}
 
@@ -236,17 +237,24 @@ walk-source s t q = record { fits = omega arith; well = q .wellSource }
 pub walk-text : (s t : List ℕ) → Alike s t → From t 0
 walk-text s t q = record { fits = omega arith; well = q .wellText }
 
-pub walk-source-on : (s t x₀ x : List ℕ) (n i j a b z : ℕ) → Walk s t x₀ x n i j a b → Step s a z → From s (a + z)
-walk-source-on s t x₀ x n i j a b z q v = record { fits = v .fits; well = v .well (q .gapSource .well) }
+module _ (s t x₀ x : List ℕ) (n i j a b z : ℕ) (q : Walk s t x₀ x n i j a b) (h : a < length s) (v : Step s a z) where
+  next-source : From s (a + z)
+  next-source = record { fits = v .fits; well = v .well (q .gapSource .well) }
 
-pub walk-text-on : (s t x₀ x : List ℕ) (n i j a b z : ℕ) → Walk s t x₀ x n i j a b → a < length s → Step s a z
-    → From t (b + z)
-walk-text-on s t x₀ x n i j a b z q h v =
-    let o = walk-both s t x₀ x n i j a b z q h v in record {
-      fits = o .step .fits;
-      well =
-          o .step .well (q .gapText .well);
-    }
+  next-text : From t (b + z)
+  next-text =
+      let o = walk-both s t x₀ x n i j a b z q h v in
+      record { fits = o .step .fits; well = o .step .well (q .gapText .well) }
+
+  pub walk-text-fits : b + z ≤ length t
+  walk-text-fits = next-text .fits
+
+  module _ (k : ℕ) (u : Passed s (a + z) t (b + z) k) where
+    pub walk-source-on : From s (a + z + k)
+    walk-source-on = record { fits = u .fitsSource; well = u .wellSource (next-source .well) }
+
+    pub walk-text-on : From t (b + z + k)
+    walk-text-on = record { fits = u .fitsText; well = u .wellText (next-text .well) }
 
 module _ (s t x₀ x x′ : List ℕ) (n i j a b r : ℕ) (q : Walk s t x₀ x n i j a b)
     (w : NotedGap x x′ n (changeAt i j (gap (decode (drop i s))) (gap (decode (drop j t)))) r) where
@@ -266,9 +274,9 @@ module _ (s t x₀ x x′ : List ℕ) (n i j a b r : ℕ) (q : Walk s t x₀ x n
       (q .front (omega arith))
       ∙ sym (numbers-append (q .done) (changeAt i j (gap (decode (drop i s))) (gap (decode (drop j t)))))
 
-  pub walk-turn : (z a′ b′ : ℕ) → a < length s → Step s a z → GapEnd s (a + z) a′ → GapEnd t (b + z) b′
-      → Walk s t x₀ x′ r (a + z) (b + z) a′ b′
-  walk-turn z a′ b′ h v gs gt =
+  pub walk-turn : (z k a′ b′ : ℕ) → a < length s → Step s a z → Passed s (a + z) t (b + z) k → GapEnd s (a + z + k) a′
+      → GapEnd t (b + z + k) b′ → Walk s t x₀ x′ r (a + z + k) (b + z + k) a′ b′
+  walk-turn z y a′ b′ h v u gs gt =
       let o = walk-both s t x₀ x n i j a b z q h v in
       let k = codeAt (drop a s) in
       let l = decode (drop i s) in
@@ -284,13 +292,14 @@ module _ (s t x₀ x x′ : List ℕ) (n i j a b r : ℕ) (q : Walk s t x₀ x n
       changes-step i j k (strike l′) l m (o .source .struck) ∙ rw (ea, eb, o .source .after, o .text .after) in
       record {
         done = q .done ++ c;
-        whole = q .whole ∙ ap (λ (y : List Change). q .done ++ y) g ∙ sym (append-assoc (q .done) c _);
+        whole = q .whole ∙ ap (λ (y : List Change). q .done ++ y) (g ∙ ap (λ (d : List Change). c ++ d) (u .same))
+            ∙ sym (append-assoc (q .done) c _);
         count = sym noted-count;
         bound = q .bound;
         few = omega (arith, w .most, q .few, q .gapSource .from, v .some);
         long = w .long ∙ q .long;
         front = noted-front;
-        struck = cc (o .source .struck, o .text .struck, q .struck);
+        struck = u .struck (cc (o .source .struck, o .text .struck, q .struck));
         gapSource = gs;
         gapText = gt;
       }

@@ -28,7 +28,7 @@ abbrev stop : ℕ → Carry → Stop
 stop e y = record { at = e; carry = y }
 
 -- class bytes a to e, lent to `fill`, when they are back
-pub filled : (d y : List ℕ) (a n b : ℕ) → a + n ≤ length d → y ≡ replicate (length (take n (drop a d))) b → take a d ++ (y ++ drop n (drop a d)) ≡ put d a (replicate n b)
+filled : (d y : List ℕ) (a n b : ℕ) → a + n ≤ length d → y ≡ replicate (length (take n (drop a d))) b → take a d ++ (y ++ drop n (drop a d)) ≡ put d a (replicate n b)
 filled d y a n b l e =
     let m : length (take n (drop a d)) ≡ n = length-take-le n (drop a d) (omega (arith, length-drop a d)) in
     let f : y ≡ replicate n b = rw m at e in
@@ -142,7 +142,7 @@ module _ (line : List ℕ) (i : ℕ) (class : List ℕ) (l : i < length line) (r
   plain-one e = scanned-one line Mode.Code i class Class.Code Mode.Code 0 l room (not-among e) refl
 
 -- so many bytes of code
-pub plain-run : (line : List ℕ) (n i : ℕ) (class : List ℕ) → i + n ≤ length line → length line ≤ length class → ((j : ℕ) → j < n → startsInCode (getD line (i + j) 0) ≡ false)
+plain-run : (line : List ℕ) (n i : ℕ) (class : List ℕ) → i + n ≤ length line → length line ≤ length class → ((j : ℕ) → j < n → startsInCode (getD line (i + j) 0) ≡ false)
     → Scanned line (fresh Mode.Code) i class (fresh Mode.Code) (i + n) (put class i (replicate n 0))
 plain-run line zero i class l room none = rw (add-zero, put-nil) (scanned-start line (fresh Mode.Code) i class (omega arith))
 plain-run line (suc n) i class l room none =

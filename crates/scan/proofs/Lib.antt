@@ -5,4 +5,3 @@ pub mod StringLaws
 pub mod CodeLaws
 pub mod ClassifyLaws
 pub mod CodeEnd
-pub mod QuietLaws

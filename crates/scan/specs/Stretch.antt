@@ -1,6 +1,6 @@
 -- What the functions that read a stretch of a line ask of their caller, and what they do.
 use Prim.Native.Nat.{ℕ, _+_, _^_, _<_, _≤_}
-use mathlib.Core.Bool.{Bool, true, false, _||_}
+use mathlib.Core.Bool.{Bool, _||_}
 use mathlib.Core.Path.{_≡_}
 use mathlib.Core.List.{List, _++_}
 use lib.ListN.{length, take, drop, getD}
@@ -20,19 +20,6 @@ startsInCode b = is "\\" b || is "\"" b || is "'" b || is "/" b || is "$" b
 
 abbrev pub startsAt : List ℕ → ℕ → Bool
 startsAt line i = startsInCode (getD line i 0)
-
--- one can start at the byte k after a, or at that after b
-unfoldable pub startsAtBoth : List ℕ → ℕ → ℕ → ℕ → Bool
-startsAtBoth line a b k = startsAt line (a + k) || startsAt line (b + k)
-
--- if r says so, none can start at the first n bytes
-pub record QuietTo (line : List ℕ) (n : ℕ) (r : Bool) : Type 0 where
-  pub none : r ≡ true → (j : ℕ) → j < n → startsAt line j ≡ false
-
--- if r says so, the line is code, and none can start in it
-pub record Plain (y : Carry) (line : List ℕ) (r : Bool) : Type 0 where
-  pub code : r ≡ true → y ≡ Carry.Code
-  pub quiet : QuietTo line (length line) r
 
 -- `at` is a place of the line or its end, and its class bytes have room
 pub record Room (line : List ℕ) (at : ℕ) (class : List ℕ) : Type 0 where

@@ -13,7 +13,7 @@ ghost use Rattle.basics.specs.Depth.{carryDepth};
 ghost use Rattle.scan.specs.Classified.{Classified};
 ghost use Rattle.scan.specs.CodeEnd.{codeLength, commentAt, NoComment, onlyCodeOrStr};
 ghost use Rattle.scan.specs.Stretch.{Room, Inside, At, Deep, PairRead, InnerRead, InterpRead, DollarRead};
-ghost use Rattle.scan.specs.Stretch.{Scanned, Stretch, fresh, startsInCode, startsAt, startsAtBoth, QuietTo, Plain};
+ghost use Rattle.scan.specs.Stretch.{Scanned, Stretch, fresh, startsInCode, startsAt};
 use basics::quote_of;
 use rules::Carry;
 use rules::Mode;
@@ -55,57 +55,6 @@ fn quiet(line: &[u8], at: usize) -> bool
         k += 1;
     }
     !any
-}
-
-// The same of the sixteen bytes from a on and the sixteen from b on: two blocks in one turn take the fewest
-// instructions.
-fn quiet_both(line: &[u8], a: usize, b: usize) -> bool
-    requires { ⌜ (a + 16 ≤ length (now line)) × (b + 16 ≤ length (now line)) ⌝ }
-    ensures { λ r. ⌜ NoneAmong (startsAtBoth (now (line .entry)) a b) 0 16 (not r) ⌝ }
-{
-    let mut any = false;
-    let mut k: usize = 0;
-    while k < 16 {
-        any = any | (starts_in_code(line[a + k]) | starts_in_code(line[b + k]));
-        k += 1;
-    }
-    !any
-}
-
-// Whether nothing starts in a line of at least sixteen bytes, by blocks of which the last two may overlap.
-fn quiet_blocks(line: &[u8]) -> bool
-    requires { ⌜ 16 ≤ length (now line) ⌝ }
-    ensures { λ r. ⌜ QuietTo (now (line .entry)) (length (now (line .entry))) r ⌝ }
-{
-    let last = line.len() - 16;
-    let mut i = 0;
-    while line.len() - i >= 32 {
-        if quiet_both(line, i, i + 16) {
-            i += 32;
-        } else {
-            return false;
-        }
-    }
-    if i < last {
-        return quiet_both(line, i, last);
-    }
-    quiet_both(line, last, last)
-}
-
-// The same of any line. Of one shorter than eight bytes it is not said.
-fn quiet_line(line: &[u8]) -> bool
-    ensures { λ r. ⌜ QuietTo (now (line .entry)) (length (now (line .entry))) r ⌝ }
-{
-    let n = line.len();
-    if n >= 16 {
-        return quiet_blocks(line);
-    }
-    if n >= 8 {
-        if quiet(line, 0) {
-            return quiet(line, n - 8);
-        }
-    }
-    false
 }
 
 // Whether c stands at the place after `at`.
@@ -468,19 +417,8 @@ fn stretch(line: &[u8], at: usize, carry: Carry, class: &mut [u8]) -> Stop
     }
 }
 
-// Whether a line is code in which nothing starts, as most are. Of a short one it is not said.
-fn is_plain(line: &[u8], carry: Carry) -> bool
-    ensures { λ r. ⌜ Plain carry (now (line .entry)) r ⌝ }
-{
-    match carry {
-        Carry::Code => quiet_line(line),
-        Carry::Block(_) => false,
-        Carry::Prefab => false,
-    }
-}
-
-// The same as `classify`, from stretch to stretch.
-fn stretches(line: &[u8], carry: Carry, class: &mut [u8]) -> Carry
+// The class byte of each byte of line, into the front of class, and what is still open after the line.
+pub fn classify(line: &[u8], carry: Carry, class: &mut [u8]) -> Carry
     requires { ⌜ (length (now line) ≤ length (now class)) × (carryDepth carry + length (now line) + 1 < 2 ^ 32) ⌝ }
     ensures { λ r. ⌜ Classified carry (now (line .entry)) (now (class .entry)) (now (class .exit)) r ⌝ }
 {
@@ -492,19 +430,6 @@ fn stretches(line: &[u8], carry: Carry, class: &mut [u8]) -> Carry
         y = stop.carry;
     }
     y
-}
-
-// The class byte of each byte of line, into the front of class, and what is still open after the line.
-pub fn classify(line: &[u8], carry: Carry, class: &mut [u8]) -> Carry
-    requires { ⌜ (length (now line) ≤ length (now class)) × (carryDepth carry + length (now line) + 1 < 2 ^ 32) ⌝ }
-    ensures { λ r. ⌜ Classified carry (now (line .entry)) (now (class .entry)) (now (class .exit)) r ⌝ }
-{
-    if is_plain(line, carry) {
-        let n = line.len();
-        buffer::fill(&mut class[..n], CODE);
-        return Carry::Code;
-    }
-    stretches(line, carry, class)
 }
 
 // Whether one of the sixteen class bytes from `at` on is one of a `//` comment.

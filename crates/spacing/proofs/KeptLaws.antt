@@ -224,7 +224,3 @@ keeping-end line ks i w h = record { yes = λ q. w .same ∙ from-end line ks Ga
 
 pub unchanged-no : (line ks : List ℕ) → Unchanged line ks false
 unchanged-no line ks = record { yes = λ q. cc }
-
--- what a call said
-pub unchanged-said : (line ks : List ℕ) (r : Bool) → Unchanged line ks r → r ≡ true → Unchanged line ks true
-unchanged-said line ks r w e = record { yes = λ q. w .yes e }

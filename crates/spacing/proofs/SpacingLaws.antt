@@ -13,7 +13,7 @@ use lib.ListN.{length, getD, take, drop, set, length-drop}
 use lib.Seq.{take-suc, take-suc-set, drop-set-add, getD-drop}
 use Rattle.buffer.specs.Buffer.{part}
 use Rattle.unicode.specs.Places.{NoneAmong}
-use Rattle.unicode.proofs.Tests.{split, and-left, and-right}
+use Rattle.unicode.proofs.Tests.{split}
 use Rattle.rules.specs.Basics.{choose, isBlank}
 use Rattle.rules.specs.Scan.{Cell, cell, isCode}
 use Rattle.rules.specs.ClassBytes.{classOf, cellsOf}
@@ -235,16 +235,3 @@ module _ (line buf₀ : List ℕ) (class at : ℕ) (buf : List ℕ) (t : Respace
       let e : at + t .len - at ≡ t .len = omega arith in
       let d : i ≡ length line = omega (arith, w .fold .within) in
       record { is = rw e (ap (λ (s : Spaced). s .out) (fold-end (w .fold) h)); most = omega (arith, w .most); only = w .only }
-
--- a comma of code takes the space before it away
-comma-code : (o : List ℕ) (c k : ℕ) → isCode (classOf k) ≡ true → c ≡ 44 → putPlain o (cell c (classOf k)) ≡ spaced (trimBlanks o ++ (44 ∷ [])) Gap.Comma
-unfolding putPlain choose
-comma-code o c k q e = rw (e, q)
-
-pub comma-apart : (o : List ℕ) (c k : ℕ) (r : Bool) → r ≡ (isCode (classOf k) && eqb c 44) → r ≡ true
-    → putPlain o (cell c (classOf k)) ≡ putPlain (o ++ (32 ∷ [])) (cell c (classOf k))
-comma-apart o c k r e q =
-    let code : isCode (classOf k) ≡ true = and-left (isCode (classOf k)) (eqb c 44) (sym e ∙ q) in
-    let this : c ≡ 44 = eqb-true c 44 (and-right (isCode (classOf k)) (eqb c 44) (sym e ∙ q)) in
-    comma-code o c k code this ∙ ap (λ (l : List ℕ). spaced (l ++ (44 ∷ [])) Gap.Comma) (sym (trim-snoc o 32 ∙ choose-true _ _ _ refl))
-    ∙ sym (comma-code (o ++ (32 ∷ [])) c k code this)

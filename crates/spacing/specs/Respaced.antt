@@ -1,5 +1,5 @@
 -- The respaced line as it lies in scratch.
-use Prim.Native.Nat.{ℕ, _+_, _-_, _*_, _≤_, _<_}
+use Prim.Native.Nat.{ℕ, _+_, _*_, _≤_, _<_}
 use mathlib.Core.Bool.{Bool, true, false, not, _&&_, _||_}
 use mathlib.Core.List.{List, foldl}
 use mathlib.Core.Path.{_≡_}
@@ -105,9 +105,10 @@ odd x y z k l =
 abbrev pub oddAt : List ℕ → List ℕ → ℕ → Bool
 oddAt line ks i = odd (getD line i 0) (getD line (i + 1) 0) (getD line (i + 2) 0) (getD ks i 0) (getD ks (i + 1) 0)
 
--- the byte before the last one; a space stands for what follows
-abbrev pub oddEnd : List ℕ → List ℕ → Bool
-oddEnd line ks = odd (getD line (length line - 2) 0) (getD line (length line - 2 + 1) 0) 32 (getD ks (length line - 2) 0) (getD ks (length line - 2 + 1) 0)
+-- if r says so, none is that two bytes follow
+pub record Clear (line ks : List ℕ) (r : Bool) : Type 0 where
+  pub long : r ≡ true → 2 < length line
+  pub none : r ≡ true → (j : ℕ) → j + 2 < length line → oddAt line ks j ≡ false
 
 -- a line that is said to be spaced is what spacing makes of it
 pub record Unchanged (line ks : List ℕ) (r : Bool) : Type 0 where

@@ -1,17 +1,18 @@
 // Spacing: the respaced line, written into scratch, and the test whether a line is spaced already.
 ghost use mathlib.Core.Path.{_≡_};
-ghost use mathlib.Core.Bool.{_&&_, true, false};
+ghost use mathlib.Core.Bool.{_&&_, false};
 ghost use Rattle.unicode.specs.Places.{NoneAmong};
 ghost use Rattle.rules.specs.declared.Gap.{Gap};
 ghost use mathlib.Core.List.{_++_, _∷_, []};
-ghost use Prim.Native.Nat.{_+_, _-_, _<_, _≤_};
+ghost use Prim.Native.Nat.{_+_, _<_, _≤_};
 ghost use lib.ListN.{length};
 ghost use Rattle.buffer.specs.Buffer.{part};
-ghost use Rattle.rules.specs.Basics.{choose, is, isBlank};
+ghost use Rattle.rules.specs.Basics.{choose, isBlank};
 ghost use Rattle.rules.specs.Scan.{cell, isCode};
 ghost use Rattle.rules.specs.ClassBytes.{classOf, cellsOf};
 ghost use Rattle.rules.specs.Spacing.{spaced, putPlain, putAfterComma, putAt};
-ghost use Rattle.spacing.specs.Respaced.{textAt, Trimmed, Wrote, Plain, Dropped, otherAt, Run, Place, Normalized, InCode, KeptAt, NoBlank, Keeping, odd, oddAt, oddEnd, Unchanged};
+ghost use Rattle.spacing.specs.Respaced.{textAt, Trimmed, Wrote, Plain, Dropped, otherAt, Run, Place, Normalized};
+ghost use Rattle.spacing.specs.Respaced.{InCode, KeptAt, NoBlank, Keeping, odd, oddAt, Clear, Unchanged};
 use basics::is_blank;
 use basics::is_closer;
 use rules::Gap;
@@ -81,25 +82,12 @@ fn put_plain(c: u8, k: u8, scratch: &mut [u8], at: usize, n: usize) -> Respaced
     put(c, Gap::Nothing, scratch, at, n)
 }
 
-// A comma of code: a byte c of class k.
-fn is_code_comma(c: u8, k: u8) -> bool
-    ensures { λ r. ⌜ r ≡ (isCode (classOf k) && is "," c) ⌝ }
-{
-    if k != 0 {
-        return false;
-    }
-    c == b','
-}
-
-// A space, and then the byte. Before a comma of code the space would go again, so it isn't written.
+// A space, and then the byte.
 fn put_apart(c: u8, k: u8, scratch: &mut [u8], at: usize, n: usize) -> Respaced
     requires { ⌜ at + n + 1 < length (now scratch) ⌝ }
     ensures { λ r. ⌜ Wrote (putPlain (textAt (now (scratch .entry)) at n ++ (32 ∷ [])) (cell c (classOf k))) 2
         (now (scratch .entry)) at n (now (scratch .exit)) r ⌝ }
 {
-    if is_code_comma(c, k) {
-        return put_plain(c, k, scratch, at, n);
-    }
     scratch[at + n] = b' ';
     put_plain(c, k, scratch, at, n + 1)
 }
@@ -389,36 +377,16 @@ fn is_odd(x: u8, y: u8, z: u8, k: u8, l: u8) -> bool
         | ((k == 0) & (((x == b'\\') | ((x == b' ') & (y == b' '))) | ((x == b',') & gap)))
 }
 
-// The same of the byte at i.
-fn odd_at(line: &[u8], class: &[u8], i: usize) -> bool
-    requires { ⌜ (i + 3 ≤ length (now line)) × (length (now line) ≤ length (now class)) ⌝ }
-    ensures { λ r. ⌜ r ≡ oddAt (now (line .entry)) (now (class .entry)) i ⌝ }
-{
-    is_odd(line[i], line[i + 1], line[i + 2], class[i], class[i + 1])
-}
-
-// Whether one of the first n bytes is odd, of four from `at` on, and of sixteen.
-fn odd_few(line: &[u8], class: &[u8], n: usize) -> bool
-    requires { ⌜ (n + 2 ≤ length (now line)) × (length (now line) ≤ length (now class)) ⌝ }
-    ensures { λ r. ⌜ NoneAmong (oddAt (now (line .entry)) (now (class .entry))) 0 n r ⌝ }
+// The same of eight bytes from `at` on, and of sixteen.
+fn odd_eight(line: &[u8], class: &[u8], at: usize) -> bool
+    requires { ⌜ (at + 10 ≤ length (now line)) × (length (now line) ≤ length (now class)) ⌝ }
+    ensures { λ r. ⌜ NoneAmong (oddAt (now (line .entry)) (now (class .entry))) at 8 r ⌝ }
 {
     let mut any = false;
     let mut k: usize = 0;
-    while k < n {
-        any = any | odd_at(line, class, k);
-        k += 1;
-    }
-    any
-}
-
-fn odd_four(line: &[u8], class: &[u8], at: usize) -> bool
-    requires { ⌜ (at + 6 ≤ length (now line)) × (length (now line) ≤ length (now class)) ⌝ }
-    ensures { λ r. ⌜ NoneAmong (oddAt (now (line .entry)) (now (class .entry))) at 4 r ⌝ }
-{
-    let mut any = false;
-    let mut k: usize = 0;
-    while k < 4 {
-        any = any | odd_at(line, class, at + k);
+    while k < 8 {
+        let i = at + k;
+        any = any | is_odd(line[i], line[i + 1], line[i + 2], class[i], class[i + 1]);
         k += 1;
     }
     any
@@ -431,84 +399,75 @@ fn odd_sixteen(line: &[u8], class: &[u8], at: usize) -> bool
     let mut any = false;
     let mut k: usize = 0;
     while k < 16 {
-        any = any | odd_at(line, class, at + k);
+        let i = at + k;
+        any = any | is_odd(line[i], line[i + 1], line[i + 2], class[i], class[i + 1]);
         k += 1;
     }
     any
 }
 
-// Whether one of the bytes is odd that two bytes follow, by blocks that may overlap: in a line of 6 to 10 bytes, of 10
-// to 18, and of more.
-fn odd_fours(line: &[u8], class: &[u8]) -> bool
-    requires { ⌜ (6 ≤ length (now line)) × (length (now line) ≤ 10) ⌝ }
+// Whether no byte is odd but for the last two, by two blocks that may overlap.
+fn is_clear_short(line: &[u8], class: &[u8]) -> bool
+    requires { ⌜ (10 ≤ length (now line)) × (length (now line) ≤ 18) ⌝ }
     requires { ⌜ length (now line) ≤ length (now class) ⌝ }
-    ensures { λ r. ⌜ NoneAmong (oddAt (now (line .entry)) (now (class .entry))) 0 (length (now (line .entry)) - 2) r ⌝ }
+    ensures { λ r. ⌜ Clear (now (line .entry)) (now (class .entry)) r ⌝ }
 {
-    odd_four(line, class, 0) | odd_four(line, class, line.len() - 6)
-}
-
-fn odd_eights(line: &[u8], class: &[u8], last: usize) -> bool
-    requires { ⌜ (last + 10 ≡ length (now line)) × (last ≤ 8) ⌝ }
-    requires { ⌜ length (now line) ≤ length (now class) ⌝ }
-    ensures { λ r. ⌜ NoneAmong (oddAt (now (line .entry)) (now (class .entry))) 0 (length (now (line .entry)) - 2) r ⌝ }
-{
-    let mut any = false;
-    let mut k: usize = 0;
-    while k < 8 {
-        any = any | (odd_at(line, class, k) | odd_at(line, class, last + k));
-        k += 1;
+    if odd_eight(line, class, 0) {
+        return false;
     }
-    any
+    if odd_eight(line, class, line.len() - 10) {
+        return false;
+    }
+    true
 }
 
-fn odd_sixteens(line: &[u8], class: &[u8]) -> bool
+// The same of a longer line, by as many blocks as it takes.
+fn is_clear_long(line: &[u8], class: &[u8]) -> bool
     requires { ⌜ 18 ≤ length (now line) ⌝ }
     requires { ⌜ length (now line) ≤ length (now class) ⌝ }
-    ensures { λ r. ⌜ NoneAmong (oddAt (now (line .entry)) (now (class .entry))) 0 (length (now (line .entry)) - 2) r ⌝ }
+    ensures { λ r. ⌜ Clear (now (line .entry)) (now (class .entry)) r ⌝ }
 {
     let last = line.len() - 18;
     let mut i = 0;
     while i < last {
         if odd_sixteen(line, class, i) {
-            return true;
+            return false;
         }
         i += 16;
     }
-    odd_sixteen(line, class, last)
-}
-
-// The same of the byte that one byte follows. A space stands for what follows that, so that a comma is odd.
-fn odd_end(line: &[u8], class: &[u8]) -> bool
-    requires { ⌜ 2 ≤ length (now line) ⌝ }
-    requires { ⌜ length (now line) ≤ length (now class) ⌝ }
-    ensures { λ r. ⌜ r ≡ oddEnd (now (line .entry)) (now (class .entry)) ⌝ }
-{
-    let i = line.len() - 2;
-    is_odd(line[i], line[i + 1], b' ', class[i], class[i + 1])
-}
-
-// Whether no byte is odd, so that spacing leaves the line as it is.
-fn is_clear(line: &[u8], class: &[u8]) -> bool
-    requires { ⌜ length (now line) ≤ length (now class) ⌝ }
-    ensures { λ r. ⌜ Unchanged (now (line .entry)) (now (class .entry)) r ⌝ }
-{
-    let n = line.len();
-    if n < 2 {
-        return true;
-    }
-    if odd_end(line, class) {
+    if odd_sixteen(line, class, last) {
         return false;
     }
-    if 18 <= n {
-        return !odd_sixteens(line, class);
+    true
+}
+
+fn is_clear(line: &[u8], class: &[u8]) -> bool
+    requires { ⌜ length (now line) ≤ length (now class) ⌝ }
+    ensures { λ r. ⌜ Clear (now (line .entry)) (now (class .entry)) r ⌝ }
+{
+    let n = line.len();
+    if n < 10 {
+        return false;
     }
-    if 10 <= n {
-        return !odd_eights(line, class, n - 10);
+    if n < 18 {
+        return is_clear_short(line, class);
     }
-    if 6 <= n {
-        return !odd_fours(line, class);
+    is_clear_long(line, class)
+}
+
+// How many bytes a first look finds to stay as they are: all but two or three, or none.
+fn kept_prefix(line: &[u8], class: &[u8]) -> usize
+    requires { ⌜ length (now line) ≤ length (now class) ⌝ }
+    ensures { λ r. ⌜ Keeping (now (line .entry)) (now (class .entry)) r ⌝ }
+{
+    if is_clear(line, class) {
+        let e = line.len() - 2;
+        if line[e - 1] == b',' {
+            return e - 1;
+        }
+        return e;
     }
-    !odd_few(line, class, n - 2)
+    0
 }
 
 // Whether spacing leaves the line as it is, as far as a look at each byte and its neighbours tells.
@@ -516,10 +475,7 @@ pub fn is_spaced(line: &[u8], class: &[u8]) -> bool
     requires { ⌜ length (now line) ≤ length (now class) ⌝ }
     ensures { λ r. ⌜ Unchanged (now (line .entry)) (now (class .entry)) r ⌝ }
 {
-    if is_clear(line, class) {
-        return true;
-    }
-    let mut i = 0;
+    let mut i = kept_prefix(line, class);
     while i < line.len() {
         let n = kept_at(line, class, i);
         if n == 0 {
@@ -539,7 +495,8 @@ pub fn line_that_goes_on<'a>(
     len: usize,
 ) -> &'a [u8]
     requires { ⌜ at + len ≤ length (now scratch) ⌝ }
-    ensures { λ r. ⌜ now r ≡ choose unchanged (now («source_line» .entry)) (part (now (scratch .entry)) at (at + len)) ⌝ }
+    ensures { λ r. ⌜ now r ≡ choose unchanged (now («source_line» .entry))
+        (part (now (scratch .entry)) at (at + len)) ⌝ }
 {
     if unchanged {
         return source_line;

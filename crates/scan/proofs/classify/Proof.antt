@@ -1,49 +1,37 @@
 -- `classify` meets its contract: the invariant is `Reached`, the line is classified up to i, where y is open; its laws
 -- are in proofs/ClassifyLaws.antt.
 use native.Mathlib.Omega.{arith}
-use borrow.Author.Needs.{needs}
-use lib.ListN.{length-take}
-use Rattle.scan.proofs.QuietLaws.{plain-classified}
+use Prim.Native.Nat.{_-_}
+use lib.ListN.{length}
+use Rattle.scan.proofs.ClassifyLaws.{Reached, reached-start, reached-more, reached-end}
 use Rattle.scan.proofs.classify.Statement.{statement}
 use Rattle.scan.proofs.classify.Tie as tie
 
-is-plain-requires : tie.Need-is-plain-requires
-is-plain-requires c κs = search needs
+abbrev Inv-loop : tie.InvT-loop
+Inv-loop line class₀ i₀ y₀ class i y = Reached line y₀ class₀ class i y
 
-slice-relend-prefix-fill : tie.Need-slice-relend-prefix-fill
-slice-relend-prefix-fill c = search needs
+abbrev μ-loop : tie.MeasureT-loop
+μ-loop line class₀ i₀ y₀ class i y = length line - i
 
-slice-aggregate-fill : tie.Need-slice-aggregate-fill
-slice-aggregate-fill c = simp length-take (omega arith)
+loop-holds : tie.Need-loop-holds Inv-loop μ-loop
+loop-holds c = reached-start _ _ _
 
-fill-requires : tie.Need-fill-requires
-fill-requires c κs = search needs
+stretch-requires : tie.Need-stretch-requires Inv-loop μ-loop
+stretch-requires c κs = record { inside = omega arith; room = omega arith; few = omega arith }
 
-same-length : tie.Need-same-length
-same-length c = search needs
+loop-less : tie.Need-loop-less Inv-loop μ-loop
+loop-less c = omega arith
 
-returns : tie.Need-returns
-returns c = search (needs, plain-classified)
+loop-again : tie.Need-loop-again Inv-loop μ-loop
+loop-again c = reached-more (c .before .before .before .before .before .loop .inv) (c .before .before .stretch .ensures)
 
-stretches-requires : tie.Need-stretches-requires
-stretches-requires c κs = search needs
+same-length : tie.Need-same-length Inv-loop μ-loop
+same-length c = c .before .loop .inv .scanned .moved .as-long
 
-same-length-2 : tie.Need-same-length-2
-same-length-2 c = search needs
-
-returns-2 : tie.Need-returns-2
-returns-2 c = search needs
+returns : tie.Need-returns Inv-loop μ-loop
+returns c = reached-end (c .before .loop .inv) (omega arith)
 
 pub classify-spec : {M : Type 1} → statement M
 classify-spec =
     tie.close
-    (tie.spec
-    is-plain-requires
-    slice-relend-prefix-fill
-    slice-aggregate-fill
-    fill-requires
-    same-length
-    returns
-    stretches-requires
-    same-length-2
-    returns-2)
+    (tie.spec Inv-loop μ-loop loop-holds stretch-requires loop-less loop-again same-length returns)

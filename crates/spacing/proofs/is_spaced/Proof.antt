@@ -4,7 +4,7 @@ use borrow.Author.Needs.{needs}
 use Prim.Native.Nat.{_-_}
 use lib.ListN.{length}
 use Rattle.spacing.specs.Respaced.{Keeping}
-use Rattle.spacing.proofs.KeptLaws.{keeping-start, keeping-more, keeping-end, unchanged-no, unchanged-said}
+use Rattle.spacing.proofs.KeptLaws.{keeping-more, keeping-end, unchanged-no}
 use Rattle.spacing.proofs.is_spaced.Statement.{statement}
 use Rattle.spacing.proofs.is_spaced.Tie as tie
 
@@ -14,20 +14,17 @@ Inv-loop line class i₀ i = Keeping line class i
 abbrev μ-loop : tie.MeasureT-loop
 μ-loop line class i₀ i = length line - i
 
-is-clear-requires : tie.Need-is-clear-requires Inv-loop μ-loop
-is-clear-requires c κs = search needs
-
-returns : tie.Need-returns Inv-loop μ-loop
-returns c = search (needs, unchanged-said)
+kept-prefix-requires : tie.Need-kept-prefix-requires Inv-loop μ-loop
+kept-prefix-requires c κs = search needs
 
 loop-holds : tie.Need-loop-holds Inv-loop μ-loop
-loop-holds c = keeping-start _ _
+loop-holds c = search needs
 
 kept-at-requires : tie.Need-kept-at-requires Inv-loop μ-loop
 kept-at-requires c κs = search needs
 
-returns-2 : tie.Need-returns-2 Inv-loop μ-loop
-returns-2 c = search (needs, unchanged-no)
+returns : tie.Need-returns Inv-loop μ-loop
+returns c = search (needs, unchanged-no)
 
 add-i : tie.Need-add-i Inv-loop μ-loop
 add-i c = search needs
@@ -38,11 +35,11 @@ loop-less c = search needs
 loop-again : tie.Need-loop-again Inv-loop μ-loop
 loop-again c = search (needs, keeping-more)
 
-returns-3 : tie.Need-returns-3 Inv-loop μ-loop
-returns-3 c = search (needs, keeping-end)
+returns-2 : tie.Need-returns-2 Inv-loop μ-loop
+returns-2 c = search (needs, keeping-end)
 
 pub is-spaced-spec : {M : Type 1} → statement M
 is-spaced-spec =
     tie.close
-    (tie.spec Inv-loop μ-loop is-clear-requires returns loop-holds kept-at-requires returns-2 add-i loop-less
-    loop-again returns-3)
+    (tie.spec Inv-loop μ-loop kept-prefix-requires loop-holds kept-at-requires returns add-i loop-less loop-again
+    returns-2)

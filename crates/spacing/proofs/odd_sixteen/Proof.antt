@@ -17,11 +17,35 @@ abbrev μ-loop : tie.MeasureT-loop
 loop-holds : tie.Need-loop-holds Inv-loop μ-loop
 loop-holds c = among-start _ _
 
-add-odd-at : tie.Need-add-odd-at Inv-loop μ-loop
-add-odd-at c = search needs
+add-i : tie.Need-add-i Inv-loop μ-loop
+add-i c = search needs
 
-odd-at-requires : tie.Need-odd-at-requires Inv-loop μ-loop
-odd-at-requires c κs = search needs
+shared-slice-read-is-odd : tie.Need-shared-slice-read-is-odd Inv-loop μ-loop
+shared-slice-read-is-odd c = search needs
+
+add-is-odd : tie.Need-add-is-odd Inv-loop μ-loop
+add-is-odd c = search needs
+
+shared-slice-read-is-odd-2 : tie.Need-shared-slice-read-is-odd-2 Inv-loop μ-loop
+shared-slice-read-is-odd-2 c = search needs
+
+add-is-odd-2 : tie.Need-add-is-odd-2 Inv-loop μ-loop
+add-is-odd-2 c = search needs
+
+shared-slice-read-is-odd-3 : tie.Need-shared-slice-read-is-odd-3 Inv-loop μ-loop
+shared-slice-read-is-odd-3 c = search needs
+
+shared-slice-read-is-odd-4 : tie.Need-shared-slice-read-is-odd-4 Inv-loop μ-loop
+shared-slice-read-is-odd-4 c = search needs
+
+add-is-odd-3 : tie.Need-add-is-odd-3 Inv-loop μ-loop
+add-is-odd-3 c = search needs
+
+shared-slice-read-is-odd-5 : tie.Need-shared-slice-read-is-odd-5 Inv-loop μ-loop
+shared-slice-read-is-odd-5 c = search needs
+
+is-odd-requires : tie.Need-is-odd-requires Inv-loop μ-loop
+is-odd-requires c κs = search needs
 
 add-k : tie.Need-add-k Inv-loop μ-loop
 add-k c = search needs
@@ -38,4 +62,6 @@ returns c = search (needs, among-all)
 pub odd-sixteen-spec : {M : Type 1} → statement M
 odd-sixteen-spec =
     tie.close
-    (tie.spec Inv-loop μ-loop loop-holds add-odd-at odd-at-requires add-k loop-less loop-again returns)
+    (tie.spec Inv-loop μ-loop loop-holds add-i shared-slice-read-is-odd add-is-odd shared-slice-read-is-odd-2
+    add-is-odd-2 shared-slice-read-is-odd-3 shared-slice-read-is-odd-4 add-is-odd-3 shared-slice-read-is-odd-5
+    is-odd-requires add-k loop-less loop-again returns)

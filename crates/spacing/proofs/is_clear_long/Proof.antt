@@ -3,9 +3,9 @@
 use borrow.Author.Needs.{needs}
 use Prim.Native.Nat.{_-_}
 use native.Mathlib.Omega.{arith}
-use Rattle.spacing.proofs.OddLaws.{Cleared, cleared-start, cleared-more, among-odd, among-sixteens}
-use Rattle.spacing.proofs.odd_sixteens.Statement.{statement}
-use Rattle.spacing.proofs.odd_sixteens.Tie as tie
+use Rattle.spacing.proofs.OddLaws.{Cleared, cleared-start, cleared-more, clear-no, clear-long}
+use Rattle.spacing.proofs.is_clear_long.Statement.{statement}
+use Rattle.spacing.proofs.is_clear_long.Tie as tie
 
 abbrev Inv-loop : tie.InvT-loop
 Inv-loop line class last i₀ i = Cleared line class i
@@ -23,7 +23,7 @@ odd-sixteen-requires : tie.Need-odd-sixteen-requires Inv-loop μ-loop
 odd-sixteen-requires c κs = search needs
 
 returns : tie.Need-returns Inv-loop μ-loop
-returns c = among-odd _ _ _
+returns c = clear-no _ _
 
 add-i : tie.Need-add-i Inv-loop μ-loop
 add-i c = search needs
@@ -38,10 +38,13 @@ odd-sixteen-requires-2 : tie.Need-odd-sixteen-requires-2 Inv-loop μ-loop
 odd-sixteen-requires-2 c κs = search needs
 
 returns-2 : tie.Need-returns-2 Inv-loop μ-loop
-returns-2 c = search (needs, among-sixteens)
+returns-2 c = clear-no _ _
 
-pub odd-sixteens-spec : {M : Type 1} → statement M
-odd-sixteens-spec =
+returns-3 : tie.Need-returns-3 Inv-loop μ-loop
+returns-3 c = search (needs, clear-long)
+
+pub is-clear-long-spec : {M : Type 1} → statement M
+is-clear-long-spec =
     tie.close
     (tie.spec Inv-loop μ-loop sub-last loop-holds odd-sixteen-requires returns add-i loop-less loop-again
-    odd-sixteen-requires-2 returns-2)
+    odd-sixteen-requires-2 returns-2 returns-3)

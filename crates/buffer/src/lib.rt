@@ -132,7 +132,7 @@ pub fn append(out: &mut [u8], at: usize, line: &[u8]) -> usize
 }
 
 // Whether every byte of s is b.
-fn all_are(s: &[u8], b: u8) -> bool
+pub fn all_are(s: &[u8], b: u8) -> bool
     ensures { λ r. ⌜ AllAre (now (s .entry)) b r ⌝ }
 {
     let mut i = 0;

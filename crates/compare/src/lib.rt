@@ -6,7 +6,6 @@ ghost use mathlib.Core.List.{_++_};
 ghost use Prim.Native.Nat.{_+_, _<_, _≤_, _^_, min};
 ghost use lib.ListN.{length};
 ghost use Rattle.unicode.specs.Places.{NoneAmong};
-ghost use Rattle.buffer.specs.Buffer.{AllAre};
 ghost use Rattle.buffer.specs.Repeat.{times};
 ghost use Rattle.compare.specs.Common.{common, Agreeing, EndsAlike, differAt, Marks, RunOf, RunAlike, cellSize, cellOf, CellPut, CellKept, Compared, Tells};
 
@@ -138,20 +137,6 @@ fn run_of(model: &[u8], b: u8) -> u8
     n
 }
 
-// Whether every byte of s is b.
-fn one_kind(s: &[u8], b: u8) -> bool
-    ensures { λ r. ⌜ AllAre (now (s .entry)) b r ⌝ }
-{
-    let mut i = 0;
-    while i < s.len() {
-        if s[i] != b {
-            return false;
-        }
-        i += 1;
-    }
-    true
-}
-
 // Whether the indent, levels times over, agrees. It is told where that has at most 16 bytes, all of one kind, and the
 // model has 16.
 fn run_alike(model: &[u8], indent: &[u8], levels: usize) -> bool
@@ -164,7 +149,7 @@ fn run_alike(model: &[u8], indent: &[u8], levels: usize) -> bool
         return false;
     }
     let b = indent[0];
-    if one_kind(indent, b) {
+    if buffer::all_are(indent, b) {
         return n <= wide(run_of(model, b));
     }
     false

@@ -4,7 +4,6 @@ ghost use Prim.Native.Nat.{_+_, _≤_, _<_, _^_};
 ghost use mathlib.Core.Path.{_≡_};
 ghost use lib.ListN.{length};
 ghost use Rattle.unicode.specs.Unicode.{decode, WellFormed, width};
-ghost use Rattle.unicode.specs.Places.{NoneAmong, highAt, AsciiRun};
 ghost use Rattle.rules.specs.Lines.{asStr};
 ghost use Rattle.split.specs.Measure.{ByteMeasured, Measurable, Measured, Indent, IndentMeasured, Wide, Within};
 ghost use Rattle.split.specs.Measure.{Trimmed};
@@ -50,40 +49,12 @@ fn measure_tabs(ruler: u8, from: Utf16Column, part: &[u8]) -> Utf16Column
     Utf16Column(column)
 }
 
-// Whether a byte that is not ASCII stands among the 16 bytes from `at` on, without a branch.
-fn has_high(s: &[u8], at: usize) -> bool
-    requires { ⌜ at + 16 ≤ length (now s) ⌝ }
-    ensures { λ r. ⌜ NoneAmong (highAt (now (s .entry))) at 16 r ⌝ }
-{
-    let mut any = false;
-    let mut k: usize = 0;
-    while k < 16 {
-        any = any | (127 < s[at + k]);
-        k += 1;
-    }
-    any
-}
-
-// Past the blocks of 16 bytes that are ASCII.
-fn past_blocks(s: &[u8]) -> usize
-    ensures { λ r. ⌜ AsciiRun (now (s .entry)) 0 r ⌝ }
-{
-    let mut i = 0;
-    while s.len() - i >= 16 {
-        if has_high(s, i) {
-            return i;
-        }
-        i += 16;
-    }
-    i
-}
-
 // How many UTF-16 units the characters of a well-formed slice take: as many as bytes where they are ASCII.
 fn count_units(s: &[u8]) -> usize
     requires { ⌜ WellFormed (now s) × (length (now s) < 2 ^ 62) ⌝ }
     ensures { λ r. ⌜ r ≡ width (decode (now (s .entry))) ⌝ }
 {
-    let mut i = past_blocks(s);
+    let mut i = unicode::past_blocks(s, 0);
     let mut n = i;
     while i < s.len() {
         n += unicode::units(s[i]);

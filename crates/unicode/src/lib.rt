@@ -124,7 +124,7 @@ fn has_high(s: &[u8], at: usize) -> bool
 }
 
 // Past the blocks of 16 bytes that are ASCII.
-fn past_blocks(s: &[u8], at: usize) -> usize
+pub fn past_blocks(s: &[u8], at: usize) -> usize
     requires { ⌜ at ≤ length (now s) ⌝ }
     ensures { λ r. ⌜ AsciiRun (now (s .entry)) at r ⌝ }
 {

@@ -14,8 +14,8 @@ returns c = search (needs, alike-untold)
 shared-slice-read-b : tie.Need-shared-slice-read-b
 shared-slice-read-b c = search needs
 
-one-kind-requires : tie.Need-one-kind-requires
-one-kind-requires c κs = search needs
+all-are-requires : tie.Need-all-are-requires
+all-are-requires c κs = search needs
 
 run-of-requires : tie.Need-run-of-requires
 run-of-requires c κs = search needs
@@ -32,5 +32,5 @@ returns-3 c = search (needs, alike-untold)
 pub run-alike-spec : {M : Type 1} → statement M
 run-alike-spec =
     tie.close
-    (tie.spec mul-n returns shared-slice-read-b one-kind-requires run-of-requires wide-requires returns-2
+    (tie.spec mul-n returns shared-slice-read-b all-are-requires run-of-requires wide-requires returns-2
     returns-3)

@@ -50,16 +50,6 @@ line-step-requires c κs =
 remade-requires : tie.Need-remade-requires Inv-loop μ-loop
 remade-requires c κs = search needs
 
-add-next : tie.Need-add-next Inv-loop μ-loop
-add-next c =
-    let r = c .before in
-    let w = r .before .before .before .before .before in
-    let l = w .before .before .before in
-    let q = l .before .before in
-    let i = q .before .before in
-    let s = i .before .before .before .before .before .before .before in
-    omega (arith, number-fits (i .loop .inv .reached) (s .pre .0) (omega arith) (q .line-end .ensures) (l .without-cr .ensures) (as-made _ (r .remade .ensures) (w .line-step .ensures)))
-
 add-at : tie.Need-add-at Inv-loop μ-loop
 add-at c =
     let q = c .before .before .before .before .before .before .before .before .before .before .before .before in
@@ -102,6 +92,16 @@ loop-again c =
     let i = q .before .before in
     let s = i .before .before .before .before .before .before .before in
     looked-more (i .loop .inv) (s .pre .0) (omega arith) (q .line-end .ensures) (l .without-cr .ensures) (as-made _ (r .remade .ensures) (w .line-step .ensures)) (c .before .differs .ensures) (c .if1 .left) ((c .before .before .before .before .before .before .before .before .before .before) .out .given) ((c .before .before .before .before .before .before .before .before) .scratch .given)
+
+add-next : tie.Need-add-next Inv-loop μ-loop
+add-next c =
+    let r = c .before in
+    let w = r .before .before .before .before .before in
+    let l = w .before .before .before in
+    let q = l .before .before in
+    let i = q .before .before in
+    let s = i .before .before .before .before .before .before .before in
+    omega (arith, number-fits (i .loop .inv .reached) (s .pre .0) (omega arith) (q .line-end .ensures) (l .without-cr .ensures) (as-made _ (r .remade .ensures) (w .line-step .ensures)))
 
 same-length-3 : tie.Need-same-length-3 Inv-loop μ-loop
 same-length-3 c = search needs

@@ -142,8 +142,8 @@ module _ {s : List ℕ} {at i : ℕ} (r : AsciiRun s at i) where
   pub run-one : i < length s → getD s i 0 ≤ 127 → AsciiRun s at (i + 1)
   run-one h b = run-more 1 (omega arith) (λ j l. let e : i + j ≡ i = omega arith in rw e (omega arith))
 
-  pub run-block : {any : Bool} → i + 16 ≤ length s → NoneAmong (highAt s) i 16 any → any ≡ false → AsciiRun s at (i + 16)
-  run-block h a e = run-more 16 h (λ j l. let b = ltb-false 127 (getD s (i + j) 0) (a .none e j l) in omega arith)
+  pub run-block : (n : ℕ) {any : Bool} → i + n ≤ length s → NoneAmong (highAt s) i n any → any ≡ false → AsciiRun s at (i + n)
+  run-block n h a e = run-more n h (λ j l. let b = ltb-false 127 (getD s (i + j) 0) (a .none e j l) in omega arith)
 
 -- the prefix goes on past it
 prefix-past : (s : List ℕ) (i n : ℕ) → PrefixScan s i → i + n ≤ length s → ((j : ℕ) → j < n → getD s (i + j) 0 < 0x80) → PrefixScan s (i + n)

@@ -123,12 +123,37 @@ fn has_high(s: &[u8], at: usize) -> bool
     any
 }
 
+// The same of 64 bytes.
+fn has_high_wide(s: &[u8], at: usize) -> bool
+    requires { ⌜ at + 64 ≤ length (now s) ⌝ }
+    ensures { λ r. ⌜ NoneAmong (highAt (now (s .entry))) at 64 r ⌝ }
+{
+    let a = has_high(s, at) | has_high(s, at + 16);
+    let b = has_high(s, at + 32) | has_high(s, at + 48);
+    a | b
+}
+
+// Past the blocks of 64 bytes that are ASCII.
+fn past_wide_blocks(s: &[u8], at: usize) -> usize
+    requires { ⌜ at ≤ length (now s) ⌝ }
+    ensures { λ r. ⌜ AsciiRun (now (s .entry)) at r ⌝ }
+{
+    let mut i = at;
+    while s.len() - i >= 64 {
+        if has_high_wide(s, i) {
+            return i;
+        }
+        i += 64;
+    }
+    i
+}
+
 // Past the blocks of 16 bytes that are ASCII.
 pub fn past_blocks(s: &[u8], at: usize) -> usize
     requires { ⌜ at ≤ length (now s) ⌝ }
     ensures { λ r. ⌜ AsciiRun (now (s .entry)) at r ⌝ }
 {
-    let mut i = at;
+    let mut i = past_wide_blocks(s, at);
     while s.len() - i >= 16 {
         if has_high(s, i) {
             return i;

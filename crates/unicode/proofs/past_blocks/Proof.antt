@@ -4,7 +4,7 @@ use borrow.Author.Needs.{needs}
 use native.Mathlib.Omega.{arith}
 use lib.ListN.{length}
 use Rattle.unicode.specs.Places.{AsciiRun}
-use Rattle.unicode.proofs.Scan.{run-start, run-block}
+use Rattle.unicode.proofs.Scan.{run-block}
 use Rattle.unicode.proofs.past_blocks.Statement.{statement}
 use Rattle.unicode.proofs.past_blocks.Tie as tie
 
@@ -15,7 +15,10 @@ abbrev μ-loop : tie.MeasureT-loop
 μ-loop s at i₀ i = length s - i
 
 loop-holds : tie.Need-loop-holds Inv-loop μ-loop
-loop-holds c = search (needs, run-start)
+loop-holds c = search needs
+
+past-wide-blocks-requires : tie.Need-past-wide-blocks-requires Inv-loop μ-loop
+past-wide-blocks-requires c κs = search needs
 
 sub-loop : tie.Need-sub-loop Inv-loop μ-loop
 sub-loop c = omega arith
@@ -33,7 +36,7 @@ loop-less : tie.Need-loop-less Inv-loop μ-loop
 loop-less c = omega arith
 
 loop-again : tie.Need-loop-again Inv-loop μ-loop
-loop-again c = run-block (c .before .before .before .loop .inv) (omega arith) (c .before .has-high .ensures) (c .if1 .left)
+loop-again c = run-block (c .before .before .before .loop .inv) 16 (omega arith) (c .before .has-high .ensures) (c .if1 .left)
 
 returns-2 : tie.Need-returns-2 Inv-loop μ-loop
 returns-2 c = search needs
@@ -41,4 +44,4 @@ returns-2 c = search needs
 pub past-blocks-spec : {M : Type 1} → statement M
 past-blocks-spec =
     tie.close
-    (tie.spec Inv-loop μ-loop loop-holds sub-loop has-high-requires returns add-i loop-less loop-again returns-2)
+    (tie.spec Inv-loop μ-loop past-wide-blocks-requires loop-holds sub-loop has-high-requires returns add-i loop-less loop-again returns-2)

@@ -145,6 +145,13 @@ module _ {s : List ℕ} {at i : ℕ} (r : AsciiRun s at i) where
   pub run-block : (n : ℕ) {any : Bool} → i + n ≤ length s → NoneAmong (highAt s) i n any → any ≡ false → AsciiRun s at (i + n)
   run-block n h a e = run-more n h (λ j l. let b = ltb-false 127 (getD s (i + j) 0) (a .none e j l) in omega arith)
 
+pub run-then : {s : List ℕ} {at i r : ℕ} → AsciiRun s at i → AsciiRun s i r → AsciiRun s at r
+run-then {s} {at} {i} {r} a b = record { from = omega (arith, a .from, b .from); within = b .within; ascii = λ j l. go j l (split (at + j) i) }
+  where
+    go : (j : ℕ) → at + j < r → (at + j < i) ⊎ (i ≤ at + j) → getD s (at + j) 0 < 0x80
+    go j l (inl h) = a .ascii j h
+    go j l (inr h) = let e : i + (at + j - i) ≡ at + j = omega arith in rw e at (b .ascii (at + j - i) (omega arith))
+
 -- the prefix goes on past it
 prefix-past : (s : List ℕ) (i n : ℕ) → PrefixScan s i → i + n ≤ length s → ((j : ℕ) → j < n → getD s (i + j) 0 < 0x80) → PrefixScan s (i + n)
 prefix-past s i zero q h a = rw add-zero q

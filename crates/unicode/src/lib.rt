@@ -148,17 +148,17 @@ fn past_wide_blocks(s: &[u8], at: usize) -> usize
     i
 }
 
-// Past the blocks of 16 bytes that are ASCII.
+// Past the blocks of 16 bytes that are ASCII; after the first, of 64 where so many are left.
 pub fn past_blocks(s: &[u8], at: usize) -> usize
     requires { ⌜ at ≤ length (now s) ⌝ }
     ensures { λ r. ⌜ AsciiRun (now (s .entry)) at r ⌝ }
 {
-    let mut i = past_wide_blocks(s, at);
+    let mut i = at;
     while s.len() - i >= 16 {
         if has_high(s, i) {
             return i;
         }
-        i += 16;
+        i = past_wide_blocks(s, i + 16);
     }
     i
 }

@@ -11,7 +11,9 @@ ghost use Rattle.rules.specs.Scan.{cell};
 ghost use Rattle.rules.specs.ClassBytes.{classOf, cellsOf};
 ghost use Rattle.rules.specs.Brackets.{push, pop, bracketStep, scanBrackets, openLines};
 ghost use Rattle.basics.specs.Closers.{Closers};
-ghost use Rattle.brackets.specs.Stack.{addsOf, entryAt, entrySize, stacked, Nested, Popped, EntryRoom, EntryPut, StackRoom, Turned, StackFits, BracketsDone, mayTurn, turnsAt, IdleRun, Less, Apart, TurnKey, TurnPlace, NoTurn, lineAt, Listed};
+ghost use Rattle.brackets.specs.Stack.{addsOf, entryAt, entrySize, stacked, Nested, Popped, EntryRoom, EntryPut};
+ghost use Rattle.brackets.specs.Stack.{StackRoom, Turned, StackFits, BracketsDone, mayTurn, turnsAt, IdleRun};
+ghost use Rattle.brackets.specs.Stack.{Less, Apart, TurnKey, TurnPlace, NoTurn, lineAt, Listed};
 use basics::is_closer;
 use basics::is_opener;
 

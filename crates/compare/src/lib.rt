@@ -7,7 +7,8 @@ ghost use Prim.Native.Nat.{_+_, _<_, _≤_, _^_, min};
 ghost use lib.ListN.{length};
 ghost use Rattle.unicode.specs.Places.{NoneAmong};
 ghost use Rattle.buffer.specs.Repeat.{times};
-ghost use Rattle.compare.specs.Common.{common, Agreeing, EndsAlike, differAt, Marks, RunOf, RunAlike, cellSize, cellOf, CellPut, CellKept, Compared, Tells};
+ghost use Rattle.compare.specs.Common.{common, Agreeing, EndsAlike, differAt, Marks, RunOf, RunAlike, cellSize};
+ghost use Rattle.compare.specs.Common.{cellOf, CellPut, CellKept, Compared, Tells};
 
 // The bytes that keep how far the text agrees.
 pub const CELL: usize = 3;

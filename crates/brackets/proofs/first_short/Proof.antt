@@ -1,3 +1,4 @@
+-- `first_short` meets its contract: the invariant is `Halves`, whose laws are in proofs/StackLaws.antt.
 use borrow.Author.Needs.{needs}
 use Prim.Native.Nat.{_-_}
 use Rattle.brackets.proofs.StackLaws.{Halves, halves-start, halves-more, halves-all}

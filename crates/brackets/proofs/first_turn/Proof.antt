@@ -1,3 +1,4 @@
+-- `first_turn` meets its contract: the invariant is `NoTurn`, whose laws are in proofs/StackLaws.antt.
 use borrow.Author.Needs.{needs}
 use Prim.Native.Nat.{_-_}
 use Rattle.brackets.specs.Stack.{turnsAt, NoTurn}

@@ -1,3 +1,4 @@
+-- `idle_bytes` meets its contract: the invariant is `IdleRun`, whose laws are in proofs/StackLaws.antt.
 use Prim.Native.Nat.{_-_}
 use borrow.Author.Needs.{needs}
 use lib.ListN.{length}

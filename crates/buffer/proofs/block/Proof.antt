@@ -1,3 +1,4 @@
+-- `block` meets its contract: the invariant is `Loading`, whose laws are in proofs/CopyLaws.antt.
 use borrow.Author.Needs.{needs}
 use Prim.Native.Nat.{_-_}
 use Rattle.buffer.proofs.CopyLaws.{Loading, loading-start, loading-more, loading-end}

@@ -1,3 +1,4 @@
+-- `copy_long` meets its contract: the invariant is `Copying`, whose laws are in proofs/CopyLaws.antt.
 use borrow.Author.Needs.{needs}
 use Prim.Native.Nat.{_-_}
 use Rattle.buffer.proofs.CopyLaws.{Copying, copying-start, copying-more, copying-end}

@@ -1,3 +1,4 @@
+-- `put_block` meets its contract: the invariant is `Putting`, whose laws are in proofs/CopyLaws.antt.
 use borrow.Author.Needs.{needs}
 use Prim.Native.Nat.{_-_}
 use Rattle.buffer.proofs.CopyLaws.{Putting, putting-start, putting-more, putting-end}

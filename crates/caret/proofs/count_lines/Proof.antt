@@ -1,3 +1,4 @@
+-- `count_lines` meets its contract: the invariant is `CountScan`, whose laws are in proofs/ScanLaws.antt.
 use borrow.Author.Needs.{needs}
 use Prim.Native.Nat.{_-_}
 use lib.ListN.{length}

@@ -1,3 +1,4 @@
+-- `differ_among` meets its contract: the invariant is `SameBytes`, whose laws are in proofs/PassLaws.antt.
 use borrow.Author.Needs.{needs}
 use Prim.Native.Nat.{_-_}
 use Rattle.changes.specs.Passing.{SameBytes}

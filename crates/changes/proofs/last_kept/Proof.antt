@@ -1,3 +1,4 @@
+-- `last_kept` meets its contract: the invariant is `LastKept`, whose laws are in proofs/PassLaws.antt.
 use borrow.Author.Needs.{needs}
 use Prim.Native.Nat.{_-_}
 use Rattle.changes.specs.Passing.{LastKept}

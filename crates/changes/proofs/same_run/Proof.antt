@@ -1,3 +1,4 @@
+-- `same_run` meets its contract: the invariant is `Run`, whose laws are in proofs/PassLaws.antt.
 use borrow.Author.Needs.{needs}
 use Prim.Native.Nat.{_+_, _-_}
 use lib.ListN.{length}

@@ -1,3 +1,4 @@
+-- `run_of` meets its contract: the invariant is `Running`, whose laws are in proofs/CommonLaws.antt.
 use borrow.Author.Needs.{needs}
 use Prim.Native.Nat.{_-_}
 use Rattle.compare.proofs.CommonLaws.{Running, run-start, run-more, run-end}

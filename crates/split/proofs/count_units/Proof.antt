@@ -1,3 +1,4 @@
+-- `count_units` meets its contract: the invariant is `SumScan`, whose laws are in proofs/Bytewise.antt of unicode.
 use Prim.Native.Nat.{_-_}
 use borrow.Author.Needs.{needs}
 use lib.ListN.{length}

@@ -1,3 +1,4 @@
+-- `lf_at` meets its contract: the invariant is `Counted`, whose laws are in proofs/BlockLaws.antt.
 use borrow.Author.Needs.{needs}
 use Prim.Native.Nat.{_-_}
 use Rattle.rules.specs.Basics.{is}

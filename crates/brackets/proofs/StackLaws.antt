@@ -23,7 +23,7 @@ use Rattle.rules.proofs.Choose.{choose-case, choose-true, choose-false}
 use Rattle.rules.proofs.CellsLaws.{drop-cells, cells-at, cells-end}
 use Rattle.basics.specs.Region.{Only}
 use Rattle.basics.specs.Closers.{Closers}
-use Rattle.brackets.specs.Stack.{entrySize, addsOf, entryAt, stacked, EntryRoom, EntryPut, Nested, Popped, Tallies, mayTurn, turnsAt, IdleRun, Less, Apart, TurnKey, TurnPlace, NoTurn, StackRoom, Turned, StackFits, BracketsDone}
+use Rattle.brackets.specs.Stack.{entrySize, addsOf, entryAt, stacked, EntryRoom, EntryPut, Nested, Popped, Tallies, mayTurn, turnsAt, IdleRun, Less, Apart, TurnKey, TurnPlace, NoTurn, StackRoom, Turned, StackFits, BracketsDone, openedBy}
 use Rattle.brackets.specs.declared.Nesting.{Nesting}
 use Rattle.brackets.specs.declared.Tally.{Tally}
 use Rattle.basics.proofs.OnlyLaws.{only-same, only-set, only-wider, only-then, only-at, only-past, read-now}
@@ -359,6 +359,21 @@ turn-idle x o r e q =
   where
     go : {x y : Open} (b : Bool) → y ≡ x → x ≡ choose b x y
     go {x} b e = sym (choose-case (λ (z : Open). z ≡ x) (λ q. refl) (λ q. e))
+
+-- ---- a line that is one opener
+
+pub open-done : (buf after : List ℕ) (base : ℕ) (b : Nesting) (u : Tally)
+    → Turned push buf base (record { depth = b .depth; levels = b .levels; from = b .levels; line = b .line; esc = false }) after u
+    → BracketsDone buf after base b 1 (openedBy (b .line) (stacked buf base (b .depth))) (record { depth = u .depth; levels = u .levels; line = u .line })
+unfolding push
+open-done buf after base b u v =
+    record {
+      is = v .is (opened (b .line) 0 0 false (stacked buf base (b .depth))) (record { stack = refl; line = refl; net = refl; esc = refl }) .stack;
+      runs = v .runs;
+      most = v .depth;
+      line = v .line;
+      only = only-wider base (base + entrySize * (b .depth + 1)) (v .only) (omega arith) (omega arith);
+    }
 
 -- ---- the loop over a line's cells
 

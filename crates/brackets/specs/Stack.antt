@@ -124,6 +124,10 @@ pub record Turned (g : Open → Open) (before : List ℕ) (base : ℕ) (t : Tall
   pub line : u .line ≡ t .line
   pub only : Only before after base (base + entrySize * t .depth + entrySize)
 
+-- the stack after an opener that adds a level, on the line with this number
+abbrev pub openedBy : ℕ → List Entry → List Entry
+openedBy line stack = record { adds = true; line = line } ∷ stack
+
 -- the class bytes of n characters stand before the stack, which has room for n more
 pub record StackFits (buf : List ℕ) (class n base : ℕ) (b : Nesting) : Type 0 where
   pub classes : class + n ≤ base

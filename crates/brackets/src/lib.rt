@@ -13,7 +13,7 @@ ghost use Rattle.rules.specs.Brackets.{push, pop, bracketStep, scanBrackets, op
 ghost use Rattle.basics.specs.Closers.{Closers};
 ghost use Rattle.brackets.specs.Stack.{addsOf, entryAt, entrySize, stacked, Nested, Popped, EntryRoom, EntryPut};
 ghost use Rattle.brackets.specs.Stack.{StackRoom, Turned, StackFits, BracketsDone, mayTurn, turnsAt, IdleRun};
-ghost use Rattle.brackets.specs.Stack.{Less, Apart, TurnKey, TurnPlace, NoTurn, lineAt, Listed};
+ghost use Rattle.brackets.specs.Stack.{Less, Apart, TurnKey, TurnPlace, NoTurn, lineAt, Listed, openedBy};
 use basics::is_closer;
 use basics::is_opener;
 
@@ -138,6 +138,27 @@ fn push(scratch: &mut [u8], base: usize, t: Tally) -> Tally
         from,
         line,
         esc: false,
+    }
+}
+
+// A line that is one opener, which adds a level.
+pub fn open(scratch: &mut [u8], base: usize, b: Nesting) -> Nesting
+    requires { ⌜ StackFits (now scratch) 0 1 base b ⌝ }
+    ensures { λ r. ⌜ BracketsDone (now (scratch .entry)) (now (scratch .exit)) base b 1
+        (openedBy (b .line) (stacked (now (scratch .entry)) base (b .depth))) r ⌝ }
+{
+    let t = Tally {
+        depth: b.depth,
+        levels: b.levels,
+        from: b.levels,
+        line: b.line,
+        esc: false,
+    };
+    let u = push(scratch, base, t);
+    Nesting {
+        depth: u.depth,
+        levels: u.levels,
+        line: u.line,
     }
 }
 

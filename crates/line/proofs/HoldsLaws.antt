@@ -10,26 +10,29 @@
 --                                         as it was
 --     start-within, trimmed-line          a line trimmed at its end and then at its start
 --     line-room, front-size, classify-room, stack-room, stack-nested, push-room     room for a line that is to come
---     line-told, line-none, indent-none   what `push_line` is told of a line
+--     line-told, line-none, indent-none, trimmed-told     what `push_line` is told of a line
+--     indent-small                        an indent's length
 use Prim.Native.Nat.{ℕ, zero, suc, _+_, _-_, _*_, _^_, _≤_, _<_}
 use native.Mathlib.Omega.{arith}
+use native.Mathlib.Nat.{le-refl}
 use mathlib.Core.Bool.{Bool, true, false, not, _&&_}
 use mathlib.Core.List.{List, [], _++_, append-nil}
 use mathlib.Core.Path.{_≡_, refl, sym, ap, _∙_, subst}
 use lib.ListN.{length, take, drop, length-append, length-drop, drop-of-length-le}
-use lib.Seq.{take-at, drop-at, length-take-le}
+use lib.Seq.{take-all, take-at, drop-at, length-take-le}
 use Rattle.unicode.specs.Unicode.{encode, chars, decode, trimStart, trimEnd, trim, WellFormed}
 use Rattle.unicode.specs.Places.{TrimmedStart, TrimmedEnd}
 use Rattle.unicode.proofs.Trim.{trim-swap}
 use Rattle.buffer.specs.Buffer.{part}
 use Rattle.buffer.specs.Repeat.{times}
 use Rattle.buffer.proofs.RegionLaws.{drop-take}
-use Rattle.buffer.proofs.RepeatLaws.{times-nil}
+use Rattle.buffer.proofs.RepeatLaws.{times-nil, times-within}
 use Rattle.rules.specs.Basics.{choose, is, isEmpty, startsWith, lastIs}
 use Rattle.rules.specs.Scan.{classify, carryAfter}
 use Rattle.rules.specs.ClassBytes.{classBytes, cellsOf}
 use Rattle.rules.specs.Brackets.{Entry, leadingClosers, scanBrackets, countBrackets, levels}
-use Rattle.rules.specs.Options.{allBlank}
+use Rattle.rules.specs.Options.{maxIndent, allBlank}
+use Rattle.rules.specs.Refusals.{maxSource}
 use Rattle.rules.specs.Else.{joinable}
 use Rattle.rules.specs.Line.{Formatter, start}
 use Rattle.rules.specs.declared.Carry.{Carry}
@@ -53,7 +56,7 @@ use Rattle.compare.specs.Common.{Keeps}
 use Rattle.text.specs.Text.{isFirst, Line}
 use Rattle.text.proofs.LinesLaws.{kind-first}
 use Rattle.text.proofs.StepLaws.{text-nothing}
-use Rattle.line.specs.Holds.{Record, prevOf, initial, Holds, Runs, Ready, Stepped, TrimmedLine, Classes}
+use Rattle.line.specs.Holds.{Record, prevOf, initial, Holds, Runs, Ready, Stepped, ValidIndent, TrimmedLine, Classes}
 use Rattle.line.specs.Scratch.{stackAt}
 
 -- ---- before the first line
@@ -282,3 +285,14 @@ line-none = record { well = refl; trims = record { fits = omega arith; well = re
 pub indent-none : allBlank [] ≡ true
 unfolding allBlank
 indent-none = refl
+
+-- a line that is trimmed at its end
+pub trimmed-told : (line : List ℕ) (joins : Bool) → WellFormed line → trimEnd (decode line) ≡ decode line → joins ≡ joinable (decode line) → Line line (length line) joins
+trimmed-told line joins w t e =
+    let k : take (length line) line ≡ line = take-all (length line) line (le-refl (length line)) in
+    record { well = w; trims = record { fits = le-refl (length line); well = rw k w; text = ap decode k ∙ sym t }; takes = e }
+
+-- ---- an indent is small
+
+pub indent-small : (indent : List ℕ) (level : ℕ) → ValidIndent indent → level ≤ maxSource → length (times level indent) ≤ maxSource * maxIndent
+indent-small indent level v h = omega (arith, times-within level indent {a = maxSource} {b = maxIndent} h (v .short))

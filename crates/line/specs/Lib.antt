@@ -1,3 +1,4 @@
 -- What the contracts cite besides the rules.
 pub mod Holds
+pub mod Lone
 pub mod Scratch

@@ -2,5 +2,6 @@
 // scratch.
 pub mod formatter;
 pub mod kept;
+pub mod lone;
 pub mod scratch;
 pub mod style;

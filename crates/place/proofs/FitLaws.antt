@@ -31,7 +31,7 @@ use Rattle.place.specs.declared.Placed.{Placed}
 use Rattle.line.specs.Holds.{ValidIndent}
 use Rattle.split.specs.Measure.{InUse}
 use Rattle.place.specs.Placing.{GoesOn, LaidBy, Lays, Breaks, aloneIn, fitBy}
-use Rattle.place.proofs.PlaceLaws.{indent-small}
+use Rattle.line.proofs.HoldsLaws.{indent-small}
 
 -- the test of the class bytes is the test of the classes, of the bytes and of the characters
 pub code-bytes : (line class : List ℕ) (r : Bool) → GoesOn line class → r ≡ onlyCodeOrStr class → r ≡ allCodeOrStr (classify Carry.Code line)

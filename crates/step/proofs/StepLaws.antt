@@ -4,11 +4,11 @@ use native.Mathlib.Omega.{arith}
 use mathlib.Core.Bool.{Bool, true, false, not, _&&_, _||_, or-true, true≢false, false≢true}
 use mathlib.Core.List.{List, [], _∷_, _++_}
 use mathlib.Core.Path.{_≡_, refl, sym, ap, _∙_, subst}
-use lib.ListN.{length, take, drop, length-drop}
+use lib.ListN.{length, take, drop, getD, length-drop}
 use lib.Seq.{take-length, length-take-le}
 use Rattle.unicode.specs.Unicode.{chars, decode, trimEnd, trimStart, trim}
 use Rattle.unicode.specs.Places.{TrimmedStart, TrimmedEnd}
-use Rattle.unicode.proofs.Tests.{and-left}
+use Rattle.unicode.proofs.Tests.{and-left, and-right}
 use Rattle.unicode.proofs.Trim.{trim-trimEnd}
 use Rattle.rules.specs.Basics.{choose, isEmpty}
 use Rattle.rules.specs.Scan.{classify, carryAfter}
@@ -34,8 +34,10 @@ use Rattle.rules.proofs.StartsBytes.{closers-encode}
 use Rattle.line.specs.Scratch.{stackAt}
 use Rattle.format.proofs.ElseLaws.{decode-some}
 use Rattle.line.specs.Holds.{Record, prevOf, Holds, Ready, Stepped, TrimmedLine, Uses, keptBy, rawBy}
+use Rattle.line.specs.Lone.{isLone, loneBy}
 use Rattle.line.specs.declared.style.Style.{Style}
 use Rattle.line.proofs.HoldsLaws.{ready-as, stepped-as, carry-bytes, classes-front, front-only, trimmed-line, start-within}
+use Rattle.line.proofs.LoneLaws.{lone-of}
 use Rattle.place.specs.Placing.{spacedBy}
 use Rattle.step.specs.declared.Going.{Going}
 use Rattle.step.specs.declared.Marker.{Marker}
@@ -195,6 +197,31 @@ module _
           stepped-as _ _ s₀ (c .only) within (t .short)
           (λ f h. code-not o f (decode raw) (decode line) a (t .text) (rw (h .ignore) at (d .free)) (d .marks ∙ sym k) (d .none))
           (stepped-as (spacedBy a (respaced (decode line)) o) _ s₁ only (omega arith) (omega arith) (λ f h. refl) v)
+
+-- a line that is one bracket, which no marker protects
+module _ {raw line : List ℕ} (t : TrimmedLine raw line) (i : Ignore) (b : Bool) (e : b ≡ (isLone line && not (protects i))) (q : b ≡ true) where
+  pub lone-is : isLone line ≡ true
+  lone-is = and-left (isLone line) (not (protects i)) (sym e ∙ q)
+
+  lone-free : protects i ≡ false
+  lone-free = not-true (protects i) (and-right (isLone line) (not (protects i)) (sym e ∙ q))
+    where
+      not-true : (a : Bool) → not a ≡ true → a ≡ false
+      not-true true h = absurd (false≢true h)
+      not-true false h = refl
+
+pub code-lone : {s₀ s₂ raw line model eol out out′ : List ℕ} {unit : ℕ} {st r : Record} (t : TrimmedLine raw line) (b : Bool)
+    → b ≡ (isLone line && not (protects (st .ignore))) → b ≡ true → (o : Options)
+    → Stepped (loneBy o (decode line)) (length line) unit model eol st out s₀ r out′ s₂
+    → Stepped (codeLineBy o (decode raw)) (length raw) unit model eol st out s₀ r out′ s₂
+code-lone {s₀} {raw = raw} {line = line} {st = st} t b e q o v =
+    let x = lone-of line (lone-is t (st .ignore) b e q) in
+    let l : decode line ≡ getD line 0 0 ∷ [] = ap decode (x .is) ∙ x .facts .chars in
+    let m : isMarker (classify Carry.Code (decode line)) ≡ false = ap (λ (y : List ℕ). isMarker (classify Carry.Code y)) l ∙ x .facts .marker in
+    let s : respaced (decode line) ≡ decode line = ap respaced l ∙ x .facts .same ∙ sym l in
+    stepped-as _ _ s₀ (only-same s₀ 0 0) (omega arith) (t .short)
+    (λ f h. ap (spacedLine o f false) (sym s)
+    ∙ code-not o f (decode raw) (decode line) false (t .text) (rw (h .ignore) at (lone-free t (st .ignore) b e q)) m (ap (λ (y : Bool). y && hasCode (classify Carry.Code (decode line))) m)) v
 
 -- what `spaced_line` asks
 pub solid : (raw line : List ℕ) → TrimmedLine raw line → isEmpty (decode line) ≡ false → SolidLine line

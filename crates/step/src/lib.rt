@@ -1,6 +1,6 @@
 // One line of the source, of any kind.
 ghost use mathlib.Core.Path.{_≡_};
-ghost use mathlib.Core.Bool.{false};
+ghost use mathlib.Core.Bool.{false, not, _&&_};
 ghost use Prim.Native.Nat.{_+_, _≤_, _<_, _^_};
 ghost use lib.ListN.{length};
 ghost use Rattle.unicode.specs.Unicode.{encode, decode, WellFormed};
@@ -16,6 +16,7 @@ ghost use Rattle.basics.specs.Closers.{Closers};
 ghost use Rattle.brackets.specs.Stack.{Nested};
 ghost use Rattle.line.specs.Scratch.{stackAt};
 ghost use Rattle.line.specs.Holds.{Classes, Ready, Stepped, Uses, ValidIndent};
+ghost use Rattle.line.specs.Lone.{isLone};
 ghost use Rattle.place.specs.Placing.{spacedBy};
 ghost use Rattle.step.specs.Going.{markerIn, isKept, isAlone, SolidLine, Marks, LineRoom, Goes, Went};
 ghost use Rattle.step.specs.Going.{BracketsCounted, beforeOf, PutOn, afterLine, LineScanned, anyLineBy, ignoreOf};
@@ -316,6 +317,16 @@ fn scan_line(line: &[u8], scratch: &mut [u8]) -> Scanned
     Scanned { after, marker }
 }
 
+// Whether the line is one bracket that no marker protects.
+fn goes_alone(line: &[u8], pending: Ignore) -> bool
+    ensures { λ r. ⌜ r ≡ (isLone (now (line .entry)) && not (protects pending)) ⌝ }
+{
+    if line::lone::is_lone(line) {
+        return !protects_next(pending);
+    }
+    false
+}
+
 // A line that starts in code and is not one of a protected block.
 fn code_line(
     raw: &[u8],
@@ -345,10 +356,13 @@ fn code_line(
         return line::kept::blank_line(model, out, ending, st);
     }
     let line = &raw[start..tail];
+    let pending = st.ignore;
+    if goes_alone(line, pending) {
+        return line::lone::lone_line(line, indent, setup, model, out, scratch, st);
+    }
     let s = scan_line(line, scratch);
     let after = s.after;
     let marker = s.marker;
-    let pending = st.ignore;
     if is_kept(pending, marker) {
         let k = Kept {
             shown: raw.len(),

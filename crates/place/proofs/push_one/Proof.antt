@@ -1,5 +1,5 @@
 use native.Mathlib.Omega.{arith}
-use Rattle.place.proofs.PlaceLaws.{indent-small, trimmed-told}
+use Rattle.line.proofs.HoldsLaws.{indent-small, trimmed-told}
 use borrow.Author.Needs.{needs}
 use Rattle.place.proofs.push_one.Statement.{statement}
 use Rattle.place.proofs.push_one.Tie as tie

@@ -2,4 +2,5 @@
 pub mod GoingLaws
 pub mod PutLaws
 pub mod MarkerLaws
+pub mod CommentLaws
 pub mod StepLaws

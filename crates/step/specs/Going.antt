@@ -1,9 +1,9 @@
 -- A line of code on its way: whether it holds a marker, how it goes on after spacing, and what it leaves.
-use Prim.Native.Nat.{ℕ, _+_, _*_, _≤_}
+use Prim.Native.Nat.{ℕ, _+_, _-_, _*_, _≤_}
 use mathlib.Core.Bool.{Bool, true, false}
 use mathlib.Core.List.{List}
 use mathlib.Core.Path.{_≡_}
-use lib.ListN.{length, drop}
+use lib.ListN.{length, drop, getD}
 use Rattle.unicode.specs.Unicode.{encode, decode, trimEnd, WellFormed}
 use Rattle.buffer.specs.Buffer.{part}
 use Rattle.rules.specs.Basics.{choose, isEmpty}
@@ -42,6 +42,11 @@ markerOf marks code = choose marks (choose code Marker.AfterCode Marker.Alone) M
 -- of the line of characters l
 abbrev pub markerIn : List ℕ → Marker
 markerIn l = markerOf (isMarker (classify Carry.Code l)) (hasCode (classify Carry.Code l))
+
+-- if r, the last class byte is none of a `//` comment
+pub record EndsOutside (ks : List ℕ) (r : Bool) : Type 0 where
+  pub some : r ≡ true → length ks ≡ 0 → ⊥
+  pub last : r ≡ true → getD ks (length ks - 1) 0 ≡ 2 → ⊥
 
 -- whether a line with this marker is kept as written, where `pending` is pending
 abbrev pub isKept : Ignore → Marker → Bool

@@ -20,6 +20,7 @@ ghost use Rattle.line.specs.Lone.{isLone};
 ghost use Rattle.place.specs.Placing.{spacedBy};
 ghost use Rattle.step.specs.Going.{markerIn, isKept, isAlone, SolidLine, Marks, LineRoom, Goes, Went};
 ghost use Rattle.step.specs.Going.{BracketsCounted, beforeOf, PutOn, afterLine, LineScanned, anyLineBy, ignoreOf};
+ghost use Rattle.step.specs.Going.{EndsOutside};
 use brackets::Nesting;
 use line::formatter::Formatter;
 use line::formatter::Prev;
@@ -255,12 +256,26 @@ fn spaced_line(
     after_line(st, p, deep, ignore_of(k.marker), carry)
 }
 
+// Whether a line ends in no `//` comment, which would go on to its end; so it has none. Of an empty line it is not said.
+fn ends_outside(class: &[u8]) -> bool
+    ensures { λ r. ⌜ EndsOutside (now (class .entry)) r ⌝ }
+{
+    let n = class.len();
+    if n == 0 {
+        return false;
+    }
+    class[n - 1] != scan::LINE_COMMENT
+}
+
 // The marker of a line with its class bytes.
 fn marker_in(line: &[u8], class: &[u8]) -> Marker
     requires { ⌜ WellFormed (now line) ⌝ }
     requires { ⌜ now class ≡ classBytes (classify Carry.Code (now line)) ⌝ }
     ensures { λ r. ⌜ r ≡ markerIn (decode (now (line .entry))) ⌝ }
 {
+    if ends_outside(class) {
+        return Marker::Nothing;
+    }
     let e = scan::code_end(class);
     if format::marker::is_marker(&line[e..]) {
         if format::marker::has_code(&line[..e]) {

@@ -35,4 +35,5 @@ pub record Passed (s : List ℕ) (i : ℕ) (t : List ℕ) (j k : ℕ) : Type 0 w
   pub struck : strike (decode (drop j t)) ≡ strike (decode (drop i s))
       → strike (decode (drop (j + k) t)) ≡ strike (decode (drop (i + k) s))
   pub same : changesFrom (strike (decode (drop i s))) i j (decode (drop i s)) (decode (drop j t))
-      ≡ changesFrom (strike (decode (drop (i + k) s))) (i + k) (j + k) (decode (drop (i + k) s)) (decode (drop (j + k) t))
+      ≡ changesFrom (strike (decode (drop (i + k) s))) (i + k) (j + k) (decode (drop (i + k) s))
+      (decode (drop (j + k) t))

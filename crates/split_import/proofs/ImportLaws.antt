@@ -1,5 +1,5 @@
 -- Laws of the import and its braces.
-use Prim.Native.Nat.{ℕ, suc, _+_, _-_, _^_, _≤_, _<_}
+use Prim.Native.Nat.{ℕ, zero, suc, _+_, _-_, _^_, _≤_, _<_, zero-le}
 use Prim.Native.Char.{Char, code}
 use mathlib.Core.Bool.{Bool, true, false, _&&_}
 use mathlib.Core.List.{List, [], _∷_, _++_, map, map-append, foldl, reverse, append-nil, append-assoc}
@@ -10,15 +10,15 @@ use native.Mathlib.Omega.{arith}
 use lib.Dec.{eqb, ltb}
 use lib.ListN.{length, getD, take, drop, length-append, length-drop, length-take, drop-of-length-le}
 use lib.Seq.{drop-cons, drop-drop, length-take-le}
-use borrow.Author.Tests.{eq-eqb, ne-eqb, eqb-true, le-leb, lt-leb, ltb-true}
+use borrow.Author.Tests.{eq-eqb, ne-eqb, eqb-true, le-leb, lt-leb, ltb-true, ltb-false}
 use Rattle.buffer.specs.Buffer.{part}
 use Rattle.compare.specs.Common.{Compared}
 use Rattle.buffer.specs.Repeat.{times}
 use Rattle.buffer.proofs.RegionLaws.{part-from}
 use Rattle.compare.proofs.WriterLaws.{compared-append}
 use Rattle.unicode.specs.Unicode.{encodeChar, encode, decode, Scalars, trimEnd}
-use Rattle.unicode.specs.Places.{TrimmedEnd}
-use Rattle.unicode.proofs.Tests.{and-right}
+use Rattle.unicode.specs.Places.{NoneAmong, TrimmedEnd}
+use Rattle.unicode.proofs.Tests.{by-test, and-right}
 use Rattle.unicode.proofs.Table.{encodeChar-1, Bytes, single, several}
 use Rattle.unicode.proofs.Table.{bytes as bytes-of}
 use Rattle.unicode.proofs.Decode.{encode-nil, encode-append, encode-ascii, decode-encode, decode-scalars, wf-encode}
@@ -36,9 +36,9 @@ use Rattle.split.specs.declared.NewLine.{NewLine}
 use Rattle.split.specs.Measure.{InUse}
 use Rattle.split.specs.Text.{indented, lay, following, lastOf, LineRoom, LineWritten}
 use Rattle.split.proofs.TextLaws.{following-append, last-append, written-lines, lay-encode, indent-short, level-fits, deeper-fits}
-use Rattle.split_import.specs.declared.Names.{Names}
+use Rattle.split_import.specs.declared.NameLines.{NameLines}
 use Rattle.split_import.specs.declared.ImportSplit.{ImportSplit}
-use Rattle.split_import.specs.Names.{codeByte, parts, CountableNames, NamesCounted, namesText, NamesFit, NamesWritten}
+use Rattle.split_import.specs.Names.{codeByte, byteAt, Lacks, parts, CountableNames, namesText, NamesFit, NamesWritten}
 use Rattle.split_import.specs.Import.{Given, ImportFits, HeadFits, headLine, HeadWritten, Braces, partsOf}
 
 -- ---- the word
@@ -80,8 +80,32 @@ module _ (c : ℕ) (line class : List ℕ) (i : ℕ) (q : Finding (codeByte c) l
   pub code-end : length line ≤ i → FirstAt (codeByte c) line class i
   code-end h = find-end q h
 
-pub code-begin : (c : ℕ) (line class : List ℕ) → Finding (codeByte c) line class 0
-code-begin c line class = find-start (codeByte c) line class
+-- ---- blocks without a byte
+
+pub lacks-start : (b : ℕ) (s : List ℕ) → Lacks b s 0
+lacks-start b s = record { within = zero-le; none = λ j l. absurd (omega arith) }
+
+pub lacks-block : (b : ℕ) (s : List ℕ) (i : ℕ) (any : Bool) → Lacks b s i → i + 16 ≤ length s → NoneAmong (byteAt b s) i 16 any → any ≡ false → Lacks b s (i + 16)
+lacks-block b s i any q h a e =
+    record {
+      within = h;
+      none = λ j l. by-test (ltb j i) (λ t. q .none j (ltb-true j i t)) (λ t.
+          let k : i + (j - i) ≡ j = omega (arith, ltb-false j i t) in
+          rw k at (a .none e (j - i) (omega (arith, ltb-false j i t))));
+    }
+
+-- where the byte isn't, no code character is that byte
+code-skip : (c : ℕ) (line class : List ℕ) → length line ≤ length class → (i : ℕ) → i ≤ length line → ((j : ℕ) → j < i → byteAt c line j ≡ false) → Finding (codeByte c) line class i
+code-skip c line class room zero h f = find-start (codeByte c) line class
+code-skip c line class room (suc i) h f =
+    rw (← (add-one i)) (find-more (code-skip c line class room i (omega arith) (λ j l. f j (omega arith))) (omega arith) room (other (isCode (classOf (getD class i 0))) (f i (omega arith))))
+  where
+    other : (t : Bool) → eqb (getD line i 0) c ≡ false → (t && eqb (getD line i 0) c) ≡ false
+    other true e = e
+    other false e = refl
+
+pub code-begin : (c : ℕ) (line class : List ℕ) (i : ℕ) → length line ≤ length class → Lacks c line i → Finding (codeByte c) line class i
+code-begin c line class i room q = code-skip c line class room i (q .within) (q .none)
 
 -- ---- the lines of an import
 
@@ -150,7 +174,7 @@ module _ {line : List ℕ} {start end : ℕ} {indent : List ℕ} {level : ℕ} {
           room = omega (arith, a₁ .room, head-long, inside-long, b .order, b .within, b .fits .room);
         }
 
-    pub tail-room : (ruler max : ℕ) {out₂ : List ℕ} {m : ℕ} → NamesWritten ruler (part line (start + 1) end) indent (level + 1) eol max model out₁ out₂ n m → LineRoom eol indent level (take (length line - end) (drop end line)) m
+    pub tail-room : (ruler max : ℕ) {out₂ : List ℕ} {m : NameLines} → NamesWritten ruler (part line (start + 1) end) indent (level + 1) eol max model out₁ out₂ n m → LineRoom eol indent level (take (length line - end) (drop end line)) (m .next)
     tail-room ruler max a₂ =
         record {
           indents = level-fits (b .fits);
@@ -160,17 +184,17 @@ module _ {line : List ℕ} {start end : ℕ} {indent : List ℕ} {level : ℕ} {
 
   -- ---- what is written
 
-  module _ {c : Names} (q : NamesCounted (part line (start + 1) end) c) where
-    pub parts-none : (model out : List ℕ) (ruler max : ℕ) → c .names < 2 → (o : Options) → InUse o indent ruler → Given (partsOf o max level line start end) eol model out out at ImportSplit.Whole
+  module _ {few : Bool} (q : few ≡ ltb (length (namesOf (parts (part line (start + 1) end)))) 2) where
+    pub parts-none : (model out : List ℕ) (ruler max : ℕ) → few ≡ true → (o : Options) → InUse o indent ruler → Given (partsOf o max level line start end) eol model out out at ImportSplit.Whole
     unfolding importParts
     parts-none model out ruler max h o e =
         subst (λ (x : Option Laid). Given x eol model out out at ImportSplit.Whole)
-        (sym (choose-false _ _ _ (lt-leb 2 (length (namesOf (parts (part line (start + 1) end)))) (omega (arith, q .names)))))
+        (sym (choose-false _ _ _ (lt-leb 2 (length (namesOf (parts (part line (start + 1) end)))) (ltb-true _ _ (sym q ∙ h)))))
         (record { is = refl; same = refl })
 
-    module _ {ruler max : ℕ} {model out out₁ out₂ out₃ : List ℕ} {n m : ℕ} {w : NewLine} (two : 2 ≤ c .names) (a₁ : HeadWritten (take start line) indent level model out out₁ at n)
+    module _ {ruler max : ℕ} {model out out₁ out₂ out₃ : List ℕ} {n : ℕ} {m : NameLines} {w : NewLine} (two : few ≡ false) (a₁ : HeadWritten (take start line) indent level model out out₁ at n)
         (a₂ : NamesWritten ruler (part line (start + 1) end) indent (level + 1) eol max model out₁ out₂ n m)
-        (a₃ : LineWritten eol (lay indent level (take (length line - end) (drop end line))) model out₂ out₃ m w) where
+        (a₃ : LineWritten eol (lay indent level (take (length line - end) (drop end line))) model out₂ out₃ (m .next) w) where
       abbrev names : List (List ℕ)
       names = namesOf (parts (part line (start + 1) end))
 
@@ -183,7 +207,7 @@ module _ {line : List ℕ} {start end : ℕ} {indent : List ℕ} {level : ℕ} {
       abbrev bottom : List ℕ
       bottom = lay indent level (drop end line)
 
-      a₃′ : LineWritten eol bottom model out₂ out₃ m w
+      a₃′ : LineWritten eol bottom model out₂ out₃ (m .next) w
       a₃′ = rw (part-from line end) at a₃
 
       -- the bytes, in order
@@ -208,18 +232,18 @@ module _ {line : List ℕ} {start end : ℕ} {indent : List ℕ} {level : ℕ} {
             map-append encode (reverse (fillNames o max (indentOf o (suc level)) names)) ((indentOf o level ++ decode (drop end line)) ∷ [])
             ∙ rw (same-fill o indent ruler max level names e, lay-encode o indent level (decode (drop end line)) (e .indents) (level-fits (b .fits)), b .tail)
 
-      pub parts-some : (o : Options) → InUse o indent ruler → Given (partsOf o max level line start end) eol model out out₃ at (ImportSplit.Split (record { next = w .next; last = w .start; blanks = c .blanks }))
+      pub parts-some : (o : Options) → InUse o indent ruler → Given (partsOf o max level line start end) eol model out out₃ at (ImportSplit.Split (record { next = w .next; last = w .start; blanks = m .blanks }))
       unfolding importParts importLines
       parts-some o e =
-          subst (λ (x : Option Laid). Given x eol model out out₃ at (ImportSplit.Split (record { next = w .next; last = w .start; blanks = c .blanks })))
-          (sym (choose-true _ _ _ (le-leb 2 (length names) (omega (arith, q .names)))))
+          subst (λ (x : Option Laid). Given x eol model out out₃ at (ImportSplit.Split (record { next = w .next; last = w .start; blanks = m .blanks })))
+          (sym (choose-true _ _ _ (le-leb 2 (length names) (ltb-false _ _ (sym q ∙ two)))))
           (record {
-            made = record { next = w .next; last = w .start; blanks = c .blanks };
+            made = record { next = w .next; last = w .start; blanks = m .blanks };
             is = refl;
             written = written-lines eol (indentOf o level ++ (trimEnd (decode (take start line)) ++ codes " {"))
                 (reverse (fillNames o max (indentOf o (suc level)) names) ++ ((indentOf o level ++ decode (drop end line)) ∷ []))
                 top (map encode (reverse filled) ++ (bottom ∷ [])) (b .fits .ascii) (top-line o e) (other-lines o e) text ends;
-            blanks = q .blanks;
+            blanks = a₂ .blanks;
           })
 
 -- ---- a brace, found in the bytes, and in the characters

@@ -1,22 +1,22 @@
 -- Laws of the names of an import.
 use Prim.Native.Nat.{ℕ, _+_, _-_, _*_, _^_, _≤_, _<_, zero-le}
-use mathlib.Core.Bool.{true, false}
+use mathlib.Core.Bool.{Bool, true, false, cond}
 use mathlib.Core.List.{List, [], _∷_, _++_, map, map-append, foldl, reverse, reverse-cons, append-nil, append-assoc}
 use mathlib.Core.Path.{_≡_, refl, sym, ap, _∙_, subst}
 use native.Mathlib.Numerals.{add-one}
 use native.Mathlib.Omega.{arith}
-use lib.Dec.{leb, ltb}
+use lib.Dec.{eqb, leb, ltb}
 use lib.ListN.{length, getD, take, drop, length-append, length-drop, drop-of-length-le}
 use lib.Seq.{drop-cons, drop-drop, take-suc}
-use borrow.Author.Tests.{eq-eqb, ne-eqb, le-leb, lt-leb, leb-true, leb-false, le-ltb, lt-ltb}
+use borrow.Author.Tests.{eq-eqb, ne-eqb, eqb-true, le-leb, lt-leb, leb-true, leb-false, le-ltb, lt-ltb}
 use Rattle.buffer.specs.Buffer.{part}
 use Rattle.compare.specs.Common.{Compared}
 use Rattle.buffer.specs.Repeat.{times}
-use Rattle.buffer.proofs.RegionLaws.{part-from}
+use Rattle.buffer.proofs.RegionLaws.{part-from, part-more, part-join}
 use Rattle.compare.proofs.WriterLaws.{compared-nil, compared-append}
-use Rattle.unicode.specs.Unicode.{encode, decode, WellFormed, trim}
+use Rattle.unicode.specs.Unicode.{encode, decode, WellFormed, units, trim}
 use Rattle.unicode.proofs.Tests.{by-test}
-use Rattle.unicode.proofs.Decode.{encode-nil, encode-append, encode-ascii, decode-ascii, decode-scalars, wf-ascii}
+use Rattle.unicode.proofs.Decode.{encode-nil, encode-append, encode-ascii, decode-ascii, decode-scalars}
 use Rattle.rules.specs.Basics.{choose, isEmpty, Pieces, pieces, atSep, splitOn, is, codes}
 use Rattle.rules.specs.Options.{Options, measure, overWide}
 use Rattle.rules.specs.SplitImport.{consName, namesOf, blanksOf, withComma, addName, fillNames}
@@ -24,15 +24,15 @@ use Rattle.rules.proofs.Choose.{choose-true, choose-false}
 use Rattle.rules.proofs.WordsBytes.{pieces-encode}
 use Rattle.unicode.specs.declared.Utf16Column.{Utf16Column}
 use Rattle.split.specs.declared.Part.{Part}
-use Rattle.split.specs.Measure.{Measurable, Measured, Indent, lastIndent, IndentMeasured, Within, Trimmed}
+use Rattle.split.specs.Measure.{Measured, Indent, lastIndent, IndentMeasured, Within, Trimmed}
 use Rattle.split.specs.Text.{indented, lay, AllWell, following, lineRoom}
-use Rattle.rules.proofs.Columns.{measure-append}
+use Rattle.rules.proofs.Columns.{after-other, measure-append}
 use Rattle.split.proofs.MeasureLaws.{part-length, ascii-times}
 use Rattle.rules.proofs.SplitSizes.{blank-ascii}
 use Rattle.rules.proofs.Scalars.{AllScalars, all-decode, split-scalars}
 use Rattle.split.proofs.TextLaws.{all-well, following-append, indent-short}
 use Rattle.split_import.specs.declared.Filled.{Filled}
-use Rattle.split_import.specs.Names.{left, NameLen, parts, CountableNames, NamesCounted, NamePlace, NameMeasured, NewestAt, NameFits, namesText, OnNewLine, addIf, AddedTo, Added, NamesFit, NamesWritten}
+use Rattle.split_import.specs.Names.{left, NameLen, parts, CountableNames, Spaced, NamePlace, NameMeasured, NewestAt, NameFits, namesText, OnNewLine, AddedTo, Added, NamesFit, NamesWritten}
 
 -- ---- pieces between commas
 
@@ -164,29 +164,7 @@ blanks-some d ds h = go (trim d) h
     go [] h = absurd (omega arith)
     go (c ∷ cs) h = omega arith
 
--- ---- counting: the pieces before a are counted
-
-pub record Counting (s : List ℕ) (names blanks a : ℕ) : Type 0 where
-  pub pre : CountableNames s
-  pub within : a ≤ length s + 1
-  pub well : AllWell (left s a)
-  pub named : length (namesOf (parts s)) ≡ names + length (namesOf (map decode (left s a)))
-  pub blank : blanksOf (parts s) ≡ blanks + blanksOf (map decode (left s a))
-  pub few : names ≤ a
-  pub fewer : blanks ≤ a
-
-pub counting-start : (s : List ℕ) → CountableNames s → Counting s 0 0 0
-counting-start s c =
-    let q : AllPieces s = all-pieces s (c .well) in
-    record {
-      pre = c;
-      within = zero-le;
-      well = q .well;
-      named = rw (← (q .chars)) (omega arith);
-      blank = rw (← (q .chars)) (omega arith);
-      few = zero-le;
-      fewer = zero-le;
-    }
+-- ---- the pieces before a are read
 
 -- the piece at a is well-formed
 pub piece-within : (s : List ℕ) (a n : ℕ) → AllWell (left s a) → a ≤ length s → NameLen (take (length s - a) (drop a s)) n → Within s a (a + n)
@@ -194,12 +172,13 @@ piece-within s a n w h q =
     let v : AllWell (part s a (a + n) ∷ left s (a + n + 1)) = subst AllWell (left-cons s a n h q) w in
     record { order = omega arith; fits = name-fits s a n h q; well = v .0 }
 
-module _ (s : List ℕ) (names blanks a : ℕ) (q : Counting s names blanks a) (n : ℕ) (h : a ≤ length s) (l : NameLen (take (length s - a) (drop a s)) n) where
+-- the piece at a, its name, and the pieces after it
+module _ (s : List ℕ) (a n : ℕ) (h : a ≤ length s) (l : NameLen (take (length s - a) (drop a s)) n) where
   cons : left s a ≡ part s a (a + n) ∷ left s (a + n + 1)
   cons = left-cons s a n h l
 
-  well-left : AllWell (part s a (a + n) ∷ left s (a + n + 1))
-  well-left = subst AllWell cons (q .well)
+  well-left : AllWell (left s a) → AllWell (left s (a + n + 1))
+  well-left w = let v : AllWell (part s a (a + n) ∷ left s (a + n + 1)) = subst AllWell cons w in v .1
 
   abbrev chars : List ℕ
   chars = decode (part s a (a + n))
@@ -208,53 +187,119 @@ module _ (s : List ℕ) (names blanks a : ℕ) (q : Counting s names blanks a) (
   later = map decode (left s (a + n + 1))
 
   module _ (p : Part) (u : Trimmed s a (a + n) p) where
-    pub counting-blank : p .start ≡ p .end → Counting s names (blanks + 1) (a + n + 1)
-    counting-blank z =
-        let t : trim chars ≡ [] = blank-piece s a (a + n) p u (name-fits s a n h l) z in
+    names-blank : p .start ≡ p .end → namesOf (map decode (left s a)) ≡ namesOf later
+    names-blank z =
+        ap (λ (ps : List (List ℕ)). namesOf (map decode ps)) cons
+        ∙ rw (names-cons chars later, cons-none (trim chars) (namesOf later) (blank-piece s a (a + n) p u (name-fits s a n h l) z))
+
+    names-name : (p .start ≡ p .end → ⊥) → namesOf (map decode (left s a)) ≡ decode (part s (p .start) (p .end)) ∷ namesOf later
+    names-name z =
+        ap (λ (ps : List (List ℕ)). namesOf (map decode ps)) cons
+        ∙ rw (names-cons chars later, cons-some (trim chars) (namesOf later) (name-piece s a (a + n) p u (name-fits s a n h l) z), u .text)
+
+    blanks-blank : p .start ≡ p .end → blanksOf (map decode (left s a)) ≡ 1 + blanksOf later
+    blanks-blank z =
+        ap (λ (ps : List (List ℕ)). blanksOf (map decode ps)) cons ∙ blanks-none chars later (blank-piece s a (a + n) p u (name-fits s a n h l) z)
+
+    blanks-name : (p .start ≡ p .end → ⊥) → blanksOf (map decode (left s a)) ≡ blanksOf later
+    blanks-name z =
+        ap (λ (ps : List (List ℕ)). blanksOf (map decode ps)) cons ∙ blanks-some chars later (name-piece s a (a + n) p u (name-fits s a n h l) z)
+
+-- ---- whether there are two names: one of the pieces before a is, or none
+
+pub record Counting (s : List ℕ) (some : Bool) (a : ℕ) : Type 0 where
+  pub pre : CountableNames s
+  pub within : a ≤ length s + 1
+  pub well : AllWell (left s a)
+  pub named : length (namesOf (parts s)) ≡ cond some 1 0 + length (namesOf (map decode (left s a)))
+
+pub counting-start : (s : List ℕ) → CountableNames s → Counting s false 0
+counting-start s c =
+    let q : AllPieces s = all-pieces s (c .well) in
+    record { pre = c; within = zero-le; well = q .well; named = rw (← (q .chars)) (omega arith) }
+
+module _ (s : List ℕ) (some : Bool) (a : ℕ) (q : Counting s some a) (n : ℕ) (h : a ≤ length s) (l : NameLen (take (length s - a) (drop a s)) n) (p : Part) (u : Trimmed s a (a + n) p) where
+  pub counting-blank : p .start ≡ p .end → Counting s some (a + n + 1)
+  counting-blank z =
+      record {
+        pre = q .pre;
+        within = omega (arith, name-fits s a n h l);
+        well = well-left s a n h l (q .well);
+        named = q .named ∙ ap (λ (ns : List (List ℕ)). cond some 1 0 + length ns) (names-blank s a n h l p u z);
+      }
+
+  module _ (z : p .start ≡ p .end → ⊥) where
+    pub counting-first : some ≡ false → Counting s true (a + n + 1)
+    counting-first e =
         record {
           pre = q .pre;
           within = omega (arith, name-fits s a n h l);
-          well = well-left .1;
-          named = q .named ∙ ap (λ (ps : List (List ℕ)). names + length (namesOf (map decode ps))) cons ∙ rw (names-cons chars later, cons-none (trim chars) (namesOf later) t);
-          blank = q .blank ∙ ap (λ (ps : List (List ℕ)). blanks + blanksOf (map decode ps)) cons ∙ rw (blanks-none chars later t) (omega arith);
-          few = omega (arith, q .few);
-          fewer = omega (arith, q .fewer);
+          well = well-left s a n h l (q .well);
+          named = q .named ∙ rw (e, names-name s a n h l p u z) (omega arith);
         }
 
-    pub counting-name : (p .start ≡ p .end → ⊥) → Counting s (names + 1) blanks (a + n + 1)
-    counting-name z =
-        let t : 0 < length (trim chars) = name-piece s a (a + n) p u (name-fits s a n h l) z in
-        record {
-          pre = q .pre;
-          within = omega (arith, name-fits s a n h l);
-          well = well-left .1;
-          named = q .named ∙ ap (λ (ps : List (List ℕ)). names + length (namesOf (map decode ps))) cons ∙ rw (names-cons chars later, cons-some (trim chars) (namesOf later) t) (omega arith);
-          blank = q .blank ∙ ap (λ (ps : List (List ℕ)). blanks + blanksOf (map decode ps)) cons ∙ rw (blanks-some chars later t);
-          few = omega (arith, q .few);
-          fewer = omega (arith, q .fewer);
-        }
+    pub counting-second : some ≡ true → false ≡ ltb (length (namesOf (parts s))) 2
+    counting-second e =
+        let one : length (namesOf (parts s)) ≡ 1 + length (namesOf (map decode (left s a))) = rw e at (q .named) in
+        sym (le-ltb (length (namesOf (parts s))) 2 (omega (arith, ap length (names-name s a n h l p u z))))
 
-pub counting-end : (s : List ℕ) (names blanks a : ℕ) → Counting s names blanks a → length s < a → NamesCounted s (record { names = names; blanks = blanks })
-unfolding namesOf blanksOf
-counting-end s names blanks a q h =
-    let e : left s a ≡ [] = left-none s a h in
-    record { names = sym (q .named ∙ rw e (omega arith)); blanks = sym (q .blank ∙ rw e (omega arith)) }
+pub counting-end : (s : List ℕ) (some : Bool) (a : ℕ) → Counting s some a → length s < a → true ≡ ltb (length (namesOf (parts s))) 2
+unfolding namesOf
+counting-end s some a q h = sym (lt-ltb (length (namesOf (parts s))) 2 (go some (q .named ∙ rw (left-none s a h))))
+  where
+    go : (some : Bool) → length (namesOf (parts s)) ≡ cond some 1 0 + 0 → length (namesOf (parts s)) < 2
+    go true e = omega arith
+    go false e = omega arith
 
 -- ---- a name on a line
 
--- one byte, which is a character
-pub one-measurable : (from b : ℕ) → b < 0x80 → from + 256 < 2 ^ 64 → Measurable from (b ∷ [])
-one-measurable from b h k = record { well = wf-ascii (b ∷ []) (h, tt); fits = omega arith }
+-- one character that is no tab and takes one UTF-16 unit
+one-measured : (ruler from c : ℕ) → eqb c 9 ≡ false → c < 0x10000 → measure ruler from (c ∷ []) ≡ from + 1
+unfolding measure units
+one-measured ruler from c n h = after-other ruler from c n ∙ rw (lt-ltb c 0x10000 h)
 
-one-measured : (ruler from b n : ℕ) → b < 0x80 → Measured ruler from (b ∷ []) n → n ≡ measure ruler from (b ∷ [])
-one-measured ruler from b n h m = m .is ∙ rw (decode-ascii (b ∷ []) (h, tt))
-
-pub name-measured : (ruler from : ℕ) (name : List ℕ) (m n : ℕ) → Measured ruler from name m → Measured ruler m (44 ∷ []) n → NameMeasured ruler from name n
-name-measured ruler from name m n p q =
+pub name-measured : (ruler from : ℕ) (name : List ℕ) (m : ℕ) → Measured ruler from name m → NameMeasured ruler from name (m + 1)
+name-measured ruler from name m p =
     record {
-      is = one-measured ruler m 44 n (omega arith) q ∙ ap (λ (k : ℕ). measure ruler k (44 ∷ [])) (p .is) ∙ sym (measure-append ruler from (decode name) (44 ∷ []));
-      small = omega (arith, p .small, q .small);
+      is = sym (measure-append ruler from (decode name) (44 ∷ []) ∙ one-measured ruler _ 44 refl (omega arith) ∙ ap (λ (k : ℕ). k + 1) (sym (p .is)));
+      small = omega (arith, p .small);
     }
+
+-- ---- what is written of a name
+
+between-is : (s : List ℕ) (a e : ℕ) → 0 < a → a ≤ e → e < length s → part s (a - 1) (e + 1) ≡ getD s (a - 1) 0 ∷ (part s a e ++ getD s e 0 ∷ [])
+between-is s a e h k l =
+    part-join s (a - 1) a (e + 1) (omega arith) (omega arith) ∙ rw (part-more s a e k l) (ap (λ (x : List ℕ). x ++ (part s a e ++ getD s e 0 ∷ [])) one)
+  where
+    one : part s (a - 1) a ≡ getD s (a - 1) 0 ∷ []
+    one =
+        let n : a - 1 + 1 ≡ a = omega arith in
+        let z : a - 1 - (a - 1) ≡ 0 = omega arith in
+        rw (n, z) at (part-more s (a - 1) (a - 1) (omega arith) (omega arith))
+
+module _ (s : List ℕ) (p : Part) where
+  pub not-spaced : Spaced s p false
+  not-spaced = record { is = λ e. absurd (let y : _≡_ {A = ℕ} 0 1 = cc in omega arith) }
+
+  pub spaced : Within s (p .start) (p .end) → (p .start ≡ 0 → ⊥) → p .end < length s → getD s (p .start - 1) 0 ≡ 32 → Spaced s p (eqb (getD s (p .end) 0) 44)
+  spaced w z h b =
+      record {
+        is = λ e. record {
+          after = omega arith;
+          within = h;
+          text = between-is s (p .start) (p .end) (omega arith) (w .order) h ∙ rw (b, eqb-true (getD s (p .end) 0) 44 e);
+        };
+      }
+
+pub spaced-after : (s : List ℕ) (p : Part) (r : Bool) → Spaced s p r → r ≡ true → 1 ≤ p .start
+spaced-after s p r q e = q .is e .after
+
+pub spaced-within : (s : List ℕ) (p : Part) (r : Bool) → Spaced s p r → r ≡ true → p .end + 1 ≤ length s
+spaced-within s p r q e = omega (arith, q .is e .within)
+
+pub put-as-is : (s : List ℕ) (p : Part) (r : Bool) {model x y : List ℕ} {at n : ℕ} → Spaced s p r → r ≡ true → Compared model x y at (part s (p .start - 1) (p .end + 1)) n
+    → Compared model x y at (32 ∷ (part s (p .start) (p .end) ++ 44 ∷ [])) n
+put-as-is s p r q e c = rw (q .is e .text) at c
 
 pub put-name : (name : List ℕ) {model x y z u : List ℕ} {at n m r : ℕ} → Compared model x y at (32 ∷ []) n → Compared model y z n name m → Compared model z u m (44 ∷ []) r
     → Compared model x u at (32 ∷ (name ++ 44 ∷ [])) r
@@ -308,10 +353,6 @@ grown-line eol cur name done w =
     let x : encode (codes " " ++ withComma (decode name)) ≡ 32 ∷ (name ++ 44 ∷ []) = encode-append (codes " ") (withComma (decode name)) ∙ rw (name-bytes name w, encode-ascii (codes " ") (omega arith, tt)) in
     rw (encode-append cur (codes " " ++ withComma (decode name)), x, text-cons eol cur done, append-assoc (namesText eol done) (eol ++ encode cur) (32 ∷ (name ++ 44 ∷ [])), append-assoc eol (encode cur) (32 ∷ (name ++ 44 ∷ [])))
 
-if-some : (o : Options) (max : ℕ) (cont : List ℕ) (lines : List (List ℕ)) (name : List ℕ) → 0 < length name → addIf o max cont lines name ≡ addName o max cont lines name
-if-some o max cont lines [] h = absurd (omega arith)
-if-some o max cont lines (c ∷ cs) h = refl
-
 module _ (ruler : ℕ) (indent : List ℕ) (level : ℕ) (eol : List ℕ) (max : ℕ) (name model out : List ℕ) (f : Filled) where
   abbrev opts : Options
   opts = indented indent ruler
@@ -319,22 +360,9 @@ module _ (ruler : ℕ) (indent : List ℕ) (level : ℕ) (eol : List ℕ) (max :
   abbrev cont : List ℕ
   cont = times level indent
 
-  pub add-none : length name ≡ 0 → Added ruler indent level eol max name model out out f f
-  add-none z =
-      record {
-        to = λ lines c.
-            subst (λ (l : List ℕ). AddedTo ruler lines (addIf opts max cont lines l) eol model out out f f) (sym (none-decoded name z))
-            (record { column = c; grown = []; text = compared-nil model out (f .at); grows = sym (append-nil (namesText eol lines)) });
-        small = λ n h k. omega arith;
-        room = omega arith;
-      }
-
-  module _ (fits : NameFits indent level eol name f) (z : length name ≡ 0 → ⊥) where
+  module _ (fits : NameFits indent level eol name f) where
     abbrev newLine : List ℕ
     newLine = cont ++ withComma (decode name)
-
-    named : (lines : List (List ℕ)) → addIf opts max cont lines (decode name) ≡ addName opts max cont lines (decode name)
-    named lines = if-some opts max cont lines (decode name) (some-decoded name (fits .well) (omega arith))
 
     added-line : (lines : List (List ℕ)) (out′ : List ℕ) (r : Filled) → OnNewLine ruler indent level eol name model out out′ f r → AddedTo ruler lines (newLine ∷ lines) eol model out out′ f r
     added-line lines out′ r q =
@@ -360,7 +388,7 @@ module _ (ruler : ℕ) (indent : List ℕ) (level : ℕ) (eol : List ℕ) (max :
     unfolding addName
     add-first out′ r e q =
         record {
-          to = λ lines c. subst (λ (ls : List (List ℕ)). AddedTo ruler lines ls eol model out out′ f r) (sym (named lines)) (go lines c);
+          to = go;
           small = line-small out′ r q;
           room = line-at out′ r q;
         }
@@ -369,21 +397,21 @@ module _ (ruler : ℕ) (indent : List ℕ) (level : ℕ) (eol : List ℕ) (max :
         go [] c = added-line [] out′ r q
         go (cur ∷ done) c = absurd (let y : _≡_ {A = ℕ} 0 1 = cc (c .some, e) in omega arith)
 
-    module _ (b n : ℕ) (e : f .some ≡ true) (p : Measured ruler (f .column .0) (32 ∷ []) b) (q : NameMeasured ruler b name n) where
+    module _ (n : ℕ) (e : f .some ≡ true) (q : NameMeasured ruler (f .column .0 + 1) name n) where
       abbrev joinedLine : List ℕ → List ℕ
       joinedLine cur = cur ++ (codes " " ++ withComma (decode name))
 
       -- the column that the newest line would reach
       column-of : (cur : List ℕ) (done : List (List ℕ)) → NewestAt ruler (cur ∷ done) f → n ≡ measure ruler 0 (joinedLine cur)
       column-of cur done c =
-          q .is ∙ ap (λ (k : ℕ). measure ruler k (withComma (decode name))) (one-measured ruler (f .column .0) 32 b (omega arith) p ∙ ap (λ (k : ℕ). measure ruler k (32 ∷ [])) (c .at))
+          q .is ∙ ap (λ (k : ℕ). measure ruler k (withComma (decode name))) (ap (λ (k : ℕ). k + 1) (c .at) ∙ sym (one-measured ruler (measure ruler 0 cur) 32 refl (omega arith)))
           ∙ sym (measure-append ruler 0 cur (codes " " ++ withComma (decode name)) ∙ measure-append ruler (measure ruler 0 cur) (codes " ") (withComma (decode name)))
 
       pub add-wide : (out′ : List ℕ) (r : Filled) → max < n → OnNewLine ruler indent level eol name model out out′ f r → Result out′ r
       unfolding addName overWide
       add-wide out′ r h l =
           record {
-            to = λ lines c. subst (λ (ls : List (List ℕ)). AddedTo ruler lines ls eol model out out′ f r) (sym (named lines)) (go lines c);
+            to = go;
             small = line-small out′ r l;
             room = line-at out′ r l;
           }
@@ -398,8 +426,8 @@ module _ (ruler : ℕ) (indent : List ℕ) (level : ℕ) (eol : List ℕ) (max :
       unfolding addName overWide
       add-here out′ col at k h a =
           record {
-            to = λ lines c. subst (λ (ls : List (List ℕ)). AddedTo ruler lines ls eol model out out′ f (record { at = at; column = col; some = true })) (sym (named lines)) (go lines c);
-            small = λ m i j. omega (arith, q .small, p .small);
+            to = go;
+            small = λ m i j. omega (arith, q .small);
             room = omega (arith, a .next, length-append name (44 ∷ []));
           }
         where
@@ -416,7 +444,7 @@ module _ (ruler : ℕ) (indent : List ℕ) (level : ℕ) (eol : List ℕ) (max :
 
 -- ---- the lines of names: the pieces before a are on them
 
-pub record Filling (ruler : ℕ) (s indent : List ℕ) (level : ℕ) (eol : List ℕ) (max : ℕ) (model out₀ : List ℕ) (at : ℕ) (out : List ℕ) (f : Filled) (a : ℕ) : Type 0 where
+pub record Filling (ruler : ℕ) (s indent : List ℕ) (level : ℕ) (eol : List ℕ) (max : ℕ) (model out₀ : List ℕ) (at : ℕ) (out : List ℕ) (f : Filled) (blanks a : ℕ) : Type 0 where
   pub pre : NamesFit s indent level eol at
   pub within : a ≤ length s + 1
   pub well : AllWell (left s a)
@@ -427,9 +455,11 @@ pub record Filling (ruler : ℕ) (s indent : List ℕ) (level : ℕ) (eol : List
   pub narrow : f .column .0 ≤ lastIndent + 510 * a
   pub room : f .at ≤ at + a * lineRoom
   pub as-long : length out ≡ length out₀
+  pub blank : blanksOf (parts s) ≡ blanks + blanksOf (map decode (left s a))
+  pub few : blanks ≤ a
 
 pub filling-start : (ruler : ℕ) (s indent : List ℕ) (level : ℕ) (eol : List ℕ) (max : ℕ) (model out : List ℕ) (at : ℕ) (col : Utf16Column) → NamesFit s indent level eol at → col .0 ≡ 0
-    → Filling ruler s indent level eol max model out at out (record { at = at; column = col; some = false }) 0
+    → Filling ruler s indent level eol max model out at out (record { at = at; column = col; some = false }) 0 0
 unfolding fillNames following
 filling-start ruler s indent level eol max model out at col p z =
     let q : AllPieces s = all-pieces s (p .well) in
@@ -444,22 +474,20 @@ filling-start ruler s indent level eol max model out at col p z =
       narrow = omega arith;
       room = omega arith;
       as-long = refl;
+      blank = rw (← (q .chars)) (omega arith);
+      few = zero-le;
     }
 
--- one name more, if the piece is not blank
-fold-cons : (o : Options) (max : ℕ) (cont : List ℕ) (lines : List (List ℕ)) (n : List ℕ) (ns : List (List ℕ))
-    → foldl (addName o max cont) lines (consName n ns) ≡ foldl (addName o max cont) (addIf o max cont lines n) ns
-unfolding consName
-fold-cons o max cont lines [] ns = refl
-fold-cons o max cont lines (c ∷ cs) ns = refl
-
-module _ (ruler : ℕ) (s indent : List ℕ) (level : ℕ) (eol : List ℕ) (max : ℕ) (model out₀ : List ℕ) (at : ℕ) (out : List ℕ) (f : Filled) (a : ℕ) (q : Filling ruler s indent level eol max model out₀ at out f a)
+module _ (ruler : ℕ) (s indent : List ℕ) (level : ℕ) (eol : List ℕ) (max : ℕ) (model out₀ : List ℕ) (at : ℕ) (out : List ℕ) (f : Filled) (blanks a : ℕ) (q : Filling ruler s indent level eol max model out₀ at out f blanks a)
     (n : ℕ) (h : a ≤ length s) (l : NameLen (take (length s - a) (drop a s)) n) (p : Part) (u : Trimmed s a (a + n) p) where
   abbrev name : List ℕ
   name = part s (p .start) (p .end)
 
   name-long : length name ≤ n
   name-long = omega (arith, part-length s (p .start) (p .end) (omega (arith, u .fits, name-fits s a n h l)), u .after, u .fits)
+
+  pub filling-part : Within s (p .start) (p .end)
+  filling-part = record { order = u .order; fits = omega (arith, u .fits, name-fits s a n h l); well = u .well }
 
   pub filling-room : NameFits indent level eol name f
   filling-room =
@@ -472,30 +500,48 @@ module _ (ruler : ℕ) (s indent : List ℕ) (level : ℕ) (eol : List ℕ) (max
         room = omega (arith, q .room, q .pre .room, name-long, name-fits s a n h l, q .pre .short);
       }
 
-  pub filling-more : (out′ : List ℕ) (r : Filled) → Added ruler indent level eol max name model out out′ f r → length out′ ≡ length out → Filling ruler s indent level eol max model out₀ at out′ r (a + n + 1)
-  filling-more out′ r g k =
-      let cons : left s a ≡ part s a (a + n) ∷ left s (a + n + 1) = left-cons s a n h l in
-      let w : AllWell (part s a (a + n) ∷ left s (a + n + 1)) = subst AllWell cons (q .well) in
+  abbrev add : List (List ℕ) → List ℕ → List (List ℕ)
+  add = addName (indented indent ruler) max (times level indent)
+
+  pub filling-blank : p .start ≡ p .end → Filling ruler s indent level eol max model out₀ at out f (blanks + 1) (a + n + 1)
+  filling-blank z =
+      record {
+        pre = q .pre;
+        within = omega (arith, name-fits s a n h l);
+        well = well-left s a n h l (q .well);
+        lines = q .lines;
+        fill = q .fill ∙ ap (foldl add (q .lines)) (names-blank s a n h l p u z);
+        column = q .column;
+        text = q .text;
+        narrow = omega (arith, q .narrow);
+        room = omega (arith, q .room);
+        as-long = q .as-long;
+        blank = q .blank ∙ rw (blanks-blank s a n h l p u z) (omega arith);
+        few = omega (arith, q .few);
+      }
+
+  pub filling-name : (out′ : List ℕ) (r : Filled) → (p .start ≡ p .end → ⊥) → Added ruler indent level eol max name model out out′ f r → length out′ ≡ length out
+      → Filling ruler s indent level eol max model out₀ at out′ r blanks (a + n + 1)
+  filling-name out′ r z g k =
       let to = g .to (q .lines) (q .column) in
       record {
         pre = q .pre;
         within = omega (arith, name-fits s a n h l);
-        well = w .1;
-        lines = addIf (indented indent ruler) max (times level indent) (q .lines) (decode name);
-        fill =
-            q .fill ∙ ap (λ (ps : List (List ℕ)). foldl (addName (indented indent ruler) max (times level indent)) (q .lines) (namesOf (map decode ps))) cons
-            ∙ rw (names-cons (decode (part s a (a + n))) (map decode (left s (a + n + 1))), ← (u .text))
-            (fold-cons (indented indent ruler) max (times level indent) (q .lines) (decode name) (namesOf (map decode (left s (a + n + 1)))));
+        well = well-left s a n h l (q .well);
+        lines = add (q .lines) (decode name);
+        fill = q .fill ∙ ap (foldl add (q .lines)) (names-name s a n h l p u z);
         column = to .column;
         text = rw (to .grows) (compared-append (q .text) (to .text));
         narrow = omega (arith, g .small (lastIndent + 510 * a) (omega arith) (q .narrow), name-long);
         room = omega (arith, g .room, q .room, name-long);
         as-long = k ∙ q .as-long;
+        blank = q .blank ∙ ap (λ (m : ℕ). blanks + m) (blanks-name s a n h l p u z);
+        few = omega (arith, q .few);
       }
 
-pub filling-end : (ruler : ℕ) (s indent : List ℕ) (level : ℕ) (eol : List ℕ) (max : ℕ) (model out₀ : List ℕ) (at : ℕ) (out : List ℕ) (f : Filled) (a : ℕ) → Filling ruler s indent level eol max model out₀ at out f a → length s < a
-    → NamesWritten ruler s indent level eol max model out₀ out at (f .at)
-unfolding namesOf
-filling-end ruler s indent level eol max model out₀ at out f a q h =
+pub filling-end : (ruler : ℕ) (s indent : List ℕ) (level : ℕ) (eol : List ℕ) (max : ℕ) (model out₀ : List ℕ) (at : ℕ) (out : List ℕ) (f : Filled) (blanks a : ℕ) → Filling ruler s indent level eol max model out₀ at out f blanks a → length s < a
+    → NamesWritten ruler s indent level eol max model out₀ out at (record { next = f .at; blanks = blanks })
+unfolding namesOf blanksOf
+filling-end ruler s indent level eol max model out₀ at out f blanks a q h =
     let e : fillNames (indented indent ruler) max (times level indent) (namesOf (parts s)) ≡ q .lines = q .fill ∙ rw (left-none s a h) in
-    record { text = rw e (q .text); room = omega (arith, q .room, q .within) }
+    record { text = rw e (q .text); room = omega (arith, q .room, q .within); blanks = sym (q .blank ∙ rw (left-none s a h) (omega arith)) }

@@ -1,25 +1,36 @@
 -- The names of an import, in bytes: pieces between commas, counted and filled into lines.
-use Prim.Native.Nat.{ℕ, _+_, _*_, _^_, _≤_, _<_}
-use mathlib.Core.Bool.{Bool, true, not, _&&_}
+use Prim.Native.Nat.{ℕ, _+_, _-_, _*_, _^_, _≤_, _<_}
+use mathlib.Core.Bool.{Bool, true, false, not, _&&_}
 use mathlib.Core.List.{List, [], _∷_, _++_, map, reverse}
 use mathlib.Core.Path.{_≡_}
 use lib.Dec.{eqb, leb}
-use lib.ListN.{length, take, drop}
+use lib.ListN.{length, getD, take, drop}
+use Rattle.buffer.specs.Buffer.{part}
 use Rattle.compare.specs.Common.{Compared}
 use Rattle.buffer.specs.Repeat.{times}
 use Rattle.unicode.specs.Unicode.{encode, decode, WellFormed}
 use Rattle.rules.specs.Basics.{choose, isEmpty, pieces, splitOn}
-use Rattle.rules.specs.Options.{Options, measure}
+use Rattle.rules.specs.Options.{measure}
 use Rattle.rules.specs.Scan.{Cell, isCode}
 use Rattle.rules.specs.SplitImport.{namesOf, blanksOf, withComma, addName, fillNames}
+use Rattle.split.specs.declared.Part.{Part}
 use Rattle.split.specs.Measure.{Indent, lastIndent}
 use Rattle.split.specs.Text.{indented, lay, following, lineRoom}
-use Rattle.split_import.specs.declared.Names.{Names}
 use Rattle.split_import.specs.declared.Filled.{Filled}
+use Rattle.split_import.specs.declared.NameLines.{NameLines}
 
 -- x is the code character c
 abbrev pub codeByte : ℕ → Cell → Bool
 codeByte c x = isCode (x .class) && eqb (x .ch) c
+
+-- the byte at i is b
+abbrev pub byteAt : ℕ → List ℕ → ℕ → Bool
+byteAt b s i = eqb (getD s i 0) b
+
+-- none of the first r bytes is b
+pub record Lacks (b : ℕ) (s : List ℕ) (r : ℕ) : Type 0 where
+  pub within : r ≤ length s
+  pub none : (j : ℕ) → j < r → byteAt b s j ≡ false
 
 -- ---- pieces between commas
 
@@ -40,9 +51,15 @@ pub record CountableNames (s : List ℕ) : Type 0 where
   pub well : WellFormed s
   pub short : length s < 2 ^ 31
 
-pub record NamesCounted (s : List ℕ) (r : Names) : Type 0 where
-  pub names : r .names ≡ length (namesOf (parts s))
-  pub blanks : r .blanks ≡ blanksOf (parts s)
+-- a part that stands between a space and a comma
+pub record Between (s : List ℕ) (p : Part) : Type 0 where
+  pub after : 0 < p .start
+  pub within : p .end < length s
+  pub text : part s (p .start - 1) (p .end + 1) ≡ 32 ∷ (part s (p .start) (p .end) ++ 44 ∷ [])
+
+-- r is true only where it does
+pub record Spaced (s : List ℕ) (p : Part) (r : Bool) : Type 0 where
+  pub is : r ≡ true → Between s p
 
 -- ---- lines of names
 
@@ -88,11 +105,6 @@ pub record OnNewLine (ruler : ℕ) (indent : List ℕ) (level : ℕ) (eol name m
   pub small : r .column .0 ≤ lastIndent + 255 * length name + 255
   pub some : r .some ≡ true
 
--- one more name, if it is not blank
-abbrev pub addIf : Options → ℕ → List ℕ → List (List ℕ) → List ℕ → List (List ℕ)
-addIf o max cont lines [] = lines
-addIf o max cont lines (c ∷ cs) = addName o max cont lines (c ∷ cs)
-
 pub record AddedTo (ruler : ℕ) (lines lines′ : List (List ℕ)) (eol model out out′ : List ℕ)
     (f r : Filled) : Type 0 where
   pub column : NewestAt ruler lines′ r
@@ -103,7 +115,7 @@ pub record AddedTo (ruler : ℕ) (lines lines′ : List (List ℕ)) (eol model o
 pub record Added (ruler : ℕ) (indent : List ℕ) (level : ℕ) (eol : List ℕ) (max : ℕ) (name model out out′ : List ℕ)
     (f r : Filled) : Type 0 where
   pub to : (lines : List (List ℕ)) → NewestAt ruler lines f
-      → AddedTo ruler lines (addIf (indented indent ruler) max (times level indent) lines (decode name)) eol model out
+      → AddedTo ruler lines (addName (indented indent ruler) max (times level indent) lines (decode name)) eol model out
       out′ f r
   pub small : (n : ℕ) → lastIndent ≤ n → f .column .0 ≤ n → r .column .0 ≤ n + 255 * length name + 510
   pub room : r .at ≤ f .at + (67108931 + length name)
@@ -116,7 +128,8 @@ pub record NamesFit (s indent : List ℕ) (level : ℕ) (eol : List ℕ) (at : �
   pub room : at + (length s + 1) * lineRoom < 2 ^ 64
 
 pub record NamesWritten (ruler : ℕ) (s indent : List ℕ) (level : ℕ) (eol : List ℕ) (max : ℕ) (model out out′ : List ℕ)
-    (at r : ℕ) : Type 0 where
+    (at : ℕ) (r : NameLines) : Type 0 where
   pub text : Compared model out out′ at
-      (namesText eol (fillNames (indented indent ruler) max (times level indent) (namesOf (parts s)))) r
-  pub room : r ≤ at + (length s + 1) * lineRoom
+      (namesText eol (fillNames (indented indent ruler) max (times level indent) (namesOf (parts s)))) (r .next)
+  pub room : r .next ≤ at + (length s + 1) * lineRoom
+  pub blanks : r .blanks ≡ blanksOf (parts s)

@@ -2,21 +2,24 @@
 ghost use mathlib.Core.Path.{_≡_};
 ghost use mathlib.Core.Bool.{_&&_};
 ghost use mathlib.Core.List.{[], _∷_, _++_};
-ghost use Prim.Native.Nat.{_+_, _≤_, _<_, _^_};
-ghost use lib.Dec.{eqb};
+ghost use Prim.Native.Nat.{_+_, _-_, _≤_, _<_, _^_};
+ghost use lib.Dec.{eqb, ltb};
 ghost use lib.ListN.{length};
+ghost use Rattle.buffer.specs.Buffer.{part};
 ghost use Rattle.compare.specs.Common.{Compared};
 ghost use Rattle.unicode.specs.Unicode.{decode};
+ghost use Rattle.unicode.specs.Places.{NoneAmong};
 ghost use Rattle.rules.specs.Options.{Options};
 ghost use Rattle.rules.specs.Lines.{asStr};
 ghost use Rattle.rules.specs.Scan.{isCode, classify};
 ghost use Rattle.rules.specs.ClassBytes.{classOf, FirstAt};
-ghost use Rattle.rules.specs.SplitImport.{splitImport, startsImport};
+ghost use Rattle.rules.specs.SplitImport.{namesOf, splitImport, startsImport};
 ghost use Rattle.rules.specs.declared.Carry.{Carry};
-ghost use Rattle.split.specs.Measure.{InUse};
+ghost use Rattle.split.specs.Measure.{InUse, Within};
 ghost use Rattle.split.specs.Text.{lay};
-ghost use Rattle.split_import.specs.Names.{codeByte, NameLen, CountableNames, NamesCounted, NamePlace, Named};
-ghost use Rattle.split_import.specs.Names.{NameMeasured, NameFits, OnNewLine, Added, NamesFit, NamesWritten};
+ghost use Rattle.split_import.specs.Names.{codeByte, byteAt, Lacks, NameLen, parts, CountableNames};
+ghost use Rattle.split_import.specs.Names.{Spaced, NamePlace, Named, NameMeasured, NameFits, OnNewLine, Added};
+ghost use Rattle.split_import.specs.Names.{NamesFit, NamesWritten};
 ghost use Rattle.split_import.specs.Import.{HeadFits, HeadWritten, Braces, partsOf, Given, ImportFits};
 use basics::is_ident;
 use basics::starts_with;
@@ -68,12 +71,40 @@ fn code_is(c: u8, b: u8, k: u8) -> bool
     false
 }
 
+// Whether one of the 16 bytes from `at` on is b. It makes no branch, so that the 16 are tested at once.
+fn has_byte(s: &[u8], b: u8, at: usize) -> bool
+    requires { ⌜ at + 16 ≤ length (now s) ⌝ }
+    ensures { λ r. ⌜ NoneAmong (byteAt b (now (s .entry))) at 16 r ⌝ }
+{
+    let mut any = false;
+    let mut k: usize = 0;
+    while k < 16 {
+        any = any | (s[at + k] == b);
+        k += 1;
+    }
+    any
+}
+
+// Past the blocks of 16 bytes none of which is b.
+fn past_blocks(s: &[u8], b: u8) -> usize
+    ensures { λ r. ⌜ Lacks b (now (s .entry)) r ⌝ }
+{
+    let mut i = 0;
+    while s.len() - i >= 16 {
+        if has_byte(s, b, i) {
+            return i;
+        }
+        i += 16;
+    }
+    i
+}
+
 // Where the first code character c stands, or the line's length.
 fn find_code(line: &[u8], class: &[u8], c: u8) -> usize
     requires { ⌜ length (now line) ≤ length (now class) ⌝ }
     ensures { λ r. ⌜ FirstAt (codeByte c) (now (line .entry)) (now (class .entry)) r ⌝ }
 {
-    let mut i = 0;
+    let mut i = past_blocks(line, c);
     while i < line.len() {
         if code_is(c, line[i], class[i]) {
             return i;
@@ -97,40 +128,62 @@ fn name_len(s: &[u8]) -> usize
     i
 }
 
-// How many pieces are names, and how many are blank.
-pub struct Names {
-    pub names: usize,
-    pub blanks: usize,
-}
-
-fn count_names(s: &[u8]) -> Names
+// Whether fewer than two pieces are names.
+fn few_names(s: &[u8]) -> bool
     requires { ⌜ CountableNames (now s) ⌝ }
-    ensures { λ r. ⌜ NamesCounted (now (s .entry)) r ⌝ }
+    ensures { λ r. ⌜ r ≡ ltb (length (namesOf (parts (now (s .entry))))) 2 ⌝ }
 {
-    let mut names = 0;
-    let mut blanks = 0;
+    let mut some = false;
     let mut a = 0;
     while a <= s.len() {
         let e = a + name_len(&s[a..]);
         let p = trim_part(s, a, e);
         a = e + 1;
-        if p.start == p.end {
-            blanks += 1;
-        } else {
-            names += 1;
+        if p.start != p.end {
+            if some {
+                return false;
+            }
+            some = true;
         }
     }
-    Names { names, blanks }
+    true
 }
 
-// A name, and its comma, after others on its line.
-fn put_name(model: &[u8], out: &mut [u8], at: usize, name: &[u8]) -> usize
-    requires { ⌜ at + (length (now name) + 2) < 2 ^ 64 ⌝ }
-    ensures { λ r. ⌜ Compared (now (model .entry)) (now (out .entry)) (now (out .exit)) at
-        (32 ∷ (now (name .entry) ++ 44 ∷ [])) r ⌝ }
+// Whether the part stands between a space and a comma.
+fn is_spaced(s: &[u8], p: Part) -> bool
+    requires { ⌜ Within (now s) (p .start) (p .end) ⌝ }
+    ensures { λ r. ⌜ Spaced (now (s .entry)) p r ⌝ }
 {
+    let a = p.start;
+    let e = p.end;
+    if a == 0 {
+        return false;
+    }
+    if s.len() <= e {
+        return false;
+    }
+    if s[a - 1] == b' ' {
+        return s[e] == b',';
+    }
+    false
+}
+
+// A name, and its comma, after others on its line: at once where it stands so among the names.
+fn put_name(model: &[u8], out: &mut [u8], at: usize, names: &[u8], p: Part) -> usize
+    requires { ⌜ Within (now names) (p .start) (p .end) ⌝ }
+    requires { ⌜ at + (p .end - p .start + 2) < 2 ^ 64 ⌝ }
+    ensures { λ r. ⌜ Compared (now (model .entry)) (now (out .entry)) (now (out .exit)) at
+        (32 ∷ (part (now (names .entry)) (p .start) (p .end) ++ 44 ∷ [])) r ⌝ }
+{
+    let a = p.start;
+    let e = p.end;
+    if is_spaced(names, p) {
+        let b = a - 1;
+        let d = e + 1;
+        return compare::append(model, out, at, &names[b..d]);
+    }
     let n = compare::append(model, out, at, b" ");
-    let m = compare::append(model, out, n, name);
+    let m = compare::append(model, out, n, &names[a..e]);
     compare::append(model, out, m, b",")
 }
 
@@ -151,7 +204,8 @@ fn name_column(ruler: u8, from: Utf16Column, name: &[u8]) -> Utf16Column
     requires { ⌜ Named (from .0) (now name) ⌝ }
     ensures { λ r. ⌜ NameMeasured ruler (from .0) (now (name .entry)) (r .0) ⌝ }
 {
-    measure_from(ruler, measure_from(ruler, from, name), b",")
+    let end = measure_from(ruler, from, name);
+    Utf16Column(end.0 + 1)
 }
 
 // The lines of names so far: the place reached, the column reached on the newest of them, and whether there is one.
@@ -181,28 +235,30 @@ fn new_line(
     }
 }
 
-// One more name: on the newest line if the width holds it, else on a line of its own. A blank one is dropped.
+// One more name: on the newest line if the width holds it, else on a line of its own.
 fn add_name(
     model: &[u8],
     out: &mut [u8],
     f: Filled,
     s: Layout,
     indent: &[u8],
-    name: &[u8],
+    names: &[u8],
+    p: Part,
 ) -> Filled
-    requires { ⌜ NameFits (now indent) (s .level) (asStr (s .ending)) (now name) f ⌝ }
+    requires { ⌜ Within (now names) (p .start) (p .end) ⌝ }
+    requires { ⌜ NameFits (now indent) (s .level) (asStr (s .ending)) (part (now names) (p .start) (p .end)) f ⌝ }
     ensures { λ r. ⌜ Added (s .ruler) (now (indent .entry)) (s .level) (asStr (s .ending)) (s .max .0)
-        (now (name .entry)) (now (model .entry)) (now (out .entry)) (now (out .exit)) f r ⌝ }
+        (part (now (names .entry)) (p .start) (p .end)) (now (model .entry)) (now (out .entry)) (now (out .exit)) f r ⌝ }
 {
-    if name.len() == 0 {
-        return f;
-    }
+    let a = p.start;
+    let e = p.end;
+    let name = &names[a..e];
     if f.some {
         let c = f.column;
-        let column = name_column(s.ruler, measure_from(s.ruler, c, b" "), name);
+        let column = name_column(s.ruler, Utf16Column(c.0 + 1), name);
         if column.0 <= s.max.0 {
             return Filled {
-                at: put_name(model, out, f.at, name),
+                at: put_name(model, out, f.at, names, p),
                 column,
                 some: true,
             };
@@ -212,7 +268,13 @@ fn add_name(
     new_line(model, out, f, s, indent, name)
 }
 
-// The lines of the names between commas, each after a line ending.
+// The lines of names, written: the next place, and how many pieces are blank.
+pub struct NameLines {
+    pub next: usize,
+    pub blanks: usize,
+}
+
+// The lines of the names between commas, each after a line ending. A blank piece is dropped.
 fn write_names(
     names: &[u8],
     s: Layout,
@@ -220,7 +282,7 @@ fn write_names(
     model: &[u8],
     out: &mut [u8],
     at: usize,
-) -> usize
+) -> NameLines
     requires { ⌜ NamesFit (now names) (now indent) (s .level) (asStr (s .ending)) at ⌝ }
     ensures { λ r. ⌜ NamesWritten (s .ruler) (now (names .entry)) (now (indent .entry)) (s .level) (asStr (s .ending))
         (s .max .0) (now (model .entry)) (now (out .entry)) (now (out .exit)) at r ⌝ }
@@ -230,16 +292,19 @@ fn write_names(
         column: Utf16Column(0),
         some: false,
     };
+    let mut blanks = 0;
     let mut a = 0;
     while a <= names.len() {
         let e = a + name_len(&names[a..]);
         let p = trim_part(names, a, e);
-        let b = p.start;
-        let d = p.end;
-        f = add_name(model, out, f, s, indent, &names[b..d]);
         a = e + 1;
+        if p.start == p.end {
+            blanks += 1;
+        } else {
+            f = add_name(model, out, f, s, indent, names, p);
+        }
     }
-    f.at
+    NameLines { next: f.at, blanks }
 }
 
 // The first line: the text before the brace, trimmed at its end, a space and the brace.
@@ -279,8 +344,7 @@ fn write_import(
     let end = braces.end;
     let a = start + 1;
     let names = &line[a..end];
-    let c = count_names(names);
-    if c.names < 2 {
+    if few_names(names) {
         return ImportSplit::Whole;
     }
     let n = write_head(model, out, at, indent, s.level, &line[..start]);
@@ -294,11 +358,11 @@ fn write_import(
         strengths,
     };
     let m = write_names(names, under, indent, model, out, n);
-    let w = write_line(model, out, m, s, indent, &line[end..]);
+    let w = write_line(model, out, m.next, s, indent, &line[end..]);
     ImportSplit::Split(ImportLines {
         next: w.next,
         last: w.start,
-        blanks: c.blanks,
+        blanks: m.blanks,
     })
 }
 

@@ -15,8 +15,11 @@ Inv-loop line class c i₀ i = Finding (codeByte c) line class i
 abbrev μ-loop : tie.MeasureT-loop
 μ-loop line class c i₀ i = length line - i
 
+past-blocks-requires : tie.Need-past-blocks-requires Inv-loop μ-loop
+past-blocks-requires c κs = search needs
+
 loop-holds : tie.Need-loop-holds Inv-loop μ-loop
-loop-holds c = code-begin _ _ _
+loop-holds c = search (needs, code-begin)
 
 shared-slice-read-code-is : tie.Need-shared-slice-read-code-is Inv-loop μ-loop
 shared-slice-read-code-is c = search needs
@@ -45,5 +48,16 @@ returns-2 c = search (needs, code-end)
 pub find-code-spec : {M : Type 1} → statement M
 find-code-spec =
     tie.close
-    (tie.spec Inv-loop μ-loop loop-holds shared-slice-read-code-is shared-slice-read-code-is-2 code-is-requires
-    returns add-i loop-less loop-again returns-2)
+    (tie.spec
+    Inv-loop
+    μ-loop
+    past-blocks-requires
+    loop-holds
+    shared-slice-read-code-is
+    shared-slice-read-code-is-2
+    code-is-requires
+    returns
+    add-i
+    loop-less
+    loop-again
+    returns-2)

@@ -1,8 +1,8 @@
+use borrow.Author.Needs.{needs}
+use native.Mathlib.Omega.{arith}
 use mathlib.Core.Path.{sym}
 use lib.Seq.{length-take-le}
 use Rattle.split_import.proofs.ImportLaws.{inside-countable, head-fits, names-fit, tail-room, parts-none, parts-some}
-use native.Mathlib.Omega.{arith}
-use borrow.Author.Needs.{needs}
 use Rattle.split_import.proofs.write_import.Statement.{statement}
 use Rattle.split_import.proofs.write_import.Tie as tie
 
@@ -18,8 +18,8 @@ part-names-start c = search needs
 part-names-end : tie.Need-part-names-end
 part-names-end c = search needs
 
-count-names-requires : tie.Need-count-names-requires
-count-names-requires c κs = search (needs, inside-countable)
+few-names-requires : tie.Need-few-names-requires
+few-names-requires c κs = search (needs, inside-countable)
 
 returns : tie.Need-returns
 returns c = search (needs, parts-none)
@@ -36,7 +36,7 @@ add-write-line c = search needs
 write-names-requires : tie.Need-write-names-requires
 write-names-requires c κs =
     let h = c .before .before .before .before .before in
-    names-fit (h .before .before .before .before .before .before .before .before .before .before .before .pre) (h .write-head .ensures)
+    names-fit (h .before .before .before .before .before .before .before .before .before .before .pre) (h .write-head .ensures)
 
 sub-write-line : tie.Need-sub-write-line
 sub-write-line c = search needs
@@ -51,7 +51,7 @@ write-line-requires : tie.Need-write-line-requires
 write-line-requires c κs =
     let n = c .before .before .before .before in
     let h = n .before .before .before .before .before .before in
-    tail-room (h .before .before .before .before .before .before .before .before .before .before .before .pre) (h .write-head .ensures) _ _ (n .write-names .ensures)
+    tail-room (h .before .before .before .before .before .before .before .before .before .before .pre) (h .write-head .ensures) _ _ (n .write-names .ensures)
 
 same-length : tie.Need-same-length
 same-length c = search needs
@@ -61,11 +61,25 @@ returns-2 c =
     let n = c .before .before .before .before .before .before .before in
     let h = n .before .before .before .before .before .before in
     let i = h .before .before .before in
-    parts-some (i .before .before .before .before .before .before .before .before .pre) (i .before .before .count-names .ensures) (i .if1 .left) (h .write-head .ensures) (n .write-names .ensures) (c .before .before .write-line .ensures)
+    parts-some (i .before .before .before .before .before .before .before .pre) (i .before .few-names .ensures) (i .if1 .left) (h .write-head .ensures) (n .write-names .ensures) (c .before .before .write-line .ensures)
 
 pub write-import-spec : {M : Type 1} → statement M
 write-import-spec =
     tie.close
-    (tie.spec add-a sub-names part-names-start part-names-end count-names-requires returns slice-aggregate-write-head
-    write-head-requires add-write-line write-names-requires sub-write-line part-write-line-start part-write-line-end
-    write-line-requires same-length returns-2)
+    (tie.spec
+    add-a
+    sub-names
+    part-names-start
+    part-names-end
+    few-names-requires
+    returns
+    slice-aggregate-write-head
+    write-head-requires
+    add-write-line
+    write-names-requires
+    sub-write-line
+    part-write-line-start
+    part-write-line-end
+    write-line-requires
+    same-length
+    returns-2)

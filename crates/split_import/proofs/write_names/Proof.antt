@@ -4,15 +4,15 @@ use borrow.Author.Needs.{needs}
 use Prim.Native.Nat.{_+_, _-_}
 use lib.ListN.{length}
 use Rattle.rules.specs.Lines.{asStr}
-use Rattle.split_import.proofs.NameLaws.{Filling, filling-start, filling-room, filling-more, filling-end, piece-within}
+use Rattle.split_import.proofs.NameLaws.{Filling, filling-start, filling-part, filling-room, filling-blank, filling-name, filling-end, piece-within}
 use Rattle.split_import.proofs.write_names.Statement.{statement}
 use Rattle.split_import.proofs.write_names.Tie as tie
 
 abbrev Inv-loop : tie.InvT-loop
-Inv-loop names s indent model out₀ at f₀ a₀ out f a = Filling (s .ruler) names indent (s .level) (asStr (s .ending)) (s .max .0) model out₀ at out f a
+Inv-loop names s indent model out₀ at f₀ blanks₀ a₀ out f blanks a = Filling (s .ruler) names indent (s .level) (asStr (s .ending)) (s .max .0) model out₀ at out f blanks a
 
 abbrev μ-loop : tie.MeasureT-loop
-μ-loop names s indent model out₀ at f₀ a₀ out f a = length names + 1 - a
+μ-loop names s indent model out₀ at f₀ blanks₀ a₀ out f blanks a = length names + 1 - a
 
 loop-holds : tie.Need-loop-holds Inv-loop μ-loop
 loop-holds c = search (needs, filling-start)
@@ -35,26 +35,26 @@ add-e c = search needs
 trim-part-requires : tie.Need-trim-part-requires Inv-loop μ-loop
 trim-part-requires c κs = search (needs, piece-within)
 
-sub-add-name : tie.Need-sub-add-name Inv-loop μ-loop
-sub-add-name c = search needs
-
-part-add-name-start : tie.Need-part-add-name-start Inv-loop μ-loop
-part-add-name-start c = search needs
-
-part-add-name-end : tie.Need-part-add-name-end Inv-loop μ-loop
-part-add-name-end c = search needs
-
-add-name-requires : tie.Need-add-name-requires Inv-loop μ-loop
-add-name-requires c κs = search (needs, filling-room)
-
 add-a : tie.Need-add-a Inv-loop μ-loop
 add-a c = search needs
+
+add-blanks : tie.Need-add-blanks Inv-loop μ-loop
+add-blanks c = search needs
 
 loop-less : tie.Need-loop-less Inv-loop μ-loop
 loop-less c = search needs
 
 loop-again : tie.Need-loop-again Inv-loop μ-loop
-loop-again c = search (needs, filling-more)
+loop-again c = search (needs, filling-blank)
+
+add-name-requires : tie.Need-add-name-requires Inv-loop μ-loop
+add-name-requires c κs = (search (needs, filling-part), search (needs, filling-room))
+
+loop-less-2 : tie.Need-loop-less-2 Inv-loop μ-loop
+loop-less-2 c = search needs
+
+loop-again-2 : tie.Need-loop-again-2 Inv-loop μ-loop
+loop-again-2 c = search (needs, filling-name)
 
 same-length : tie.Need-same-length Inv-loop μ-loop
 same-length c = search needs
@@ -65,6 +65,22 @@ returns c = search (needs, filling-end)
 pub write-names-spec : {M : Type 1} → statement M
 write-names-spec =
     tie.close
-    (tie.spec Inv-loop μ-loop loop-holds sub-name-len part-name-len-start part-name-len-end name-len-requires add-e
-    trim-part-requires sub-add-name part-add-name-start part-add-name-end add-name-requires add-a loop-less loop-again
-    same-length returns)
+    (tie.spec
+    Inv-loop
+    μ-loop
+    loop-holds
+    sub-name-len
+    part-name-len-start
+    part-name-len-end
+    name-len-requires
+    add-e
+    trim-part-requires
+    add-a
+    add-blanks
+    loop-less
+    loop-again
+    add-name-requires
+    loop-less-2
+    loop-again-2
+    same-length
+    returns)

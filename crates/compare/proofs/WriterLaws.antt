@@ -290,10 +290,12 @@ pub line-on : (m x w l : List ℕ) (at sep levels c : ℕ) (e p r : Bool) → se
     → EndsAlike (take (length m - (at + sep + levels * length w)) (drop (at + sep + levels * length w) m)) l (length l) r
     → LineAlike m x at (endingOf sep ++ (times levels w ++ l)) r
 line-on m x w l at sep levels c e p r small some fits kept far he te hp tp hl =
-    record { is = λ t.
-      on m x (endingOf sep ++ (times levels w ++ l)) at c some kept (omega (arith, size))
-      (common-both (drop at m) (endingOf sep) (times levels w ++ l) (he .is te)
-      (rw s1 (common-both (drop (at + sep) m) (times levels w) l (rw part-from at (hp .is tp)) (rw s2 (whole t))))) }
+    record {
+      is = λ t.
+          on m x (endingOf sep ++ (times levels w ++ l)) at c some kept (omega (arith, size))
+          (common-both (drop at m) (endingOf sep) (times levels w ++ l) (he .is te)
+          (rw s1 (common-both (drop (at + sep) m) (times levels w) l (rw part-from at (hp .is tp)) (rw s2 (whole t)))));
+    }
   where
     size : length (endingOf sep ++ (times levels w ++ l)) ≡ sep + (levels * length w + length l)
     size = omega (arith, length-append (endingOf sep) (times levels w ++ l), length-append (times levels w) l, length-times levels w, ending-size sep small)

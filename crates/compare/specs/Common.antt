@@ -1,13 +1,12 @@
 -- How long a beginning of a text agrees with a model, and where a text goes.
-use Prim.Native.Nat.{ℕ, suc, _+_, _*_, _≤_, _<_, _^_, min}
-use mathlib.Core.Bool.{Bool, true, not}
+use Prim.Native.Nat.{ℕ, zero, suc, _+_, _-_, _*_, _/_, _%_, _≤_, _<_, _^_, min}
+use mathlib.Core.Bool.{Bool, true, not, cond}
 use mathlib.Core.List.{List, [], _∷_, _++_}
 use mathlib.Core.Path.{_≡_}
 use lib.Dec.{eqb}
 use lib.ListN.{length, take, drop, getD}
 use Rattle.buffer.specs.Buffer.{Agree}
-use Rattle.buffer.specs.Repeat.{times}
-use Rattle.rules.specs.Basics.{choose, startsWith}
+use Rattle.rules.specs.Basics.{choose, codes, startsWith}
 
 -- how many of the first elements of t are those of the model
 unfoldable pub common : List ℕ → List ℕ → ℕ
@@ -27,18 +26,33 @@ pub record EndsAlike (m l : List ℕ) (n : ℕ) (r : Bool) : Type 0 where
 abbrev pub differAt : List ℕ → List ℕ → ℕ → Bool
 differAt m l i = not (eqb (getD m i 0) (getD l i 0))
 
--- r is k where a and b differ, else 16
-pub record Marks (a b k r : ℕ) : Type 0 where
-  pub same : k < r → a ≡ b
+-- r tells that the model starts with l
+pub record StartsAlike (m l : List ℕ) (r : Bool) : Type 0 where
+  pub is : r ≡ true → length l ≤ common m l
 
--- the first r elements are b
-pub record RunOf (m : List ℕ) (b r : ℕ) : Type 0 where
-  pub within : r ≤ 16
-  pub is : (j : ℕ) → j < r → getD m j 0 ≡ b
+-- the binary digit of m of the weight 2 ^ j
+unfoldable pub digit : ℕ → ℕ → ℕ
+digit zero m = m % 2
+digit (suc j) m = digit j (m / 2)
 
--- r tells that the indent w, levels times over, agrees
-pub record RunAlike (m w : List ℕ) (levels : ℕ) (r : Bool) : Type 0 where
-  pub is : r ≡ true → levels * length w ≡ common m (times levels w)
+-- the highest of sixteen digits where a and b are the same
+unfoldable pub weightOf : ℕ → ℕ → ℕ
+weightOf a b = cond (eqb a b) 32768 0
+
+-- The k highest of the sixteen digits of d stand for the first k elements, the lowest of them for the first: where a
+-- digit is 1, its element is b.
+pub record Masked (m : List ℕ) (b k d : ℕ) : Type 0 where
+  pub few : k ≤ 16
+  pub small : d < 65536
+  pub same : (j : ℕ) → j < k → digit (16 - k + j) d ≡ 1 → getD m j 0 ≡ b
+
+-- r tells that the first n elements are b
+pub record RunOf (m : List ℕ) (b n : ℕ) (r : Bool) : Type 0 where
+  pub is : r ≡ true → (j : ℕ) → j < n → getD m j 0 ≡ b
+
+-- a line ending of n characters: none, LF or CRLF
+unfoldable pub endingOf : ℕ → List ℕ
+endingOf n = drop (2 - n) (codes "\r\n")
 
 -- a number below 2 ^ 24 in three bytes
 abbrev pub cellSize : ℕ
@@ -72,6 +86,10 @@ pub record Compared (model x x′ : List ℕ) (at : ℕ) (l : List ℕ) (r : ℕ
   pub next : r ≡ at + length l
   pub size : length x′ ≡ length x
   pub holds : (text : List ℕ) → length text ≡ at → Keeps model x text → Keeps model x′ (text ++ l)
+
+-- r tells that l goes on as the model does, so that what x keeps is right
+pub record LineAlike (m x : List ℕ) (at : ℕ) (l : List ℕ) (r : Bool) : Type 0 where
+  pub is : r ≡ true → Compared m x x at l (at + length l)
 
 -- r tells whether the first k elements of the text are a beginning of the model
 pub record Tells (model x : List ℕ) (k : ℕ) (r : Bool) : Type 0 where

@@ -2,41 +2,30 @@
 // comes, and nothing of it is written: three bytes keep how many of its first bytes are the model's. A text is cut back
 // by going on from a smaller place.
 ghost use mathlib.Core.Path.{_≡_};
-ghost use mathlib.Core.List.{_++_};
-ghost use Prim.Native.Nat.{_+_, _<_, _≤_, _^_, min};
-ghost use lib.ListN.{length};
+ghost use mathlib.Core.List.{[], _++_};
+ghost use Prim.Native.Nat.{_+_, _*_, _<_, _≤_, _^_, min};
+ghost use lib.ListN.{length, drop, replicate};
 ghost use Rattle.unicode.specs.Places.{NoneAmong};
 ghost use Rattle.buffer.specs.Repeat.{times};
-ghost use Rattle.compare.specs.Common.{common, Agreeing, EndsAlike, differAt, Marks, RunOf, RunAlike, cellSize};
-ghost use Rattle.compare.specs.Common.{cellOf, CellPut, CellKept, Compared, Tells};
+ghost use Rattle.compare.specs.Common.{common, Agreeing, EndsAlike, differAt, StartsAlike, weightOf, Masked};
+ghost use Rattle.compare.specs.Common.{RunOf, endingOf, cellSize, cellOf, CellPut, CellKept, Compared};
+ghost use Rattle.compare.specs.Common.{LineAlike, Tells};
 
 // The bytes that keep how far the text agrees.
 pub const CELL: usize = 3;
 
-// Whether the 16 bytes from `at` on differ. It makes no branch, so that the 16 are tested at once.
-fn differ_among(model: &[u8], line: &[u8], at: usize) -> bool
-    requires { ⌜ at + 16 ≤ length (now model) ⌝ }
-    requires { ⌜ at + 16 ≤ length (now line) ⌝ }
-    ensures { λ r. ⌜ NoneAmong (differAt (now (model .entry)) (now (line .entry))) at 16 r ⌝ }
-{
-    let mut any = false;
-    let mut k: usize = 0;
-    while k < 16 {
-        any = any | (model[at + k] != line[at + k]);
-        k += 1;
-    }
-    any
-}
+// The bytes that a short indent is written by.
+const BLOCK: usize = 32;
 
-// The same of 8 bytes.
-fn differ_eight(model: &[u8], line: &[u8], at: usize) -> bool
-    requires { ⌜ at + 8 ≤ length (now model) ⌝ }
-    requires { ⌜ at + 8 ≤ length (now line) ⌝ }
-    ensures { λ r. ⌜ NoneAmong (differAt (now (model .entry)) (now (line .entry))) at 8 r ⌝ }
+// Whether the w bytes from `at` on differ. It makes no branch, so that a fixed number of them is tested at once.
+fn differ(model: &[u8], line: &[u8], at: usize, w: usize) -> bool
+    requires { ⌜ at + w ≤ length (now model) ⌝ }
+    requires { ⌜ at + w ≤ length (now line) ⌝ }
+    ensures { λ r. ⌜ NoneAmong (differAt (now (model .entry)) (now (line .entry))) at w r ⌝ }
 {
     let mut any = false;
     let mut k: usize = 0;
-    while k < 8 {
+    while k < w {
         any = any | (model[at + k] != line[at + k]);
         k += 1;
     }
@@ -50,7 +39,7 @@ fn agree_blocks(model: &[u8], line: &[u8], n: usize) -> usize
 {
     let mut i = 0;
     while n - i >= 16 {
-        if differ_among(model, line, i) {
+        if differ(model, line, i, 16) {
             return i;
         }
         i += 16;
@@ -67,10 +56,10 @@ fn alike_short(model: &[u8], line: &[u8], n: usize) -> bool
     if n < 8 {
         return false;
     }
-    if differ_eight(model, line, 0) {
+    if differ(model, line, 0, 8) {
         return false;
     }
-    !differ_eight(model, line, n - 8)
+    !differ(model, line, n - 8, 8)
 }
 
 // Whether the rest agrees too, where the first i of n bytes do: the last 16 are tested at once, and those before them
@@ -86,7 +75,7 @@ fn ends_alike(model: &[u8], line: &[u8], n: usize, i: usize) -> bool
     if n - i > 16 {
         return false;
     }
-    !differ_among(model, line, n - 16)
+    !differ(model, line, n - 16, 16)
 }
 
 // How many of the first bytes of line are the model's.
@@ -108,50 +97,56 @@ fn agree(model: &[u8], line: &[u8]) -> usize
     n
 }
 
-fn lesser(a: u8, b: u8) -> u8
-    ensures { λ r. ⌜ r ≡ min a b ⌝ }
+// The highest of sixteen digits where two bytes are the same, else 0.
+fn weight(a: u8, b: u8) -> u32
+    ensures { λ r. ⌜ (r ≡ weightOf a b) × (r ≤ 32768) ⌝ }
 {
-    if a < b { a } else { b }
+    if a == b { 32768 } else { 0 }
 }
 
-// k where two bytes differ, else 16.
-fn unless_same(a: u8, b: u8, k: u8) -> u8
-    ensures { λ r. ⌜ Marks a b k r ⌝ }
-{
-    if a == b {
-        return 16;
-    }
-    k
-}
-
-// How many of the first 16 bytes are b, up to one that isn't. It makes no branch: indents differ from line to line.
-fn run_of(model: &[u8], b: u8) -> u8
+// A digit for each of the first 16 bytes, the lowest for the first: 0 where it isn't b.
+fn same_mask(model: &[u8], b: u8) -> u32
     requires { ⌜ 16 ≤ length (now model) ⌝ }
-    ensures { λ r. ⌜ RunOf (now (model .entry)) b r ⌝ }
+    ensures { λ r. ⌜ Masked (now (model .entry)) b 16 r ⌝ }
 {
-    let mut n: u8 = 16;
-    let mut k: u8 = 0;
+    let mut m: u32 = 0;
+    let mut k: usize = 0;
     while k < 16 {
-        n = lesser(n, unless_same(model[k as usize], b, k));
+        m = m / 2 + weight(model[k], b);
         k += 1;
     }
-    n
+    m
 }
 
-// Whether the indent, levels times over, agrees. It is told where that has at most 16 bytes, all of one kind, and the
-// model has 16.
-fn run_alike(model: &[u8], indent: &[u8], levels: usize) -> bool
+// Whether the first n bytes, at most 16, are b. It makes no branch: indents differ from line to line.
+fn run_of(model: &[u8], b: u8, n: usize) -> bool
+    requires { ⌜ 16 ≤ length (now model) ⌝ }
+    requires { ⌜ n ≤ 16 ⌝ }
+    ensures { λ r. ⌜ RunOf (now (model .entry)) b n r ⌝ }
+{
+    let m = same_mask(model, b);
+    n <= u32::trailing_zeros(m + 1) as usize
+}
+
+// Whether the model starts with the indent, levels times over. It is told where that has at most 16 bytes, all of one
+// kind, and the model has 16.
+fn pad_alike(model: &[u8], indent: &[u8], levels: usize) -> bool
     requires { ⌜ length (times levels (now indent)) < 2 ^ 64 ⌝ }
-    requires { ⌜ 0 < length (now indent) ⌝ }
-    ensures { λ r. ⌜ RunAlike (now (model .entry)) (now (indent .entry)) levels r ⌝ }
+    ensures { λ r. ⌜ StartsAlike (now (model .entry)) (times levels (now (indent .entry))) r ⌝ }
 {
     let n = levels * indent.len();
+    if n == 0 {
+        return true;
+    }
+    if n > 16 {
+        return false;
+    }
     if model.len() < 16 {
         return false;
     }
     let b = indent[0];
     if buffer::all_are(indent, b) {
-        return n <= wide(run_of(model, b));
+        return run_of(model, b, n);
     }
     false
 }
@@ -164,9 +159,6 @@ fn agree_levels(model: &[u8], indent: &[u8], levels: usize) -> usize
     let n = indent.len();
     if n == 0 {
         return 0;
-    }
-    if run_alike(model, indent, levels) {
-        return levels * n;
     }
     let mut at = 0;
     let mut level = 0;
@@ -219,6 +211,76 @@ fn keep(cell: &mut [u8], model: usize, n: usize, next: usize)
     }
 }
 
+// Whether more than 64 bytes agree: block by block, of which the last may overlap.
+fn alike_long(model: &[u8], line: &[u8], n: usize) -> bool
+    requires { ⌜ n ≡ min (length (now line)) (length (now model)) ⌝ }
+    requires { ⌜ 64 < n ⌝ }
+    ensures { λ r. ⌜ EndsAlike (now (model .entry)) (now (line .entry)) n r ⌝ }
+{
+    let last = n - 64;
+    let mut i = 0;
+    while i < last {
+        if differ(model, line, i, 64) {
+            return false;
+        }
+        i += 64;
+    }
+    !differ(model, line, last, 64)
+}
+
+// Whether n bytes agree, from w up to four times w: four blocks, which may overlap.
+fn alike_four(model: &[u8], line: &[u8], n: usize, w: usize) -> bool
+    requires { ⌜ n ≡ min (length (now line)) (length (now model)) ⌝ }
+    requires { ⌜ (w ≤ n) × (n ≤ 4 * w) ⌝ }
+    requires { ⌜ w ≤ 16 ⌝ }
+    ensures { λ r. ⌜ EndsAlike (now (model .entry)) (now (line .entry)) n r ⌝ }
+{
+    let last = n - w;
+    let a = differ(model, line, 0, w);
+    let b = differ(model, line, buffer::place(w, last), w);
+    let c = differ(model, line, buffer::place(w + w, last), w);
+    let d = differ(model, line, last, w);
+    !((a | b) | (c | d))
+}
+
+// Whether n bytes agree.
+fn alike(model: &[u8], line: &[u8], n: usize) -> bool
+    requires { ⌜ n ≡ min (length (now line)) (length (now model)) ⌝ }
+    ensures { λ r. ⌜ EndsAlike (now (model .entry)) (now (line .entry)) n r ⌝ }
+{
+    if 64 < n {
+        return alike_long(model, line, n);
+    }
+    if 16 <= n {
+        return alike_four(model, line, n, 16);
+    }
+    if 4 <= n {
+        return alike_four(model, line, n, 4);
+    }
+    if n == 0 {
+        return true;
+    }
+    alike_four(model, line, n, 1)
+}
+
+// Whether the model has the line ending of sep bytes at the place at.
+fn ending_alike(model: &[u8], at: usize, sep: usize) -> bool
+    requires { ⌜ sep ≤ 2 ⌝ }
+    requires { ⌜ at + sep ≤ length (now model) ⌝ }
+    ensures { λ r. ⌜ StartsAlike (drop at (now (model .entry))) (endingOf sep) r ⌝ }
+{
+    if sep == 0 {
+        return true;
+    }
+    if sep == 1 {
+        return model[at] == b'\n';
+    }
+    if model[at] == b'\r' {
+        return model[at + 1] == b'\n';
+    }
+    false
+}
+
 // Compares line, where all of the text before it agrees.
 fn track(model: &[u8], cell: &mut [u8], at: usize, line: &[u8]) -> usize
     requires { ⌜ at + length (now line) < 2 ^ 64 ⌝ }
@@ -258,6 +320,159 @@ fn track_levels(model: &[u8], cell: &mut [u8], at: usize, indent: &[u8], levels:
     next
 }
 
+// Whether all goes on as the model does: then nothing is to be kept.
+fn line_alike(
+    model: &[u8],
+    cell: &[u8],
+    at: usize,
+    sep: usize,
+    indent: &[u8],
+    levels: usize,
+    line: &[u8],
+) -> bool
+    requires { ⌜ sep ≤ 2 ⌝ }
+    requires { ⌜ 0 < length (now model) ⌝ }
+    requires { ⌜ at + sep + (length (times levels (now indent)) + length (now line)) < 2 ^ 64 ⌝ }
+    ensures { λ r. ⌜ LineAlike (now (model .entry)) (now (cell .entry)) at
+        (endingOf sep ++ (times levels (now (indent .entry)) ++ now (line .entry))) r ⌝ }
+{
+    let start = at + sep;
+    let from = start + levels * indent.len();
+    let next = from + line.len();
+    if model.len() < next {
+        return false;
+    }
+    if cell.len() < CELL {
+        return false;
+    }
+    if read_cell(cell) < next {
+        return false;
+    }
+    if ending_alike(model, at, sep) {
+        if pad_alike(&model[start..], indent, levels) {
+            return alike(&model[from..], line, line.len());
+        }
+    }
+    false
+}
+
+// Compares a line ending of sep bytes, the indent, levels times over, and the line.
+fn track_line(
+    model: &[u8],
+    cell: &mut [u8],
+    at: usize,
+    sep: usize,
+    indent: &[u8],
+    levels: usize,
+    line: &[u8],
+) -> usize
+    requires { ⌜ sep ≤ 2 ⌝ }
+    requires { ⌜ 0 < length (now model) ⌝ }
+    requires { ⌜ at + sep + (length (times levels (now indent)) + length (now line)) < 2 ^ 64 ⌝ }
+    ensures { λ r. ⌜ Compared (now (model .entry)) (now (cell .entry)) (now (cell .exit)) at
+        (endingOf sep ++ (times levels (now (indent .entry)) ++ now (line .entry))) r ⌝ }
+{
+    if line_alike(model, cell, at, sep, indent, levels, line) {
+        return at + sep + (levels * indent.len() + line.len());
+    }
+    let ending: &[u8] = b"\r\n";
+    let start = track(model, cell, at, &ending[2 - sep..]);
+    let from = track_levels(model, cell, start, indent, levels);
+    track(model, cell, from, line)
+}
+
+// Writes n times the byte b from the place at on.
+fn put_run(out: &mut [u8], at: usize, n: usize, b: u8)
+    requires { ⌜ at + n ≤ length (now out) ⌝ }
+    ensures { λ _. ⌜ Compared [] (now (out .entry)) (now (out .exit)) at (replicate n b) (at + n) ⌝ }
+{
+    buffer::fill(&mut out[at..at + n], b);
+}
+
+// Writes a line ending of sep bytes, for which there is room.
+fn put_ending(out: &mut [u8], at: usize, sep: usize)
+    requires { ⌜ sep ≤ 2 ⌝ }
+    requires { ⌜ at + sep ≤ length (now out) ⌝ }
+    ensures { λ _. ⌜ Compared [] (now (out .entry)) (now (out .exit)) at (endingOf sep) (at + sep) ⌝ }
+{
+    if sep == 0 {
+        return;
+    }
+    if sep == 1 {
+        put_run(out, at, 1, b'\n');
+        return;
+    }
+    put_run(out, at, 1, b'\r');
+    put_run(out, at + 1, 1, b'\n');
+}
+
+// Writes the indent, levels times over. A short one of one kind of byte is one block, what of it is not needed is
+// written over later.
+fn put_pad(out: &mut [u8], at: usize, indent: &[u8], levels: usize)
+    requires { ⌜ at + length (times levels (now indent)) ≤ length (now out) ⌝ }
+    ensures { λ _. ⌜ Compared [] (now (out .entry)) (now (out .exit)) at (times levels (now (indent .entry)))
+        (at + length (times levels (now (indent .entry)))) ⌝ }
+{
+    let n = levels * indent.len();
+    if n == 0 {
+        return;
+    }
+    let b = indent[0];
+    if n <= BLOCK {
+        if out.len() - at >= BLOCK {
+            if buffer::all_are(indent, b) {
+                put_run(out, at, BLOCK, b);
+                return;
+            }
+        }
+    }
+    buffer::append_indented(out, at, indent, levels, b"");
+}
+
+// Writes what of a line ending, the indent and the line fits.
+fn write_parts(
+    out: &mut [u8],
+    at: usize,
+    sep: usize,
+    indent: &[u8],
+    levels: usize,
+    line: &[u8],
+) -> usize
+    requires { ⌜ sep ≤ 2 ⌝ }
+    requires { ⌜ at + sep + (length (times levels (now indent)) + length (now line)) < 2 ^ 64 ⌝ }
+    ensures { λ r. ⌜ Compared [] (now (out .entry)) (now (out .exit)) at
+        (endingOf sep ++ (times levels (now (indent .entry)) ++ now (line .entry))) r ⌝ }
+{
+    let ending: &[u8] = b"\r\n";
+    let start = buffer::append(out, at, &ending[2 - sep..]);
+    buffer::append_indented(out, start, indent, levels, line)
+}
+
+// Writes a line ending of sep bytes, the indent, levels times over, and the line.
+fn write_line(
+    out: &mut [u8],
+    at: usize,
+    sep: usize,
+    indent: &[u8],
+    levels: usize,
+    line: &[u8],
+) -> usize
+    requires { ⌜ sep ≤ 2 ⌝ }
+    requires { ⌜ at + sep + (length (times levels (now indent)) + length (now line)) < 2 ^ 64 ⌝ }
+    ensures { λ r. ⌜ Compared [] (now (out .entry)) (now (out .exit)) at
+        (endingOf sep ++ (times levels (now (indent .entry)) ++ now (line .entry))) r ⌝ }
+{
+    let start = at + sep;
+    let from = start + levels * indent.len();
+    let next = from + line.len();
+    if out.len() < next {
+        return write_parts(out, at, sep, indent, levels, line);
+    }
+    put_ending(out, at, sep);
+    put_pad(out, start, indent, levels);
+    buffer::append(out, from, line)
+}
+
 // The line goes behind a text that reaches up to at. Gives the next place.
 pub fn append(model: &[u8], out: &mut [u8], at: usize, line: &[u8]) -> usize
     requires { ⌜ at + length (now line) < 2 ^ 64 ⌝ }
@@ -283,10 +498,30 @@ pub fn append_indented(
         (times levels (now (indent .entry)) ++ now (line .entry)) r ⌝ }
 {
     if model.len() == 0 {
-        return buffer::append_indented(out, at, indent, levels, line);
+        return write_line(out, at, 0, indent, levels, line);
     }
-    let n = track_levels(model, out, at, indent, levels);
-    track(model, out, n, line)
+    track_line(model, out, at, 0, indent, levels, line)
+}
+
+// The same with a line ending of sep bytes before it: none, LF or CRLF.
+pub fn append_line(
+    model: &[u8],
+    out: &mut [u8],
+    at: usize,
+    sep: usize,
+    indent: &[u8],
+    levels: usize,
+    line: &[u8],
+) -> usize
+    requires { ⌜ sep ≤ 2 ⌝ }
+    requires { ⌜ at + sep + (length (times levels (now indent)) + length (now line)) < 2 ^ 64 ⌝ }
+    ensures { λ r. ⌜ Compared (now (model .entry)) (now (out .entry)) (now (out .exit)) at
+        (endingOf sep ++ (times levels (now (indent .entry)) ++ now (line .entry))) r ⌝ }
+{
+    if model.len() == 0 {
+        return write_line(out, at, sep, indent, levels, line);
+    }
+    track_line(model, out, at, sep, indent, levels, line)
 }
 
 // Whether the first k bytes of a compared text are a beginning of the model.

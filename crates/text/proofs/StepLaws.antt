@@ -1,5 +1,5 @@
 -- What a written line, a joined else, several lines and the end make of the text.
-use Prim.Native.Nat.{ℕ, _+_, _-_, _^_, _≤_, _<_}
+use Prim.Native.Nat.{ℕ, _+_, _-_, _≤_}
 use mathlib.Core.Bool.{Bool, true, false, not, true≢false}
 use mathlib.Core.Path.{_≡_, refl, sym, ap, _∙_}
 use mathlib.Core.List.{List, [], _∷_, _++_, append-assoc}
@@ -14,7 +14,8 @@ use Rattle.unicode.proofs.Decode.{encode-nil, encode-append, encode-ascii, size
 use Rattle.buffer.specs.Buffer.{Finishes}
 use Rattle.buffer.specs.Repeat.{times}
 use Rattle.buffer.proofs.AgreeLaws.{finishes-text}
-use Rattle.compare.specs.Common.{Keeps, Compared}
+use Rattle.compare.specs.Common.{Keeps, endingOf, Compared}
+use Rattle.compare.proofs.CommonLaws.{ending-size}
 use Rattle.compare.proofs.WriterLaws.{compared-nil, keeps-cut}
 use Rattle.check_rules.specs.Check.{settledLines, closed}
 use Rattle.check_rules.proofs.SettledLaws.{settled-drop, settled-join, settled-solid, settled-white, joined-closed}
@@ -29,7 +30,7 @@ use Rattle.rules.specs.Call.{filled}
 use Rattle.rules.proofs.Choose.{choose-case, choose-true, choose-false}
 use Rattle.text.specs.declared.Last.{Last}
 use Rattle.text.specs.declared.Written.{Written}
-use Rattle.text.specs.Text.{trimNewest, newestBy, newestOf, isFirst, sepBy, sepOf, keptLines, aloneAfter, tailOf, fullOf, nothing, afterLines, Line, ElseLine, Text, Grown, Ordered, From, Adds, Joins, Continued, Ended, Finished}
+use Rattle.text.specs.Text.{trimNewest, newestBy, newestOf, isFirst, sepBy, sepOf, keptLines, aloneAfter, tailOf, fullOf, nothing, afterLines, Line, ElseLine, Text, Grown, Ordered, SepLen, From, Adds, Joins, Continued, Ended, Finished}
 use Rattle.text.proofs.LinesLaws.{not-alone, joined-cons, joined-grow, size-joined, encode-append-lines, full-cut, full-empty, full-line, below-cut, below-full, below-empty, below-line, newest-cut}
 use Rattle.text.proofs.PadLaws.{Blanks, indent-blanks, blanks-encode, some-size, some-chars, none-test, some-test, tail-pad, join-pad, else-trimmed, else-joinable}
 
@@ -65,6 +66,18 @@ sep-none eol m x at first k = rw (choose-true first [] eol k) (compared-nil m x 
 
 pub sep-eol : (eol m x y : List ℕ) (at r : ℕ) (first : Bool) → first ≡ false → Compared m x y at eol r → Compared m x y at (sepBy eol first) r
 sep-eol eol m x y at r first k w = rw (choose-false first [] eol k) w
+
+pub len-none : (eol : List ℕ) (first : Bool) → first ≡ true → SepLen (sepBy eol first) 0
+unfolding endingOf
+len-none eol first k = record { is = sym (choose-true first [] eol k); small = omega arith }
+
+pub len-lf : (e : LineEnding) (first : Bool) → first ≡ false → e ≡ LineEnding.Lf → SepLen (sepBy (asStr e) first) 1
+unfolding endingOf asStr
+len-lf e first k l = rw (choose-false first [] (asStr e) k, l) (record { is = refl; small = omega arith })
+
+pub len-crlf : (e : LineEnding) (first : Bool) → first ≡ false → e ≡ LineEnding.Crlf → SepLen (sepBy (asStr e) first) 2
+unfolding endingOf asStr
+len-crlf e first k l = rw (choose-false first [] (asStr e) k, l) (record { is = refl; small = omega arith })
 
 -- ---- the parts of the record
 
@@ -153,14 +166,19 @@ module _ (model eol : List ℕ) where
       }
   stem false ls t out r = record { place = r .at; holds = r .holds; whole = r .full; starts = ap isFirst (r .last); settles = r .settles }
 
-  -- the separator is written
+  -- the separator before a next line
+  sep-encode : (ls : List (List ℕ)) (from full settled : ℕ) (f : Bool) (out : List ℕ) → Ending eol → Stem model eol ls from full settled f out
+      → encode (joined eol ls ++ sepOf eol (newestOf ls)) ≡ encode (joined eol ls) ++ sepBy eol f
+  sep-encode ls from full settled f out ends r =
+      let s : encode (sepOf eol (newestOf ls)) ≡ sepBy eol f = ap (λ (b : Bool). encode (sepBy eol b)) (sym (r .starts)) ∙ sep-bytes eol f ends in
+      encode-append (joined eol ls) (sepOf eol (newestOf ls)) ∙ ap (λ (x : List ℕ). encode (joined eol ls) ++ x) s
+
+  -- it is written
   after-sep : (ls : List (List ℕ)) (from full settled : ℕ) (f : Bool) (out o1 : List ℕ) (start : ℕ) → Ending eol → Stem model eol ls from full settled f out
       → Compared model out o1 from (sepBy eol f) start
       → (start ≡ size (joined eol ls ++ sepOf eol (newestOf ls))) × Keeps model o1 (encode (joined eol ls ++ sepOf eol (newestOf ls)))
   after-sep ls from full settled f out o1 start ends r w =
-      let s : encode (sepOf eol (newestOf ls)) ≡ sepBy eol f = ap (λ (b : Bool). encode (sepBy eol b)) (sym (r .starts)) ∙ sep-bytes eol f ends in
-      let e : encode (joined eol ls ++ sepOf eol (newestOf ls)) ≡ encode (joined eol ls) ++ sepBy eol f =
-      encode-append (joined eol ls) (sepOf eol (newestOf ls)) ∙ ap (λ (x : List ℕ). encode (joined eol ls) ++ x) s in (
+      let e = sep-encode ls from full settled f out ends r in (
         omega (arith, ap length e, length-append (encode (joined eol ls)) (sepBy eol f), w .next, r .place),
         rw e (w .holds (encode (joined eol ls)) (sym (r .place)) (r .holds)),
       )
@@ -168,18 +186,21 @@ module _ (model eol : List ℕ) where
 -- ---- a line is added
 
 module _
-    (model eol out o1 o2 p line : List ℕ) (from full settled : ℕ) (f : Bool) (start next tail : ℕ) (joins : Bool)
-    (ends : Ending eol) (b : Blanks p) (told : Line line tail joins)
-    (first : Compared model out o1 from (sepBy eol f) start) (second : Compared model o1 o2 start (p ++ line) next)
+    (model eol out o1 p line : List ℕ) (from full settled : ℕ) (f : Bool) (start next tail : ℕ) (joins : Bool)
+    (ends : Ending eol) (b : Blanks p) (told : Line line tail joins) (starts : start ≡ from + length (sepBy eol f))
+    (w : Compared model out o1 from (sepBy eol f ++ (p ++ line)) next)
   where
+    reach : next ≡ start + length (p ++ line)
+    reach = omega (arith, w .next, length-append (sepBy eol f) (p ++ line))
+
     bytes : encode (p ++ decode line) ≡ p ++ line
     bytes = blanks-encode p (decode line) b ∙ ap (λ (x : List ℕ). p ++ x) (told .well)
 
     long : next - start ≡ size (p ++ decode line)
-    long = omega (arith, second .next, ap length bytes)
+    long = omega (arith, reach, ap length bytes)
 
     pad : next - start - length line ≡ length p
-    pad = omega (arith, second .next, length-append p line)
+    pad = omega (arith, reach, length-append p line)
 
     kept : tail ≡ size (trimEnd (decode line))
     kept = sym (length-take-le tail line (told .trims .fits)) ∙ ap length (sym (told .trims .well)) ∙ ap size (told .trims .text)
@@ -202,57 +223,59 @@ module _
     solid-tail : eqb tail 0 ≡ false → White (p ++ decode line) → ⊥
     solid-tail h w = true≢false (sym (eq-eqb tail 0 (kept ∙ ap size (end-none (decode line) (white-right p (decode line) w)) ∙ ap length encode-nil)) ∙ h)
 
-    push-text : (ls : List (List ℕ)) → Stem model eol ls from full settled f out → Text model eol ((p ++ decode line) ∷ ls) pushed o2
+    push-text : (ls : List (List ℕ)) → Stem model eol ls from full settled f out → Text model eol ((p ++ decode line) ∷ ls) pushed o1
     unfolding newestOf trimNewest
     push-text ls r =
         let l = p ++ decode line in
-        let s = after-sep model eol ls from full settled f out o1 start ends r first in
-        let e : encode (joined eol (l ∷ ls)) ≡ encode (joined eol ls ++ sepOf eol (newestOf ls)) ++ (p ++ line) =
+        let s = sep-encode model eol ls from full settled f out ends r in
+        let g : start ≡ size (joined eol ls ++ sepOf eol (newestOf ls)) = omega (arith, ap length s, length-append (encode (joined eol ls)) (sepBy eol f), starts, r .place) in
+        let e : encode (joined eol (l ∷ ls)) ≡ encode (joined eol ls) ++ (sepBy eol f ++ (p ++ line)) =
         ap encode (joined-cons eol l ls ∙ sym (append-assoc (joined eol ls) (sepOf eol (newestOf ls)) l))
-        ∙ encode-append (joined eol ls ++ sepOf eol (newestOf ls)) l ∙ ap (λ (x : List ℕ). encode (joined eol ls ++ sepOf eol (newestOf ls)) ++ x) bytes in
-        let n : next ≡ size (joined eol (l ∷ ls)) = omega (arith, ap length e, length-append (encode (joined eol ls ++ sepOf eol (newestOf ls))) (p ++ line), second .next, s .0) in
+        ∙ encode-append (joined eol ls ++ sepOf eol (newestOf ls)) l ∙ rw (s, bytes, append-assoc) refl in
+        let n : next ≡ size (joined eol (l ∷ ls)) = omega (arith, ap length e, length-append (encode (joined eol ls)) (sepBy eol f ++ (p ++ line)), w .next, r .place) in
         record {
           at = n;
-          holds = rw e (second .holds (encode (joined eol ls ++ sepOf eol (newestOf ls))) (sym (s .0)) (s .1));
-          cut = rw (pad, kept) (omega (arith, size-joined eol (trimEnd l) ls, tail-pad p (decode line) b, s .0, size-append (joined eol ls) (sepOf eol (newestOf ls))));
+          holds = rw e (w .holds (encode (joined eol ls)) (sym (r .place)) (r .holds));
+          cut = rw (pad, kept) (omega (arith, size-joined eol (trimEnd l) ls, tail-pad p (decode line) b, g, size-append (joined eol ls) (sepOf eol (newestOf ls))));
           full = rw long (full-at model eol l ls full next (r .whole) n);
           last = rw (long, told .takes, ← join-pad p (decode line) b) refl;
           below = rw long (below-at model eol l ls from next (r .place) n);
           alone = rw long (alone-at model eol l ls f (r .starts));
-          settles = settled-at model eol l ls tail settled start white-tail solid-tail (r .settles) (s .0);
+          settles = settled-at model eol l ls tail settled start white-tail solid-tail (r .settles) g;
         }
 
 -- in the terms of the calls in `push_line`
-pub start-room : (e : LineEnding) (drops : Bool) (t : Written) (from : ℕ) (f : Bool) (m x y : List ℕ) (start n : ℕ) → From drops t from → Compared m x y from (sepBy (asStr e) f) start
-    → t .at .0 + 2 + n < 2 ^ 64 → start + n < 2 ^ 64
-start-room e drops t from f m x y start n wf w h = omega (arith, wf .small, w .next, sep-le e f)
+module _
+    {m x y eol : List ℕ} {from sep next : ℕ} (p line : List ℕ) (s : SepLen eol sep)
+    (w : Compared m x y from (endingOf sep ++ (p ++ line)) next)
+  where
+    pub long-room : next ≡ from + sep + (length p + length line)
+    long-room = omega (arith, w .next, length-append (endingOf sep) (p ++ line), length-append p line, ending-size sep (s .small))
 
-module _ (p line : List ℕ) {m x y : List ℕ} {start next : ℕ} (w : Compared m x y start (p ++ line) next) where
-  pub pad-room : length line ≤ next - start
-  pad-room = omega (arith, w .next, length-append p line)
+    pub kept-room : {tail kept : ℕ} {joins : Bool} → Line line tail joins → kept ≡ tailOf (next - (from + sep) - length line) tail → from + sep + kept ≤ next
+    kept-room {tail} told e = omega (arith, long-room, tail-le (next - (from + sep) - length line) tail, told .trims .fits)
 
-  pub kept-room : {tail kept : ℕ} {joins : Bool} → Line line tail joins → kept ≡ tailOf (next - start - length line) tail → start + kept ≤ next
-  kept-room {tail} told e = omega (arith, w .next, length-append p line, tail-le (next - start - length line) tail, told .trims .fits)
-
-pub push-done : (e : LineEnding) (drops : Bool) (model out o1 o2 : List ℕ) (t : Written) (indent : List ℕ) (levels : ℕ) (line : List ℕ) (from : ℕ) (f : Bool) (start next tail : ℕ) (joins : Bool) (kept full below : ℕ) (alone : Bool) (last : Last) (settled : ℕ)
+pub push-done : (e : LineEnding) (drops : Bool) (model out o1 : List ℕ) (t : Written) (indent : List ℕ) (levels : ℕ) (line : List ℕ) (from : ℕ) (f : Bool) (sep next tail : ℕ) (joins : Bool) (kept full below : ℕ) (alone : Bool) (last : Last) (settled : ℕ)
     → allBlank indent ≡ true → Line line tail joins → Ordered t → From drops t from → f ≡ choose drops (t .alone) (isFirst (t .last))
-    → Compared model out o1 from (sepBy (asStr e) f) start → Compared model o1 o2 start (times levels indent ++ line) next
-    → kept ≡ tailOf (next - start - length line) tail → full ≡ fullOf (next - start) (t .full) next
-    → below ≡ fullOf (next - start) from next → alone ≡ aloneAfter (next - start) f → last ≡ newestBy (next - start) joins → settled ≡ fullOf tail (t .settled) start
-    → Adds (asStr e) drops (times levels indent ++ decode line) model out t o2
-    (record { at = record { 0 = next }; cut = start + kept; full = full; below = below; alone = alone; last = last; settled = settled })
-push-done e drops model out o1 o2 t indent levels line from f start next tail joins kept full below alone last settled blank told order wf ef first second ek efull eb ea el es =
+    → SepLen (sepBy (asStr e) f) sep → Compared model out o1 from (endingOf sep ++ (times levels indent ++ line)) next
+    → kept ≡ tailOf (next - (from + sep) - length line) tail → full ≡ fullOf (next - (from + sep)) (t .full) next
+    → below ≡ fullOf (next - (from + sep)) from next → alone ≡ aloneAfter (next - (from + sep)) f → last ≡ newestBy (next - (from + sep)) joins → settled ≡ fullOf tail (t .settled) (from + sep)
+    → Adds (asStr e) drops (times levels indent ++ decode line) model out t o1
+    (record { at = record { 0 = next }; cut = from + sep + kept; full = full; below = below; alone = alone; last = last; settled = settled })
+push-done e drops model out o1 t indent levels line from f sep next tail joins kept full below alone last settled blank told order wf ef s w ek efull eb ea el es =
     let p = times levels indent in
     let b = indent-blanks levels indent blank in
     let over : t .full ≤ from = rw (wf .is) (choose-case (λ (n : ℕ). t .full ≤ n) (λ _. order .full) (λ _. omega (arith, order .full, order .below))) in
+    let starts : from + sep ≡ from + length (sepBy (asStr e) f) = ap (λ (n : ℕ). from + n) (sym (ending-size sep (s .small)) ∙ ap length (s .is)) in
+    let r = long-room p line s w in
     rw (ek, efull, eb, ea, el, es)
     (record {
-      text = λ ls r. push-text model (asStr e) out o1 o2 p line from (t .full) (t .settled) f start next tail joins (ending e) b told first second (keptLines drops ls) (rw (wf .is, ef) (stem model (asStr e) drops ls t out r));
+      text = λ ls x. push-text model (asStr e) out o1 p line from (t .full) (t .settled) f (from + sep) next tail joins (ending e) b told starts (rw (s .is) at w) (keptLines drops ls) (rw (wf .is, ef) (stem model (asStr e) drops ls t out x));
       grown = record {
-        at = omega (arith, second .next, first .next, sep-le e f, wf .small, ap length (blanks-encode p (decode line) b), ap length (told .well), length-append p line, length-append p (encode (decode line)));
-        cut = kept-room p line second told refl;
-        full = full-mono (eqb (next - start) 0) (t .full) from next over;
-        below = full-le (next - start) from next (omega (arith, second .next, first .next));
+        at = omega (arith, r, s .small, wf .small, ap length (blanks-encode p (decode line) b), ap length (told .well), length-append p (encode (decode line)));
+        cut = kept-room p line s w told refl;
+        full = full-mono (eqb (next - (from + sep)) 0) (t .full) from next over;
+        below = full-le (next - (from + sep)) from next (omega (arith, r));
       };
     })
 

@@ -7,7 +7,7 @@ use lib.Dec.{eqb}
 use lib.ListN.{length, replicate}
 use Rattle.unicode.specs.Unicode.{encode, decode, size, trimEnd, WellFormed}
 use Rattle.unicode.specs.Places.{TrimmedEnd}
-use Rattle.compare.specs.Common.{Keeps}
+use Rattle.compare.specs.Common.{Keeps, endingOf}
 use Rattle.check_rules.specs.Check.{settledLines, closed}
 use Rattle.rules.specs.Basics.{choose, is, lastIs}
 use Rattle.rules.specs.Assembly.{joined, dropEmpty}
@@ -120,6 +120,11 @@ pub record Ordered (t : Written) : Type 0 where
   pub cut : t .cut ≤ t .at .0
   pub full : t .full ≤ t .below
   pub below : t .below ≤ t .at .0
+
+-- r is the length of the line ending eol, or 0 where there is none
+pub record SepLen (eol : List ℕ) (r : ℕ) : Type 0 where
+  pub is : endingOf r ≡ eol
+  pub small : r ≤ 2
 
 -- where a line is written
 pub record From (drops : Bool) (t : Written) (r : ℕ) : Type 0 where

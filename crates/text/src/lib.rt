@@ -12,8 +12,8 @@ ghost use Rattle.rules.specs.Basics.{choose};
 ghost use Rattle.rules.specs.Lines.{asStr};
 ghost use Rattle.rules.specs.Options.{allBlank};
 ghost use Rattle.text.specs.Text.{nothing, sepBy, aloneAfter, tailOf, newestBy, fullOf, isFirst, isJoinable};
-ghost use Rattle.text.specs.Text.{afterLines, Ordered, Line, ElseLine, From, Adds, Joins, Continued, Ended};
-ghost use Rattle.text.specs.Text.{Finished};
+ghost use Rattle.text.specs.Text.{afterLines, Ordered, Line, ElseLine, SepLen, From, Adds, Joins, Continued};
+ghost use Rattle.text.specs.Text.{Ended, Finished};
 use rules::LineEnding;
 use unicode::ByteOffset;
 
@@ -98,6 +98,19 @@ fn separate(model: &[u8], out: &mut [u8], at: usize, ending: LineEnding, first: 
         return at;
     }
     append_ending(model, out, at, ending)
+}
+
+// The length of the line ending before a line: 0 before the first.
+fn sep_len(ending: LineEnding, first: bool) -> usize
+    ensures { λ r. ⌜ SepLen (sepBy (asStr ending) first) r ⌝ }
+{
+    if first {
+        return 0;
+    }
+    match ending {
+        LineEnding::Lf => 1,
+        LineEnding::Crlf => 2,
+    }
 }
 
 fn stem_at(t: Written, drops: bool) -> usize
@@ -197,8 +210,9 @@ pub fn push_line(
     let joins = how.joins;
     let from = stem_at(t, drops);
     let first = stem_first(t, drops);
-    let start = separate(model, out, from, ending, first);
-    let next = compare::append_indented(model, out, start, indent, levels, line);
+    let sep = sep_len(ending, first);
+    let next = compare::append_line(model, out, from, sep, indent, levels, line);
+    let start = from + sep;
     let long = next - start;
     let pad = long - line.len();
     let kept = tail_of(pad, tail);

@@ -19,8 +19,8 @@ loop-holds c = search (needs, agreeing-start)
 sub-loop : tie.Need-sub-loop Inv-loop μ-loop
 sub-loop c = search needs
 
-differ-among-requires : tie.Need-differ-among-requires Inv-loop μ-loop
-differ-among-requires c κs = search needs
+differ-requires : tie.Need-differ-requires Inv-loop μ-loop
+differ-requires c κs = search needs
 
 returns : tie.Need-returns Inv-loop μ-loop
 returns c = search needs
@@ -40,4 +40,4 @@ returns-2 c = search needs
 pub agree-blocks-spec : {M : Type 1} → statement M
 agree-blocks-spec =
     tie.close
-    (tie.spec Inv-loop μ-loop loop-holds sub-loop differ-among-requires returns add-i loop-less loop-again returns-2)
+    (tie.spec Inv-loop μ-loop loop-holds sub-loop differ-requires returns add-i loop-less loop-again returns-2)

@@ -1,5 +1,5 @@
 use borrow.Author.Needs.{needs}
-use Rattle.compare.proofs.CommonLaws.{ends-untold, ends-told}
+use Rattle.compare.proofs.CommonLaws.{ends-untold, last-told}
 use Rattle.compare.proofs.ends_alike.Statement.{statement}
 use Rattle.compare.proofs.ends_alike.Tie as tie
 
@@ -15,13 +15,13 @@ sub-if2 c = search needs
 returns-2 : tie.Need-returns-2
 returns-2 c = search (needs, ends-untold)
 
-differ-among-requires : tie.Need-differ-among-requires
-differ-among-requires c κs = search needs
+differ-requires : tie.Need-differ-requires
+differ-requires c κs = search needs
 
 returns-3 : tie.Need-returns-3
-returns-3 c = search (needs, ends-told)
+returns-3 c = search (needs, last-told)
 
 pub ends-alike-spec : {M : Type 1} → statement M
 ends-alike-spec =
     tie.close
-    (tie.spec alike-short-requires returns sub-if2 returns-2 differ-among-requires returns-3)
+    (tie.spec alike-short-requires returns sub-if2 returns-2 differ-requires returns-3)

@@ -1,45 +1,22 @@
--- `run_of` meets its contract: the invariant is `Running`, whose laws are in proofs/CommonLaws.antt.
+use Rattle.compare.proofs.MaskLaws.{run-told}
+use lib.Count.{trailingZeros, trailing-le}
+use native.Mathlib.Omega.{arith}
+use Prim.Native.Nat.{_+_, _≤_}
 use borrow.Author.Needs.{needs}
-use Prim.Native.Nat.{_-_}
-use Rattle.compare.proofs.CommonLaws.{Running, run-start, run-more, run-end}
 use Rattle.compare.proofs.run_of.Statement.{statement}
 use Rattle.compare.proofs.run_of.Tie as tie
 
-abbrev Inv-loop : tie.InvT-loop
-Inv-loop model b n₀ k₀ n k = Running model b n k
+same-mask-requires : tie.Need-same-mask-requires
+same-mask-requires c κs = search needs
 
-abbrev μ-loop : tie.MeasureT-loop
-μ-loop model b n₀ k₀ n k = 16 - k
+add-result : tie.Need-add-result
+add-result c = search needs
 
-loop-holds : tie.Need-loop-holds Inv-loop μ-loop
-loop-holds c = search (needs, run-start)
+cast-result : tie.Need-cast-result
+cast-result c = let h : trailingZeros 32 (c .same-mask .result + 1) ≤ 32 = trailing-le 32 _ in omega arith
 
-cast-unless-same : tie.Need-cast-unless-same Inv-loop μ-loop
-cast-unless-same c = search needs
-
-shared-slice-read-unless-same : tie.Need-shared-slice-read-unless-same Inv-loop μ-loop
-shared-slice-read-unless-same c = search needs
-
-unless-same-requires : tie.Need-unless-same-requires Inv-loop μ-loop
-unless-same-requires c κs = search needs
-
-lesser-requires : tie.Need-lesser-requires Inv-loop μ-loop
-lesser-requires c κs = search needs
-
-add-k : tie.Need-add-k Inv-loop μ-loop
-add-k c = search needs
-
-loop-less : tie.Need-loop-less Inv-loop μ-loop
-loop-less c = search needs
-
-loop-again : tie.Need-loop-again Inv-loop μ-loop
-loop-again c = search (needs, run-more)
-
-returns : tie.Need-returns Inv-loop μ-loop
-returns c = search (needs, run-end)
+returns : tie.Need-returns
+returns c = run-told _ _ _ _ (c .same-mask .ensures) (omega arith)
 
 pub run-of-spec : {M : Type 1} → statement M
-run-of-spec =
-    tie.close
-    (tie.spec Inv-loop μ-loop loop-holds cast-unless-same shared-slice-read-unless-same unless-same-requires
-    lesser-requires add-k loop-less loop-again returns)
+run-of-spec = tie.close (tie.spec same-mask-requires add-result cast-result returns)

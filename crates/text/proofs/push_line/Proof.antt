@@ -1,7 +1,7 @@
 use borrow.Author.Needs.{needs}
 use native.Mathlib.Omega.{arith}
 use Rattle.buffer.specs.Repeat.{times}
-use Rattle.text.proofs.StepLaws.{start-room, pad-room, kept-room, push-done}
+use Rattle.text.proofs.StepLaws.{long-room, kept-room, push-done}
 use Rattle.text.proofs.push_line.Statement.{statement}
 use Rattle.text.proofs.push_line.Tie as tie
 
@@ -11,28 +11,35 @@ stem-at-requires c κs = search needs
 stem-first-requires : tie.Need-stem-first-requires
 stem-first-requires c κs = search needs
 
-separate-requires : tie.Need-separate-requires
-separate-requires c κs = search needs
+sep-len-requires : tie.Need-sep-len-requires
+sep-len-requires c κs = search needs
 
-append-indented-requires : tie.Need-append-indented-requires
-append-indented-requires c κs = search (needs, start-room)
+append-line-requires : tie.Need-append-line-requires
+append-line-requires c κs = search needs
+
+add-start : tie.Need-add-start
+add-start c = search needs
 
 sub-long : tie.Need-sub-long
-sub-long c = search needs
+sub-long c = let d = c .before .before in
+    let s = d .before .before .before .before .before .before .before .before .before in
+    let a = s .args in
+    omega (arith, long-room (times (a .how .levels) (a .indent .now)) (a .line .now) (d .before .before .sep-len .ensures) (d .append-line .ensures))
 
 sub-pad : tie.Need-sub-pad
 sub-pad c = let d = c .before .before in
-    let a = d .before .before .before .before .before .before .before .before .before .before .before .before .args in
-    pad-room (times (a .how .levels) (a .indent .now)) (a .line .now) (d .append-indented .ensures)
+    let s = d .before .before .before .before .before .before .before .before .before in
+    let a = s .args in
+    omega (arith, long-room (times (a .how .levels) (a .indent .now)) (a .line .now) (d .before .before .sep-len .ensures) (d .append-line .ensures))
 
 tail-of-requires : tie.Need-tail-of-requires
 tail-of-requires c κs = search needs
 
-add-t25 : tie.Need-add-t25
-add-t25 c = let d = c .before .before .before in
-    let s = d .before .before .before .before .before .before .before .before .before .before .before .before in
+add-t24 : tie.Need-add-t24
+add-t24 c = let d = c .before .before .before in
+    let s = d .before .before .before .before .before .before .before .before .before in
     let a = s .args in
-    omega (arith, kept-room (times (a .how .levels) (a .indent .now)) (a .line .now) (d .append-indented .ensures) (s .pre .1 .0) (c .tail-of .ensures))
+    omega (arith, kept-room (times (a .how .levels) (a .indent .now)) (a .line .now) (d .before .before .sep-len .ensures) (d .append-line .ensures) (s .pre .1 .0) (c .tail-of .ensures))
 
 full-of-requires : tie.Need-full-of-requires
 full-of-requires c κs = search needs
@@ -55,17 +62,30 @@ same-length c = search needs
 returns : tie.Need-returns
 returns c =
     let d = c .before .before .before .before .before .before .before .before in
-    let w = d .before .before .before .before in
-    let s = w .before .before .before .before .before .before .before .before in
+    let s = d .before .before .before .before .before .before .before .before .before in
     let a = s .args in
-    push-done (a .how .ending) _ _ _ _ _ _ (a .indent .now) (a .how .levels) (a .line .now) _ _ _ _ _ _ _ _ _ _ _ _ (s .pre .0) (s .pre .1 .0) (s .pre .1 .1 .0)
-    (w .before .before .before .stem-at .ensures) (w .before .before .stem-first .ensures) (w .separate .ensures) (d .append-indented .ensures)
+    push-done (a .how .ending) _ _ _ _ _ (a .indent .now) (a .how .levels) (a .line .now) _ _ _ _ _ _ _ _ _ _ _ _ (s .pre .0) (s .pre .1 .0) (s .pre .1 .1 .0)
+    (d .before .before .before .before .stem-at .ensures) (d .before .before .before .stem-first .ensures) (d .before .before .sep-len .ensures) (d .append-line .ensures)
     (c .before .before .before .before .before .tail-of .ensures) (c .before .before .before .before .full-of .ensures) (c .before .before .before .full-of2 .ensures)
     (c .before .before .alone-of .ensures) (c .before .kind-of .ensures) (c .full-of3 .ensures)
 
 pub push-line-spec : {M : Type 1} → statement M
 push-line-spec =
     tie.close
-    (tie.spec stem-at-requires stem-first-requires separate-requires append-indented-requires sub-long sub-pad
-    tail-of-requires add-t25 full-of-requires full-of-requires-2 alone-of-requires kind-of-requires full-of-requires-3
-    same-length returns)
+    (tie.spec
+    stem-at-requires
+    stem-first-requires
+    sep-len-requires
+    append-line-requires
+    add-start
+    sub-long
+    sub-pad
+    tail-of-requires
+    add-t24
+    full-of-requires
+    full-of-requires-2
+    alone-of-requires
+    kind-of-requires
+    full-of-requires-3
+    same-length
+    returns)

@@ -1,18 +1,18 @@
--- `differ_eight` meets its contract: the invariant is `NoneAmong`.
+-- `differ` meets its contract: the invariant is `NoneAmong`, whose laws are in unicode/proofs/Among.antt.
 use Prim.Native.Nat.{_-_}
 use native.Mathlib.Omega.{arith}
 use mathlib.Core.Path.{refl}
 use Rattle.unicode.specs.Places.{NoneAmong}
 use Rattle.unicode.proofs.Among.{among-start, among-more, among-all}
 use Rattle.compare.specs.Common.{differAt}
-use Rattle.compare.proofs.differ_eight.Statement.{statement}
-use Rattle.compare.proofs.differ_eight.Tie as tie
+use Rattle.compare.proofs.differ.Statement.{statement}
+use Rattle.compare.proofs.differ.Tie as tie
 
 abbrev Inv-loop : tie.InvT-loop
-Inv-loop model line at any₀ k₀ any k = NoneAmong (differAt model line) at k any
+Inv-loop model line at w any₀ k₀ any k = NoneAmong (differAt model line) at k any
 
 abbrev μ-loop : tie.MeasureT-loop
-μ-loop model line at any₀ k₀ any k = 8 - k
+μ-loop model line at w any₀ k₀ any k = w - k
 
 loop-holds : tie.Need-loop-holds Inv-loop μ-loop
 loop-holds c = among-start _ _
@@ -41,8 +41,8 @@ loop-again c = among-more _ _ _ _ _ (c .before .before .before .loop .inv) refl
 returns : tie.Need-returns Inv-loop μ-loop
 returns c = among-all _ _ _ _ _ (c .before .loop .inv) (omega arith)
 
-pub differ-eight-spec : {M : Type 1} → statement M
-differ-eight-spec =
+pub differ-spec : {M : Type 1} → statement M
+differ-spec =
     tie.close
     (tie.spec Inv-loop μ-loop loop-holds add-any shared-slice-read-any add-any-2 shared-slice-read-any-2 add-k
     loop-less loop-again returns)

@@ -1,0 +1,13 @@
+use native.Mathlib.Omega.{arith}
+use Rattle.compare.proofs.MaskLaws.{weight-same, weight-other}
+use Rattle.compare.proofs.weight.Statement.{statement}
+use Rattle.compare.proofs.weight.Tie as tie
+
+returns : tie.Need-returns
+returns c = (weight-same _ _ (c .if1 .taken), omega arith)
+
+returns-2 : tie.Need-returns-2
+returns-2 c = (weight-other _ _ (c .if1 .left), omega arith)
+
+pub weight-spec : {M : Type 1} → statement M
+weight-spec = tie.close (tie.spec returns returns-2)

@@ -13,7 +13,7 @@ use Rattle.unicode.specs.Places.{highAt}
 use Rattle.unicode.proofs.Tests.{split}
 use Rattle.rules.specs.declared.Carry.{Carry}
 use Rattle.rules.specs.declared.TextKind.{TextKind}
-use Rattle.rules.specs.Basics.{choose, pieces, splitOn}
+use Rattle.rules.specs.Basics.{pieces, splitOn}
 use Rattle.rules.specs.Lines.{dropCr}
 use Rattle.rules.specs.Call.{filled}
 use Rattle.rules.specs.Scan.{begin, carryAfter}

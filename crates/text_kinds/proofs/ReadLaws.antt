@@ -6,30 +6,34 @@ use mathlib.Core.Bool.{Bool, true, false}
 use mathlib.Core.List.{List, [], _∷_, map}
 use mathlib.Core.Logic.{_⊎_, inl, inr}
 use mathlib.Core.Path.{_≡_, refl, sym, ap, _∙_}
-use lib.ListN.{length, getD, take, drop, replicate, length-take, length-drop, length-map, length-replicate, drop-of-length-le, take-append-drop}
-use lib.Seq.{drop-drop, take-length}
+use lib.ListN.{length, getD, take, drop, replicate, length-take, length-drop, length-map, length-replicate, drop-of-length-le, take-append-drop, List·getD-eq-default}
+use lib.Seq.{drop-drop, take-length, getD-take, getD-drop}
 use Rattle.unicode.specs.Unicode.{encode, decode, WellFormed}
+use Rattle.unicode.specs.Places.{highAt}
 use Rattle.unicode.proofs.Tests.{split}
 use Rattle.rules.specs.declared.Carry.{Carry}
 use Rattle.rules.specs.declared.TextKind.{TextKind}
 use Rattle.rules.specs.Basics.{pieces, splitOn}
+use Rattle.rules.specs.Lines.{dropCr}
 use Rattle.rules.specs.Call.{filled}
 use Rattle.rules.specs.Scan.{begin, carryAfter}
 use Rattle.rules.specs.TextKind.{rustLines, textKindAt, kindNumber}
 use Rattle.rules.proofs.LinesBytes.{rust-one, rust-more, rust-lines-bytes}
 use Rattle.rules.proofs.StartsBytes.{on-decode}
+use Rattle.rules.proofs.Choose.{choose-case}
 use Rattle.basics.specs.Depth.{carryDepth}
 use Rattle.scan.specs.Classified.{Classified}
 use Rattle.line_ends.specs.LineEnds.{LineEnd}
-use Rattle.line_ends.proofs.LineCuts.{Last, whole, part-of, cr-fits}
+use Rattle.line_ends.proofs.LineCuts.{Last, Cut, last, more, cut, whole, part-of, cr-fits}
 use Rattle.text_kind.specs.Kind.{byteKinds, byteKindIn, kindFrom, lineAt, SourceFits}
 use Rattle.text_kind.proofs.KindBytes.{kind-bytes}
-use Rattle.text_kind.proofs.KindLines.{rust-none, line-more, kind-past, kind-more, kind-here, line-fits}
+use Rattle.text_kind.proofs.KindLines.{rust-none, line-last, line-more, kind-past, kind-more, kind-here, line-fits}
 use Rattle.text_kinds.specs.Places.{Place, placeAt, placesIn, ascending, kindOfPlace, linesAsked, linesClassified, kindsOf}
-use Rattle.text_kinds.specs.Reading.{lineOf, columnOf, placeCount, From, IsOn, Ahead, Filled, Listed, Shallow, LineAnswered, lineCount, Read, KindsFound}
+use Rattle.text_kinds.specs.Reading.{lineOf, columnOf, placeCount, From, IsOn, Ahead, Filled, Listed, Shallow, LineAnswered, Without, Tells, lineCount, Read, KindsFound}
 use Rattle.text_kinds.specs.declared.Progress.{Progress}
 use Rattle.text_kinds.proofs.PlaceLaws.{count-half, place-at, from-next, from-trans, from-line}
 use Rattle.text_kinds.proofs.FillLaws.{filled-skip}
+use Rattle.text_kinds.proofs.ClassLaws.{without-none, classes-in, classes-room}
 
 -- ---- the lines of a text, one at a time
 
@@ -78,6 +82,25 @@ pub line-count-decode : (source : List ℕ) → WellFormed source → lineCount 
 line-count-decode source w =
     sym (on-decode lineCount lineCount (λ l. ap length (rust-lines-bytes l) ∙ length-map (rustLines (pieces (splitOn "\n" l))) encode) source w)
 
+-- a line's bytes are those of the text from its start on
+cr-byte : (l : List ℕ) (j : ℕ) → j < length (dropCr l) → getD (dropCr l) j 0 ≡ getD l j 0
+unfolding dropCr
+cr-byte [] j h = refl
+cr-byte (c ∷ []) j h = choose-case (λ (x : List ℕ). j < length x → getD x j 0 ≡ getD (c ∷ []) j 0) (λ e k. absurd (omega arith)) (λ e k. refl) h
+cr-byte (c ∷ d ∷ l) zero h = refl
+cr-byte (c ∷ d ∷ l) (suc j) h = cr-byte (d ∷ l) j (omega arith)
+
+line-byte : (s : List ℕ) (j : ℕ) → j < length (lineAt s) → getD (lineAt s) j 0 ≡ getD s j 0
+line-byte s j h = go (cut s)
+  where
+    go : Cut s → getD (lineAt s) j 0 ≡ getD s j 0
+    go (last e) = ap (λ (x : List ℕ). getD x j 0) (sym (line-last s e))
+    go (more k l e) =
+        let q = line-more s k e in
+        let n : j < length (dropCr (take k s)) = omega (arith, ap length q) in
+        ap (λ (x : List ℕ). getD x j 0) (sym q) ∙ cr-byte (take k s) j n
+        ∙ getD-take k s j 0 (omega (arith, cr-fits (take k s), length-take k s))
+
 -- ---- the largest line
 
 line-asked : (ps : List Place) (k : ℕ) → k < length ps → getD ps k (placeAt 0 0) .line < linesAsked ps
@@ -95,7 +118,7 @@ more-lines : {f : Place → ℕ} {list kinds : List ℕ} {m n k : ℕ} → m ≤
 more-lines h r = record { within = r .within; room = r .room; front = r .front; back = r .back; passed = omega (arith, r .passed) }
 
 pub read-start : (source list kinds scratch : List ℕ) (n : ℕ) → SourceFits source scratch → placeCount list ≤ n → kinds ≡ replicate n 0
-    → Read source list kinds (record { at = 0; lines = 0; carry = Carry.Code; next = 0 })
+    → Read source list kinds (record { at = 0; lines = 0; carry = Carry.Code; next = 0; ascii = 0 })
 unfolding linesAsked
 read-start source list kinds scratch n f h z =
     record {
@@ -113,6 +136,7 @@ read-start source list kinds scratch n f h z =
         passed = zero-le;
       };
       ahead = record { from = λ _. start _ _ };
+      plain = without-none _ 0;
     }
   where
     long : n ≡ length (replicate {A = ℕ} n 0)
@@ -180,48 +204,57 @@ module _ {source list kinds scratch : List ℕ} {p : Progress} (f : SourceFits s
         ap kindNumber (ap (λ (i : ℕ). textKindAt (decode source) i c) j ∙ r .same 0 c ∙ kind-here (drop (p .at) source) (p .carry) c)
         ∙ ap (λ (x : List ℕ). kindNumber (getD (byteKinds (begin (p .carry)) x) c TextKind.Code)) (sym g)
 
-    -- the next record
-    abbrev on : Carry → ℕ → Progress
-    on y next = record { at = e + 1; lines = p .lines + 1; carry = y; next = next }
-
-    pub read-places : (kinds′ : List ℕ) (y : Carry) (next : ℕ) (b : Bool) → IsOn list (p .next) (p .lines) b → b ≡ true
-        → LineAnswered l (p .carry) (p .lines) list (p .next) kinds y next kinds′
-        → Read source list kinds′ (on y next) × (p .at < e + 1)
-    read-places kinds′ y next b i t a = (
-      record {
-        within = omega (arith, q .fits);
-        depth = omega (arith, a .depth, fits, r .depth, q .from);
-        small = omega (arith, r .small, q .from);
-        same = kind-on y (a .opens);
-        count = count-on;
-        asked = omega (arith, asked-at list (p .next) k, i .same-line t);
-        answers = more-lines (omega arith) (a .filled (kindOfPlace (decode source)) kinds-here (more-lines (omega arith) (r .answers)));
-        ahead = rw add-one (a .ahead);
-      },
-      omega (arith, q .from),
-    )
-
-    pub read-none : (scratch′ : List ℕ) (y : Carry) (b : Bool) → IsOn list (p .next) (p .lines) b → b ≡ false
-        → Classified (p .carry) l scratch scratch′ y
-        → Read source list kinds (on y (p .next)) × (p .at < e + 1)
-    read-none scratch′ y b i t a =
-        let later = from-line (r .ahead .from k) (i .other t k) in (
-          record {
-            within = omega (arith, q .fits);
-            depth = omega (arith, a .depth, fits, r .depth, q .from);
-            small = omega (arith, r .small, q .from);
-            same = kind-on y (a .carry);
-            count = count-on;
-            asked = after later;
-            answers = more-lines (omega arith) (r .answers);
-            ahead = rw add-one (record { from = λ _. later });
-          },
-          omega (arith, q .from),
-        )
+    -- the line's class bytes, and how many bytes at its front are ASCII
+    pub line-tells : (scratch′ : List ℕ) (y : Carry) (ascii : ℕ) → Classified (p .carry) l scratch scratch′ y → Without (highAt source) (p .at) ascii
+        → Tells l scratch′ (ascii - p .at) 0
+    line-tells scratch′ y ascii c a =
+        record {
+          room = classes-room (classes-in (p .carry) l scratch scratch′ y c);
+          ascii = record { none = λ j _ m. low j m (split j (length l)) };
+          clear = without-none _ 0;
+        }
       where
-        after : From (suc (p .lines)) 0 (lineOf list (p .next)) (columnOf list (p .next)) → p .lines + 1 ≤ linesAsked (placesIn list)
-        after (inl x) = omega (arith, asked-at list (p .next) k)
-        after (inr x) = omega (arith, asked-at list (p .next) k)
+        low : (j : ℕ) → j < ascii - p .at → (j < length l) ⊎ (length l ≤ j) → highAt l j ≡ false
+        low j m (inl h) =
+            rw (g, line-byte (drop (p .at) source) j (rw g at h), getD-drop (p .at) source j 0) (a .none (p .at + j) (omega arith) (omega arith))
+        low j m (inr h) = rw (List·getD-eq-default l 0 h)
+
+    -- the next record
+    abbrev on : Carry → ℕ → ℕ → Progress
+    on y next ascii = record { at = e + 1; lines = p .lines + 1; carry = y; next = next; ascii = ascii }
+
+    module _ {scratch′ : List ℕ} {y : Carry} (c : Classified (p .carry) l scratch scratch′ y) (b : Bool) (i : IsOn list (p .next) (p .lines) b) where
+      read-on : (kinds′ : List ℕ) (next ascii : ℕ) → p .lines + 1 ≤ linesAsked (placesIn list) → Filled (kindOfPlace (decode source)) list (suc (p .lines)) next kinds′
+          → Ahead list (suc (p .lines)) 0 next → Without (highAt source) (p .at) ascii → Read source list kinds′ (on y next ascii) × (p .at < e + 1)
+      read-on kinds′ next ascii far answers ahead a = (
+        record {
+          within = omega (arith, q .fits);
+          depth = omega (arith, c .depth, fits, r .depth, q .from);
+          small = omega (arith, r .small, q .from);
+          same = kind-on y (c .carry);
+          count = count-on;
+          asked = far;
+          answers = more-lines (omega arith) answers;
+          ahead = rw add-one ahead;
+          plain = record { none = λ j h m. a .none j (omega (arith, q .from)) m };
+        },
+        omega (arith, q .from),
+      )
+
+      pub read-places : b ≡ true → (kinds′ : List ℕ) (next ascii : ℕ) → LineAnswered l (p .carry) (p .lines) list (p .next) kinds next kinds′
+          → Without (highAt source) (p .at) ascii → Read source list kinds′ (on y next ascii) × (p .at < e + 1)
+      read-places t kinds′ next ascii a n =
+          read-on kinds′ next ascii (omega (arith, asked-at list (p .next) k, i .same-line t))
+          (a .filled (kindOfPlace (decode source)) kinds-here (more-lines (omega arith) (r .answers))) (a .ahead) n
+
+      pub read-none : b ≡ false → Read source list kinds (on y (p .next) (p .ascii)) × (p .at < e + 1)
+      read-none t =
+          let later = from-line (r .ahead .from k) (i .other t k) in
+          read-on kinds (p .next) (p .ascii) (after later) (more-lines (omega arith) (r .answers)) (record { from = λ _. later }) (r .plain)
+        where
+          after : From (suc (p .lines)) 0 (lineOf list (p .next)) (columnOf list (p .next)) → p .lines + 1 ≤ linesAsked (placesIn list)
+          after (inl x) = omega (arith, asked-at list (p .next) k)
+          after (inr x) = omega (arith, asked-at list (p .next) k)
 
 -- ---- the end
 

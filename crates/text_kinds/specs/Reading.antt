@@ -4,17 +4,20 @@ use mathlib.Core.Bool.{Bool, true, false}
 use mathlib.Core.List.{List, map}
 use mathlib.Core.Logic.{_⊎_}
 use mathlib.Core.Path.{_≡_}
+use lib.Dec.{eqb}
 use lib.ListN.{length, getD, take, drop, replicate}
 use Rattle.rules.specs.declared.Carry.{Carry}
 use Rattle.rules.specs.declared.TextKind.{TextKind}
-use Rattle.rules.specs.Scan.{begin, carryAfter}
+use Rattle.rules.specs.Scan.{begin, classify}
+use Rattle.rules.specs.ClassBytes.{classOf, classBytes}
 use Rattle.rules.specs.Basics.{pieces, splitOn}
 use Rattle.rules.specs.Refusals.{numberOf, placeOf}
 use Rattle.rules.specs.Call.{filled}
 use Rattle.rules.specs.declared.Refusal.{Refusal}
-use Rattle.rules.specs.TextKind.{rustLines, textKindAt, kindNumber}
+use Rattle.rules.specs.TextKind.{rustLines, textKindAt, classKind, kindNumber}
 use Rattle.basics.specs.Depth.{carryDepth}
 use Rattle.unicode.specs.Unicode.{decode}
+use Rattle.unicode.specs.Places.{highAt}
 use Rattle.text_kind.specs.Kind.{byteKinds, kindFrom}
 use Rattle.text_kinds.specs.Places.{Place, placeAt, placesIn, ascending, kindOfPlace, linesAsked, linesClassified}
 use Rattle.text_kinds.specs.Places.{kindsVerdict, kindsAnswer, kindsLeft, kindsOf}
@@ -85,16 +88,55 @@ pub record PassedOver (list : List ℕ) (line k next : ℕ) : Type 0 where
 pub record Shallow (carry : Carry) (n : ℕ) : Type 0 where
   pub deep : carryDepth carry + n + 1 < 2 ^ 32
 
--- all places of a line are answered; `after` is open behind it
+-- the number of the kind at a column of a line before which y is open
+abbrev pub kindNumberAt : Carry → List ℕ → ℕ → ℕ
+kindNumberAt y line c = kindNumber (getD (byteKinds (begin y) line) c TextKind.Code)
+
+-- all places of a line, from entry k on, are answered
 pub record LineAnswered (line : List ℕ) (carry : Carry) (number : ℕ) (list : List ℕ) (k : ℕ) (kinds : List ℕ)
-    (after : Carry) (next : ℕ) (kinds′ : List ℕ) : Type 0 where
-  pub opens : after ≡ carryAfter carry line
-  pub depth : carryDepth after ≤ carryDepth carry + length line
+    (next : ℕ) (kinds′ : List ℕ) : Type 0 where
   pub long : length kinds′ ≡ length kinds
-  pub filled : (f : Place → ℕ)
-      → ((c : ℕ) → f (placeAt number c) ≡ kindNumber (getD (byteKinds (begin carry) line) c TextKind.Code))
+  pub filled : (f : Place → ℕ) → ((c : ℕ) → f (placeAt number c) ≡ kindNumberAt carry line c)
       → Filled f list (suc number) k kinds → Filled f list (suc number) next kinds′
   pub ahead : Ahead list (suc number) 0 next
+
+-- ---- kinds by class bytes
+
+-- the test p fails at each place from `at` up to `to`
+pub record Without (p : ℕ → Bool) (at to : ℕ) : Type 0 where
+  pub none : (j : ℕ) → at ≤ j → j < to → p j ≡ false
+
+-- the byte at i is `$`
+abbrev pub dollarAt : List ℕ → ℕ → Bool
+dollarAt s i = eqb (getD s i 0) 36
+
+-- the class bytes of a line, before which y is open, stand at the front of a buffer
+pub record ClassesIn (y : Carry) (line class : List ℕ) : Type 0 where
+  pub bytes : take (length line) class ≡ classBytes (classify y line)
+
+-- the number of the kind that a class byte stands for outside `${..}`
+abbrev pub classNumber : ℕ → ℕ
+classNumber b = kindNumber (classKind (classOf b) false)
+
+-- what is known of a line with its class bytes: the first a bytes are ASCII, and the first d are no `$`
+pub record Tells (line class : List ℕ) (a d : ℕ) : Type 0 where
+  pub room : length line ≤ length class
+  pub ascii : Without (highAt line) 0 a
+  pub clear : Without (dollarAt line) 0 d
+
+-- `kind` is the kind at a column, or 3; the line's first d bytes are no `$`
+pub record KindTold (line class : List ℕ) (column kind d : ℕ) : Type 0 where
+  pub told : (kind ≡ 3 → ⊥) → (y : Carry) → ClassesIn y line class → kind ≡ kindNumberAt y line column
+  pub clear : Without (dollarAt line) 0 d
+
+-- the places of a line from entry k up to `next` are answered, if the buffer has the line's class bytes
+pub record PartAnswered (line class : List ℕ) (number : ℕ) (list : List ℕ) (k : ℕ) (kinds : List ℕ) (next : ℕ)
+    (kinds′ : List ℕ) : Type 0 where
+  pub long : length kinds′ ≡ length kinds
+  pub filled : (y : Carry) → ClassesIn y line class
+      → (f : Place → ℕ) → ((c : ℕ) → f (placeAt number c) ≡ kindNumberAt y line c)
+      → Filled f list (suc number) k kinds → Filled f list (suc number) next kinds′
+  pub ahead : Ahead list number 0 k → Ahead list number 0 next
 
 -- how many lines a text has, as Rust's `lines` cuts them
 abbrev pub lineCount : List ℕ → ℕ
@@ -110,6 +152,7 @@ pub record Read (source list kinds : List ℕ) (p : Progress) : Type 0 where
   pub asked : p .lines ≤ linesAsked (placesIn list)
   pub answers : Filled (kindOfPlace (decode source)) list (p .lines) (p .next) kinds
   pub ahead : Ahead list (p .lines) 0 (p .next)
+  pub plain : Without (highAt source) (p .at) (p .ascii)
 
 -- the kinds of all places, then zeros, in n bytes; r is the number of lines classified
 pub record KindsFound (source list : List ℕ) (n r : ℕ) (kinds : List ℕ) : Type 0 where

@@ -1,18 +1,19 @@
 // text_kinds: the text kinds of a list of places, in one reading of the source.
 ghost use mathlib.Core.Path.{_≡_};
 ghost use mathlib.Core.Bool.{true};
-ghost use Prim.Native.Nat.{_<_};
+ghost use Prim.Native.Nat.{_<_, _≤_};
 ghost use lib.ListN.{length};
+ghost use Rattle.unicode.specs.Places.{highAt};
 ghost use Rattle.rules.specs.TextKind.{kindNumber};
 ghost use Rattle.text_kinds.specs.Places.{placeAt, placesIn, notAfter, ascending, listTests, kindsVerdict};
-ghost use Rattle.text_kinds.specs.Reading.{IsPlace, IsOn, Listed, Answered, PassedOver, Ahead, Shallow};
+ghost use Rattle.text_kinds.specs.Reading.{IsPlace, IsOn, Listed, Answered, PassedOver, Ahead, Shallow, Without};
+ghost use Rattle.text_kinds.specs.Reading.{dollarAt, classNumber, ClassesIn, Tells, KindTold, PartAnswered};
 ghost use Rattle.text_kinds.specs.Reading.{LineAnswered, placeCount, Read, KindsFound, RefusedKinds, KindsGiven};
 ghost use Rattle.rules.specs.Refusals.{tested};
 ghost use Rattle.text_kind.specs.Kind.{SourceFits};
 use answer::number_of;
 use answer::place_of;
 use line_ends::line_end;
-use marks::within::open_after;
 use rules::Carry;
 use rules::Refusal;
 use rules::TextKind;
@@ -29,19 +30,23 @@ pub struct Kinds {
     pub lines_classified: u64,
 }
 
-// What a line leaves open, and the first entry of the list that is not on it or before it.
-pub struct LineRead {
-    pub carry: Carry,
-    pub next: usize,
-}
-
-// How far a source is read: where the next line starts, how many lines stand before it, what is open there, and the
-// first entry of the list that has no answer yet.
+// How far a source is read: where the next line starts, how many lines stand before it, what is open there, the first
+// entry of the list that has no answer yet, and up to where the source is known to be ASCII from there.
 pub struct Progress {
     pub at: usize,
     pub lines: u64,
     pub carry: Carry,
     pub next: usize,
+    pub ascii: usize,
+}
+
+// A kind that class bytes don't tell.
+const UNTOLD: u8 = 3;
+
+// The kind at a place, or UNTOLD, and how many bytes at the line's front are known to be no `$`.
+struct Told {
+    kind: u8,
+    clear: usize,
 }
 
 // Whether the first place is not after the second.
@@ -141,7 +146,7 @@ fn pass_line(places: &[u64], k: usize, line: u64) -> usize
     next
 }
 
-// Every entry from k on that is on this line gets its kind, by one reading of the line.
+// Every entry from k on that is on this line gets its kind, by one reading of the line, up to the last of them.
 fn kinds_in_line(
     line: &[u8],
     carry: Carry,
@@ -149,12 +154,12 @@ fn kinds_in_line(
     places: &[u64],
     k: usize,
     kinds: &mut [u8],
-) -> LineRead
+) -> usize
     requires { ⌜ Shallow carry (length (now line)) ⌝ }
     requires { ⌜ Listed (now places) (now kinds) ⌝ }
     requires { ⌜ Ahead (now places) number 0 k ⌝ }
-    ensures { λ r. ⌜ LineAnswered (now (line .entry)) carry number (now (places .entry)) k (now (kinds .entry))
-        (r .carry) (r .next) (now (kinds .exit)) ⌝ }
+    ensures { λ r. ⌜ LineAnswered (now (line .entry)) carry number (now (places .entry)) k (now (kinds .entry)) r
+        (now (kinds .exit)) ⌝ }
 {
     let mut t = marks::begin(carry);
     let mut next = k;
@@ -170,14 +175,150 @@ fn kinds_in_line(
         let class = t.class;
         let kind = kind_byte(class_kind(class, in_interpolation(before)));
         next = answer_place(places, next, number, column, kind, kinds);
-        column += 1;
+        if is_on(places, next, number) {
+            column += 1;
+            i += 1;
+            continue;
+        }
+        return next;
+    }
+    pass_line(places, next, number)
+}
+
+// Past the bytes from `at` on that are no `$`, up to `to`.
+fn past_clear(line: &[u8], at: usize, to: usize) -> usize
+    requires { ⌜ to ≤ length (now line) ⌝ }
+    ensures { λ r. ⌜ Without (dollarAt (now (line .entry))) at r ⌝ }
+{
+    let mut i = at;
+    while i < to {
+        if line[i] == b'$' {
+            return i;
+        }
         i += 1;
     }
-    let m = t.mode;
-    LineRead {
-        carry: open_after(m),
-        next: pass_line(places, next, number),
+    i
+}
+
+// The number of the kind that a class byte stands for outside `${..}`.
+fn class_number(class: u8) -> u8
+    ensures { λ r. ⌜ r ≡ classNumber class ⌝ }
+{
+    if class == scan::STR {
+        return 1;
     }
+    if class == scan::LINE_COMMENT {
+        return 2;
+    }
+    if class == scan::BLOCK_COMMENT {
+        return 2;
+    }
+    0
+}
+
+// The kind at a column of a line whose first `ascii` bytes are ASCII and whose first `clear` are no `$`, by the class
+// byte there. It is not told past the ASCII bytes, and in a string where a `$` stands before the column.
+fn told_kind(line: &[u8], class: &[u8], ascii: usize, clear: usize, column: u64) -> Told
+    requires { ⌜ Tells (now line) (now class) ascii clear ⌝ }
+    ensures { λ r. ⌜ KindTold (now (line .entry)) (now (class .entry)) column (r .kind) (r .clear) ⌝ }
+{
+    if line.len() as u64 <= column {
+        return Told { kind: 0, clear };
+    }
+    let i = column as usize;
+    if ascii <= i {
+        return Told {
+            kind: UNTOLD,
+            clear,
+        };
+    }
+    let k = class[i];
+    if k == scan::STR {
+        let past = past_clear(line, clear, i);
+        if past < i {
+            return Told {
+                kind: UNTOLD,
+                clear: past,
+            };
+        }
+        return Told {
+            kind: 1,
+            clear: past,
+        };
+    }
+    Told {
+        kind: class_number(k),
+        clear,
+    }
+}
+
+// The entries from k on that are on this line get their kinds by its class bytes, up to the first that these don't
+// tell. Gives the next entry.
+fn kinds_by_class(
+    line: &[u8],
+    class: &[u8],
+    ascii: usize,
+    number: u64,
+    places: &[u64],
+    k: usize,
+    kinds: &mut [u8],
+) -> usize
+    requires { ⌜ Tells (now line) (now class) ascii 0 ⌝ }
+    requires { ⌜ Listed (now places) (now kinds) ⌝ }
+    ensures { λ r. ⌜ PartAnswered (now (line .entry)) (now (class .entry)) number (now (places .entry)) k
+        (now (kinds .entry)) r (now (kinds .exit)) ⌝ }
+{
+    let mut next = k;
+    let mut clear = 0;
+    while is_on(places, next, number) {
+        let told = told_kind(line, class, ascii, clear, places[2 * next + 1]);
+        if told.kind == UNTOLD {
+            return next;
+        }
+        clear = told.clear;
+        kinds[next] = told.kind;
+        next += 1;
+    }
+    next
+}
+
+// Every entry from k on that is on this line gets its kind: by the line's class bytes, or, from the first that these
+// don't tell, by a reading of the line.
+fn answer_line(
+    line: &[u8],
+    carry: Carry,
+    class: &[u8],
+    ascii: usize,
+    number: u64,
+    places: &[u64],
+    k: usize,
+    kinds: &mut [u8],
+) -> usize
+    requires { ⌜ ClassesIn carry (now line) (now class) ⌝ }
+    requires { ⌜ Tells (now line) (now class) ascii 0 ⌝ }
+    requires { ⌜ Shallow carry (length (now line)) ⌝ }
+    requires { ⌜ Listed (now places) (now kinds) ⌝ }
+    requires { ⌜ Ahead (now places) number 0 k ⌝ }
+    ensures { λ r. ⌜ LineAnswered (now (line .entry)) carry number (now (places .entry)) k (now (kinds .entry)) r
+        (now (kinds .exit)) ⌝ }
+{
+    let next = kinds_by_class(line, class, ascii, number, places, k, kinds);
+    if is_on(places, next, number) {
+        return kinds_in_line(line, carry, number, places, next, kinds);
+    }
+    next
+}
+
+// Up to where a source is ASCII from `at` on: `ascii`, or, if that is before `end`, as far as a search finds.
+fn ascii_to(source: &[u8], at: usize, end: usize, ascii: usize) -> usize
+    requires { ⌜ (at ≤ end) × (end ≤ length (now source)) ⌝ }
+    requires { ⌜ Without (highAt (now source)) at ascii ⌝ }
+    ensures { λ r. ⌜ Without (highAt (now (source .entry))) at r × (at ≤ r) ⌝ }
+{
+    if end <= ascii {
+        return ascii;
+    }
+    unicode::past_blocks(source, at)
 }
 
 // One line more. A line that no place is on is only read for what it leaves open.
@@ -200,22 +341,24 @@ fn read_line(
     let next = p.next;
     let end = line_end(source, at);
     let line = line_at(source, at, end);
+    let after = scan::classify(line, carry, scratch);
     if is_on(places, next, lines) {
-        let l = kinds_in_line(line, carry, lines, places, next, kinds);
-        let after = l.carry;
+        let ascii = ascii_to(source, at, end, p.ascii);
+        let to = answer_line(line, carry, scratch, ascii - at, lines, places, next, kinds);
         return Progress {
             at: end + 1,
             lines: lines + 1,
             carry: after,
-            next: l.next,
+            next: to,
+            ascii,
         };
     }
-    let after = scan::classify(line, carry, scratch);
     Progress {
         at: end + 1,
         lines: lines + 1,
         carry: after,
         next,
+        ascii: p.ascii,
     }
 }
 
@@ -233,6 +376,7 @@ pub fn text_kinds(source: &[u8], places: &[u64], kinds: &mut [u8], scratch: &mut
         lines: 0,
         carry: Carry::Code,
         next: 0,
+        ascii: 0,
     };
     while p.at < source.len() {
         if n <= p.next {

@@ -7,7 +7,7 @@ use borrow.Author.Needs.{needs}
 use lib.ListN.{length}
 use Rattle.rules.specs.declared.Mark.{Mark}
 use Rattle.basics.specs.Depth.{depthOf}
-use Rattle.text_kinds.proofs.LineLaws.{InLine, in-line-start, in-line-tail, in-line-first, in-line-end}
+use Rattle.text_kinds.proofs.LineLaws.{InLine, in-line-start, in-line-tail, in-line-first, in-line-left, in-line-end}
 use Rattle.text_kinds.proofs.kinds_in_line.Statement.{statement}
 use Rattle.text_kinds.proofs.kinds_in_line.Tie as tie
 
@@ -62,6 +62,9 @@ kind-byte-requires c κs = search needs
 answer-place-requires : tie.Need-answer-place-requires Inv-loop μ-loop
 answer-place-requires c κs = search needs
 
+is-on-requires : tie.Need-is-on-requires Inv-loop μ-loop
+is-on-requires c κs = search needs
+
 add-column : tie.Need-add-column Inv-loop μ-loop
 add-column c = search needs
 
@@ -74,22 +77,25 @@ loop-less-2 c = search needs
 loop-again-2 : tie.Need-loop-again-2 Inv-loop μ-loop
 loop-again-2 c = search (needs, in-line-first)
 
-open-after-requires : tie.Need-open-after-requires Inv-loop μ-loop
-open-after-requires c κs = search needs
-
-pass-line-requires : tie.Need-pass-line-requires Inv-loop μ-loop
-pass-line-requires c κs = search needs
-
 same-length : tie.Need-same-length Inv-loop μ-loop
 same-length c = search needs
 
 returns : tie.Need-returns Inv-loop μ-loop
-returns c = search (needs, in-line-end)
+returns c = search (needs, in-line-left)
+
+pass-line-requires : tie.Need-pass-line-requires Inv-loop μ-loop
+pass-line-requires c κs = search needs
+
+same-length-2 : tie.Need-same-length-2 Inv-loop μ-loop
+same-length-2 c = search needs
+
+returns-2 : tie.Need-returns-2 Inv-loop μ-loop
+returns-2 c = search (needs, in-line-end)
 
 pub kinds-in-line-spec : {M : Type 1} → statement M
 kinds-in-line-spec =
     tie.close
     (tie.spec Inv-loop μ-loop begin-requires loop-holds sub-next-mark part-next-mark-start part-next-mark-end
     next-mark-requires shared-slice-read-is-tail is-tail-requires add-i loop-less loop-again in-interpolation-requires
-    class-kind-requires kind-byte-requires answer-place-requires add-column add-i-2 loop-less-2 loop-again-2
-    open-after-requires pass-line-requires same-length returns)
+    class-kind-requires kind-byte-requires answer-place-requires is-on-requires add-column add-i-2 loop-less-2
+    loop-again-2 same-length returns pass-line-requires same-length-2 returns-2)

@@ -1,5 +1,7 @@
-use Rattle.text_kinds.proofs.ReadLaws.{line-shallow, line-room, read-places, read-none}
+use native.Mathlib.Omega.{arith}
 use borrow.Author.Needs.{needs}
+use Rattle.text_kinds.proofs.ClassLaws.{classes-in}
+use Rattle.text_kinds.proofs.ReadLaws.{line-shallow, line-room, line-tells, read-places, read-none}
 use Rattle.text_kinds.proofs.read_line.Statement.{statement}
 use Rattle.text_kinds.proofs.read_line.Tie as tie
 
@@ -9,49 +11,62 @@ line-end-requires c κs = search needs
 line-at-requires : tie.Need-line-at-requires
 line-at-requires c κs = search needs
 
+classify-requires : tie.Need-classify-requires
+classify-requires c κs = let s = c .before .before .before .before .before .before .before .pre in line-room (s .0) (s .1 .0) (s .1 .1 .0) (s .1 .1 .1 .0) (s .1 .1 .1 .1) _ (c .before .before .line-end .ensures) _ (c .before .line-at .ensures)
+
 is-on-requires : tie.Need-is-on-requires
 is-on-requires c κs = search needs
 
-kinds-in-line-requires : tie.Need-kinds-in-line-requires
-kinds-in-line-requires c κs =
-    let s = c .before .before .before .before .before .before .before .before .before .pre in
-    (line-shallow (s .0) (s .1 .0) (s .1 .1 .0) (s .1 .1 .1 .0) (s .1 .1 .1 .1) _ (c .before .before .before .before .line-end .ensures) _ (c .before .before .before .line-at .ensures), (s .1 .0, s .1 .1 .0 .ahead))
+ascii-to-requires : tie.Need-ascii-to-requires
+ascii-to-requires c κs = search needs
 
-add-t18 : tie.Need-add-t18
-add-t18 c = search needs
+sub-answer-line : tie.Need-sub-answer-line
+sub-answer-line c = search needs
 
-add-t19 : tie.Need-add-t19
-add-t19 c = search needs
+answer-line-requires : tie.Need-answer-line-requires
+answer-line-requires c κs =
+    let s = c .before .before .before .before .before .before .before .before .before .before .before .before .before .before .before .pre in
+    let k = c .before .before .before .before .before .before .before .classify .ensures in (
+      classes-in _ _ _ _ _ k,
+      (
+        line-tells (s .0) (s .1 .0) (s .1 .1 .0) (s .1 .1 .1 .0) (s .1 .1 .1 .1) _ (c .before .before .before .before .before .before .before .before .before .before .line-end .ensures) _ (c .before .before .before .before .before .before .before .before .before .line-at .ensures) _ _ _ k (c .before .before .ascii-to .ensures .0),
+        (line-shallow (s .0) (s .1 .0) (s .1 .1 .0) (s .1 .1 .1 .0) (s .1 .1 .1 .1) _ (c .before .before .before .before .before .before .before .before .before .before .line-end .ensures) _ (c .before .before .before .before .before .before .before .before .before .line-at .ensures), (s .1 .0, s .1 .1 .0 .ahead)),
+      ),
+    )
+
+add-t20 : tie.Need-add-t20
+add-t20 c = search needs
+
+add-t23 : tie.Need-add-t23
+add-t23 c = omega (arith, c .before .before .before .before .before .before .before .before .before .before .before .before .before .before .before .before .before .before .pre .1 .1 .0 .small)
 
 same-length : tie.Need-same-length
 same-length c = search needs
 
-returns : tie.Need-returns
-returns c =
-    let s = c .before .before .before .before .before .before .before .before .before .before .before .before .pre in
-    read-places (s .0) (s .1 .0) (s .1 .1 .0) (s .1 .1 .1 .0) (s .1 .1 .1 .1) _ (c .before .before .before .before .before .before .before .line-end .ensures) _ (c .before .before .before .before .before .before .line-at .ensures) _ _ _ _ (c .before .before .before .before .before .is-on .ensures) (c .before .before .before .before .if1 .taken) (c .before .before .kinds-in-line .ensures)
-
-classify-requires : tie.Need-classify-requires
-classify-requires c κs =
-    let s = c .before .before .before .before .before .before .before .before .before .pre in
-    line-room (s .0) (s .1 .0) (s .1 .1 .0) (s .1 .1 .1 .0) (s .1 .1 .1 .1) _ (c .before .before .before .before .line-end .ensures) _ (c .before .before .before .line-at .ensures)
-
-add-t22 : tie.Need-add-t22
-add-t22 c = search needs
-
-add-t23 : tie.Need-add-t23
-add-t23 c = search needs
-
 same-length-2 : tie.Need-same-length-2
 same-length-2 c = search needs
+
+returns : tie.Need-returns
+returns c =
+    let s = c .before .before .before .before .before .before .before .before .before .before .before .before .before .before .before .before .before .before .pre in
+    read-places (s .0) (s .1 .0) (s .1 .1 .0) (s .1 .1 .1 .0) (s .1 .1 .1 .1) _ (c .before .before .before .before .before .before .before .before .before .before .before .before .before .line-end .ensures) _ (c .before .before .before .before .before .before .before .before .before .before .before .before .line-at .ensures) (c .before .before .before .before .before .before .before .before .before .before .classify .ensures) _ (c .before .before .before .before .before .before .before .is-on .ensures) (c .before .before .before .before .before .before .if1 .taken) _ _ _ (c .before .before .answer-line .ensures) (c .before .before .before .before .before .ascii-to .ensures .0)
+
+add-t24 : tie.Need-add-t24
+add-t24 c = search needs
+
+add-t25 : tie.Need-add-t25
+add-t25 c = search needs
+
+same-length-3 : tie.Need-same-length-3
+same-length-3 c = search needs
 
 returns-2 : tie.Need-returns-2
 returns-2 c =
     let s = c .before .before .before .before .before .before .before .before .before .before .before .before .pre in
-    read-none (s .0) (s .1 .0) (s .1 .1 .0) (s .1 .1 .1 .0) (s .1 .1 .1 .1) _ (c .before .before .before .before .before .before .before .line-end .ensures) _ (c .before .before .before .before .before .before .line-at .ensures) _ _ _ (c .before .before .before .before .before .is-on .ensures) (c .before .before .before .before .if1 .left) (c .before .before .classify .ensures)
+    read-none (s .0) (s .1 .0) (s .1 .1 .0) (s .1 .1 .1 .0) (s .1 .1 .1 .1) _ (c .before .before .before .before .before .before .before .line-end .ensures) _ (c .before .before .before .before .before .before .line-at .ensures) (c .before .before .before .before .classify .ensures) _ (c .before .is-on .ensures) (c .if1 .left)
 
 pub read-line-spec : {M : Type 1} → statement M
 read-line-spec =
     tie.close
-    (tie.spec line-end-requires line-at-requires is-on-requires kinds-in-line-requires add-t18 add-t19 same-length
-    returns classify-requires add-t22 add-t23 same-length-2 returns-2)
+    (tie.spec line-end-requires line-at-requires classify-requires is-on-requires ascii-to-requires sub-answer-line
+    answer-line-requires add-t20 add-t23 same-length same-length-2 returns add-t24 add-t25 same-length-3 returns-2)

@@ -1,6 +1,6 @@
 -- How long a beginning of a text agrees with a model, and where a text goes.
-use Prim.Native.Nat.{ℕ, zero, suc, _+_, _-_, _*_, _/_, _%_, _≤_, _<_, _^_, min}
-use mathlib.Core.Bool.{Bool, true, not, cond}
+use Prim.Native.Nat.{ℕ, suc, _+_, _-_, _*_, _≤_, _<_, _^_, min}
+use mathlib.Core.Bool.{Bool, true, not}
 use mathlib.Core.List.{List, [], _∷_, _++_}
 use mathlib.Core.Path.{_≡_}
 use lib.Dec.{eqb}
@@ -29,22 +29,6 @@ differAt m l i = not (eqb (getD m i 0) (getD l i 0))
 -- r tells that the model starts with l
 pub record StartsAlike (m l : List ℕ) (r : Bool) : Type 0 where
   pub is : r ≡ true → length l ≤ common m l
-
--- the binary digit of m of the weight 2 ^ j
-unfoldable pub digit : ℕ → ℕ → ℕ
-digit zero m = m % 2
-digit (suc j) m = digit j (m / 2)
-
--- the highest of sixteen digits where a and b are the same
-unfoldable pub weightOf : ℕ → ℕ → ℕ
-weightOf a b = cond (eqb a b) 32768 0
-
--- The k highest of the sixteen digits of d stand for the first k elements, the lowest of them for the first: where a
--- digit is 1, its element is b.
-pub record Masked (m : List ℕ) (b k d : ℕ) : Type 0 where
-  pub few : k ≤ 16
-  pub small : d < 65536
-  pub same : (j : ℕ) → j < k → digit (16 - k + j) d ≡ 1 → getD m j 0 ≡ b
 
 -- r tells that the first n elements are b
 pub record RunOf (m : List ℕ) (b n : ℕ) (r : Bool) : Type 0 where

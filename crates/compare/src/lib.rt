@@ -7,7 +7,7 @@ ghost use Prim.Native.Nat.{_+_, _*_, _<_, _≤_, _^_, min};
 ghost use lib.ListN.{length, drop, replicate};
 ghost use Rattle.unicode.specs.Places.{NoneAmong};
 ghost use Rattle.buffer.specs.Repeat.{times};
-ghost use Rattle.compare.specs.Common.{common, Agreeing, EndsAlike, differAt, StartsAlike, weightOf, Masked};
+ghost use Rattle.compare.specs.Common.{common, Agreeing, EndsAlike, differAt, StartsAlike};
 ghost use Rattle.compare.specs.Common.{RunOf, endingOf, cellSize, cellOf, CellPut, CellKept, Compared};
 ghost use Rattle.compare.specs.Common.{LineAlike, Tells};
 
@@ -97,34 +97,13 @@ fn agree(model: &[u8], line: &[u8]) -> usize
     n
 }
 
-// The highest of sixteen digits where two bytes are the same, else 0.
-fn weight(a: u8, b: u8) -> u32
-    ensures { λ r. ⌜ (r ≡ weightOf a b) × (r ≤ 32768) ⌝ }
-{
-    if a == b { 32768 } else { 0 }
-}
-
-// A digit for each of the first 16 bytes, the lowest for the first: 0 where it isn't b.
-fn same_mask(model: &[u8], b: u8) -> u32
-    requires { ⌜ 16 ≤ length (now model) ⌝ }
-    ensures { λ r. ⌜ Masked (now (model .entry)) b 16 r ⌝ }
-{
-    let mut m: u32 = 0;
-    let mut k: usize = 0;
-    while k < 16 {
-        m = m / 2 + weight(model[k], b);
-        k += 1;
-    }
-    m
-}
-
 // Whether the first n bytes, at most 16, are b. It makes no branch: indents differ from line to line.
 fn run_of(model: &[u8], b: u8, n: usize) -> bool
     requires { ⌜ 16 ≤ length (now model) ⌝ }
     requires { ⌜ n ≤ 16 ⌝ }
     ensures { λ r. ⌜ RunOf (now (model .entry)) b n r ⌝ }
 {
-    let m = same_mask(model, b);
+    let m = unicode::byte_mask(model, 0, b);
     n <= u32::trailing_zeros(m + 1) as usize
 }
 

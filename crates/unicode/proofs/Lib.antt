@@ -10,3 +10,4 @@ pub mod Column
 pub mod Trim
 pub mod TrimScan
 pub mod Examples
+pub mod Masks

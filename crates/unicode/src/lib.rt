@@ -6,6 +6,7 @@ ghost use lib.ListN.{length, getD, take, drop};
 ghost use Rattle.unicode.specs.Unicode.{within, tail, second, seqLen, prefixLen, codeOf, codeAt, decode};
 ghost use Rattle.unicode.specs.Unicode.{WellFormed, width, isWhite, firstIsWhite};
 ghost use Rattle.unicode.specs.Places.{SeqAt, NoneAmong, highAt, AsciiRun, Step, Back, WhiteAt, WhiteBefore};
+ghost use Rattle.unicode.specs.Masks.{weightOf, Masked};
 ghost use Rattle.unicode.specs.Places.{TrimmedStart, TrimmedEnd, Column, unitsOf, leadOf};
 
 // A place in a slice: how many bytes stand before it.
@@ -22,6 +23,28 @@ fn byte_at(s: &[u8], i: usize) -> u8
     ensures { λ r. ⌜ r ≡ getD (now (s .entry)) i 0 ⌝ }
 {
     if i < s.len() { s[i] } else { 0 }
+}
+
+// The highest of sixteen digits where two bytes are the same, else 0.
+fn weight(a: u8, b: u8) -> u32
+    ensures { λ r. ⌜ (r ≡ weightOf a b) × (r ≤ 32768) ⌝ }
+{
+    if a == b { 32768 } else { 0 }
+}
+
+// A digit for each of the 16 bytes from `at` on, the lowest for the first: 1 where it is b, else 0. It makes no branch,
+// so that the 16 are tested at once.
+pub fn byte_mask(s: &[u8], at: usize, b: u8) -> u32
+    requires { ⌜ at + 16 ≤ length (now s) ⌝ }
+    ensures { λ r. ⌜ Masked (now (s .entry)) b at 16 r ⌝ }
+{
+    let mut m: u32 = 0;
+    let mut k: usize = 0;
+    while k < 16 {
+        m = m / 2 + weight(s[at + k], b);
+        k += 1;
+    }
+    m
 }
 
 fn in_range(lo: u32, hi: u32, c: u32) -> bool

@@ -6,17 +6,17 @@ use borrow.Author.Needs.{needs}
 use Rattle.compare.proofs.run_of.Statement.{statement}
 use Rattle.compare.proofs.run_of.Tie as tie
 
-same-mask-requires : tie.Need-same-mask-requires
-same-mask-requires c κs = search needs
+byte-mask-requires : tie.Need-byte-mask-requires
+byte-mask-requires c κs = search needs
 
 add-result : tie.Need-add-result
 add-result c = search needs
 
 cast-result : tie.Need-cast-result
-cast-result c = let h : trailingZeros 32 (c .same-mask .result + 1) ≤ 32 = trailing-le 32 _ in omega arith
+cast-result c = let h : trailingZeros 32 (c .byte-mask .result + 1) ≤ 32 = trailing-le 32 _ in omega arith
 
 returns : tie.Need-returns
-returns c = run-told _ _ _ _ (c .same-mask .ensures) (omega arith)
+returns c = run-told _ _ _ _ (c .byte-mask .ensures) (omega arith)
 
 pub run-of-spec : {M : Type 1} → statement M
-run-of-spec = tie.close (tie.spec same-mask-requires add-result cast-result returns)
+run-of-spec = tie.close (tie.spec byte-mask-requires add-result cast-result returns)

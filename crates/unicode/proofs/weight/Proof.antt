@@ -1,7 +1,7 @@
 use native.Mathlib.Omega.{arith}
-use Rattle.compare.proofs.MaskLaws.{weight-same, weight-other}
-use Rattle.compare.proofs.weight.Statement.{statement}
-use Rattle.compare.proofs.weight.Tie as tie
+use Rattle.unicode.proofs.Masks.{weight-same, weight-other}
+use Rattle.unicode.proofs.weight.Statement.{statement}
+use Rattle.unicode.proofs.weight.Tie as tie
 
 returns : tie.Need-returns
 returns c = (weight-same _ _ (c .if1 .taken), omega arith)

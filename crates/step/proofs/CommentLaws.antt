@@ -133,7 +133,6 @@ outside-none line class r well k o t =
     take-nil zero = refl
     take-nil (suc m) = refl
 
-
 -- what the test tells
 pub outside-empty : (ks : List ℕ) → EndsOutside ks false
 outside-empty ks = record { some = λ t. absurd (false≢true t); last = λ t. absurd (false≢true t) }

@@ -1,15 +1,17 @@
 -- A line placed: its level, the blank before it and the width that it may be broken at, as the code finds them, are
 -- those of the rules.
-use Prim.Native.Nat.{ℕ, _+_}
+use Prim.Native.Nat.{ℕ, zero, suc, _+_, _<_, _^_}
 use mathlib.Core.Bool.{Bool, true, false, not, _&&_}
 use mathlib.Core.List.{List, _++_}
 use mathlib.Core.Path.{_≡_, refl, sym, ap, _∙_, subst}
 use native.Mathlib.Omega.{arith}
+use borrow.Author.Tests.{ne-eqb}
 use lib.Dec.{eqb}
 use lib.ListN.{length}
 use Rattle.unicode.specs.Unicode.{decode}
 use Rattle.rules.specs.Basics.{choose, isEmpty}
 use Rattle.rules.specs.Scan.{classify, allCodeOrStr}
+use Rattle.rules.specs.Lines.{asStr}
 use Rattle.rules.specs.Options.{Options, indentOf}
 use Rattle.rules.specs.Brackets.{leadingClosers}
 use Rattle.rules.specs.Words.{sameDeclaration}
@@ -20,20 +22,20 @@ use Rattle.rules.specs.declared.PrintWidth.{PrintWidth}
 use Rattle.unicode.proofs.Tests.{and-right}
 use Rattle.rules.proofs.Choose.{choose-true, choose-false}
 use Rattle.rules.proofs.StartsBytes.{on-decode, closers-encode}
-use Rattle.basics.specs.Closers.{Closers}
+use Rattle.brackets.specs.Stack.{stacked}
 use Rattle.format.specs.Words.{Continues}
 use Rattle.format.proofs.WordLaws.{same-declaration-by}
 use Rattle.text.specs.Text.{Text, Joins, isJoinable}
 use Rattle.text.specs.declared.Written.{Written}
 use Rattle.text.proofs.LinesLaws.{kind-joinable}
 use Rattle.text.proofs.StepLaws.{grown-ordered}
-use Rattle.place.specs.declared.Before.{Before}
 use Rattle.place.specs.declared.Placed.{Placed}
-use Rattle.line.specs.Holds.{Uses, prevOf}
+use Rattle.place.specs.declared.Placing.{Placing}
+use Rattle.line.specs.Holds.{Record, Uses, prevOf}
+use Rattle.line.specs.Scratch.{stackAt}
 use Rattle.line.specs.declared.formatter.Prev.{Prev}
-use Rattle.line.specs.declared.style.Style.{Style}
 use Rattle.line.proofs.HoldsLaws.{declaration-bytes}
-use Rattle.place.specs.Placing.{GoesOn, Knows, Puts, LaidBy, Lays, spacedBy, placedBy, dropsBlank, breakWidth, aloneIn}
+use Rattle.place.specs.Placing.{GoesOn, Knows, Heads, Asks, HoldsText, Puts, LaidBy, Lays, spacedBy, placedBy, dropsBlank, breakWidth, aloneIn, afterPlaced}
 
 -- ---- tests in another order
 
@@ -65,61 +67,80 @@ and-choose false b = refl
 
 -- ---- a line placed
 
-module _
-    (marker : Bool) (indent : List ℕ) (style : Style) (line class model eol out out′ : List ℕ) (b : Before) (continued : Bool) (level : ℕ)
-    (drops : Bool) (max : PrintWidth) (p : Placed) (g : GoesOn line class) (wc : Closers line (b .closers))
-    (wk : Continues line (b .prev .brace) continued) (wl : level ≡ b .levels + choose continued 1 0) (eo : b .own ≡ prevOf line)
-    (er : drops ≡ dropsBlank (b .depth) (b .own .declares) (b .prev .declares)) (em : max ≡ breakWidth (style .width) marker continued (b .closers))
-    (w : Lays (style .ruler) (choose (allCodeOrStr (classify Carry.Code (decode line))) max PrintWidth.Off) indent (style .strengths) (decode line) level model eol drops (length line) out (b .text) p out′)
-  where
-    closers-same : b .closers ≡ leadingClosers (decode line)
-    closers-same = wc .is ∙ on-decode leadingClosers leadingClosers closers-encode line (g .well)
+-- no bracket is open if the depth is 0
+stacked-empty : (scratch : List ℕ) (base depth : ℕ) → isEmpty (stacked scratch base depth) ≡ eqb depth 0
+unfolding stacked
+stacked-empty scratch base zero = refl
+stacked-empty scratch base (suc depth) = sym (ne-eqb (suc depth) 0 (λ e. absurd (omega arith)))
 
-    module _ (o : Options) (f : Formatter) (u : Uses o indent style) (k : Knows model eol f b out) where
-      laid-by : LaidBy o indent (style .ruler) (style .strengths)
+module _
+    (indent line class model out out′ : List ℕ) (k : Placing) (st : Record) (continued : Bool) (level : ℕ)
+    (drops : Bool) (max : PrintWidth) (p : Placed) (g : GoesOn line class) (hd : Heads line k)
+    (wk : Continues line (st .prev .brace) continued) (wl : level ≡ k .levels + choose continued 1 0)
+    (er : drops ≡ dropsBlank (st .nesting .depth) (k .own .declares) (st .prev .declares)) (em : max ≡ breakWidth (k .style .width) (k .marker) continued (k .closers))
+    (w : Lays (k .style .ruler) (choose (allCodeOrStr (classify Carry.Code (decode line))) max PrintWidth.Off) indent (k .style .strengths) (decode line) level model (asStr (k .style .ending)) drops (length line) out (st .text) p out′)
+  where
+    closers-same : k .closers ≡ leadingClosers (decode line)
+    closers-same = hd .closers .is ∙ on-decode leadingClosers leadingClosers closers-encode line (g .well)
+
+    module _ (o : Options) (f : Formatter) (u : Uses o indent (k .style)) (x : Knows model (asStr (k .style .ending)) f k st out) where
+      laid-by : LaidBy o indent (k .style .ruler) (k .style .strengths)
       laid-by = record { used = record { indents = u .indents; ruled = u .ruled }; strengths = u .strengths }
 
+      prev-same : st .prev ≡ prevOf (f .prev)
+      prev-same = x .holds .prev
+
       continued-same : continued ≡ continues (f .prev) (decode line)
-      continued-same = wk .is (f .prev) (sym (ap (λ (p : Prev). p .brace) (k .prev)))
+      continued-same = wk .is (f .prev) (sym (ap (λ (p : Prev). p .brace) prev-same))
 
       level-same : levelOf f (decode line) ≡ level
       unfolding levelOf
       level-same =
-          sym (wl ∙ rw (k .running, closers-same, continued-same) refl)
+          sym (wl ∙ rw (x .running, closers-same, continued-same) refl)
 
-      fits-same : choose (maySplit f marker (decode line)) (o .printWidth) PrintWidth.Off
+      fits-same : choose (maySplit f (k .marker) (decode line)) (o .printWidth) PrintWidth.Off
           ≡ choose (allCodeOrStr (classify Carry.Code (decode line))) max PrintWidth.Off
       unfolding maySplit
       fits-same =
-          rw (em, ← continued-same, ← closers-same, u .breaks) (width-same continued (eqb (b .closers) 0) marker (allCodeOrStr (classify Carry.Code (decode line))) (style .width))
+          rw (em, ← continued-same, ← closers-same, u .breaks) (width-same continued (eqb (k .closers) 0) (k .marker) (allCodeOrStr (classify Carry.Code (decode line))) (k .style .width))
 
-      laid-same : laid o f marker (decode line) ≡ splitWide (choose (allCodeOrStr (classify Carry.Code (decode line))) max PrintWidth.Off) o level (decode line)
+      laid-same : laid o f (k .marker) (decode line) ≡ splitWide (choose (allCodeOrStr (classify Carry.Code (decode line))) max PrintWidth.Off) o level (decode line)
       unfolding laid
-      laid-same = width-off (maySplit f marker (decode line)) (o .printWidth) o (levelOf f (decode line)) (decode line) ∙ rw (fits-same, level-same) refl
+      laid-same = width-off (maySplit f (k .marker) (decode line)) (o .printWidth) o (levelOf f (decode line)) (decode line) ∙ rw (fits-same, level-same) refl
+
+      empty-same : isEmpty (f .stack) ≡ eqb (st .nesting .depth) 0
+      empty-same = ap isEmpty (sym (x .holds .stack)) ∙ stacked-empty (x .scratch) (stackAt (x .unit)) (st .nesting .depth)
 
       drops-same : (isEmpty (f .stack) && sameDeclaration (decode line) (f .prev)) ≡ drops
       drops-same =
-          sym (er ∙ rw (ap (λ (p : Prev). p .declares) eo, ap (λ (p : Prev). p .declares) (k .prev), declaration-bytes line (g .well), ← same-declaration-by, ← k .empty) (sym (and-choose _ _)))
+          sym (er ∙ rw (ap (λ (p : Prev). p .declares) (hd .own), ap (λ (p : Prev). p .declares) prev-same, declaration-bytes line (g .well), ← same-declaration-by, ← empty-same) (sym (and-choose _ _)))
 
       lines-same : linesBefore f (decode line) ≡ choose drops (dropBlank (f .lines)) (f .lines)
       unfolding linesBefore
       lines-same = rw drops-same refl
 
-      lay-text : Text model eol (placedLine o f marker (decode line) .lines) (p .text) out′
+      lay-text : Text model (asStr (k .style .ending)) (placedLine o f (k .marker) (decode line) .lines) (p .text) out′
       unfolding placedLine
-      lay-text = rw (laid-same, lines-same) (w .text o (f .lines) laid-by (k .text))
+      lay-text = rw (laid-same, lines-same) (w .text o (f .lines) laid-by (x .holds .text))
 
-      lay-imports : placedLine o f marker (decode line) .importsSplit ≡ f .importsSplit + p .imports
+      lay-imports : st .imports + p .imports ≡ placedLine o f (k .marker) (decode line) .importsSplit
       unfolding placedLine
-      lay-imports = rw (laid-same, w .imports o laid-by) refl
+      lay-imports = rw (laid-same, w .imports o laid-by, x .holds .imports) refl
 
-      lay-blanks : placedLine o f marker (decode line) .blankNames ≡ f .blankNames + p .blanks
+      lay-blanks : st .blanks + p .blanks ≡ placedLine o f (k .marker) (decode line) .blankNames
       unfolding placedLine
-      lay-blanks = rw (laid-same, w .blanks o laid-by) refl
+      lay-blanks = rw (laid-same, w .blanks o laid-by, x .holds .blanks) refl
 
-    pub lay-done : Puts (placedBy marker (decode line)) indent style model eol (length line) b out p out′
+    pub lay-done : Puts (placedBy (k .marker) (decode line)) indent model (length line) k st out (afterPlaced st p) out′
     lay-done =
-        record { text = lay-text; imports = lay-imports; blanks = lay-blanks; ordered = w .ordered; at = w .at; few = w .few; fewer = w .fewer }
+        record {
+          holds = λ o f u x. record { text = lay-text o f u x; imports = lay-imports o f u x; blanks = lay-blanks o f u x };
+          ordered = w .ordered;
+          at = w .at;
+          imports = omega (arith, w .few);
+          blanks = omega (arith, w .fewer);
+          others = refl;
+        }
 
 -- two tests, the second only if the first is met
 pub both : (a b r s : Bool) → r ≡ a → r ≡ true → s ≡ b → s ≡ (a && b)
@@ -131,49 +152,69 @@ not-first a b r e q = rw (← e, q)
 -- ---- a line that goes on: a plain else is joined where the newest line can take it
 
 module _
-    (marker : Bool) (indent : List ℕ) (style : Style) (line model eol out out′ : List ℕ) (b : Before) (e : Bool) (joins : e ≡ (isPlainElse (decode line) && isJoinable (b .text .last)))
+    (indent line model out out′ : List ℕ) (k : Placing) (st : Record) (e : Bool) (joins : e ≡ (isPlainElse (decode line) && isJoinable (st .text .last)))
   where
+    -- what is known before, and what is put
+    abbrev Before : Formatter → Type 0
+    Before f = Knows model (asStr (k .style .ending)) f k st out
+
+    abbrev Put : (Options → Formatter → Formatter) → Placed → Type 0
+    Put g p = Puts g indent model (length line) k st out (afterPlaced st p) out′
+
     -- the newest line's kind says whether it can
-    takes : (f : Formatter) → Knows model eol f b out → e ≡ (isPlainElse (decode line) && canJoin (f .lines))
-    takes f k = joins ∙ ap (λ (x : Bool). isPlainElse (decode line) && x) (ap isJoinable (k .text .last) ∙ kind-joinable (f .lines))
+    takes : (f : Formatter) → Before f → e ≡ (isPlainElse (decode line) && canJoin (f .lines))
+    takes f x = joins ∙ ap (λ (y : Bool). isPlainElse (decode line) && y) (ap isJoinable (x .holds .text .last) ∙ kind-joinable (f .lines))
 
-    module _ (class : List ℕ) (u : Written) (p : Placed) (g : GoesOn line class) (w : Joins (decode line) model out (b .text) out′ u) (is : p ≡ aloneIn u) (yes : e ≡ true) where
-      joined-same : (o : Options) (f : Formatter) → Knows model eol f b out → spacedLine o f marker (decode line) ≡ elseLine f (decode line)
+    module _ (class : List ℕ) (u : Written) (p : Placed) (g : GoesOn line class) (w : Joins (decode line) model out (st .text) out′ u) (is : p ≡ aloneIn u) (yes : e ≡ true) where
+      joined-same : (o : Options) (f : Formatter) → Before f → spacedLine o f (k .marker) (decode line) ≡ elseLine f (decode line)
       unfolding spacedLine
-      joined-same o f k = choose-true _ _ _ (sym (takes f k) ∙ yes)
+      joined-same o f x = choose-true _ _ _ (sym (takes f x) ∙ yes)
 
-      join-alone : Puts (spacedBy marker (decode line)) indent style model eol (length line) b out (aloneIn u) out′
+      joined-holds : (o : Options) (f : Formatter) → Before f
+          → HoldsText model (asStr (k .style .ending)) (spacedLine o f (k .marker) (decode line)) (afterPlaced st (aloneIn u)) out′
       unfolding elseLine
+      joined-holds o f x =
+          record {
+            text = rw (joined-same o f x) (w .text _ (f .lines) (x .holds .text) (and-right (isPlainElse (decode line)) (canJoin (f .lines)) (sym (takes f x) ∙ yes)));
+            imports = rw (joined-same o f x) (omega (arith, x .holds .imports));
+            blanks = rw (joined-same o f x) (omega (arith, x .holds .blanks));
+          }
+
+      join-alone : Put (spacedBy (k .marker) (decode line)) (aloneIn u)
       join-alone =
           record {
-            text = λ o f i k. rw (joined-same o f k) (w .text eol (f .lines) (k .text) (and-right (isPlainElse (decode line)) (canJoin (f .lines)) (sym (takes f k) ∙ yes)));
-            imports = λ o f i k. rw (joined-same o f k) (omega arith);
-            blanks = λ o f i k. rw (joined-same o f k) (omega arith);
+            holds = λ o f i x. joined-holds o f x;
             ordered = grown-ordered (w .grown);
             at = omega (arith, w .grown .at, ap length (g .well));
-            few = omega arith;
-            fewer = omega arith;
+            imports = omega arith;
+            blanks = omega arith;
+            others = refl;
           }
 
-      pub join-put : Puts (spacedBy marker (decode line)) indent style model eol (length line) b out p out′
-      join-put = subst (λ (x : Placed). Puts (spacedBy marker (decode line)) indent style model eol (length line) b out x out′) (sym is) join-alone
+      pub join-put : Put (spacedBy (k .marker) (decode line)) p
+      join-put = subst (Put (spacedBy (k .marker) (decode line))) (sym is) join-alone
 
-    module _ (p : Placed) (w : Puts (placedBy marker (decode line)) indent style model eol (length line) b out p out′) where
-      placed-as : ((f : Formatter) → Knows model eol f b out → (isPlainElse (decode line) && canJoin (f .lines)) ≡ false)
-          → Puts (spacedBy marker (decode line)) indent style model eol (length line) b out p out′
-      placed-as h =
-          record {
-            text = λ o f i k. rw (same o f k) (w .text o f i k);
-            imports = λ o f i k. rw (same o f k) (w .imports o f i k);
-            blanks = λ o f i k. rw (same o f k) (w .blanks o f i k);
-            ordered = w .ordered;
-            at = w .at;
-            few = w .few;
-            fewer = w .fewer;
-          }
-        where
-          same : (o : Options) (f : Formatter) → Knows model eol f b out → spacedLine o f marker (decode line) ≡ placedLine o f marker (decode line)
-          same o f k = unfold spacedLine in (choose-false _ _ _ (h f k))
+    pub not-joined : (p : Placed) → Put (placedBy (k .marker) (decode line)) p → e ≡ false → Put (spacedBy (k .marker) (decode line)) p
+    not-joined p w q =
+        record {
+          holds = λ o f i x. subst (λ (y : Formatter). HoldsText model (asStr (k .style .ending)) y (afterPlaced st p) out′) (sym (same o f x)) (w .holds o f i x);
+          ordered = w .ordered;
+          at = w .at;
+          imports = w .imports;
+          blanks = w .blanks;
+          others = w .others;
+        }
+      where
+        same : (o : Options) (f : Formatter) → Before f → spacedLine o f (k .marker) (decode line) ≡ placedLine o f (k .marker) (decode line)
+        same o f x = unfold spacedLine in (choose-false _ _ _ (sym (takes f x) ∙ q))
 
-      pub not-joined : e ≡ false → Puts (spacedBy marker (decode line)) indent style model eol (length line) b out p out′
-      not-joined q = placed-as (λ f k. sym (takes f k) ∙ q)
+-- ---- the record after it
+
+pub put-record : (g : Options → Formatter → Formatter) (indent model : List ℕ) (n : ℕ) (k : Placing) (st : Record) (out out′ : List ℕ) (p : Placed) (r : Record)
+    → r ≡ afterPlaced st p → Puts g indent model n k st out (afterPlaced st p) out′ → Puts g indent model n k st out r out′
+put-record g indent model n k st out out′ p r e w = subst (λ (x : Record). Puts g indent model n k st out x out′) (sym e) w
+
+-- there is room for what it adds to the counts
+pub counts-fit : (g : Options → Formatter → Formatter) (indent model : List ℕ) (n : ℕ) (k : Placing) (st : Record) (out out′ : List ℕ) (p : Placed)
+    → Asks k st n → Puts g indent model n k st out (afterPlaced st p) out′ → (st .imports + p .imports < 2 ^ 64) × (st .blanks + p .blanks < 2 ^ 64)
+counts-fit g indent model n k st out out′ p a w = (omega (arith, w .imports, a .imports), omega (arith, w .blanks, a .blanks))

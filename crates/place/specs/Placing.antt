@@ -12,6 +12,7 @@ use Rattle.rules.specs.ClassBytes.{classBytes}
 use Rattle.rules.specs.Options.{Options}
 use Rattle.rules.specs.Refusals.{maxSource}
 use Rattle.rules.specs.Brackets.{levels}
+use Rattle.rules.specs.Lines.{asStr}
 use Rattle.rules.specs.Line.{Formatter, dropBlank, broken, splitWide, spacedLine, placedLine}
 use Rattle.rules.specs.declared.Carry.{Carry}
 use Rattle.rules.specs.declared.PrintWidth.{PrintWidth}
@@ -19,14 +20,14 @@ use Rattle.rules.specs.declared.Strengths.{Strengths}
 use Rattle.basics.specs.Closers.{Closers}
 use Rattle.format.specs.Words.{sameOf}
 use Rattle.format.specs.declared.words.Declaration.{Declaration}
-use Rattle.text.specs.Text.{Text, Ordered, farPlace}
+use Rattle.text.specs.Text.{Text, Ordered}
 use Rattle.text.specs.declared.Written.{Written}
 use Rattle.split.specs.Measure.{InUse, Wide}
-use Rattle.line.specs.Holds.{Uses, prevOf}
+use Rattle.line.specs.Holds.{Record, Holds, Small, Uses, prevOf}
 use Rattle.line.specs.declared.style.Style.{Style}
-use Rattle.place.specs.declared.Before.{Before}
 use Rattle.place.specs.declared.Fit.{Fit}
 use Rattle.place.specs.declared.Placed.{Placed}
+use Rattle.place.specs.declared.Placing.{Placing}
 
 -- a line that goes on: trimmed, not empty, with its class bytes
 pub record GoesOn (line class : List ℕ) : Type 0 where
@@ -36,43 +37,64 @@ pub record GoesOn (line class : List ℕ) : Type 0 where
   pub trimmed : trimEnd (decode line) ≡ decode line
   pub classes : class ≡ classBytes (classify Carry.Code line)
 
--- what the code knows before the line: the text, whether a bracket is open, the levels left after the leading closers,
--- the previous line's facts
-pub record Knows (model eol : List ℕ) (f : Formatter) (b : Before) (out : List ℕ) : Type 0 where
-  pub text : Text model eol (f .lines) (b .text) out
-  pub empty : isEmpty (f .stack) ≡ eqb (b .depth) 0
-  pub running : b .levels ≡ levels (drop (b .closers) (f .stack))
-  pub prev : b .prev ≡ prevOf (f .prev)
+-- what the code knows before the line: what the record holds, and the levels left after the leading closers
+pub record Knows (model eol : List ℕ) (f : Formatter) (k : Placing) (st : Record) (out : List ℕ) : Type 0 where
+  pub unit : ℕ
+  pub scratch : List ℕ
+  pub holds : Holds model eol unit f st out scratch
+  pub running : k .levels ≡ levels (drop (k .closers) (f .stack))
 
 -- and of the line itself, from its bytes
-pub record Heads (line : List ℕ) (b : Before) : Type 0 where
-  pub closers : Closers line (b .closers)
-  pub own : b .own ≡ prevOf line
+pub record Heads (line : List ℕ) (k : Placing) : Type 0 where
+  pub closers : Closers line (k .closers)
+  pub own : k .own ≡ prevOf line
 
--- what it asks
-pub record Asks (b : Before) : Type 0 where
-  pub ordered : Ordered (b .text)
-  pub small : b .text .at .0 ≤ farPlace
-  pub few : b .levels < maxSource
+-- what it asks, for a line of n bytes
+pub record Asks (k : Placing) (st : Record) (n : ℕ) : Type 0 where
+  pub small : Small st
+  pub few : k .levels < maxSource
+  pub imports : st .imports ≤ maxSource
+  pub blanks : st .blanks + n ≤ 2 * maxSource
 
 -- a line that goes on, of n bytes, adds at most (n + 1) × respacedGrowth bytes to the text; respaced it may have twice
 -- the bytes of the source's
 abbrev pub respacedGrowth : ℕ
 respacedGrowth = 2 ^ 28
 
--- the line of characters l was put into the text, as the step g says
-pub record Puts (g : Options → Formatter → Formatter) (indent : List ℕ) (style : Style) (model eol : List ℕ) (n : ℕ)
-    (b : Before) (out : List ℕ) (r : Placed) (out′ : List ℕ) : Type 0 where
-  pub text : (o : Options) (f : Formatter) → Uses o indent style → Knows model eol f b out
-      → Text model eol (g o f .lines) (r .text) out′
-  pub imports : (o : Options) (f : Formatter) → Uses o indent style → Knows model eol f b out
-      → g o f .importsSplit ≡ f .importsSplit + r .imports
-  pub blanks : (o : Options) (f : Formatter) → Uses o indent style → Knows model eol f b out
-      → g o f .blankNames ≡ f .blankNames + r .blanks
+-- the record with another text and other counts
+abbrev pub withText : Record → Written → ℕ → ℕ → Record
+withText st text imports blanks =
+    record {
+      text = text;
+      nesting = st .nesting;
+      blank = st .blank;
+      prev = st .prev;
+      carry = st .carry;
+      ignore = st .ignore;
+      imports = imports;
+      blanks = blanks;
+    }
+
+-- with those after a line
+abbrev pub afterPlaced : Record → Placed → Record
+afterPlaced st p = withText st (p .text) (st .imports + p .imports) (st .blanks + p .blanks)
+
+-- of the record f, the text and the counts are held
+pub record HoldsText (model eol : List ℕ) (f : Formatter) (st : Record) (out : List ℕ) : Type 0 where
+  pub text : Text model eol (f .lines) (st .text) out
+  pub imports : st .imports ≡ f .importsSplit
+  pub blanks : st .blanks ≡ f .blankNames
+
+-- a line of n bytes was put into the text, as the step g says
+pub record Puts (g : Options → Formatter → Formatter) (indent model : List ℕ) (n : ℕ) (k : Placing) (st : Record)
+    (out : List ℕ) (r : Record) (out′ : List ℕ) : Type 0 where
+  pub holds : (o : Options) (f : Formatter) → Uses o indent (k .style)
+      → Knows model (asStr (k .style .ending)) f k st out → HoldsText model (asStr (k .style .ending)) (g o f) r out′
   pub ordered : Ordered (r .text)
-  pub at : r .text .at .0 ≤ b .text .at .0 + (n + 1) * respacedGrowth
-  pub few : r .imports ≤ 1
-  pub fewer : r .blanks ≤ n
+  pub at : r .text .at .0 ≤ st .text .at .0 + (n + 1) * respacedGrowth
+  pub imports : r .imports ≤ st .imports + 1
+  pub blanks : r .blanks ≤ st .blanks + n
+  pub others : r ≡ withText st (r .text) (r .imports) (r .blanks)
 
 abbrev pub spacedBy : Bool → List ℕ → Options → Formatter → Formatter
 spacedBy marker line o f = spacedLine o f marker line

@@ -18,8 +18,9 @@ ghost use Rattle.rules.specs.declared.PrintWidth.{PrintWidth};
 ghost use Rattle.line.specs.Holds.{ValidIndent};
 ghost use Rattle.split.specs.Measure.{Indent};
 ghost use Rattle.place.specs.Placing.{GoesOn, Short, Heads, Asks, Puts, spacedBy, placedBy, dropsBlank, aloneIn};
-ghost use Rattle.place.specs.Placing.{breakWidth, fitBy, Lays, Breaks};
+ghost use Rattle.place.specs.Placing.{breakWidth, fitBy, Lays, Breaks, afterPlaced};
 use format::words::Declaration;
+use line::formatter::Formatter;
 use line::formatter::Prev;
 use line::style::Style;
 use rules::LineEnding;
@@ -35,15 +36,12 @@ use text::Last;
 use text::Written;
 use unicode::Utf16Column;
 
-// What is known before the line is put: the text so far, how many brackets are open, how many levels are left after the
-// line's leading closers popped, what it asks of the previous line, and of this line its leading closers, what the next
-// line asks of it and whether it is a marker.
-pub struct Before {
-    pub text: Written,
-    pub depth: usize,
-    pub levels: usize,
-    pub prev: Prev,
+// How a line is put into the text: in which style, how many leading closers it has and how many levels are left after
+// these popped, what the next line asks of it, and whether it is a marker.
+pub struct Placing {
+    pub style: Style,
     pub closers: usize,
+    pub levels: usize,
     pub own: Prev,
     pub marker: bool,
 }
@@ -259,33 +257,33 @@ fn lay_line(
     line: &[u8],
     class: &[u8],
     indent: &[u8],
-    style: Style,
+    k: Placing,
     model: &[u8],
     out: &mut [u8],
-    b: Before,
+    st: Formatter,
 ) -> Placed
     requires { ⌜ ValidIndent (now indent) ⌝ }
     requires { ⌜ GoesOn (now line) (now class) ⌝ }
-    requires { ⌜ Heads (now line) b ⌝ }
-    requires { ⌜ Asks b ⌝ }
-    ensures { λ r. ⌜ Puts (placedBy (b .marker) (decode (now (line .entry)))) (now (indent .entry)) style
-        (now (model .entry)) (asStr (style .ending)) (length (now (line .entry))) b (now (out .entry)) r
+    requires { ⌜ Heads (now line) k ⌝ }
+    requires { ⌜ Asks k st (length (now line)) ⌝ }
+    ensures { λ r. ⌜ Puts (placedBy (k .marker) (decode (now (line .entry)))) (now (indent .entry))
+        (now (model .entry)) (length (now (line .entry))) k st (now (out .entry)) (afterPlaced st r)
         (now (out .exit)) ⌝ }
 {
-    let t = b.text;
-    let depth = b.depth;
-    let prev = b.prev;
-    let own = b.own;
+    let text = st.text;
+    let nesting = st.nesting;
+    let prev = st.prev;
+    let own = k.own;
+    let style = k.style;
     let before = prev.declares;
     let d = own.declares;
-    let closers = b.closers;
-    let continued = format::words::continues(line, closers, prev.brace);
-    let level = level_of(b.levels, continued);
-    let drops = drops_blank(depth, d, before);
     let max = style.width;
-    let width = break_width(max, b.marker, continued, closers);
+    let continued = format::words::continues(line, k.closers, prev.brace);
+    let level = level_of(k.levels, continued);
+    let drops = drops_blank(nesting.depth, d, before);
+    let width = break_width(max, k.marker, continued, k.closers);
     let slot = Slot {
-        text: t,
+        text,
         level,
         drops,
         width,
@@ -304,30 +302,66 @@ fn joins_newest(line: &[u8], last: Last) -> bool
     false
 }
 
-// The line that goes on, put into the text: a plain else is joined to the newest line if that can take it.
-pub fn place_line(
+// A plain else is joined to the newest line if that can take it.
+fn join_or_lay(
     line: &[u8],
     class: &[u8],
     indent: &[u8],
-    style: Style,
+    k: Placing,
     model: &[u8],
     out: &mut [u8],
-    b: Before,
+    st: Formatter,
 ) -> Placed
     requires { ⌜ ValidIndent (now indent) ⌝ }
     requires { ⌜ GoesOn (now line) (now class) ⌝ }
-    requires { ⌜ Heads (now line) b ⌝ }
-    requires { ⌜ Asks b ⌝ }
-    ensures { λ r. ⌜ Puts (spacedBy (b .marker) (decode (now (line .entry)))) (now (indent .entry)) style
-        (now (model .entry)) (asStr (style .ending)) (length (now (line .entry))) b (now (out .entry)) r
+    requires { ⌜ Heads (now line) k ⌝ }
+    requires { ⌜ Asks k st (length (now line)) ⌝ }
+    ensures { λ r. ⌜ Puts (spacedBy (k .marker) (decode (now (line .entry)))) (now (indent .entry))
+        (now (model .entry)) (length (now (line .entry))) k st (now (out .entry)) (afterPlaced st r)
         (now (out .exit)) ⌝ }
 {
-    let t = b.text;
+    let t = st.text;
     let last = t.last;
     if joins_newest(line, last) {
         return alone(join_one(line, class, model, out, t));
     }
-    lay_line(line, class, indent, style, model, out, b)
+    lay_line(line, class, indent, k, model, out, st)
+}
+
+// The record with the text after the line, and what the line adds to the counts.
+fn after_placed(st: Formatter, p: Placed) -> Formatter
+    requires { ⌜ st .imports + p .imports < 2 ^ 64 ⌝ }
+    requires { ⌜ st .blanks + p .blanks < 2 ^ 64 ⌝ }
+    ensures { λ r. ⌜ r ≡ afterPlaced st p ⌝ }
+{
+    let text = p.text;
+    let mut next = st;
+    next.text = text;
+    next.imports = st.imports + p.imports;
+    next.blanks = st.blanks + p.blanks;
+    next
+}
+
+// The record after the line that goes on was put into the text. `after_placed` has one call, after all ways: one in each
+// of them costs every line more.
+pub fn place_line(
+    line: &[u8],
+    class: &[u8],
+    indent: &[u8],
+    k: Placing,
+    model: &[u8],
+    out: &mut [u8],
+    st: Formatter,
+) -> Formatter
+    requires { ⌜ ValidIndent (now indent) ⌝ }
+    requires { ⌜ GoesOn (now line) (now class) ⌝ }
+    requires { ⌜ Heads (now line) k ⌝ }
+    requires { ⌜ Asks k st (length (now line)) ⌝ }
+    ensures { λ r. ⌜ Puts (spacedBy (k .marker) (decode (now (line .entry)))) (now (indent .entry))
+        (now (model .entry)) (length (now (line .entry))) k st (now (out .entry)) r (now (out .exit)) ⌝ }
+{
+    let p = join_or_lay(line, class, indent, k, model, out, st);
+    after_placed(st, p)
 }
 
 // The line, all of it code and strings, broken: an import first, otherwise at its operators.

@@ -16,6 +16,7 @@ use Rattle.rules.specs.ClassBytes.{classBytes}
 use Rattle.rules.specs.Brackets.{leadingClosers, countBrackets, levels}
 use Rattle.rules.specs.Words.{isMarker, hasCode}
 use Rattle.rules.specs.Else.{isPlainElse, canJoin}
+use Rattle.rules.specs.Lines.{asStr}
 use Rattle.rules.specs.Options.{Options}
 use Rattle.rules.specs.Refusals.{maxSource}
 use Rattle.rules.specs.Line.{Formatter, elseLine, placedLine, spacedLine, protects, protectedLine, codeLine, inBlock, inCodeNow, blankLine, anyLine}
@@ -73,20 +74,21 @@ leaves o f marker l n = choose-case (Leaves marker l f) (λ h. joined marker n h
         let y : _≡_ {A = ℕ} 0 1 = cc in absurd (omega arith)
     joined false n h = record { stack = rw (else-closers l (and-left (isPlainElse l) (canJoin (f .lines)) h)); number = refl; blank = refl; prev = refl; ignore = refl; carry = refl }
 
-pub spaced-step : (line model eol out out′ s₁ s₂ indent : List ℕ) (style : Style) (unit : ℕ) (marker : Bool) (st : Record) (g : Going) (p : Put) (deep : Nesting) (ignore : Ignore) (r : Record)
+pub spaced-step : (line model out out′ s₁ s₂ indent : List ℕ) (style : Style) (unit : ℕ) (marker : Bool) (st : Record) (g : Going) (p : Put) (deep : Nesting) (ignore : Ignore) (r : Record)
     → Marks marker line → Goes line s₁ unit g
-    → PutOn marker (respaced (decode line)) indent style model eol (length line) unit st out s₁ p out′
-    → BracketsCounted (respaced (decode line)) s₁ s₂ (stackAt unit) (p .left) (length line) deep → ignore ≡ ignoreOf marker → r ≡ afterLine st p deep ignore (g .carry)
+    → PutOn marker (respaced (decode line)) indent style model (length line) unit st out s₁ p out′
+    → BracketsCounted (respaced (decode line)) s₁ s₂ (stackAt unit) (p .left) (length line) deep → ignore ≡ ignoreOf marker → r ≡ afterLine p deep ignore (g .carry)
     → (o : Options) → Uses o indent style
-    → Stepped (spacedBy marker (respaced (decode line)) o) (length line) unit model eol st out s₁ r out′ s₂
+    → Stepped (spacedBy marker (respaced (decode line)) o) (length line) unit model (asStr (style .ending)) st out s₁ r out′ s₂
 unfolding countBrackets
-spaced-step line model eol out out′ s₁ s₂ indent style unit marker st g p deep ignore r n w q v i e o u =
-    subst (λ (x : Record). Stepped (spacedBy marker (respaced (decode line)) o) (length line) unit model eol st out s₁ x out′ s₂) (sym e)
+spaced-step line model out out′ s₁ s₂ indent style unit marker st g p deep ignore r n w q v i e o u =
+    subst (λ (x : Record). Stepped (spacedBy marker (respaced (decode line)) o) (length line) unit model (asStr (style .ending)) st out s₁ x out′ s₂) (sym e)
     (record {
       holds = λ f h.
           (let k = leaves o f marker (respaced (decode line)) (n .other) in
+          let t = q .holds o f u h in
           record {
-            text = q .text o f u h;
+            text = t .text;
             stack = stack-after f h ∙ sym (k .stack);
             running = v .runs ∙ ap levels (stack-after f h ∙ sym (k .stack));
             number = v .line ∙ q .left .line ∙ h .number ∙ sym (k .number);
@@ -94,8 +96,8 @@ spaced-step line model eol out out′ s₁ s₂ indent style unit marker st g p 
             prev = q .own ∙ ap prevOf (sym (k .prev));
             ignore = i ∙ sym (k .ignore);
             carry = w .leaves ∙ carry-bytes Carry.Code (goingLine line s₁ unit g) (w .well) ∙ ap (carryAfter Carry.Code) (w .text) ∙ sym (k .carry);
-            imports = ap (λ (m : ℕ). m + p .imports) (h .imports) ∙ sym (q .imports o f u h);
-            blanks = ap (λ (m : ℕ). m + p .blanks) (h .blanks) ∙ sym (q .blanks o f u h);
+            imports = t .imports;
+            blanks = t .blanks;
           });
       ordered = q .ordered;
       at = omega (arith, q .at);
@@ -103,11 +105,11 @@ spaced-step line model eol out out′ s₁ s₂ indent style unit marker st g p 
       depth = omega (arith, v .most, q .left .depth);
       line = omega (arith, v .line, q .left .line);
       carry = omega (arith, w .depth, w .most);
-      imports = omega (arith, q .few);
-      blanks = omega (arith, q .fewer);
+      imports = q .imports;
+      blanks = q .blanks;
     })
   where
-    stack-after : (f : Formatter) → Holds model eol unit f st out s₁
+    stack-after : (f : Formatter) → Holds model (asStr (style .ending)) unit f st out s₁
         → stacked s₂ (stackAt unit) (deep .depth)
         ≡ countBrackets (f .number) (leadingClosers (respaced (decode line))) (classify Carry.Code (respaced (decode line))) (f .stack)
     stack-after f h =

@@ -13,6 +13,7 @@ use Rattle.rules.specs.Spacing.{respaced}
 use Rattle.rules.specs.Brackets.{leadingClosers, scanBrackets, levels}
 use Rattle.rules.specs.Words.{isMarker, hasCode}
 use Rattle.rules.specs.Else.{isPlainElse}
+use Rattle.rules.specs.Lines.{asStr}
 use Rattle.rules.specs.Options.{Options}
 use Rattle.rules.specs.Refusals.{maxSource}
 use Rattle.rules.specs.Line.{Formatter, protects, codeLine, anyLine}
@@ -23,12 +24,10 @@ use Rattle.basics.specs.Region.{Only}
 use Rattle.basics.specs.Closers.{Closers}
 use Rattle.brackets.specs.Stack.{stacked, Popped}
 use Rattle.brackets.specs.declared.Nesting.{Nesting}
-use Rattle.text.specs.Text.{Text, Ordered}
-use Rattle.place.specs.Placing.{spacedBy, respacedGrowth}
-use Rattle.place.specs.declared.Before.{Before}
+use Rattle.text.specs.Text.{Ordered}
+use Rattle.place.specs.Placing.{spacedBy, respacedGrowth, HoldsText}
 use Rattle.line.specs.Scratch.{respacedAt, stackAt, scratchUsed}
 use Rattle.line.specs.Holds.{Record, prevOf, Holds, Classes, Uses}
-use Rattle.line.specs.declared.formatter.Prev.{Prev}
 use Rattle.line.specs.declared.style.Style.{Style}
 use Rattle.step.specs.declared.Going.{Going}
 use Rattle.step.specs.declared.Marker.{Marker}
@@ -122,46 +121,30 @@ anyLineBy o raw f = anyLine o f raw
 abbrev pub ignoreOf : Bool → Ignore
 ignoreOf marker = choose marker Ignore.NextLine Ignore.Nothing
 
--- what is known before the line is put
-abbrev pub beforeOf : Record → ℕ → ℕ → Prev → Bool → Before
-beforeOf st left closers own marker =
-    record {
-      text = st .text;
-      depth = st .nesting .depth;
-      levels = left;
-      prev = st .prev;
-      closers = closers;
-      own = own;
-      marker = marker;
-    }
-
 -- the record after the line
-abbrev pub afterLine : Record → Put → Nesting → Ignore → Carry → Record
-afterLine st p deep ignore carry =
+abbrev pub afterLine : Put → Nesting → Ignore → Carry → Record
+afterLine p deep ignore carry =
     record {
-      text = p .text;
+      text = p .st .text;
       nesting = deep;
       blank = false;
       prev = p .own;
       ignore = ignore;
       carry = carry;
-      imports = st .imports + p .imports;
-      blanks = st .blanks + p .blanks;
+      imports = p .st .imports;
+      blanks = p .st .blanks;
     }
 
 -- a line of n bytes, which goes on as the characters l, was put into the text
-pub record PutOn (marker : Bool) (l indent : List ℕ) (style : Style) (model eol : List ℕ) (n unit : ℕ) (st : Record)
+pub record PutOn (marker : Bool) (l indent : List ℕ) (style : Style) (model : List ℕ) (n unit : ℕ) (st : Record)
     (out scratch : List ℕ) (r : Put) (out′ : List ℕ) : Type 0 where
-  pub text : (o : Options) (f : Formatter) → Uses o indent style → Holds model eol unit f st out scratch
-      → Text model eol (spacedBy marker l o f .lines) (r .text) out′
-  pub imports : (o : Options) (f : Formatter) → Uses o indent style → Holds model eol unit f st out scratch
-      → spacedBy marker l o f .importsSplit ≡ f .importsSplit + r .imports
-  pub blanks : (o : Options) (f : Formatter) → Uses o indent style → Holds model eol unit f st out scratch
-      → spacedBy marker l o f .blankNames ≡ f .blankNames + r .blanks
+  pub holds : (o : Options) (f : Formatter) → Uses o indent style
+      → Holds model (asStr (style .ending)) unit f st out scratch
+      → HoldsText model (asStr (style .ending)) (spacedBy marker l o f) (r .st) out′
   pub closers : Closers (encode l) (r .closers)
   pub left : Popped scratch (stackAt unit) (st .nesting) (r .closers) (r .left)
   pub own : r .own ≡ prevOf l
-  pub ordered : Ordered (r .text)
-  pub at : r .text .at .0 ≤ st .text .at .0 + (2 * n + 1) * respacedGrowth
-  pub few : r .imports ≤ 1
-  pub fewer : r .blanks ≤ 2 * n
+  pub ordered : Ordered (r .st .text)
+  pub at : r .st .text .at .0 ≤ st .text .at .0 + (2 * n + 1) * respacedGrowth
+  pub imports : r .st .imports ≤ st .imports + 1
+  pub blanks : r .st .blanks ≤ st .blanks + 2 * n

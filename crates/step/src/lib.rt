@@ -19,7 +19,7 @@ ghost use Rattle.line.specs.Holds.{Classes, Ready, Stepped, Uses, ValidIndent};
 ghost use Rattle.line.specs.Lone.{isLone};
 ghost use Rattle.place.specs.Placing.{spacedBy};
 ghost use Rattle.step.specs.Going.{markerIn, isKept, isAlone, SolidLine, Marks, LineRoom, Goes, Went};
-ghost use Rattle.step.specs.Going.{BracketsCounted, beforeOf, PutOn, afterLine, LineScanned, anyLineBy, ignoreOf};
+ghost use Rattle.step.specs.Going.{BracketsCounted, PutOn, afterLine, LineScanned, anyLineBy, ignoreOf};
 ghost use Rattle.step.specs.Going.{EndsOutside};
 use brackets::Nesting;
 use line::formatter::Formatter;
@@ -31,10 +31,9 @@ use line::scratch::RESPACED;
 use line::scratch::STACK;
 use line::style::Setup;
 use line::style::Style;
-use place::Before;
+use place::Placing;
 use rules::Carry;
 use rules::Ignore;
-use text::Written;
 
 // A marker in the line's comment: none, one that stands alone, one with code before it.
 pub enum Marker {
@@ -67,12 +66,10 @@ pub struct LineSetup {
     pub going: Going,
 }
 
-// The text after the line, what the line adds to the counts, its leading closers, what is open after these popped, and
-// what the next line asks of it.
+// A line that was put into the text: the record that `place` gives, its leading closers, what is open after these
+// popped, and what the next line asks of it.
 pub struct Put {
-    pub text: Written,
-    pub imports: usize,
-    pub blanks: usize,
+    pub st: Formatter,
     pub closers: usize,
     pub left: Nesting,
     pub own: Prev,
@@ -134,24 +131,6 @@ fn count_going(
     brackets::scan_brackets_at(scratch, at, len, class_at, base, left, closers)
 }
 
-// What is known before the line is put.
-fn before_of(st: Formatter, levels: usize, closers: usize, own: Prev, marker: bool) -> Before
-    ensures { λ r. ⌜ r ≡ beforeOf st levels closers own marker ⌝ }
-{
-    let text = st.text;
-    let nesting = st.nesting;
-    let prev = st.prev;
-    Before {
-        text,
-        depth: nesting.depth,
-        levels,
-        prev,
-        closers,
-        own,
-        marker,
-    }
-}
-
 // The line that goes on, put into the text.
 fn put_going<'a>(
     line: &'a [u8],
@@ -167,8 +146,8 @@ fn put_going<'a>(
     requires { ⌜ Goes (now line) (now scratch) (k .unit) (k .going) ⌝ }
     requires { ⌜ ValidIndent (now indent) ⌝ }
     ensures { λ r. ⌜ PutOn (k .marker) (respaced (decode (now (line .entry)))) (now (indent .entry)) (k .style)
-        (now (model .entry)) (asStr (k .style .ending)) (length (now (line .entry))) (k .unit) st (now (out .entry))
-        (now (scratch .entry)) r (now (out .exit)) ⌝ }
+        (now (model .entry)) (length (now (line .entry))) (k .unit) st (now (out .entry)) (now (scratch .entry)) r
+        (now (out .exit)) ⌝ }
 {
     let g = k.going;
     let own = g.own;
@@ -183,14 +162,17 @@ fn put_going<'a>(
     let base = STACK * k.unit;
     let left = brackets::pop_closers(scratch, base, nesting, closers);
     let own = prev_of(l);
-    let b = before_of(st, left.levels, closers, own, k.marker);
     let style = k.style;
-    let p = place::place_line(l, class, indent, style, model, out, b);
-    let text = p.text;
+    let how = Placing {
+        style,
+        closers,
+        levels: left.levels,
+        own,
+        marker: k.marker,
+    };
+    let st = place::place_line(l, class, indent, how, model, out, st);
     Put {
-        text,
-        imports: p.imports,
-        blanks: p.blanks,
+        st,
         closers,
         left,
         own,
@@ -209,12 +191,11 @@ fn ignore_of(marker: bool) -> Ignore
 
 // The record after a line that was put into the text, with the brackets `deep` open, that protects `ignore` and leaves
 // `carry` open.
-fn after_line(st: Formatter, p: Put, deep: Nesting, ignore: Ignore, carry: Carry) -> Formatter
-    requires { ⌜ st .imports + p .imports < 2 ^ 64 ⌝ }
-    requires { ⌜ st .blanks + p .blanks < 2 ^ 64 ⌝ }
-    ensures { λ r. ⌜ r ≡ afterLine st p deep ignore carry ⌝ }
+fn after_line(p: Put, deep: Nesting, ignore: Ignore, carry: Carry) -> Formatter
+    ensures { λ r. ⌜ r ≡ afterLine p deep ignore carry ⌝ }
 {
-    let text = p.text;
+    let st = p.st;
+    let text = st.text;
     let prev = p.own;
     Formatter {
         text,
@@ -223,8 +204,8 @@ fn after_line(st: Formatter, p: Put, deep: Nesting, ignore: Ignore, carry: Carry
         prev,
         ignore,
         carry,
-        imports: st.imports + p.imports,
-        blanks: st.blanks + p.blanks,
+        imports: st.imports,
+        blanks: st.blanks,
     }
 }
 
@@ -253,7 +234,7 @@ fn spaced_line(
     let left = p.left;
     let deep = count_going(line, scratch, k.unit, g, p.closers, left);
     let carry = g.carry;
-    after_line(st, p, deep, ignore_of(k.marker), carry)
+    after_line(p, deep, ignore_of(k.marker), carry)
 }
 
 // Whether a line ends in no `//` comment, which would go on to its end; so it has none. Of an empty line it is not said.

@@ -19,7 +19,7 @@ break-width-requires c κs = search needs
 fit-line-requires : tie.Need-fit-line-requires
 fit-line-requires c κs =
     let a = c .before .before .before in
-    let s = a .before .before .before .before .before .before .before .before .before .before in
+    let s = a .before .before .before .before .before .before .before .before .before .before .before .before in
     (search needs, (level-small _ _ _ (a .level-of .ensures) (s .pre .1 .1 .1 .few), (search needs, (search needs, search needs))))
 
 same-length : tie.Need-same-length
@@ -32,9 +32,9 @@ returns c =
     let d = b .before in
     let e = d .before in
     let g = e .before in
-    let s = g .before .before .before .before .before .before .before .before .before in
-    lay-done _ _ _ _ _ _ _ _ _ _ _ _ _ _ _ (s .pre .1 .0) (s .pre .1 .1 .0 .closers)
-    (g .continues .ensures) (e .level-of .ensures) (s .pre .1 .1 .0 .own) (d .drops-blank .ensures)
+    let s = g .before .before .before .before .before .before .before .before .before .before .before in
+    lay-done _ _ _ _ _ _ _ _ _ _ _ _ _ (s .pre .1 .0) (s .pre .1 .1 .0)
+    (g .continues .ensures) (e .level-of .ensures) (d .drops-blank .ensures)
     (b .break-width .ensures) (a .fit-line .ensures)
 
 pub lay-line-spec : {M : Type 1} → statement M

@@ -1,42 +1,22 @@
-use Rattle.place.proofs.LayLaws.{join-put, not-joined}
+use Rattle.place.proofs.LayLaws.{put-record, counts-fit}
 use borrow.Author.Needs.{needs}
 use Rattle.place.proofs.place_line.Statement.{statement}
 use Rattle.place.proofs.place_line.Tie as tie
 
-joins-newest-requires : tie.Need-joins-newest-requires
-joins-newest-requires c κs = search needs
+join-or-lay-requires : tie.Need-join-or-lay-requires
+join-or-lay-requires c κs = search needs
 
-join-one-requires : tie.Need-join-one-requires
-join-one-requires c κs = search needs
-
-alone-requires : tie.Need-alone-requires
-alone-requires c κs = search needs
+after-placed-requires : tie.Need-after-placed-requires
+after-placed-requires c κs =
+    let a = c .before .before in
+    let s = a .before .before .before .before .before .before .before in
+    counts-fit _ _ _ _ _ _ _ _ _ (s .pre .1 .1 .1) (a .join-or-lay .ensures)
 
 same-length : tie.Need-same-length
 same-length c = search needs
 
 returns : tie.Need-returns
-returns c =
-    let a = c .before .before .before in
-    let b = a .before .before in
-    let d = b .before in
-    let s = d .before .before .before .before .before .before .before in
-    join-put _ _ _ _ _ _ _ _ _ _ (d .joins-newest .ensures) _ _ _ (s .pre .1 .0) (a .join-one .ensures) (c .alone .ensures) (b .if1 .taken)
-
-lay-line-requires : tie.Need-lay-line-requires
-lay-line-requires c κs = search needs
-
-same-length-2 : tie.Need-same-length-2
-same-length-2 c = search needs
-
-returns-2 : tie.Need-returns-2
-returns-2 c =
-    let a = c .before .before in
-    let b = a .before .before in
-    not-joined _ _ _ _ _ _ _ _ _ _ (b .before .joins-newest .ensures) _ (a .lay-line .ensures) (b .if1 .left)
+returns c = put-record _ _ _ _ _ _ _ _ _ _ (c .after-placed .ensures) ((c .before .before .before) .join-or-lay .ensures)
 
 pub place-line-spec : {M : Type 1} → statement M
-place-line-spec =
-    tie.close
-    (tie.spec joins-newest-requires join-one-requires alone-requires same-length returns lay-line-requires
-    same-length-2 returns-2)
+place-line-spec = tie.close (tie.spec join-or-lay-requires after-placed-requires same-length returns)

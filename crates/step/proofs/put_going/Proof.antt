@@ -39,41 +39,39 @@ pop-closers-requires c κs =
 prev-of-requires : tie.Need-prev-of-requires
 prev-of-requires c κs = search needs
 
-before-of-requires : tie.Need-before-of-requires
-before-of-requires c κs = search needs
-
 place-line-requires : tie.Need-place-line-requires
 place-line-requires c κs =
     let a = c .before .before in
     let b = a .before in
-    let d = b .before in
-    let e = d .before .before .before in
-    let g = e .before .before in
-    let s = g .before .before .before .before .before .before .before .before in
+    let d = b .before .before .before in
+    let e = d .before .before in
+    let s = e .before .before .before .before .before .before .before .before in
     let s0 = s .pre .0 in
     let s1 = s .pre .1 .0 in
     let s2 = s .pre .1 .1 .0 in
-    let t = g .line-that-goes-on .ensures in
-    (s .pre .1 .1 .1, (goes-on _ _ _ _ s0 s1 _ s2 _ t, (heads _ _ _ _ s0 s1 _ s2 _ t _ _ _ _ _ (a .before-of .ensures) (e .leading-closers .ensures) (b .prev-of .ensures), asks _ _ _ _ s0 s1 _ _ _ _ _ (a .before-of .ensures) (d .pop-closers .ensures))))
+    let t = e .line-that-goes-on .ensures in
+    let k = d .leading-closers .ensures in
+    let p = b .pop-closers .ensures in
+    let o = a .prev-of .ensures in
+    (s .pre .1 .1 .1, (goes-on _ _ _ _ s0 s1 _ s2 _ t, (heads _ _ _ _ s0 s1 _ s2 _ t _ _ _ _ _ k p o, asks _ _ _ _ s0 s1 _ s2 _ t _ _ _ _ _ k p o)))
 
 same-length : tie.Need-same-length
 same-length c = search needs
 
 returns : tie.Need-returns
 returns c =
-    let a = c .before .before .before in
+    let a = c .before .before in
     let b = a .before .before .before in
     let d = b .before in
-    let e = d .before in
-    let g = e .before .before .before in
-    let h = g .before .before in
-    let s = h .before .before .before .before .before .before .before .before in
-    put-on _ _ _ _ (s .pre .0) (s .pre .1 .0) _ (s .pre .1 .1 .0) _ (h .line-that-goes-on .ensures) _ _ _ _ _ _ _ _ _ _ _ _
-    (b .before-of .ensures) (a .place-line .ensures) (g .leading-closers .ensures) (e .pop-closers .ensures) (d .prev-of .ensures)
+    let e = d .before .before .before in
+    let g = e .before .before in
+    let s = g .before .before .before .before .before .before .before .before in
+    put-on _ _ _ _ (s .pre .0) (s .pre .1 .0) _ (s .pre .1 .1 .0) _ (g .line-that-goes-on .ensures) _ _ _ _ _
+    (e .leading-closers .ensures) (d .pop-closers .ensures) (b .prev-of .ensures) _ _ _ _ _ (a .place-line .ensures)
 
 pub put-going-spec : {M : Type 1} → statement M
 put-going-spec =
     tie.close
     (tie.spec add-end mul-at line-that-goes-on-requires sub-class part-class-start part-class-end
-    leading-closers-requires mul-base pop-closers-requires prev-of-requires before-of-requires place-line-requires
+    leading-closers-requires mul-base pop-closers-requires prev-of-requires place-line-requires
     same-length returns)

@@ -21,12 +21,7 @@ ignore-of-requires : tie.Need-ignore-of-requires
 ignore-of-requires c κs = search needs
 
 after-line-requires : tie.Need-after-line-requires
-after-line-requires c κs =
-    let a = c .before .before .before .before .before .before .before .before .before in
-    let s = a .before .before .before .before .before .before .before .before in
-    let r = s .pre .0 in
-    let p = a .put-going .ensures in
-    (omega (arith, r .imports, r .limit, p .few), omega (arith, r .blanks, r .limit, p .fewer))
+after-line-requires c κs = search needs
 
 same-length : tie.Need-same-length
 same-length c = search needs
@@ -40,7 +35,7 @@ returns c =
     let b = a .before .before .before in
     let d = b .before .before .before .before .before .before in
     let s = d .before .before .before .before .before .before .before .before in
-    spaced-step _ _ _ _ _ _ _ _ _ _ _ _ _ _ _ _ _ (s .pre .1 .1 .0) (s .pre .1 .1 .1 .0) (d .put-going .ensures) (b .count-going .ensures) (a .ignore-of .ensures) (c .after-line .ensures)
+    spaced-step _ _ _ _ _ _ _ _ _ _ _ _ _ _ _ _ (s .pre .1 .1 .0) (s .pre .1 .1 .1 .0) (d .put-going .ensures) (b .count-going .ensures) (a .ignore-of .ensures) (c .after-line .ensures)
 
 pub spaced-line-spec : {M : Type 1} → statement M
 spaced-line-spec =

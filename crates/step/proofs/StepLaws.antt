@@ -4,6 +4,7 @@ use native.Mathlib.Omega.{arith}
 use mathlib.Core.Bool.{Bool, true, false, not, _&&_, _||_, or-true, true≢false, false≢true}
 use mathlib.Core.List.{List, [], _∷_, _++_}
 use mathlib.Core.Path.{_≡_, refl, sym, ap, _∙_, subst}
+use borrow.Author.Tests.{not-true}
 use lib.ListN.{length, take, drop, getD, length-drop}
 use lib.Seq.{take-length, length-take-le}
 use Rattle.unicode.specs.Unicode.{chars, decode, trimEnd, trimStart, trim}
@@ -207,10 +208,6 @@ module _ {raw line : List ℕ} (t : TrimmedLine raw line) (i : Ignore) (b : Bool
 
   lone-free : protects i ≡ false
   lone-free = not-true (protects i) (and-right (isLone line) (not (protects i)) (sym e ∙ q))
-    where
-      not-true : (a : Bool) → not a ≡ true → a ≡ false
-      not-true true h = absurd (false≢true h)
-      not-true false h = refl
 
 pub code-lone : {s₀ s₂ raw line model eol out out′ : List ℕ} {unit : ℕ} {st r : Record} (t : TrimmedLine raw line) (b : Bool)
     → b ≡ (isLone line && not (protects (st .ignore))) → b ≡ true → (o : Options)

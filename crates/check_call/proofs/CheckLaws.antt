@@ -42,6 +42,7 @@ use Rattle.check_call.specs.declared.CheckOutcome.{CheckOutcome}
 use Rattle.check_call.specs.CheckCall.{verdictOf, findingOf, outcomeAfter, outcomeOf, oneIf, answerOf, Compares, CheckedWith, Found}
 use Rattle.check_call.specs.CheckAnswered.{choicesOf, CheckAnswered}
 use Rattle.check_call.proofs.SameLaws.{same-chars}
+use Rattle.unicode.proofs.Tests.{neither-left}
 
 -- ---- the lines, and the finish
 
@@ -96,10 +97,6 @@ module _
 
 -- ---- the tests
 
-or-left : (a b : Bool) → (a || b) ≡ false → a ≡ false
-or-left true b h = h
-or-left false b h = refl
-
 pub option-bad : (bad : Bool) (n : ℕ) → bad ≡ true → true ≡ (bad || eqb n 0)
 option-bad bad n e = rw e
 
@@ -137,7 +134,7 @@ module _
       bad-not = option-good bad (head-passed _ _ (tail-passed _ _ (tail-passed _ _ (tail-passed _ _ (sym tests ∙ e)))))
 
       refused-not : t .refused ≡ false
-      refused-not = or-left (t .refused) (eqb (numbers .«line_ending») 0) (sym is-bad ∙ bad-not)
+      refused-not = neither-left (t .refused) (eqb (numbers .«line_ending») 0) (sym is-bad ∙ bad-not)
 
       plain-tests : v ≡ tested (formatTests table source (t .refused) (numbers .«ruler_tab») (length scratch))
       plain-tests = tests ∙ ap (λ (b : Bool). tested (formatTests table source b (numbers .«ruler_tab») (length scratch))) (bad-not ∙ sym refused-not)

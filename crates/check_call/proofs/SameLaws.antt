@@ -10,9 +10,9 @@ use Rattle.unicode.specs.Unicode.{Scalars, encode, decode, WellFormed}
 use Rattle.unicode.proofs.Decode.{decode-encode}
 use Rattle.unicode.proofs.Tests.{by-test}
 use Rattle.rules.specs.Basics.{same, startsWith}
-use Rattle.rules.proofs.Prefix.{same-eq}
+use Rattle.rules.proofs.Prefix.{same-eq, same-itself}
 use Rattle.compare.specs.Common.{Tells}
-use Rattle.check_rules.proofs.CheckLaws.{starts-append, same-refl}
+use Rattle.check_rules.proofs.CheckLaws.{starts-append}
 use Rattle.check_rules.proofs.ByteLaws.{starts-begins}
 use Rattle.check_call.specs.CheckCall.{Compares}
 
@@ -22,7 +22,7 @@ none-left a [] s e h = sym (e ∙ append-nil a)
 none-left a (c ∷ more) s e h = absurd (omega (arith, ap length e, length-append a (c ∷ more)))
 
 same-yes : (a s : List ℕ) → a ≡ s → same a s ≡ true
-same-yes a s e = ap (λ (x : List ℕ). same x s) e ∙ same-refl s
+same-yes a s e = ap (λ (x : List ℕ). same x s) e ∙ same-itself s
 
 starts-same : (s a : List ℕ) → length a ≡ length s → startsWith s a ≡ same a s
 starts-same s a h =

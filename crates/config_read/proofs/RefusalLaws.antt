@@ -4,7 +4,7 @@ use mathlib.Core.Bool.{Bool, true, false, not}
 use mathlib.Core.List.{List, [], _∷_, _++_, map}
 use mathlib.Core.Path.{_≡_, refl, sym, ap, _∙_}
 use native.Mathlib.Omega.{arith}
-use borrow.Author.Tests.{lt-ltb, le-ltb, ltb-true, ltb-false}
+use borrow.Author.Tests.{lt-ltb, le-ltb, ltb-true, ltb-false, not-false}
 use lib.Dec.{ltb}
 use lib.ListN.{length, take, drop}
 use Rattle.unicode.specs.Unicode.{prefixLen, decode, WellFormed, wellFormed}
@@ -176,10 +176,6 @@ any-name (t ∷ ts) h = go (ranked t) (any-name ts (omega (arith, worst-cons t t
     go (name a b c r) i = any-yes hasLongName t ts c ∙ sym (over-yes 0 t ts (omega arith))
     go (fine a b c r) i = any-no hasLongName t ts c ∙ i ∙ sym (over-no 0 t ts (omega arith))
 
-not-true : (b : Bool) → not b ≡ false → b ≡ true
-not-true true e = refl
-not-true false e = absurd (let z : _≡_ {A = ℕ} 0 1 = cc in omega arith)
-
 all-accepted : (ts : Texts) → worst ts ≤ 0 → AllAccepted ts
 all-accepted [] h = tt
 all-accepted (t ∷ ts) h = (go (ranked t), all-accepted ts (omega (arith, worst-cons t ts)))
@@ -190,7 +186,7 @@ all-accepted (t ∷ ts) h = (go (ranked t), all-accepted ts (omega (arith, worst
     go (name a b c r) = absurd (omega (arith, h, worst-cons t ts))
     go (fine a b c r) =
         record {
-          readable = record { short = ltb-false 65_536 (length t) a; well = test-wf t (not-true (wellFormed t) b) };
+          readable = record { short = ltb-false 65_536 (length t) a; well = test-wf t (not-false (wellFormed t) b) };
           names = c;
         }
 
@@ -270,7 +266,7 @@ module _ (path : List ℕ) (ts : Texts) (r : ℕ) (w : WorstOf path ts r) where
           where
             go : PathRanked path → WellFormed path
             go (bad a p) = absurd (omega (arith, w .is, below-two))
-            go (good a p) = test-wf path (not-true (wellFormed path) a)
+            go (good a p) = test-wf path (not-false (wellFormed path) a)
 
         pub read-given : (top : ℕ) → TopOf path top → (v : Resolved) → Resolves (take (length path - top) (drop top path)) ts v → ConfigOutcome.Given v ≡ readEditorConfig path ts
         read-given top t v s =

@@ -122,20 +122,20 @@ module _ (s : List ℕ) (w : WellFormed s) (r : Bool) (e : r ≡ startsWith s (c
 -- ---- the facts of a line
 
 -- its bytes end in `}` as its characters do, and start with `else`, trimmed at the start
-brace-chars : (s : List ℕ) → WellFormed s → lastIs (is "}") s ≡ lastIs (is "}") (decode s)
-brace-chars s w = on-decode (lastIs (is "}")) (lastIs (is "}")) (last-encode (is "}") false (steady-is "}" refl)) s w
+pub brace-bytes : (s : List ℕ) → WellFormed s → lastIs (is "}") s ≡ lastIs (is "}") (decode s)
+brace-bytes s w = on-decode (lastIs (is "}")) (lastIs (is "}")) (last-encode (is "}") false (steady-is "}" refl)) s w
 
 else-chars : (s : List ℕ) (a : ℕ) → TrimmedStart s a → startsWith (take (length s - a) (drop a s)) (codes "else") ≡ at (trimStart (decode s)) "else"
 else-chars s a u = rw part-from (on-decode (λ l. startsWith l (codes "else")) (λ l. startsWith l (codes "else")) (λ l. starts-encode (codes "else") l refl) (drop a s) (u .well) ∙ rw (u .text))
 
 pub facts-by : (s : List ℕ) (e a : ℕ) (b f : Bool) → WellFormed s → TrimmedEnd s e → TrimmedStart s a → b ≡ lastIs (is "}") (take e s)
     → f ≡ startsWith (take (length s - a) (drop a s)) (codes "else") → Facts s (record { trimmed = e; brace = b; «else_first» = f })
-facts-by s e a b f w t u p q = record { trimmed = t; brace = p ∙ brace-chars (take e s) (t .well) ∙ rw (t .text); starts = q ∙ else-chars s a u }
+facts-by s e a b f w t u p q = record { trimmed = t; brace = p ∙ brace-bytes (take e s) (t .well) ∙ rw (t .text); starts = q ∙ else-chars s a u }
 
 -- whether an `else` may join a line that is trimmed at its end
 module _ (s : List ℕ) (w : WellFormed s) (t : trimEnd (decode s) ≡ decode s) (b : Bool) (p : b ≡ lastIs (is "}") s) where
   ends-same : lastIs (is "}") (trimEnd (decode s)) ≡ b
-  ends-same = ap (lastIs (is "}")) t ∙ sym (p ∙ brace-chars s w)
+  ends-same = ap (lastIs (is "}")) t ∙ sym (p ∙ brace-bytes s w)
 
   pub takes-brace : (a : ℕ) (f : Bool) → b ≡ true → TrimmedStart s a → f ≡ startsWith (take (length s - a) (drop a s)) (codes "else") → not f ≡ joinable (decode s)
   unfolding joinable

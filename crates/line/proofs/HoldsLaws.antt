@@ -1,7 +1,7 @@
 -- What every kind of line uses.
 --     initial-holds, initial-runs         before the first line
 --     first-line                          what the kind of the newest line says of the lines
---     declaration-bytes, brace-bytes, prev-bytes, carry-bytes     facts of a line, found on its bytes
+--     declaration-bytes, prev-bytes, carry-bytes     facts of a line, found on its bytes
 --     length-stacked                      so many entries
 --     stack-scanned, stack-counted        the stack after `scan_brackets` on a line's bytes is the definition's on
 --                                         its characters
@@ -36,7 +36,7 @@ use Rattle.rules.specs.Refusals.{maxSource}
 use Rattle.rules.specs.Else.{joinable}
 use Rattle.rules.specs.Line.{Formatter, start}
 use Rattle.rules.specs.declared.Carry.{Carry}
-use Rattle.rules.proofs.StartsBytes.{on-decode, steady-is, starts-encode, last-encode, closers-encode}
+use Rattle.rules.proofs.StartsBytes.{on-decode, starts-encode, closers-encode}
 use Rattle.rules.proofs.ScanBytes.{encodeCells, carry-encode}
 use Rattle.rules.proofs.BracketsBytes.{brackets-encode, count-closers}
 use Rattle.rules.proofs.CellsLaws.{cells-classify, cells-bytes, length-classBytes, length-classify}
@@ -58,6 +58,7 @@ use Rattle.text.proofs.LinesLaws.{kind-first}
 use Rattle.text.proofs.StepLaws.{text-nothing}
 use Rattle.line.specs.Holds.{Record, prevOf, initial, Holds, Runs, Ready, Stepped, ValidIndent, TrimmedLine, Classes}
 use Rattle.line.specs.Scratch.{stackAt}
+use Rattle.format.proofs.ElseLaws.{brace-bytes}
 
 -- ---- before the first line
 
@@ -95,9 +96,6 @@ declaration-encode l = simp starts-encode
 
 pub declaration-bytes : (line : List ℕ) → WellFormed line → declarationOf line ≡ declarationOf (decode line)
 declaration-bytes = on-decode declarationOf declarationOf declaration-encode
-
-pub brace-bytes : (line : List ℕ) → WellFormed line → lastIs (is "}") line ≡ lastIs (is "}") (decode line)
-brace-bytes = on-decode (lastIs (is "}")) (lastIs (is "}")) (last-encode (is "}") false (steady-is "}" refl))
 
 pub prev-by : (line : List ℕ) (d : Declaration) (b : Bool) → d ≡ declarationOf line → b ≡ lastIs (is "}") line → _≡_ {A = Prev} (record { declares = d; brace = b }) (prevOf line)
 prev-by line d b e q =

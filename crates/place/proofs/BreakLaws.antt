@@ -41,7 +41,7 @@ use Rattle.text.proofs.PadLaws.{some-size}
 use Rattle.text.proofs.StepLaws.{ending, grown-ordered, lines-done, lines-grown}
 use Rattle.place.specs.declared.Placed.{Placed}
 use Rattle.line.specs.Holds.{ValidIndent}
-use Rattle.line.proofs.HoldsLaws.{brace-bytes}
+use Rattle.format.proofs.ElseLaws.{brace-bytes}
 use Rattle.place.specs.Placing.{GoesOn, LaidBy, Breaks, aloneIn}
 
 -- some options in use

@@ -8,7 +8,7 @@ use Rattle.rules.specs.Basics.{choose, is, lastIs}
 use Rattle.rules.proofs.Choose.{choose-case}
 use Rattle.rules.specs.Refusals.{maxSource}
 use Rattle.text.specs.Text.{ElseLine}
-use Rattle.line.proofs.HoldsLaws.{brace-bytes}
+use Rattle.format.proofs.ElseLaws.{brace-bytes}
 use Rattle.place.specs.Placing.{GoesOn}
 
 -- ---- an else that goes on

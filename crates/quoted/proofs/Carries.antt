@@ -21,7 +21,8 @@ use Rattle.rules.specs.declared.Mode.{Mode}
 use Rattle.rules.specs.declared.Mark.{Mark}
 use Rattle.rules.proofs.Choose.{choose-case}
 use Rattle.rules.proofs.SpacingLaws.{blank-white}
-use Rattle.quoted.proofs.Marks.{never, code-class}
+use Rattle.rules.proofs.Prefix.{never}
+use Rattle.quoted.proofs.Marks.{code-class}
 use Rattle.quoted.proofs.Separators.{Sep, sep-white, sep-comma, mark-sep, next-code}
 use Rattle.quoted.proofs.Endings.{CodeMark, IfCode, code-mark, NotBlank, Ending, ending-code, ending-next}
 use Rattle.quoted.proofs.SpacedStrings.{firm-at}

@@ -15,7 +15,7 @@ use Rattle.rules.specs.declared.Carry.{Carry}
 use Rattle.rules.specs.declared.Mode.{Mode}
 use Rattle.rules.specs.declared.Mark.{Mark}
 use Rattle.rules.proofs.Choose.{choose-case}
-use Rattle.quoted.proofs.Marks.{never}
+use Rattle.rules.proofs.Prefix.{never}
 
 -- a mark of class code: a backslash with what it escapes, or one character
 pub record CodeMark (c : ℕ) (u : Mark) : Type 0 where

@@ -19,7 +19,7 @@ use Rattle.rules.specs.declared.PrintWidth.{PrintWidth}
 use Rattle.rules.proofs.Choose.{choose-case}
 use Rattle.rules.proofs.StartsBytes.{choose-both}
 use Rattle.rules.proofs.SplitOperationLaws.{white-indent}
-use Rattle.quoted.proofs.Marks.{never}
+use Rattle.rules.proofs.Prefix.{never}
 use Rattle.quoted.proofs.White.{carry-trim}
 use Rattle.quoted.proofs.Carries.{carry-respaced}
 

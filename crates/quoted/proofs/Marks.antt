@@ -1,6 +1,6 @@
 -- Modes and marks: what opens at a mark in code; the class of a mark in other modes.
 use Prim.Native.Nat.{ℕ}
-use mathlib.Core.Bool.{Bool, true, false, _&&_, true≢false}
+use mathlib.Core.Bool.{Bool, true, false, _&&_}
 use mathlib.Core.List.{List}
 use mathlib.Core.Path.{_≡_, refl, sym, ap, _∙_}
 use lib.Dec.{eqb}
@@ -12,9 +12,7 @@ use Rattle.rules.specs.declared.Class.{Class}
 use Rattle.rules.specs.declared.Mode.{Mode}
 use Rattle.rules.specs.declared.Mark.{Mark}
 use Rattle.rules.proofs.Choose.{choose-case}
-
-pub never : {A : Type 0} {b : Bool} → b ≡ true → b ≡ false → A
-never p q = absurd (true≢false (sym p ∙ q))
+use Rattle.rules.proofs.Prefix.{never}
 
 pub code-mode : (m : Mode) → inCodeMode m ≡ true → m ≡ Mode.Code
 code-mode Mode.Code h = refl

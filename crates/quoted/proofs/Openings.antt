@@ -17,7 +17,8 @@ use Rattle.rules.specs.declared.Mode.{Mode}
 use Rattle.rules.specs.declared.Mark.{Mark}
 use Rattle.rules.proofs.Choose.{choose-case}
 use Rattle.rules.proofs.ScanBytes.{label}
-use Rattle.quoted.proofs.Marks.{never, prefab-mode, opens-code, mark-class}
+use Rattle.rules.proofs.Prefix.{never}
+use Rattle.quoted.proofs.Marks.{prefab-mode, opens-code, mark-class}
 use Rattle.quoted.proofs.Separators.{sep-white, sep-mode, not-open, next-ahead}
 use Rattle.quoted.proofs.White.{blank-code}
 

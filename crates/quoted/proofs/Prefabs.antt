@@ -28,13 +28,15 @@ use Rattle.rules.proofs.Struck.{Like, like-refl, _then_, like-append, like-afte
 use Rattle.rules.proofs.SpacingLaws.{all-white}
 use Rattle.rules.proofs.LineLaws.{Holds}
 use Rattle.rules.proofs.Demand3.{white-ending, like-joined}
-use Rattle.quoted.proofs.Marks.{never, prefab-mode}
+use Rattle.rules.proofs.Prefix.{never}
+use Rattle.quoted.proofs.Marks.{prefab-mode}
 use Rattle.quoted.proofs.Strings.{all-append, all-map}
 use Rattle.quoted.proofs.Lines.{Goes, goes-line}
 use Rattle.quoted.proofs.Among.{Among, Lasts, among-empty, among-line}
 use Rattle.quoted.proofs.Openings.{OpenCut, Maybe, maybe-map, open-cut}
 use Rattle.quoted.proofs.OpeningLines.{Ends, On, on-line}
 use Rattle.quoted.proofs.Text.{holds-next}
+use Rattle.rules.proofs.SplitLines.{some-after}
 
 -- ---- what is open
 
@@ -89,15 +91,11 @@ record Opened (ls : List (List ℕ)) (p : Prefab) : Type 0 where
 abbrev Closed : Prefab → List (List ℕ) → List ℕ → Type 0
 Closed p ls l = (isEmpty l ≡ false) × Opened ls p
 
-some-more : (a : List ℕ) (c : ℕ) (b : List ℕ) → isEmpty (a ++ (c ∷ b)) ≡ false
-some-more [] c b = refl
-some-more (x ∷ a) c b = refl
-
 closed-lasts : (p : Prefab) → Lasts (Closed p)
 closed-lasts p =
     record {
       some = λ ls h. never refl (h .0);
-      join = λ ls last line h. (some-more (trimEnd last) 32 line, h .1);
+      join = λ ls last line h. (some-after (trimEnd last) 32 line, h .1);
     }
 
 abbrev In : List (List ℕ) → Prefab → Type 0

@@ -23,7 +23,7 @@ use Rattle.rules.specs.declared.Mode.{Mode}
 use Rattle.rules.specs.declared.Mark.{Mark}
 use Rattle.rules.proofs.Prefix.{visible}
 use Rattle.rules.proofs.ScanBytes.{rest}
-use Rattle.quoted.proofs.Marks.{never}
+use Rattle.rules.proofs.Prefix.{never}
 
 -- characters that marks are told by: visible, and no comma
 abbrev marking : ℕ → Bool

@@ -20,7 +20,8 @@ use Rattle.rules.specs.declared.Mode.{Mode}
 use Rattle.rules.specs.declared.Mark.{Mark}
 use Rattle.rules.proofs.Choose.{choose-case}
 use Rattle.rules.proofs.ScanBytes.{label}
-use Rattle.quoted.proofs.Marks.{never, opens-code}
+use Rattle.rules.proofs.Prefix.{never}
+use Rattle.quoted.proofs.Marks.{opens-code}
 
 -- ---- of all members
 

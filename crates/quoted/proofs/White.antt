@@ -14,7 +14,7 @@ use Rattle.rules.specs.Prefabs.{inCodeMode, opens}
 use Rattle.rules.specs.Quoted.{closing, quotedAt, quotedIn}
 use Rattle.rules.specs.declared.Carry.{Carry}
 use Rattle.rules.specs.declared.Mark.{Mark}
-use Rattle.quoted.proofs.Marks.{never}
+use Rattle.rules.proofs.Prefix.{never}
 use Rattle.quoted.proofs.Separators.{sep-white, sep-mode, next-code, not-open, next-ahead}
 use Rattle.quoted.proofs.Strings.{Within, Reads, goes, ends, reads, not-code, open-mark, quote-solid}
 

@@ -33,7 +33,7 @@ use Rattle.rules.proofs.ScanBytes.{label, chars-append}
 use Rattle.rules.proofs.CellsLaws.{length-chars}
 use Rattle.rules.proofs.OperatorsBytes.{markBytes}
 
-never : {A : Type 0} {b : Bool} → b ≡ true → b ≡ false → A
+pub never : {A : Type 0} {b : Bool} → b ≡ true → b ≡ false → A
 never p q = absurd (true≢false (sym p ∙ q))
 
 -- ---- operators

@@ -199,7 +199,7 @@ count-length p (c ∷ l) =
     choose-case (λ (n : ℕ). n + count p l ≤ suc (length l)) (λ h. omega arith) (λ h. omega arith)
 
 -- those after the first n
-count-drop : (p : ℕ → Bool) (n : ℕ) (cells : List Cell) → count p (charsOf (drop n cells)) ≤ count p (charsOf cells)
+pub count-drop : (p : ℕ → Bool) (n : ℕ) (cells : List Cell) → count p (charsOf (drop n cells)) ≤ count p (charsOf cells)
 unfolding count charsOf
 count-drop p zero cells = omega arith
 count-drop p (suc n) [] = omega arith

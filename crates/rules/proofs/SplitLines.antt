@@ -64,7 +64,7 @@ joinable-trimmed : (m : List ℕ) → trimEnd m ≡ m → joinable m ≡ (lastIs
 unfolding joinable
 joinable-trimmed m t = ap (λ (l : List ℕ). lastIs (is "}") l && not (at (trimStart m) "else")) t
 
-some-after : (w : List ℕ) (c : ℕ) (cs : List ℕ) → isEmpty (w ++ (c ∷ cs)) ≡ false
+pub some-after : (w : List ℕ) (c : ℕ) (cs : List ℕ) → isEmpty (w ++ (c ∷ cs)) ≡ false
 some-after [] c cs = refl
 some-after (x ∷ w) c cs = refl
 

@@ -1,15 +1,15 @@
 -- The line that goes on: spacing, its class bytes, and its brackets.
-use Prim.Native.Nat.{ℕ, zero, suc, _+_, _-_, _≤_}
+use Prim.Native.Nat.{ℕ, _+_, _-_, _≤_}
 use native.Mathlib.Omega.{arith}
 use mathlib.Core.Bool.{Bool, true, false}
-use mathlib.Core.List.{List, [], _∷_}
+use mathlib.Core.List.{List}
 use mathlib.Core.Path.{_≡_, refl, sym, ap, _∙_, subst}
 use lib.ListN.{length, take, drop}
 use lib.Seq.{length-take-le}
 use Rattle.unicode.specs.Unicode.{encode, decode, WellFormed}
 use Rattle.buffer.specs.Buffer.{part}
 use Rattle.rules.specs.Basics.{choose, count, isOpener}
-use Rattle.rules.specs.Scan.{Cell, charsOf, classify, carryAfter}
+use Rattle.rules.specs.Scan.{charsOf, classify, carryAfter}
 use Rattle.rules.specs.ClassBytes.{classBytes, cellsOf}
 use Rattle.rules.specs.Spacing.{normalizeSpacing, respaced}
 use Rattle.rules.specs.Brackets.{Entry, leadingClosers, scanBrackets}
@@ -18,7 +18,7 @@ use Rattle.rules.proofs.Choose.{choose-true, choose-false}
 use Rattle.rules.proofs.StartsBytes.{on-decode, allAscii, closers-encode, closers-ascii}
 use Rattle.rules.proofs.ScanBytes.{chars-classify}
 use Rattle.rules.proofs.BracketsBytes.{brackets-encode, drop-encode}
-use Rattle.rules.proofs.SpacedLine.{spaced-bytes, brackets-height, openers-spaced, count-length, length-size}
+use Rattle.rules.proofs.SpacedLine.{spaced-bytes, brackets-height, openers-spaced, count-length, length-size, count-drop}
 use Rattle.marks.specs.Within.{ClassifiedAt}
 use Rattle.basics.specs.Region.{Only}
 use Rattle.basics.specs.Closers.{Closers}
@@ -108,12 +108,6 @@ module _ {y after : Carry} {line scratch : List ℕ} {at : ℕ} (well : WellForm
       (brackets-encode (left .line) (drop (leadingClosers (decode line)) (classify y (decode line))) (stacked scratch base (left .depth)))
 
 -- each bracket that is left open has an opener in the line
-count-drop : (p : ℕ → Bool) (n : ℕ) (cells : List Cell) → count p (charsOf (drop n cells)) ≤ count p (charsOf cells)
-unfolding count charsOf
-count-drop p zero cells = omega arith
-count-drop p (suc n) [] = omega arith
-count-drop p (suc n) (x ∷ xs) = omega (arith, count-drop p n xs)
-
 height-dropped : (k : ℕ) (l : List ℕ) (n : ℕ) (stack : List Entry) → length (scanBrackets k (drop n (classify Carry.Code (respaced l))) stack) ≤ length stack + length l
 height-dropped k l n stack =
     let e : count isOpener (charsOf (classify Carry.Code (respaced l))) ≡ count isOpener l =

@@ -82,7 +82,7 @@ some-test l h = ne-eqb (size l) 0 (λ q. absurd (omega arith))
 
 -- ---- trimmed at its end
 
-white-of : (l : List ℕ) → trimEnd l ≡ [] → White l
+pub white-of : (l : List ℕ) → trimEnd l ≡ [] → White l
 white-of l e = let w = end-split l in subst White (sym (w .2 ∙ ap (λ (x : List ℕ). x ++ w .0) e)) (w .1)
 
 pub tail-pad : (p l : List ℕ) → Blanks p → size (trimEnd (p ++ l)) ≡ tailOf (length p) (size (trimEnd l))

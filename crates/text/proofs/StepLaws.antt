@@ -8,7 +8,7 @@ use lib.Dec.{eqb}
 use lib.ListN.{length, replicate, length-append}
 use lib.Seq.{length-take-le}
 use Rattle.unicode.specs.Unicode.{encode, decode, size, trimEnd}
-use Rattle.unicode.proofs.Trim.{White, white-append, end-none, end-split}
+use Rattle.unicode.proofs.Trim.{White, white-append, end-none}
 use borrow.Author.Tests.{eq-eqb, eqb-true}
 use Rattle.unicode.proofs.Decode.{encode-nil, encode-append, encode-ascii, size-append}
 use Rattle.buffer.specs.Buffer.{Finishes}
@@ -32,7 +32,7 @@ use Rattle.text.specs.declared.Last.{Last}
 use Rattle.text.specs.declared.Written.{Written}
 use Rattle.text.specs.Text.{trimNewest, newestBy, newestOf, isFirst, sepBy, sepOf, keptLines, aloneAfter, tailOf, fullOf, nothing, afterLines, Line, ElseLine, Text, Grown, Ordered, SepLen, From, Adds, Joins, Continued, Ended, Finished}
 use Rattle.text.proofs.LinesLaws.{not-alone, joined-cons, joined-grow, size-joined, encode-append-lines, full-cut, full-empty, full-line, below-cut, below-full, below-empty, below-line, newest-cut}
-use Rattle.text.proofs.PadLaws.{Blanks, indent-blanks, blanks-encode, some-size, some-chars, none-test, some-test, tail-pad, join-pad, else-trimmed, else-joinable}
+use Rattle.text.proofs.PadLaws.{Blanks, indent-blanks, blanks-encode, some-size, some-chars, none-test, some-test, tail-pad, join-pad, else-trimmed, else-joinable, white-of}
 
 -- ---- a line ending is one or two bytes
 
@@ -96,9 +96,6 @@ kind-some : (l : List ℕ) (b : Bool) → 1 ≤ size l → newestBy 1 b ≡ newe
 kind-some l b h = rw (some-test l h) refl
 
 -- ---- lines of white space
-
-end-white-all : (l : List ℕ) → trimEnd l ≡ [] → White l
-end-white-all l e = let s = end-split l in rw (s .2 ∙ ap (λ (x : List ℕ). x ++ s .0) e) (s .1)
 
 white-right : (a b : List ℕ) → White (a ++ b) → White b
 white-right [] b w = w
@@ -218,7 +215,7 @@ module _
         }
 
     white-tail : eqb tail 0 ≡ true → White (p ++ decode line)
-    white-tail h = white-append p (decode line) (b .white) (end-white-all (decode line) (none-size (trimEnd (decode line)) (sym kept ∙ eqb-true tail 0 h)))
+    white-tail h = white-append p (decode line) (b .white) (white-of (decode line) (none-size (trimEnd (decode line)) (sym kept ∙ eqb-true tail 0 h)))
 
     solid-tail : eqb tail 0 ≡ false → White (p ++ decode line) → ⊥
     solid-tail h w = true≢false (sym (eq-eqb tail 0 (kept ∙ ap size (end-none (decode line) (white-right p (decode line) w)) ∙ ap length encode-nil)) ∙ h)

@@ -155,22 +155,22 @@ module _
     (indent line model out out′ : List ℕ) (k : Placing) (st : Record) (e : Bool) (joins : e ≡ (isPlainElse (decode line) && isJoinable (st .text .last)))
   where
     -- what is known before, and what is put
-    abbrev Before : Formatter → Type 0
-    Before f = Knows model (asStr (k .style .ending)) f k st out
+    abbrev Known : Formatter → Type 0
+    Known f = Knows model (asStr (k .style .ending)) f k st out
 
-    abbrev Put : (Options → Formatter → Formatter) → Placed → Type 0
-    Put g p = Puts g indent model (length line) k st out (afterPlaced st p) out′
+    abbrev PutAs : (Options → Formatter → Formatter) → Placed → Type 0
+    PutAs g p = Puts g indent model (length line) k st out (afterPlaced st p) out′
 
     -- the newest line's kind says whether it can
-    takes : (f : Formatter) → Before f → e ≡ (isPlainElse (decode line) && canJoin (f .lines))
+    takes : (f : Formatter) → Known f → e ≡ (isPlainElse (decode line) && canJoin (f .lines))
     takes f x = joins ∙ ap (λ (y : Bool). isPlainElse (decode line) && y) (ap isJoinable (x .holds .text .last) ∙ kind-joinable (f .lines))
 
     module _ (class : List ℕ) (u : Written) (p : Placed) (g : GoesOn line class) (w : Joins (decode line) model out (st .text) out′ u) (is : p ≡ aloneIn u) (yes : e ≡ true) where
-      joined-same : (o : Options) (f : Formatter) → Before f → spacedLine o f (k .marker) (decode line) ≡ elseLine f (decode line)
+      joined-same : (o : Options) (f : Formatter) → Known f → spacedLine o f (k .marker) (decode line) ≡ elseLine f (decode line)
       unfolding spacedLine
       joined-same o f x = choose-true _ _ _ (sym (takes f x) ∙ yes)
 
-      joined-holds : (o : Options) (f : Formatter) → Before f
+      joined-holds : (o : Options) (f : Formatter) → Known f
           → HoldsText model (asStr (k .style .ending)) (spacedLine o f (k .marker) (decode line)) (afterPlaced st (aloneIn u)) out′
       unfolding elseLine
       joined-holds o f x =
@@ -180,7 +180,7 @@ module _
             blanks = rw (joined-same o f x) (omega (arith, x .holds .blanks));
           }
 
-      join-alone : Put (spacedBy (k .marker) (decode line)) (aloneIn u)
+      join-alone : PutAs (spacedBy (k .marker) (decode line)) (aloneIn u)
       join-alone =
           record {
             holds = λ o f i x. joined-holds o f x;
@@ -191,10 +191,10 @@ module _
             others = refl;
           }
 
-      pub join-put : Put (spacedBy (k .marker) (decode line)) p
-      join-put = subst (Put (spacedBy (k .marker) (decode line))) (sym is) join-alone
+      pub join-put : PutAs (spacedBy (k .marker) (decode line)) p
+      join-put = subst (PutAs (spacedBy (k .marker) (decode line))) (sym is) join-alone
 
-    pub not-joined : (p : Placed) → Put (placedBy (k .marker) (decode line)) p → e ≡ false → Put (spacedBy (k .marker) (decode line)) p
+    pub not-joined : (p : Placed) → PutAs (placedBy (k .marker) (decode line)) p → e ≡ false → PutAs (spacedBy (k .marker) (decode line)) p
     not-joined p w q =
         record {
           holds = λ o f i x. subst (λ (y : Formatter). HoldsText model (asStr (k .style .ending)) y (afterPlaced st p) out′) (sym (same o f x)) (w .holds o f i x);
@@ -205,7 +205,7 @@ module _
           others = w .others;
         }
       where
-        same : (o : Options) (f : Formatter) → Before f → spacedLine o f (k .marker) (decode line) ≡ placedLine o f (k .marker) (decode line)
+        same : (o : Options) (f : Formatter) → Known f → spacedLine o f (k .marker) (decode line) ≡ placedLine o f (k .marker) (decode line)
         same o f x = unfold spacedLine in (choose-false _ _ _ (sym (takes f x) ∙ q))
 
 -- ---- the record after it

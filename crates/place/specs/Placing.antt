@@ -6,7 +6,7 @@ use mathlib.Core.Path.{_≡_}
 use lib.Dec.{eqb, ltb}
 use lib.ListN.{length, drop}
 use Rattle.unicode.specs.Unicode.{decode, trimEnd, WellFormed}
-use Rattle.rules.specs.Basics.{choose, isEmpty}
+use Rattle.rules.specs.Basics.{choose}
 use Rattle.rules.specs.Scan.{classify}
 use Rattle.rules.specs.ClassBytes.{classBytes}
 use Rattle.rules.specs.Options.{Options}
@@ -24,7 +24,6 @@ use Rattle.text.specs.Text.{Text, Ordered}
 use Rattle.text.specs.declared.Written.{Written}
 use Rattle.split.specs.Measure.{InUse, Wide}
 use Rattle.line.specs.Holds.{Record, Holds, Small, Uses, prevOf}
-use Rattle.line.specs.declared.style.Style.{Style}
 use Rattle.place.specs.declared.Fit.{Fit}
 use Rattle.place.specs.declared.Placed.{Placed}
 use Rattle.place.specs.declared.Placing.{Placing}

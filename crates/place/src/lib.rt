@@ -342,8 +342,8 @@ fn after_placed(st: Formatter, p: Placed) -> Formatter
     next
 }
 
-// The record after the line that goes on was put into the text. `after_placed` has one call, after all ways: one in each
-// of them costs every line more.
+// The record after the line that goes on was put into the text. There is one call of `after_placed`, after all ways:
+// one in each of them takes more instructions for every line.
 pub fn place_line(
     line: &[u8],
     class: &[u8],

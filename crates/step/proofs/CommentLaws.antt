@@ -10,7 +10,7 @@ use lib.ListN.{length, take, drop, getD, drop-of-length-le}
 use Rattle.unicode.specs.Unicode.{chars, decode, WellFormed}
 use Rattle.rules.specs.Basics.{choose, startsWith}
 use Rattle.rules.specs.Scan.{long, one, inCode, inQuoted, inInterp, inInner, inBlock, inPrefab, markAt, nextOf, next, classesOf, scan, begin, classify, isLineComment}
-use Rattle.rules.specs.ClassBytes.{classByte, classOf, classBytes}
+use Rattle.rules.specs.ClassBytes.{classByte, classBytes}
 use Rattle.rules.specs.Words.{isMarkerText}
 use Rattle.rules.specs.declared.Carry.{Carry}
 use Rattle.rules.specs.declared.Class.{Class}

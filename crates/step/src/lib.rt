@@ -1,7 +1,7 @@
 // One line of the source, of any kind.
 ghost use mathlib.Core.Path.{_≡_};
 ghost use mathlib.Core.Bool.{false, not, _&&_};
-ghost use Prim.Native.Nat.{_+_, _≤_, _<_, _^_};
+ghost use Prim.Native.Nat.{_+_, _≤_};
 ghost use lib.ListN.{length};
 ghost use Rattle.unicode.specs.Unicode.{encode, decode, WellFormed};
 ghost use Rattle.rules.specs.Lines.{asStr};
@@ -237,7 +237,8 @@ fn spaced_line(
     after_line(p, deep, ignore_of(k.marker), carry)
 }
 
-// Whether a line ends in no `//` comment, which would go on to its end; so it has none. Of an empty line it is not said.
+// Whether a line ends in no `//` comment, which would go on to its end; so it has none. Of an empty line it is not
+// said.
 fn ends_outside(class: &[u8]) -> bool
     ensures { λ r. ⌜ EndsOutside (now (class .entry)) r ⌝ }
 {

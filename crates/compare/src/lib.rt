@@ -107,8 +107,39 @@ fn run_of(model: &[u8], b: u8, n: usize) -> bool
     n <= u32::trailing_zeros(m + 1) as usize
 }
 
-// Whether the model starts with the indent, levels times over. It is told where that has at most 16 bytes, all of one
-// kind, and the model has 16.
+// Whether the first n bytes, at least 16, are b: block by block, of which the last may overlap.
+fn run_long(model: &[u8], b: u8, n: usize) -> bool
+    requires { ⌜ (16 ≤ n) × (n ≤ length (now model)) ⌝ }
+    ensures { λ r. ⌜ RunOf (now (model .entry)) b n r ⌝ }
+{
+    let last = n - 16;
+    let mut i = 0;
+    while i < last {
+        if run_of(&model[i..], b, 16) {
+            i += 16;
+        } else {
+            return false;
+        }
+    }
+    run_of(&model[last..], b, 16)
+}
+
+// Whether the model, of at least 16 bytes, starts with n times b.
+fn run_alike(model: &[u8], b: u8, n: usize) -> bool
+    requires { ⌜ 16 ≤ length (now model) ⌝ }
+    ensures { λ r. ⌜ StartsAlike (now (model .entry)) (replicate n b) r ⌝ }
+{
+    if n <= 16 {
+        return run_of(model, b, n);
+    }
+    if model.len() < n {
+        return false;
+    }
+    run_long(model, b, n)
+}
+
+// Whether the model starts with the indent, levels times over. It is told where that is of one kind of byte, and the
+// model has 16.
 fn pad_alike(model: &[u8], indent: &[u8], levels: usize) -> bool
     requires { ⌜ length (times levels (now indent)) < 2 ^ 64 ⌝ }
     ensures { λ r. ⌜ StartsAlike (now (model .entry)) (times levels (now (indent .entry))) r ⌝ }
@@ -117,15 +148,12 @@ fn pad_alike(model: &[u8], indent: &[u8], levels: usize) -> bool
     if n == 0 {
         return true;
     }
-    if n > 16 {
-        return false;
-    }
     if model.len() < 16 {
         return false;
     }
     let b = indent[0];
     if buffer::all_are(indent, b) {
-        return run_of(model, b, n);
+        return run_alike(model, b, n);
     }
     false
 }

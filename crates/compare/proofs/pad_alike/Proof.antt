@@ -1,8 +1,8 @@
-use Rattle.compare.proofs.WriterLaws.{pad-some}
-use Rattle.compare.proofs.CommonLaws.{starts-untold, starts-none, starts-run}
-use Rattle.buffer.proofs.RepeatLaws.{length-times}
-use native.Mathlib.Omega.{arith}
 use borrow.Author.Needs.{needs}
+use native.Mathlib.Omega.{arith}
+use Rattle.buffer.proofs.RepeatLaws.{length-times}
+use Rattle.compare.proofs.CommonLaws.{starts-untold, starts-none, starts-times}
+use Rattle.compare.proofs.WriterLaws.{pad-some}
 use Rattle.compare.proofs.pad_alike.Statement.{statement}
 use Rattle.compare.proofs.pad_alike.Tie as tie
 
@@ -15,23 +15,20 @@ returns c = search (needs, starts-none)
 returns-2 : tie.Need-returns-2
 returns-2 c = search (needs, starts-untold)
 
-returns-3 : tie.Need-returns-3
-returns-3 c = search (needs, starts-untold)
-
 shared-slice-read-b : tie.Need-shared-slice-read-b
-shared-slice-read-b c = let a = c .before .before .before .before .before .before .args in pad-some (a .indent .now) (a .levels) (c .before .before .before .if1 .left)
+shared-slice-read-b c = let a = c .before .before .before .before .before .args in pad-some (a .indent .now) (a .levels) (c .before .before .if1 .left)
 
 all-are-requires : tie.Need-all-are-requires
 all-are-requires c κs = search needs
 
-run-of-requires : tie.Need-run-of-requires
-run-of-requires c κs = search needs
+run-alike-requires : tie.Need-run-alike-requires
+run-alike-requires c κs = search needs
+
+returns-3 : tie.Need-returns-3
+returns-3 c = search (needs, starts-times)
 
 returns-4 : tie.Need-returns-4
-returns-4 c = search (needs, starts-run)
-
-returns-5 : tie.Need-returns-5
-returns-5 c = search (needs, starts-untold)
+returns-4 c = search (needs, starts-untold)
 
 pub pad-alike-spec : {M : Type 1} → statement M
 pad-alike-spec =
@@ -40,9 +37,8 @@ pad-alike-spec =
     mul-n
     returns
     returns-2
-    returns-3
     shared-slice-read-b
     all-are-requires
-    run-of-requires
-    returns-4
-    returns-5)
+    run-alike-requires
+    returns-3
+    returns-4)

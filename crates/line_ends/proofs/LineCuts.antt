@@ -73,6 +73,10 @@ ending-none s at i r (suc n) h none =
 pub ending-then : {s : List ℕ} {at i j : ℕ} → Ending s at i → Ending s i j → Ending s at j
 ending-then p q = record { from = omega (arith, p .from, q .from); within = q .within; same = p .same ∙ q .same }
 
+-- and on to the line's end
+pub ending-line : {s : List ℕ} {at i e : ℕ} → Ending s at i → LineEnd s i e → LineEnd s at e
+ending-line p q = record { is = q .is ∙ sym (p .same); from = omega (arith, p .from, q .from); fits = q .fits }
+
 -- ---- the pieces of a text, by the length of the first
 
 abbrev pub Last : List ℕ → Type 0

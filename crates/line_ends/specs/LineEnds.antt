@@ -1,6 +1,6 @@
 -- Where a line ends.
 use Prim.Native.Nat.{ℕ, zero, suc, _+_, _-_, _/_, _%_, _<_, _≤_}
-use mathlib.Core.Bool.{Bool, false, cond}
+use mathlib.Core.Bool.{Bool, cond}
 use mathlib.Core.List.{List}
 use mathlib.Core.Path.{_≡_}
 use lib.Dec.{eqb}
@@ -32,9 +32,9 @@ digit (suc j) m = digit j (m / 2)
 unfoldable pub weightOf : ℕ → ℕ
 weightOf b = cond (eqb b 10) 32768 0
 
--- The k highest of m's sixteen digits stand for the k bytes from `at` on, the lowest of them for the first: where a
--- digit is 0, its byte is no LF.
+-- The k highest of m's sixteen digits stand for the k bytes from `at` on, the lowest of them for the first: 1 for an LF,
+-- else 0.
 pub record Masked (s : List ℕ) (at k m : ℕ) : Type 0 where
   pub few : k ≤ 16
   pub small : m < 65536
-  pub none : (j : ℕ) → j < k → digit (16 - k + j) m ≡ 0 → lfAt s (at + j) ≡ false
+  pub is : (j : ℕ) → j < k → digit (16 - k + j) m ≡ cond (lfAt s (at + j)) 1 0

@@ -28,28 +28,27 @@ fn pick(t: bool, n: usize, m: usize) -> usize
     if t { n } else { m }
 }
 
-// Where the first block with an LF starts, of the four blocks of 16 bytes from `at` on, or where they end. It makes no
+// Where the first block with an LF starts, of the three blocks of 16 bytes from `at` on, or where they end. It makes no
 // branch: lines differ in length, so that none could be predicted.
-fn past_four(source: &[u8], at: usize) -> usize
-    requires { ⌜ at + 64 ≤ length (now source) ⌝ }
+fn past_three(source: &[u8], at: usize) -> usize
+    requires { ⌜ at + 48 ≤ length (now source) ⌝ }
     ensures { λ r. ⌜ Ending (now (source .entry)) at r ⌝ }
 {
     let a = has_lf(source, at);
     let b = has_lf(source, at + 16);
     let c = has_lf(source, at + 32);
-    let d = has_lf(source, at + 48);
-    at + pick(a, 0, pick(b, 16, pick(c, 32, pick(d, 48, 64))))
+    at + pick(a, 0, pick(b, 16, pick(c, 32, 48)))
 }
 
-// Past the blocks of 16 bytes without an LF, while 64 bytes are left.
+// Past the blocks of 16 bytes without an LF, while 48 bytes are left.
 fn past_blocks(source: &[u8], at: usize) -> usize
     requires { ⌜ at ≤ length (now source) ⌝ }
     ensures { λ r. ⌜ Ending (now (source .entry)) at r ⌝ }
 {
     let mut i = at;
-    while source.len() - i >= 64 {
-        let e = past_four(source, i);
-        if e < i + 64 {
+    while source.len() - i >= 48 {
+        let e = past_three(source, i);
+        if e < i + 48 {
             return e;
         }
         i = e;
@@ -78,23 +77,22 @@ fn lf_mask(source: &[u8], at: usize) -> u32
     m
 }
 
-// Up to the first LF of the 16 bytes from `at` on, or past them; where fewer are left, no byte is passed.
-fn past_block(source: &[u8], at: usize) -> usize
+// The place of the first LF from `at` on, or the source's end, a byte at a time.
+fn last_end(source: &[u8], at: usize) -> usize
     requires { ⌜ at ≤ length (now source) ⌝ }
-    ensures { λ r. ⌜ Ending (now (source .entry)) at r ⌝ }
+    ensures { λ r. ⌜ LineEnd (now (source .entry)) at r ⌝ }
 {
-    if source.len() - at < 16 {
-        return at;
+    let mut i = at;
+    while i < source.len() {
+        if source[i] == b'\n' {
+            return i;
+        }
+        i += 1;
     }
-    let m = lf_mask(source, at);
-    let k = u32::trailing_zeros(m) as usize;
-    if k < 16 {
-        return at + k;
-    }
-    at + 16
+    i
 }
 
-// The place of the first LF from `at` on, or the source's end. An empty line is told at once.
+// The same. An empty line is told at once, a short one by its first 16 bytes.
 pub fn line_end(source: &[u8], at: usize) -> usize
     requires { ⌜ at ≤ length (now source) ⌝ }
     ensures { λ r. ⌜ LineEnd (now (source .entry)) at r ⌝ }
@@ -104,15 +102,15 @@ pub fn line_end(source: &[u8], at: usize) -> usize
             return at;
         }
     }
-    let e = past_blocks(source, at);
-    let mut i = past_block(source, e);
-    while i < source.len() {
-        if source[i] == b'\n' {
-            return i;
+    let mut i = at;
+    while source.len() - i >= 16 {
+        let m = lf_mask(source, i);
+        if m != 0 {
+            return i + u32::trailing_zeros(m) as usize;
         }
-        i += 1;
+        i = past_blocks(source, i + 16);
     }
-    i
+    last_end(source, i)
 }
 
 // Without one CR at its end.

@@ -1,7 +1,7 @@
 -- `past_blocks` meets its contract: the invariant is `Ending`, whose laws are in proofs/LineCuts.antt.
-use Prim.Native.Nat.{_-_}
 use borrow.Author.Needs.{needs}
 use native.Mathlib.Omega.{arith}
+use Prim.Native.Nat.{_-_}
 use lib.ListN.{length}
 use Rattle.line_ends.specs.LineEnds.{Ending}
 use Rattle.line_ends.proofs.LineCuts.{ending-start, ending-then}
@@ -20,8 +20,8 @@ loop-holds c = search (needs, ending-start)
 sub-loop : tie.Need-sub-loop Inv-loop μ-loop
 sub-loop c = omega arith
 
-past-four-requires : tie.Need-past-four-requires Inv-loop μ-loop
-past-four-requires c κs = omega arith
+past-three-requires : tie.Need-past-three-requires Inv-loop μ-loop
+past-three-requires c κs = omega arith
 
 add-if1 : tie.Need-add-if1 Inv-loop μ-loop
 add-if1 c = omega arith
@@ -41,4 +41,14 @@ returns-2 c = search needs
 pub past-blocks-spec : {M : Type 1} → statement M
 past-blocks-spec =
     tie.close
-    (tie.spec Inv-loop μ-loop loop-holds sub-loop past-four-requires add-if1 returns loop-less loop-again returns-2)
+    (tie.spec
+    Inv-loop
+    μ-loop
+    loop-holds
+    sub-loop
+    past-three-requires
+    add-if1
+    returns
+    loop-less
+    loop-again
+    returns-2)

@@ -1,9 +1,9 @@
-use Prim.Native.Nat.{_≤_}
 use borrow.Author.Needs.{needs}
 use native.Mathlib.Omega.{arith}
-use Rattle.line_ends.proofs.Masks.{four-fits, ending-four}
-use Rattle.line_ends.proofs.past_four.Statement.{statement}
-use Rattle.line_ends.proofs.past_four.Tie as tie
+use Prim.Native.Nat.{_≤_}
+use Rattle.line_ends.proofs.Masks.{three-fits, ending-three}
+use Rattle.line_ends.proofs.past_three.Statement.{statement}
+use Rattle.line_ends.proofs.past_three.Tie as tie
 
 has-lf-requires : tie.Need-has-lf-requires
 has-lf-requires c κs = search needs
@@ -20,12 +20,6 @@ add-has-lf-2 c = search needs
 has-lf-requires-3 : tie.Need-has-lf-requires-3
 has-lf-requires-3 c κs = search needs
 
-add-has-lf-3 : tie.Need-add-has-lf-3
-add-has-lf-3 c = search needs
-
-has-lf-requires-4 : tie.Need-has-lf-requires-4
-has-lf-requires-4 c κs = search needs
-
 pick-requires : tie.Need-pick-requires
 pick-requires c κs = search needs
 
@@ -35,17 +29,14 @@ pick-requires-2 c κs = search needs
 pick-requires-3 : tie.Need-pick-requires-3
 pick-requires-3 c κs = search needs
 
-pick-requires-4 : tie.Need-pick-requires-4
-pick-requires-4 c κs = search needs
-
 add-result : tie.Need-add-result
-add-result c = let h : c .pick4 .result ≤ 64 = search (needs, four-fits) in omega arith
+add-result c = let h : c .pick3 .result ≤ 48 = search (needs, three-fits) in omega arith
 
 returns : tie.Need-returns
-returns c = search (needs, ending-four)
+returns c = search (needs, ending-three)
 
-pub past-four-spec : {M : Type 1} → statement M
-past-four-spec =
+pub past-three-spec : {M : Type 1} → statement M
+past-three-spec =
     tie.close
     (tie.spec
     has-lf-requires
@@ -53,11 +44,8 @@ past-four-spec =
     has-lf-requires-2
     add-has-lf-2
     has-lf-requires-3
-    add-has-lf-3
-    has-lf-requires-4
     pick-requires
     pick-requires-2
     pick-requires-3
-    pick-requires-4
     add-result
     returns)

@@ -1,6 +1,6 @@
 -- Where a line ends.
-use Prim.Native.Nat.{ℕ, zero, suc, _+_, _-_, _/_, _%_, _<_, _≤_}
-use mathlib.Core.Bool.{Bool, cond}
+use Prim.Native.Nat.{ℕ, _+_, _≤_}
+use mathlib.Core.Bool.{Bool}
 use mathlib.Core.List.{List}
 use mathlib.Core.Path.{_≡_}
 use lib.Dec.{eqb}
@@ -22,19 +22,3 @@ pub record Ending (s : List ℕ) (at i : ℕ) : Type 0 where
 -- the byte at i is an LF
 abbrev pub lfAt : List ℕ → ℕ → Bool
 lfAt s i = eqb (getD s i 0) 10
-
--- the binary digit of m of the weight 2 ^ j
-unfoldable pub digit : ℕ → ℕ → ℕ
-digit zero m = m % 2
-digit (suc j) m = digit j (m / 2)
-
--- the highest of sixteen digits for an LF
-unfoldable pub weightOf : ℕ → ℕ
-weightOf b = cond (eqb b 10) 32768 0
-
--- The k highest of m's sixteen digits stand for the k bytes from `at` on, the lowest of them for the first: 1 for an LF,
--- else 0.
-pub record Masked (s : List ℕ) (at k m : ℕ) : Type 0 where
-  pub few : k ≤ 16
-  pub small : m < 65536
-  pub is : (j : ℕ) → j < k → digit (16 - k + j) m ≡ cond (lfAt s (at + j)) 1 0

@@ -5,7 +5,7 @@ ghost use Prim.Native.Nat.{_+_, _≤_};
 ghost use lib.ListN.{length};
 ghost use Rattle.unicode.specs.Places.{NoneAmong};
 ghost use Rattle.rules.specs.Lines.{dropCr};
-ghost use Rattle.line_ends.specs.LineEnds.{lfAt, weightOf, Masked, Ending, LineEnd};
+ghost use Rattle.line_ends.specs.LineEnds.{lfAt, Ending, LineEnd};
 
 // Whether an LF stands among the 16 bytes from `at` on. It makes no branch, so that the 16 are tested at once.
 fn has_lf(source: &[u8], at: usize) -> bool
@@ -56,27 +56,6 @@ fn past_blocks(source: &[u8], at: usize) -> usize
     i
 }
 
-// The highest of sixteen digits for an LF, 0 for another byte.
-fn weight(b: u8) -> u32
-    ensures { λ r. ⌜ (r ≡ weightOf b) × (r ≤ 32768) ⌝ }
-{
-    if b == b'\n' { 32768 } else { 0 }
-}
-
-// A digit for each of the 16 bytes from `at` on, the lowest for the first: 1 for an LF, else 0.
-fn lf_mask(source: &[u8], at: usize) -> u32
-    requires { ⌜ at + 16 ≤ length (now source) ⌝ }
-    ensures { λ r. ⌜ Masked (now (source .entry)) at 16 r ⌝ }
-{
-    let mut m: u32 = 0;
-    let mut k: usize = 0;
-    while k < 16 {
-        m = m / 2 + weight(source[at + k]);
-        k += 1;
-    }
-    m
-}
-
 // The place of the first LF from `at` on, or the source's end, a byte at a time.
 fn last_end(source: &[u8], at: usize) -> usize
     requires { ⌜ at ≤ length (now source) ⌝ }
@@ -104,7 +83,7 @@ pub fn line_end(source: &[u8], at: usize) -> usize
     }
     let mut i = at;
     while source.len() - i >= 16 {
-        let m = lf_mask(source, i);
+        let m = unicode::byte_mask(source, i, b'\n');
         if m != 0 {
             return i + u32::trailing_zeros(m) as usize;
         }

@@ -1,7 +1,7 @@
 -- The digits that tell where a byte stands.
 --     weight-same, weight-other                   what `weight` gives
 --     masked-start, masked-more, masked-all       the loop of `byte_mask`
---     masked-none, masked-same                    what stands where a mask has zeros or ones at its end
+--     masked-none, masked-first, masked-same      what stands where a mask has zeros or ones at its end
 use Prim.Native.Nat.{ℕ, zero, suc, _+_, _-_, _*_, _/_, _%_, _^_, _<_, _≤_}
 use native.Mathlib.Omega.{arith}
 use native.Mathlib.Nat.{pow-suc}
@@ -58,6 +58,23 @@ digit-one (suc k) n j l = go ((n + 1) % 2) refl (digit-one k (n / 2)) j l
         let b : j < trailingZeros k ((n + 1) / 2) = omega arith in
         rest j (rw h at b)
     go (suc d) e rest j l = absurd (omega arith)
+
+-- the lowest digit that is set
+record Lowest (t k n : ℕ) : Type 0 where
+  below : trailingZeros k n < t
+  set : digit (trailingZeros k n) n ≡ 1
+
+lowest : (t k n : ℕ) → 0 < n → n < 2 ^ t → t ≤ k → Lowest t k n
+unfolding digit trailingZeros
+lowest zero k n p h l = absurd (omega arith)
+lowest (suc t) zero n p h l = absurd (omega arith)
+lowest (suc t) (suc k) n p h l = go (n % 2) refl (λ e. lowest t k (n / 2) (omega arith) (omega (arith, pow-suc 2 t)) (omega arith))
+  where
+    go : (d : ℕ) → n % 2 ≡ d → (n % 2 ≡ 0 → Lowest t k (n / 2)) → Lowest (suc t) (suc k) n
+    go zero e rest =
+        let q = rest e in
+        record { below = rw e (omega (arith, q .below)); set = rw e (q .set) }
+    go (suc d) e rest = record { below = rw e (omega arith); set = rw e (omega arith) }
 
 -- ---- the mask of sixteen bytes
 
@@ -116,6 +133,21 @@ module _ (s : List ℕ) (b at : ℕ) where
     shown : (j : ℕ) → j < 16 → digit j m ≡ bit j
     shown j l = let e : 16 - 16 + j ≡ j = omega arith in rw e at (p .is j l)
 
+    told : (j : ℕ) → j < 16 → digit j m ≡ 1 → getD s (at + j) 0 ≡ b
+    told j l e =
+        let q : bit j ≡ 1 = sym (shown j l) ∙ e in
+        by-test (eqb (getD s (at + j) 0) b) (λ t. eqb-true _ b t) (λ t. absurd (omega (arith, sym (ap (λ (x : Bool). cond x 1 0) t) ∙ q)))
+
+    -- the first byte that is b, where one is
+    first : (m ≡ 0 → ⊥) → Lowest 16 32 m
+    first z = lowest 16 32 m (omega arith) (omega (arith, p .small)) (omega arith)
+
+    pub masked-within : (m ≡ 0 → ⊥) → trailingZeros 32 m < 16
+    masked-within z = first z .below
+
+    pub masked-first : (m ≡ 0 → ⊥) → getD s (at + trailingZeros 32 m) 0 ≡ b
+    masked-first z = told (trailingZeros 32 m) (masked-within z) (first z .set)
+
     -- zeros at its end
     pub masked-none : (j : ℕ) → j < 16 → j < trailingZeros 32 m → getD s (at + j) 0 ≡ b → ⊥
     masked-none j l z e =
@@ -125,6 +157,4 @@ module _ (s : List ℕ) (b at : ℕ) where
 
     -- ones at its end
     pub masked-same : (j : ℕ) → j < 16 → j < trailingZeros 32 (m + 1) → getD s (at + j) 0 ≡ b
-    masked-same j l z =
-        let q : bit j ≡ 1 = sym (shown j l) ∙ digit-one 32 m j z in
-        by-test (eqb (getD s (at + j) 0) b) (λ t. eqb-true _ b t) (λ t. absurd (omega (arith, sym (ap (λ (x : Bool). cond x 1 0) t) ∙ q)))
+    masked-same j l z = told j l (digit-one 32 m j z)

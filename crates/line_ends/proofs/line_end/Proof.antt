@@ -5,9 +5,10 @@ use native.Mathlib.Omega.{arith}
 use Prim.Native.Nat.{_-_, _≤_}
 use lib.Count.{trailingZeros, trailing-le}
 use lib.ListN.{length}
+use Rattle.unicode.proofs.Masks.{masked-within}
 use Rattle.line_ends.specs.LineEnds.{Ending}
 use Rattle.line_ends.proofs.LineCuts.{ending-start, ending-here, ending-then, ending-line}
-use Rattle.line_ends.proofs.Masks.{mask-none, mask-within, line-mask}
+use Rattle.line_ends.proofs.Masks.{mask-none, line-mask}
 use Rattle.line_ends.proofs.line_end.Statement.{statement}
 use Rattle.line_ends.proofs.line_end.Tie as tie
 
@@ -29,17 +30,17 @@ loop-holds c = search (needs, ending-start)
 sub-loop : tie.Need-sub-loop Inv-loop μ-loop
 sub-loop c = omega arith
 
-lf-mask-requires : tie.Need-lf-mask-requires Inv-loop μ-loop
-lf-mask-requires c κs = omega arith
+byte-mask-requires : tie.Need-byte-mask-requires Inv-loop μ-loop
+byte-mask-requires c κs = omega arith
 
 cast-result : tie.Need-cast-result Inv-loop μ-loop
-cast-result c = let h : trailingZeros 32 (c .before .lf-mask .result) ≤ 32 = trailing-le 32 _ in omega arith
+cast-result c = let h : trailingZeros 32 (c .before .byte-mask .result) ≤ 32 = trailing-le 32 _ in omega arith
 
 add-result : tie.Need-add-result Inv-loop μ-loop
-add-result c = omega (arith, mask-within _ _ _ (c .before .lf-mask .ensures) (omega arith) (c .if3 .taken))
+add-result c = omega (arith, masked-within _ _ _ _ (c .before .byte-mask .ensures) (c .if3 .taken))
 
 returns-2 : tie.Need-returns-2 Inv-loop μ-loop
-returns-2 c = line-mask _ _ _ (c .before .lf-mask .ensures) (omega arith) _ (c .before .before .before .loop .inv) (c .if3 .taken)
+returns-2 c = line-mask _ _ _ (c .before .byte-mask .ensures) (omega arith) _ (c .before .before .before .loop .inv) (c .if3 .taken)
 
 add-past-blocks : tie.Need-add-past-blocks Inv-loop μ-loop
 add-past-blocks c = search needs
@@ -51,7 +52,7 @@ loop-less : tie.Need-loop-less Inv-loop μ-loop
 loop-less c = search needs
 
 loop-again : tie.Need-loop-again Inv-loop μ-loop
-loop-again c = ending-then (ending-then (c .before .before .before .before .loop .inv) (mask-none _ _ _ (c .before .before .lf-mask .ensures) (omega arith) (c .before .if3 .left))) (c .past-blocks .ensures)
+loop-again c = ending-then (ending-then (c .before .before .before .before .loop .inv) (mask-none _ _ _ (c .before .before .byte-mask .ensures) (omega arith) (c .before .if3 .left))) (c .past-blocks .ensures)
 
 last-end-requires : tie.Need-last-end-requires Inv-loop μ-loop
 last-end-requires c κs = search needs
@@ -62,20 +63,5 @@ returns-3 c = search (needs, ending-line)
 pub line-end-spec : {M : Type 1} → statement M
 line-end-spec =
     tie.close
-    (tie.spec
-    Inv-loop
-    μ-loop
-    shared-slice-read-if2
-    returns
-    loop-holds
-    sub-loop
-    lf-mask-requires
-    cast-result
-    add-result
-    returns-2
-    add-past-blocks
-    past-blocks-requires
-    loop-less
-    loop-again
-    last-end-requires
-    returns-3)
+    (tie.spec Inv-loop μ-loop shared-slice-read-if2 returns loop-holds sub-loop byte-mask-requires cast-result
+    add-result returns-2 add-past-blocks past-blocks-requires loop-less loop-again last-end-requires returns-3)

@@ -5,7 +5,7 @@ use mathlib.Core.List.{List}
 use mathlib.Core.Path.{_≡_, refl, sym, _∙_}
 use native.Mathlib.Numerals.{add-one}
 use native.Mathlib.Omega.{arith}
-use borrow.Author.Tests.{eqb-true, eqb-false}
+use borrow.Author.Tests.{eqb-true, eqb-false, not-false}
 use lib.Dec.{eqb}
 use lib.ListN.{length, getD}
 use mathlib.Core.Logic.{_⊎_, inl, inr}
@@ -27,10 +27,6 @@ after false false y e q = absurd (true≢false (sym q))
 both : (x y : Bool) → (x && y) ≡ false → y ≡ true → x ≡ false
 both true y e q = absurd (true≢false (sym q ∙ e))
 both false y e q = refl
-
-unnot : (x : Bool) → not x ≡ false → x ≡ true
-unnot true e = refl
-unnot false e = absurd (true≢false e)
 
 module _ (b d k e s n c l m : Bool) (o : sieve b d k e s n c l m ≡ false) where
   sieve-blank : d ≡ true → b ≡ false
@@ -56,10 +52,10 @@ module _ (b d k e s n c l m : Bool) (o : sieve b d k e s n c l m ≡ false) wher
       next = after (e || (s && n)) c ((not n || not l) || m) inner p
 
       sieve-next : n ≡ true
-      sieve-next = unnot n (neither-left (not n) (not l) (neither-left (not n || not l) m next))
+      sieve-next = not-false n (neither-left (not n) (not l) (neither-left (not n || not l) m next))
 
       sieve-class : l ≡ true
-      sieve-class = unnot l (after (not n) true (not l) (neither-left (not n || not l) m next) refl)
+      sieve-class = not-false l (after (not n) true (not l) (neither-left (not n || not l) m next) refl)
 
       sieve-then : m ≡ false
       sieve-then = after (not n || not l) true m next refl

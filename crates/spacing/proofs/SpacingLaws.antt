@@ -7,7 +7,7 @@ use mathlib.Core.Path.{_≡_, refl, sym, ap, _∙_}
 use native.Mathlib.Nat.{le-refl}
 use native.Mathlib.Numerals.{add-one}
 use native.Mathlib.Omega.{arith}
-use borrow.Author.Tests.{eqb-true, eqb-false, ne-eqb}
+use borrow.Author.Tests.{eqb-true, eqb-false, ne-eqb, not-false}
 use lib.Dec.{eqb}
 use lib.ListN.{length, getD, take, drop, set, length-drop}
 use lib.Seq.{take-suc, take-suc-set, drop-set-add, getD-drop}
@@ -148,10 +148,6 @@ dropped-no c gap = record { yes = λ q. absurd (true≢false (sym q)) }
 
 pub dropped-space : (c : ℕ) (gap : Gap) → gap ≡ Gap.Space → Dropped c gap (eqb c 32)
 dropped-space c gap e = record { yes = λ q. (e, eqb-true c 32 q) }
-
-not-false : (b : Bool) → not b ≡ false → b ≡ true
-not-false true e = refl
-not-false false e = absurd (true≢false e)
 
 pub run-none : (line : List ℕ) (a : ℕ) → a ≤ length line → Run line a a
 run-none line a h = record { on = le-refl a; within = h; spaces = λ j p q. absurd (omega arith) }

@@ -2,7 +2,7 @@
 use Prim.Native.Nat.{ℕ, zero, suc, _+_, _-_, _≤_, _<_}
 use mathlib.Core.Bool.{Bool, true, false, not, _&&_, _||_, and-false, true≢false}
 use mathlib.Core.List.{List}
-use mathlib.Core.Path.{_≡_, refl, sym, _∙_}
+use mathlib.Core.Path.{_≡_, refl, sym, subst, _∙_}
 use native.Mathlib.Numerals.{add-one}
 use native.Mathlib.Omega.{arith}
 use borrow.Author.Tests.{eqb-true, eqb-false, not-false}
@@ -10,11 +10,11 @@ use lib.Dec.{eqb}
 use lib.ListN.{length, getD}
 use mathlib.Core.Logic.{_⊎_, inl, inr}
 use Rattle.unicode.specs.Places.{NoneAmong}
-use Rattle.unicode.proofs.Tests.{by-test, split, neither-left}
+use Rattle.unicode.proofs.Tests.{by-test, split, neither-left, neither-right}
 use Rattle.rules.specs.Basics.{isBlank, isCloser}
 use Rattle.rules.specs.Scan.{isCode}
 use Rattle.rules.specs.ClassBytes.{classOf}
-use Rattle.spacing.specs.Respaced.{InCode, NoBlank, Keeping, sieve, oddAt, Clear}
+use Rattle.spacing.specs.Respaced.{InCode, NoBlank, Keeping, sieve, odd, oddAt, Clear, busy, busyAt, Quiet}
 use Rattle.spacing.proofs.KeptLaws.{kept-other, kept-char, space-then, comma-gap, blank-first, blank-last, keeping-start, keeping-more}
 
 -- ---- what the tests say
@@ -129,35 +129,80 @@ module _ (line ks : List ℕ) (r : Bool) (long : length line ≤ length ks) (w :
 
 -- ---- the loops
 
--- none of the first i bytes is odd
-pub record Cleared (line ks : List ℕ) (i : ℕ) : Type 0 where
-  pub none : (j : ℕ) → j < i → oddAt line ks j ≡ false
+-- none of the first i places passes the test p
+pub record Cleared (p : ℕ → Bool) (i : ℕ) : Type 0 where
+  pub none : (j : ℕ) → j < i → p j ≡ false
 
-pub cleared-start : (line ks : List ℕ) → Cleared line ks 0
-cleared-start line ks = record { none = λ j h. absurd (omega arith) }
+pub cleared-start : (p : ℕ → Bool) → Cleared p 0
+cleared-start p = record { none = λ j h. absurd (omega arith) }
 
 -- w more from `at` on, where the first i are clear
-pub cleared-more : (line ks : List ℕ) (i at w : ℕ) (r : Bool) → Cleared line ks i → at ≤ i → NoneAmong (oddAt line ks) at w r → r ≡ false → Cleared line ks (at + w)
-cleared-more line ks i at w r v h o e = record { none = λ j l. go j l (split j at) }
+pub cleared-more : (p : ℕ → Bool) (i at w : ℕ) (r : Bool) → Cleared p i → at ≤ i → NoneAmong p at w r → r ≡ false → Cleared p (at + w)
+cleared-more p i at w r v h o e = record { none = λ j l. go j l (split j at) }
   where
-    go : (j : ℕ) → j < at + w → (j < at) ⊎ (at ≤ j) → oddAt line ks j ≡ false
+    go : (j : ℕ) → j < at + w → (j < at) ⊎ (at ≤ j) → p j ≡ false
     go j l (inl a) = v .none j (omega arith)
-    go j l (inr a) = let m : at + (j - at) ≡ j = omega arith in rw m at (o .none e (j - at) (omega arith))
+    go j l (inr a) = let m : at + (j - at) ≡ j = omega arith in subst (λ (i : ℕ). p i ≡ false) m (o .none e (j - at) (omega arith))
 
--- and the last w of those that two bytes follow
-clear-all : (line ks : List ℕ) (i w : ℕ) (r : Bool) → Cleared line ks i → 0 < w → w + 2 ≤ length line → length line - (w + 2) ≤ i
-    → NoneAmong (oddAt line ks) (length line - (w + 2)) w r → r ≡ false → Clear line ks true
-clear-all line ks i w r v p h l o e =
-    let u = cleared-more line ks i (length line - (w + 2)) w r v l o e in
-    record { long = λ q. omega arith; none = λ q j m. u .none j (omega arith) }
+-- two blocks of eight
+both-eights : (p : ℕ → Bool) (at : ℕ) (r s : Bool) → at ≤ 8 → NoneAmong p 0 8 r → r ≡ false → NoneAmong p at 8 s → s ≡ false → Cleared p (at + 8)
+both-eights p at r s h o e q f = cleared-more p 8 at 8 s (cleared-more p 0 0 8 r (cleared-start p) (omega arith) o e) h q f
+
+-- a line whose bytes but for the last two are clear
+clear-all : (line ks : List ℕ) (i : ℕ) → Cleared (oddAt line ks) i → 2 < length line → length line ≤ i + 2 → Clear line ks true
+clear-all line ks i v h l = record { long = λ q. h; none = λ q j m. v .none j (omega arith) }
 
 pub clear-short : (line ks : List ℕ) (r s : Bool) → (10 ≤ length line) × (length line ≤ 18) → NoneAmong (oddAt line ks) 0 8 r → r ≡ false → NoneAmong (oddAt line ks) (length line - 10) 8 s → s ≡ false
     → Clear line ks true
-clear-short line ks r s h o e q f = clear-all line ks 8 8 s (cleared-more line ks 0 0 8 r (cleared-start line ks) (omega arith) o e) (omega arith) (h .0) (omega (arith, h .1)) q f
+clear-short line ks r s h o e q f = clear-all line ks _ (both-eights (oddAt line ks) (length line - 10) r s (omega (arith, h .1)) o e q f) (omega (arith, h .0)) (omega (arith, h .0))
 
-pub clear-long : (line ks : List ℕ) (i : ℕ) (r : Bool) → 18 ≤ length line → Cleared line ks i → length line - 18 ≤ i → NoneAmong (oddAt line ks) (length line - 18) 16 r → r ≡ false
+pub clear-long : (line ks : List ℕ) (i : ℕ) (r : Bool) → 18 ≤ length line → Cleared (oddAt line ks) i → length line - 18 ≤ i → NoneAmong (oddAt line ks) (length line - 18) 16 r → r ≡ false
     → Clear line ks true
-clear-long line ks i r h v l o e = clear-all line ks i 16 r v (omega arith) h l o e
+clear-long line ks i r h v l o e = clear-all line ks _ (cleared-more (oddAt line ks) i (length line - 18) 16 r v l o e) (omega arith) (omega arith)
 
 pub clear-no : (line ks : List ℕ) → Clear line ks false
 clear-no line ks = record { long = λ q. absurd (true≢false (sym q)); none = λ q. absurd (true≢false (sym q)) }
+
+-- ---- a line without commas, backslashes and two spaces
+
+quiet-all : (line : List ℕ) (i : ℕ) → Cleared (busyAt line) i → length line ≤ i + 1 → Quiet line true
+quiet-all line i v l = record { none = λ q j m. v .none j (omega arith) }
+
+pub quiet-short : (line : List ℕ) (r s : Bool) → (9 ≤ length line) × (length line ≤ 17) → NoneAmong (busyAt line) 0 8 r → r ≡ false → NoneAmong (busyAt line) (length line - 9) 8 s → s ≡ false
+    → Quiet line true
+quiet-short line r s h o e q f = quiet-all line _ (both-eights (busyAt line) (length line - 9) r s (omega (arith, h .1)) o e q f) (omega (arith, h .0))
+
+pub quiet-long : (line : List ℕ) (i : ℕ) (r : Bool) → 17 ≤ length line → Cleared (busyAt line) i → length line - 17 ≤ i → NoneAmong (busyAt line) (length line - 17) 16 r → r ≡ false
+    → Quiet line true
+quiet-long line i r h v l o e = quiet-all line _ (cleared-more (busyAt line) i (length line - 17) 16 r v l o e) (omega arith)
+
+pub quiet-no : (line : List ℕ) → Quiet line false
+quiet-no line = record { none = λ q. absurd (true≢false (sym q)) }
+
+-- such a byte is not odd, if the next is not busy either
+module _ (x y z k l : ℕ) (e : busy x y ≡ false) (f : busy y z ≡ false) where
+  no-comma : eqb x 44 ≡ false
+  no-comma = neither-left (eqb x 44) (eqb x 92) (neither-left (eqb x 44 || eqb x 92) (eqb x 32 && eqb y 32) e)
+
+  no-escape : eqb x 92 ≡ false
+  no-escape = neither-right (eqb x 44) (eqb x 92) (neither-left (eqb x 44 || eqb x 92) (eqb x 32 && eqb y 32) e)
+
+  no-pair : (eqb x 32 && eqb y 32) ≡ false
+  no-pair = neither-right (eqb x 44 || eqb x 92) (eqb x 32 && eqb y 32) e
+
+  next-no-comma : eqb y 44 ≡ false
+  next-no-comma = neither-left (eqb y 44) (eqb y 92) (neither-left (eqb y 44 || eqb y 92) (eqb y 32 && eqb z 32) f)
+
+  quiet-odd : odd x y z k l ≡ false
+  unfolding sieve
+  quiet-odd = rw (next-no-comma, no-escape, no-pair, no-comma, and-false (isBlank x)) (and-false (eqb k 0))
+
+pub quiet-clear : (line ks : List ℕ) (r : Bool) → 2 < length line → Quiet line r → r ≡ true → Clear line ks true
+quiet-clear line ks r h w e =
+    record {
+      long = λ q. h;
+      none = λ q j m.
+          (let a : j + 1 + 1 ≡ j + 2 = omega arith in
+          let n : busy (getD line (j + 1) 0) (getD line (j + 2) 0) ≡ false = subst (λ (i : ℕ). busy (getD line (j + 1) 0) (getD line i 0) ≡ false) a (w .none e (j + 1) (omega arith)) in
+          quiet-odd (getD line j 0) (getD line (j + 1) 0) (getD line (j + 2) 0) (getD ks j 0) (getD ks (j + 1) 0) (w .none e j (omega arith)) n);
+    }

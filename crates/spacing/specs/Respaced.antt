@@ -110,6 +110,17 @@ pub record Clear (line ks : List ℕ) (r : Bool) : Type 0 where
   pub long : r ≡ true → 2 < length line
   pub none : r ≡ true → (j : ℕ) → j + 2 < length line → oddAt line ks j ≡ false
 
+-- a comma, a backslash or the first of two spaces: x, which y follows
+abbrev pub busy : ℕ → ℕ → Bool
+busy x y = eqb x 44 || eqb x 92 || (eqb x 32 && eqb y 32)
+
+abbrev pub busyAt : List ℕ → ℕ → Bool
+busyAt line i = busy (getD line i 0) (getD line (i + 1) 0)
+
+-- if r, no byte but the last is one
+pub record Quiet (line : List ℕ) (r : Bool) : Type 0 where
+  pub none : r ≡ true → (j : ℕ) → j + 1 < length line → busyAt line j ≡ false
+
 -- a line that is said to be spaced is what spacing makes of it
 pub record Unchanged (line ks : List ℕ) (r : Bool) : Type 0 where
   pub yes : r ≡ true → normalizeSpacing (cellsOf line ks) ≡ line

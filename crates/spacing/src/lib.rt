@@ -13,6 +13,7 @@ ghost use Rattle.rules.specs.ClassBytes.{classOf, cellsOf};
 ghost use Rattle.rules.specs.Spacing.{spaced, putPlain, putAfterComma, putAt};
 ghost use Rattle.spacing.specs.Respaced.{textAt, Trimmed, Wrote, Plain, Dropped, otherAt, Run, Place, Normalized};
 ghost use Rattle.spacing.specs.Respaced.{InCode, KeptAt, NoBlank, Keeping, odd, oddAt, Clear, Unchanged};
+ghost use Rattle.spacing.specs.Respaced.{busy, busyAt, Quiet};
 use basics::is_blank;
 use basics::is_closer;
 use rules::Gap;
@@ -406,6 +407,76 @@ fn odd_sixteen(line: &[u8], class: &[u8], at: usize) -> bool
     any
 }
 
+// Whether the byte x, which y follows, is a comma, a backslash or the first of two spaces. Without these no byte is odd,
+// whatever the classes are.
+fn is_busy(x: u8, y: u8) -> bool
+    ensures { λ r. ⌜ r ≡ busy x y ⌝ }
+{
+    ((x == b',') | (x == b'\\')) | ((x == b' ') & (y == b' '))
+}
+
+// The same of eight bytes from `at` on, and of sixteen.
+fn busy_eight(line: &[u8], at: usize) -> bool
+    requires { ⌜ at + 9 ≤ length (now line) ⌝ }
+    ensures { λ r. ⌜ NoneAmong (busyAt (now (line .entry))) at 8 r ⌝ }
+{
+    let mut any = false;
+    let mut k: usize = 0;
+    while k < 8 {
+        let i = at + k;
+        any = any | is_busy(line[i], line[i + 1]);
+        k += 1;
+    }
+    any
+}
+
+fn busy_sixteen(line: &[u8], at: usize) -> bool
+    requires { ⌜ at + 17 ≤ length (now line) ⌝ }
+    ensures { λ r. ⌜ NoneAmong (busyAt (now (line .entry))) at 16 r ⌝ }
+{
+    let mut any = false;
+    let mut k: usize = 0;
+    while k < 16 {
+        let i = at + k;
+        any = any | is_busy(line[i], line[i + 1]);
+        k += 1;
+    }
+    any
+}
+
+// Whether no byte but the last is busy, by two blocks that may overlap.
+fn is_quiet_short(line: &[u8]) -> bool
+    requires { ⌜ (9 ≤ length (now line)) × (length (now line) ≤ 17) ⌝ }
+    ensures { λ r. ⌜ Quiet (now (line .entry)) r ⌝ }
+{
+    if busy_eight(line, 0) {
+        return false;
+    }
+    if busy_eight(line, line.len() - 9) {
+        return false;
+    }
+    true
+}
+
+// The same of a longer line, by as many blocks as it takes.
+fn is_quiet_long(line: &[u8]) -> bool
+    requires { ⌜ 17 ≤ length (now line) ⌝ }
+    ensures { λ r. ⌜ Quiet (now (line .entry)) r ⌝ }
+{
+    let last = line.len() - 17;
+    let mut i = 0;
+    while i < last {
+        if busy_sixteen(line, i) {
+            return false;
+        }
+        i += 16;
+    }
+    if busy_sixteen(line, last) {
+        return false;
+    }
+    true
+}
+
 // Whether no byte is odd but for the last two, by two blocks that may overlap.
 fn is_clear_short(line: &[u8], class: &[u8]) -> bool
     requires { ⌜ (10 ≤ length (now line)) × (length (now line) ≤ 18) ⌝ }
@@ -450,7 +521,13 @@ fn is_clear(line: &[u8], class: &[u8]) -> bool
         return false;
     }
     if n < 18 {
+        if is_quiet_short(line) {
+            return true;
+        }
         return is_clear_short(line, class);
+    }
+    if is_quiet_long(line) {
+        return true;
     }
     is_clear_long(line, class)
 }

@@ -3,12 +3,13 @@
 use borrow.Author.Needs.{needs}
 use Prim.Native.Nat.{_-_}
 use native.Mathlib.Omega.{arith}
+use Rattle.spacing.specs.Respaced.{oddAt}
 use Rattle.spacing.proofs.OddLaws.{Cleared, cleared-start, cleared-more, clear-no, clear-long}
 use Rattle.spacing.proofs.is_clear_long.Statement.{statement}
 use Rattle.spacing.proofs.is_clear_long.Tie as tie
 
 abbrev Inv-loop : tie.InvT-loop
-Inv-loop line class last i₀ i = Cleared line class i
+Inv-loop line class last i₀ i = Cleared (oddAt line class) i
 
 abbrev μ-loop : tie.MeasureT-loop
 μ-loop line class last i₀ i = last - i
@@ -17,7 +18,7 @@ sub-last : tie.Need-sub-last Inv-loop μ-loop
 sub-last c = search needs
 
 loop-holds : tie.Need-loop-holds Inv-loop μ-loop
-loop-holds c = cleared-start _ _
+loop-holds c = cleared-start _
 
 odd-sixteen-requires : tie.Need-odd-sixteen-requires Inv-loop μ-loop
 odd-sixteen-requires c κs = search needs
@@ -32,7 +33,7 @@ loop-less : tie.Need-loop-less Inv-loop μ-loop
 loop-less c = search needs
 
 loop-again : tie.Need-loop-again Inv-loop μ-loop
-loop-again c = cleared-more _ _ _ _ _ _ (c .before .before .before .loop .inv) (omega arith) (c .before .odd-sixteen .ensures) (c .if1 .left)
+loop-again c = cleared-more _ _ _ _ _ (c .before .before .before .loop .inv) (omega arith) (c .before .odd-sixteen .ensures) (c .if1 .left)
 
 odd-sixteen-requires-2 : tie.Need-odd-sixteen-requires-2 Inv-loop μ-loop
 odd-sixteen-requires-2 c κs = search needs

@@ -5,7 +5,7 @@
 use Prim.Native.Nat.{ℕ, suc, _+_, _-_, _≤_, _<_}
 use mathlib.Core.Bool.{Bool, true, false}
 use mathlib.Core.List.{List, [], _∷_, _++_, map, append-assoc, append-nil}
-use mathlib.Core.Path.{_≡_, refl, sym, ap, _∙_}
+use mathlib.Core.Path.{_≡_, refl, sym, ap, _∙_, subst}
 use native.Mathlib.Omega.{arith}
 use borrow.Author.Tests.{ne-eqb, eq-eqb}
 use lib.Dec.{eqb}
@@ -26,8 +26,9 @@ use Rattle.config_rules.specs.Values.{unset}
 use Rattle.config_rules.specs.Sections.{rootAt, settings}
 use Rattle.config_rules.specs.Texts.{belowSlashes, relatives, resolved}
 use Rattle.rules.proofs.Scalars.{AllScalars, all-decode}
-use Rattle.config_read.specs.Levels.{below, outward, relsAt, farther, LevelAt, LevelFrom, Nearest, Above, Applied, TopOf, Resolves}
+use Rattle.config_read.specs.Levels.{below, outward, relsAt, farther, LevelAt, LevelFrom, Nearest, Above, Applied, TopOf, Resolving, Outward, OutwardFrom, Inward}
 use Rattle.config_read.specs.declared.levels.Level.{Level}
+use Rattle.config_read.specs.declared.levels.Levels.{Levels}
 
 -- ---- what follows each slash
 
@@ -199,21 +200,15 @@ resolved-cons : (t : List ℕ) (ts : Rels) (r : List ℕ) (rs : Rels)
 unfolding resolved
 resolved-cons t ts r rs = refl
 
-pub record Resolving (p : List ℕ) (l : Level) (texts : Rels) (r : Resolved) : Type 0 where
-  pub is : r ≡ resolved (map decode texts) (map decode (relsAt p l))
-
 -- what the texts behind t give, whose level is l
-pub record Beyond (p t : List ℕ) (l : Level) (ts : Rels) (r : Resolved) : Type 0 where
+record Beyond (p t : List ℕ) (l : Level) (ts : Rels) (r : Resolved) : Type 0 where
   pub is : r ≡ choose (rootAt false (linesOf (decode t))) unset (resolved (map decode ts) (map decode (farther (relsAt p l))))
 
 nothing-beyond : (rs : Rels) → resolved [] rs ≡ unset
 unfolding resolved
 nothing-beyond rs = refl
 
-pub beyond-last : (p t : List ℕ) (l : Level) → Beyond p t l [] unset
-beyond-last p t l = record { is = sym (choose-case (λ (x : Resolved). x ≡ unset) (λ z. refl) (λ z. nothing-beyond (map decode (farther (relsAt p l))))) }
-
-pub beyond-above : (p t : List ℕ) (l m : Level) (ts : Rels) (r : Resolved) → Above p t l m → Resolving p m ts r → Beyond p t l ts r
+beyond-above : (p t : List ℕ) (l m : Level) (ts : Rels) (r : Resolved) → Above p t l m → Resolving p m ts r → Beyond p t l ts r
 beyond-above p t l m ts r a o =
     record {
       is =
@@ -244,11 +239,33 @@ module _ (p t : List ℕ) (l : Level) (ts : Rels) (old new : Resolved) (b : Beyo
       ∙ choose-case (λ (x : Resolved). x ≡ unset) (λ z. refl) (λ z. resolved-none (map decode ts))
       ∙ sym (resolved-none (map decode (t ∷ ts))) ∙ ap (λ (x : Rels). resolved (map decode (t ∷ ts)) (map decode x)) (sym e)
 
-  pub level-step : Resolving p l (t ∷ ts) new
+  level-step : Resolving p l (t ∷ ts) new
   level-step = record { is = by-test (l .used) step-used step-unused }
 
-pub resolves-all : (p : List ℕ) (l : Level) (ts : Rels) (r : Resolved) → Nearest p l → Resolving p l ts r → Resolves p ts r
-resolves-all p l ts r n o = record { is = o .is ∙ ap (λ (x : Rels). resolved (map decode ts) (map decode x)) (n .is) }
+pub resolves-all : (p : List ℕ) (l : Level) (ts : Rels) (r : Resolved) → Nearest p l → Resolving p l ts r → r ≡ resolved (map decode ts) (map decode (belowSlashes p ++ (p ∷ [])))
+resolves-all p l ts r n o = o .is ∙ ap (λ (x : Rels). resolved (map decode ts) (map decode x)) (n .is)
+
+-- ---- four texts
+
+pub no-texts : (p : List ℕ) (l : Level) → Resolving p l [] unset
+no-texts p l = record { is = sym (nothing-beyond (map decode (relsAt p l))) }
+
+-- one text before others
+step-inward : (p t : List ℕ) (l m : Level) (ts : Rels) (old new : Resolved) → Above p t l m → Applied p t l old new → Resolving p m ts old → Resolving p l (t ∷ ts) new
+step-inward p t l m ts old new a n o = level-step p t l ts old new (beyond-above p t l m ts old a o) n
+
+pub four-inward : (p a b c d : List ℕ) (ls : Levels) (old r4 r3 r2 new : Resolved) → Outward p a b c d ls → Applied p d (ls .fourth) old r4 → Applied p c (ls .third) r4 r3 → Applied p b (ls .second) r3 r2
+    → Applied p a (ls .first) r2 new → Inward p a b c d ls old new
+four-inward p a b c d ls old r4 r3 r2 new o n4 n3 n2 n1 =
+    record {
+      all = λ ts q.
+          step-inward p a _ _ _ _ _ (o .second) n1
+          (step-inward p b _ _ _ _ _ (o .third) n2 (step-inward p c _ _ _ _ _ (o .fourth) n3 (step-inward p d _ _ _ _ _ (o .beyond) n4 q)));
+    }
+
+pub four-resolved : (p a b c d : List ℕ) (l : Level) (ls : Levels) (old new : Resolved) → OutwardFrom p a b c d l ls → old ≡ unset → Inward p a b c d ls old new → Resolving p l (a ∷ b ∷ c ∷ d ∷ []) new
+four-resolved p a b c d l ls old new o e i =
+    subst (λ (m : Level). Resolving p m (a ∷ b ∷ c ∷ d ∷ []) new) (o .first) (i .all [] (subst (λ (x : Resolved). Resolving p (ls .beyond) [] x) (sym e) (no-texts p (ls .beyond))))
 
 -- ---- by characters
 

@@ -1,15 +1,16 @@
 -- The refusals of all texts, by the worst rank.
-use Prim.Native.Nat.{ℕ, _-_, _≤_, _<_, max}
+use Prim.Native.Nat.{ℕ, _≤_, _<_, max}
 use mathlib.Core.Bool.{Bool, true, false, not}
 use mathlib.Core.List.{List, [], _∷_, _++_, map}
-use mathlib.Core.Path.{_≡_, refl, sym, ap, _∙_}
+use mathlib.Core.Path.{_≡_, refl, sym, ap, _∙_, subst}
 use native.Mathlib.Omega.{arith}
 use borrow.Author.Tests.{lt-ltb, le-ltb, ltb-true, ltb-false, not-false}
 use lib.Dec.{ltb}
-use lib.ListN.{length, take, drop}
+use lib.ListN.{length, drop}
 use Rattle.unicode.specs.Unicode.{prefixLen, decode, WellFormed, wellFormed}
 use Rattle.unicode.proofs.Tests.{by-test}
 use Rattle.unicode.proofs.Decode.{test-wf, test-whole, test-part, wf-whole}
+use Rattle.buffer.specs.Buffer.{part}
 use Rattle.buffer.proofs.RegionLaws.{part-from}
 use Rattle.rules.specs.Basics.{choose}
 use Rattle.rules.specs.declared.Resolved.{Resolved}
@@ -21,9 +22,14 @@ use Rattle.config_rules.specs.Call.{anyOf, tooLong, illFormed, hasLongName, rea
 use Rattle.config_rules.specs.declared.ConfigOutcome.{ConfigOutcome}
 use Rattle.config_text.specs.Walk.{Readable}
 use Rattle.config_text.specs.Steps.{Accepted}
-use Rattle.config_read.specs.Levels.{TopOf, Resolves}
+use Rattle.config_read.specs.Levels.{Nearest, TopOf, Outward, OutwardFrom, Inward}
 use Rattle.config_read.specs.Refusals.{rankOf, pathRank, worst, AllAccepted}
-use Rattle.config_read.proofs.LevelLaws.{rels-decode, relatives-top}
+use Rattle.config_read.specs.Halves.{pathOf, FarStart, NearRead, FarRead, AllRead}
+use Rattle.config_read.specs.declared.levels.Level.{Level}
+use Rattle.config_read.specs.declared.levels.Levels.{Levels}
+use Rattle.config_read.specs.declared.Near.{Near}
+use Rattle.config_read.specs.declared.Far.{Far}
+use Rattle.config_read.proofs.LevelLaws.{resolves-all, rels-decode, relatives-top}
 
 abbrev Texts : Type 0
 Texts = List (List ℕ)
@@ -176,7 +182,7 @@ any-name (t ∷ ts) h = go (ranked t) (any-name ts (omega (arith, worst-cons t t
     go (name a b c r) i = any-yes hasLongName t ts c ∙ sym (over-yes 0 t ts (omega arith))
     go (fine a b c r) i = any-no hasLongName t ts c ∙ i ∙ sym (over-no 0 t ts (omega arith))
 
-all-accepted : (ts : Texts) → worst ts ≤ 0 → AllAccepted ts
+pub all-accepted : (ts : Texts) → worst ts ≤ 0 → AllAccepted ts
 all-accepted [] h = tt
 all-accepted (t ∷ ts) h = (go (ranked t), all-accepted ts (omega (arith, worst-cons t ts)))
   where
@@ -196,8 +202,8 @@ all-accepted (t ∷ ts) h = (go (ranked t), all-accepted ts (omega (arith, worst
 pub record WorstOf (path : List ℕ) (ts : Texts) (r : ℕ) : Type 0 where
   pub is : r ≡ max (pathRank path) (worst ts)
 
-pub worst-of-all : (path : List ℕ) (xs ys : Texts) (p i j k r : ℕ) → i ≡ worst xs → j ≡ worst ys → p ≡ pathRank path → k ≡ max i j → r ≡ max p k → WorstOf path (xs ++ ys) r
-worst-of-all path xs ys p i j k r ei ej ep ek er = record { is = omega (arith, worst-append xs ys) }
+worst-of-all : (path : List ℕ) (xs ys : Texts) (i j r : ℕ) → i ≡ max (pathRank path) (worst xs) → j ≡ worst ys → r ≡ max i j → WorstOf path (xs ++ ys) r
+worst-of-all path xs ys i j r ei ej er = record { is = omega (arith, worst-append xs ys) }
 
 data PathRanked (path : List ℕ) : Type 0 where
   bad : illFormed path ≡ true → pathRank path ≡ 2 → PathRanked path
@@ -215,7 +221,7 @@ module _ (path : List ℕ) (ts : Texts) (r : ℕ) (w : WorstOf path ts r) where
       go (bad a e) = omega arith
       go (good a e) = omega arith
 
-  pub read-long : r ≡ 3 → ConfigOutcome.Refused 7 ≡ readEditorConfig path ts
+  read-long : r ≡ 3 → ConfigOutcome.Refused 7 ≡ readEditorConfig path ts
   unfolding readEditorConfig
   read-long e = sym (choose-true _ _ _ (any-long ts ∙ lt-ltb 2 (worst ts) (omega (arith, w .is, path-top))))
 
@@ -226,51 +232,117 @@ module _ (path : List ℕ) (ts : Texts) (r : ℕ) (w : WorstOf path ts r) where
       go (bad a e) = any-yes illFormed path ts a ∙ sym (lt-ltb 1 r (omega (arith, w .is)))
       go (good a e) = any-no illFormed path ts a ∙ any-ill ts h ∙ ap (ltb 1) (let z : worst ts ≡ r = omega (arith, w .is) in z)
 
-  module _ (n : r ≡ 3 → ⊥) where
-    below-three : r ≤ 2
-    below-three = omega (arith, w .is, worst-top ts, path-top, n)
+  read-ill : r ≡ 2 → ConfigOutcome.Refused 4 ≡ readEditorConfig path ts
+  unfolding readEditorConfig
+  read-ill e =
+      sym (choose-false _ _ _ (any-long ts ∙ le-ltb 2 (worst ts) (omega (arith, w .is)))
+      ∙ choose-true _ _ _ (ills (omega (arith, w .is)) ∙ lt-ltb 1 r (omega arith)))
 
-    pub read-ill : r ≡ 2 → ConfigOutcome.Refused 4 ≡ readEditorConfig path ts
-    unfolding readEditorConfig
-    read-ill e =
-        sym (choose-false _ _ _ (any-long ts ∙ le-ltb 2 (worst ts) (omega (arith, w .is, below-three)))
-        ∙ choose-true _ _ _ (ills (omega (arith, w .is, below-three)) ∙ lt-ltb 1 r (omega arith)))
+  readable-all : r ≤ 1 → readEditorConfig path ts ≡ choose (anyOf hasLongName ts) (ConfigOutcome.Refused 8) (ConfigOutcome.Given (resolved (map decode ts) (relatives (decode path))))
+  unfolding readEditorConfig
+  readable-all h =
+      choose-false _ _ _ (any-long ts ∙ le-ltb 2 (worst ts) (omega (arith, w .is)))
+      ∙ choose-false _ _ _ (ills (omega (arith, w .is)) ∙ le-ltb 1 r h)
 
-    module _ (m : r ≡ 2 → ⊥) where
-      below-two : r ≤ 1
-      below-two = omega (arith, below-three, m)
+  read-name : r ≡ 1 → ConfigOutcome.Refused 8 ≡ readEditorConfig path ts
+  read-name e =
+      sym (readable-all (omega arith) ∙ choose-true _ _ _ (any-name ts (omega (arith, w .is)) ∙ lt-ltb 0 (worst ts) (go (path-ranked path))))
+    where
+      go : PathRanked path → 0 < worst ts
+      go (bad a p) = absurd (omega (arith, w .is))
+      go (good a p) = omega (arith, w .is)
 
-      readable-all : readEditorConfig path ts ≡ choose (anyOf hasLongName ts) (ConfigOutcome.Refused 8) (ConfigOutcome.Given (resolved (map decode ts) (relatives (decode path))))
-      unfolding readEditorConfig
-      readable-all =
-          choose-false _ _ _ (any-long ts ∙ le-ltb 2 (worst ts) (omega (arith, w .is, below-two)))
-          ∙ choose-false _ _ _ (ills (omega (arith, w .is, below-two)) ∙ le-ltb 1 r below-two)
+  read-given : r ≡ 0 → (top : ℕ) → TopOf path top → (v : Resolved) → v ≡ resolved (map decode ts) (map decode (belowSlashes (part path top (length path)) ++ (part path top (length path) ∷ [])))
+      → ConfigOutcome.Given v ≡ readEditorConfig path ts
+  read-given e top t v s =
+      sym (readable-all (omega arith) ∙ choose-false _ _ _ (any-name ts (omega (arith, w .is)) ∙ le-ltb 0 (worst ts) (omega (arith, w .is)))
+      ∙ ap (λ (x : Texts). ConfigOutcome.Given (resolved (map decode ts) x)) (relatives-top path top t ∙ sym (rels-decode (drop top path) (t .well)))
+      ∙ ap (λ (x : List ℕ). ConfigOutcome.Given (resolved (map decode ts) (map decode (belowSlashes x ++ (x ∷ []))))) (sym (part-from path top))
+      ∙ ap ConfigOutcome.Given (sym s))
 
-      pub read-name : r ≡ 1 → ConfigOutcome.Refused 8 ≡ readEditorConfig path ts
-      read-name e =
-          sym (readable-all ∙ choose-true _ _ _ (any-name ts (omega (arith, w .is, below-two)) ∙ lt-ltb 0 (worst ts) (go (path-ranked path))))
-        where
-          go : PathRanked path → 0 < worst ts
-          go (bad a p) = absurd (omega (arith, w .is, below-two))
-          go (good a p) = omega (arith, w .is)
+-- ---- in two halves
 
-      module _ (o : r ≡ 1 → ⊥) where
-        no-rank : worst ts ≤ 0
-        no-rank = omega (arith, w .is, below-two, o)
+well-path : (path : List ℕ) → pathRank path ≡ 0 → WellFormed path
+well-path path e = go (path-ranked path)
+  where
+    go : PathRanked path → WellFormed path
+    go (bad a p) = absurd (omega arith)
+    go (good a p) = test-wf path (not-false (wellFormed path) a)
 
-        pub read-accepted : AllAccepted ts
-        read-accepted = all-accepted ts no-rank
+module _ (path a b c d : List ℕ) where
+  abbrev near-texts : Texts
+  near-texts = a ∷ b ∷ c ∷ d ∷ []
 
-        pub read-well : WellFormed path
-        read-well = go (path-ranked path)
-          where
-            go : PathRanked path → WellFormed path
-            go (bad a p) = absurd (omega (arith, w .is, below-two))
-            go (good a p) = test-wf path (not-false (wellFormed path) a)
+  module _ (i j rank : ℕ) (ei : i ≡ pathRank path) (ej : j ≡ worst near-texts) (er : rank ≡ max i j) where
+    pub near-well : rank ≡ 0 → WellFormed path
+    near-well z = well-path path (omega arith)
 
-        pub read-given : (top : ℕ) → TopOf path top → (v : Resolved) → Resolves (take (length path - top) (drop top path)) ts v → ConfigOutcome.Given v ≡ readEditorConfig path ts
-        read-given top t v s =
-            sym (readable-all ∙ choose-false _ _ _ (any-name ts (omega (arith, no-rank)) ∙ le-ltb 0 (worst ts) no-rank)
-            ∙ ap (λ (x : Texts). ConfigOutcome.Given (resolved (map decode ts) x)) (relatives-top path top t ∙ sym (rels-decode (drop top path) (t .well)))
-            ∙ ap (λ (x : List ℕ). ConfigOutcome.Given (resolved (map decode ts) (map decode (belowSlashes x ++ (x ∷ []))))) (sym (part-from path top))
-            ∙ ap ConfigOutcome.Given (sym (s .is)))
+    pub near-accepted : rank ≡ 0 → AllAccepted near-texts
+    near-accepted z = all-accepted near-texts (omega arith)
+
+    near-rank : rank ≡ max (pathRank path) (worst near-texts)
+    near-rank = omega arith
+
+    pub near-levels : (top : ℕ) (l : Level) (ls : Levels) → TopOf path top → Nearest (part path top (length path)) l → OutwardFrom (part path top (length path)) a b c d l ls
+        → NearRead path a b c d (record { rank = rank; top = top; levels = ls })
+    near-levels top l ls t n o =
+        record {
+          rank = near-rank;
+          start = λ z. record { top = t; at = o .levels .beyond .at };
+          nearest = λ z. subst (Nearest (part path top (length path))) (sym (o .first)) n;
+          levels = λ z. o .levels;
+        }
+
+    pub near-refused : (top : ℕ) (ls : Levels) → (rank ≡ 0 → ⊥) → NearRead path a b c d (record { rank = rank; top = top; levels = ls })
+    near-refused top ls h =
+        record { rank = near-rank; start = λ z. absurd (h z); nearest = λ z. absurd (h z); levels = λ z. absurd (h z) }
+
+pub far-accepted : (ts : Texts) (i rank r : ℕ) → rank ≡ worst ts → r ≡ max i rank → r ≡ 0 → AllAccepted ts
+far-accepted ts i rank r e m z = all-accepted ts (omega arith)
+
+module _ (path : List ℕ) (n : Near) (rank r : ℕ) (m : r ≡ max (n .rank) rank) where
+  pub far-start : (n .rank ≡ 0 → FarStart path n) → r ≡ 0 → FarStart path n
+  far-start q z = q (omega arith)
+
+  pub far-refused : (ts : Texts) → rank ≡ worst ts → (v : Resolved) → (r ≡ 0 → ⊥) → FarRead path n ts (record { rank = rank; values = v })
+  far-refused ts e v h = record { rank = e; values = λ y z. absurd (h (omega arith)) }
+
+-- the nearer texts, where all ranks are 0
+module _ (path a b c d : List ℕ) (n : Near) (q : NearRead path a b c d n) (g r : ℕ) (e : r ≡ max (n .rank) g) (z : r ≡ 0) where
+  near-zero : n .rank ≡ 0
+  near-zero = omega arith
+
+  pub all-accept : AllAccepted (a ∷ b ∷ c ∷ d ∷ [])
+  all-accept = all-accepted (a ∷ b ∷ c ∷ d ∷ []) (omega (arith, q .rank, near-zero))
+
+  pub all-top : TopOf path (n .top)
+  all-top = q .start near-zero .top
+
+  pub all-outward : Outward (pathOf path n) a b c d (n .levels)
+  all-outward = q .levels near-zero
+
+module _ (path a b c d : List ℕ) (n : Near) (f : Far) (q : NearRead path a b c d n) (r : ℕ) (e : r ≡ max (n .rank) (f .rank)) where
+  all-worst : (ts : Texts) → FarRead path n ts f → WorstOf path (a ∷ b ∷ c ∷ d ∷ ts) r
+  all-worst ts w = worst-of-all path (a ∷ b ∷ c ∷ d ∷ []) ts (n .rank) (f .rank) r (q .rank) (w .rank) e
+
+  pub all-name : r ≡ 1 → AllRead path a b c d n f (ConfigOutcome.Refused 8)
+  all-name z = record { is = λ ts w. read-name path (a ∷ b ∷ c ∷ d ∷ ts) r (all-worst ts w) z }
+
+  pub all-ill : r ≡ 2 → AllRead path a b c d n f (ConfigOutcome.Refused 4)
+  all-ill z = record { is = λ ts w. read-ill path (a ∷ b ∷ c ∷ d ∷ ts) r (all-worst ts w) z }
+
+  pub all-long : (r ≡ 0 → ⊥) → (r ≡ 1 → ⊥) → (r ≡ 2 → ⊥) → AllRead path a b c d n f (ConfigOutcome.Refused 7)
+  all-long x y z =
+      record {
+        is = λ ts w. read-long path (a ∷ b ∷ c ∷ d ∷ ts) r (all-worst ts w)
+            (omega (arith, all-worst ts w .is, worst-top (a ∷ b ∷ c ∷ d ∷ ts), path-top path (a ∷ b ∷ c ∷ d ∷ ts) r (all-worst ts w)));
+      }
+
+  pub all-given : r ≡ 0 → (v : Resolved) → Inward (pathOf path n) a b c d (n .levels) (f .values) v → AllRead path a b c d n f (ConfigOutcome.Given v)
+  all-given z v i =
+      let y : n .rank ≡ 0 = omega arith in
+      record {
+        is = λ ts w.
+            read-given path (a ∷ b ∷ c ∷ d ∷ ts) r (all-worst ts w) z (n .top) (q .start y .top) v
+            (resolves-all (pathOf path n) (n .levels .first) (a ∷ b ∷ c ∷ d ∷ ts) v (q .nearest y) (i .all ts (w .values y (omega arith))));
+      }

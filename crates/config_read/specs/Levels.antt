@@ -12,6 +12,7 @@ use Rattle.config_rules.specs.Lines.{linesOf}
 use Rattle.config_rules.specs.Sections.{rootAt, settings}
 use Rattle.config_rules.specs.Texts.{belowSlashes, resolved}
 use Rattle.config_read.specs.declared.levels.Level.{Level}
+use Rattle.config_read.specs.declared.levels.Levels.{Levels}
 
 -- what follows each slash of u in u ++ w, the last one first
 unfoldable pub below : List ℕ → List ℕ → List (List ℕ)
@@ -60,6 +61,24 @@ pub record TopOf (path : List ℕ) (r : ℕ) : Type 0 where
   pub well : WellFormed (drop r path)
   pub is : decode (drop r path) ≡ choose (firstIs (is "/") (decode path)) (drop 1 (decode path)) (decode path)
 
--- r is what texts give for the path p, which has no leading slash of its own
-pub record Resolves (p : List ℕ) (texts : List (List ℕ)) (r : Resolved) : Type 0 where
-  pub is : r ≡ resolved (map decode texts) (map decode (belowSlashes p ++ (p ∷ [])))
+-- r is what texts give, the nearest of them at level l
+pub record Resolving (p : List ℕ) (l : Level) (texts : List (List ℕ)) (r : Resolved) : Type 0 where
+  pub is : r ≡ resolved (map decode texts) (map decode (relsAt p l))
+
+-- ---- four texts
+
+-- the levels of the texts a, b, c, d, each one up from the one before
+pub record Outward (p a b c d : List ℕ) (ls : Levels) : Type 0 where
+  pub at : LevelAt p (ls .first)
+  pub second : Above p a (ls .first) (ls .second)
+  pub third : Above p b (ls .second) (ls .third)
+  pub fourth : Above p c (ls .third) (ls .fourth)
+  pub beyond : Above p d (ls .fourth) (ls .beyond)
+
+pub record OutwardFrom (p a b c d : List ℕ) (l : Level) (ls : Levels) : Type 0 where
+  pub first : ls .first ≡ l
+  pub levels : Outward p a b c d ls
+
+-- from what any texts beyond give to what all give
+pub record Inward (p a b c d : List ℕ) (ls : Levels) (old new : Resolved) : Type 0 where
+  pub all : (ts : List (List ℕ)) → Resolving p (ls .beyond) ts old → Resolving p (ls .first) (a ∷ b ∷ c ∷ d ∷ ts) new

@@ -1,10 +1,13 @@
 // The directories of a path, and the text that belongs to each.
+ghost use mathlib.Core.List.{[], _∷_};
 ghost use Prim.Native.Nat.{_≤_};
 ghost use lib.ListN.{length};
 ghost use Rattle.unicode.specs.Unicode.{WellFormed};
 ghost use Rattle.config_text.specs.Walk.{Readable};
 ghost use Rattle.config_text.specs.Steps.{Accepted};
 ghost use Rattle.config_read.specs.Levels.{LevelAt, LevelFrom, Nearest, Above, Applied, TopOf};
+ghost use Rattle.config_read.specs.Levels.{Outward, OutwardFrom, Inward};
+ghost use Rattle.config_read.specs.Refusals.{AllAccepted};
 use rules::Resolved;
 
 // Whether a directory's text counts, and where the path relative to the directory starts.
@@ -92,4 +95,58 @@ pub fn apply(p: &[u8], l: Level, text: &[u8], old: Resolved) -> Resolved
         return config_text::settings(text, &p[from..], old);
     }
     old
+}
+
+// The levels of four texts, the nearest first, and the one beyond them.
+pub struct Levels {
+    pub first: Level,
+    pub second: Level,
+    pub third: Level,
+    pub fourth: Level,
+    pub beyond: Level,
+}
+
+// From the level of the nearest of four texts outward.
+pub fn outward(p: &[u8], l: Level, t1: &[u8], t2: &[u8], t3: &[u8], t4: &[u8]) -> Levels
+    requires { ⌜ WellFormed (now p) × LevelAt (now p) l ⌝ }
+    requires { ⌜ AllAccepted (now t1 ∷ now t2 ∷ now t3 ∷ now t4 ∷ []) ⌝ }
+    ensures { λ r. ⌜ OutwardFrom (now (p .entry)) (now (t1 .entry)) (now (t2 .entry)) (now (t3 .entry))
+        (now (t4 .entry)) l r ⌝ }
+{
+    let second = above(p, l, t1);
+    let third = above(p, second, t2);
+    let fourth = above(p, third, t3);
+    let beyond = above(p, fourth, t4);
+    Levels {
+        first: l,
+        second,
+        third,
+        fourth,
+        beyond,
+    }
+}
+
+// Back over the four texts from the values of those beyond, so that the nearest comes last.
+pub fn inward(
+    p: &[u8],
+    ls: Levels,
+    t1: &[u8],
+    t2: &[u8],
+    t3: &[u8],
+    t4: &[u8],
+    old: Resolved,
+) -> Resolved
+    requires { ⌜ Outward (now p) (now t1) (now t2) (now t3) (now t4) ls ⌝ }
+    requires { ⌜ AllAccepted (now t1 ∷ now t2 ∷ now t3 ∷ now t4 ∷ []) ⌝ }
+    ensures { λ r. ⌜ Inward (now (p .entry)) (now (t1 .entry)) (now (t2 .entry)) (now (t3 .entry)) (now (t4 .entry))
+        ls old r ⌝ }
+{
+    let l1 = ls.first;
+    let l2 = ls.second;
+    let l3 = ls.third;
+    let l4 = ls.fourth;
+    let r4 = apply(p, l4, t4, old);
+    let r3 = apply(p, l3, t3, r4);
+    let r2 = apply(p, l2, t2, r3);
+    apply(p, l1, t1, r2)
 }

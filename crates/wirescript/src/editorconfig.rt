@@ -20,16 +20,8 @@ pub extern "C" fn wirescript_read_editorconfig(
         ∷ now («text_3» .entry) ∷ now («text_4» .entry) ∷ now («text_5» .entry) ∷ now («text_6» .entry)
         ∷ now («text_7» .entry) ∷ now («text_8» .entry) ∷ []) r ⌝ }
 {
-    let outcome = config_read::read(
-        path,
-        text_1,
-        text_2,
-        text_3,
-        text_4,
-        text_5,
-        text_6,
-        text_7,
-        text_8,
-    );
+    let near = config_read::read_near(path, text_1, text_2, text_3, text_4);
+    let far = config_read::read_far(path, near, text_5, text_6, text_7, text_8);
+    let outcome = config_read::read(path, near, far, text_1, text_2, text_3, text_4);
     config_read::numbers::answer_of(outcome)
 }

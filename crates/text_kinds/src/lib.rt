@@ -282,27 +282,34 @@ fn kinds_by_class(
     next
 }
 
+// A line's number, what is open before it, and how many of its first bytes are known to be ASCII.
+pub struct Before {
+    pub number: u64,
+    pub carry: Carry,
+    pub ascii: usize,
+}
+
 // Every entry from k on that is on this line gets its kind: by the line's class bytes, or, from the first that these
 // don't tell, by a reading of the line.
 fn answer_line(
     line: &[u8],
-    carry: Carry,
     class: &[u8],
-    ascii: usize,
-    number: u64,
+    b: Before,
     places: &[u64],
     k: usize,
     kinds: &mut [u8],
 ) -> usize
-    requires { ⌜ ClassesIn carry (now line) (now class) ⌝ }
-    requires { ⌜ Tells (now line) (now class) ascii 0 ⌝ }
-    requires { ⌜ Shallow carry (length (now line)) ⌝ }
+    requires { ⌜ ClassesIn (b .carry) (now line) (now class) ⌝ }
+    requires { ⌜ Tells (now line) (now class) (b .ascii) 0 ⌝ }
+    requires { ⌜ Shallow (b .carry) (length (now line)) ⌝ }
     requires { ⌜ Listed (now places) (now kinds) ⌝ }
-    requires { ⌜ Ahead (now places) number 0 k ⌝ }
-    ensures { λ r. ⌜ LineAnswered (now (line .entry)) carry number (now (places .entry)) k (now (kinds .entry)) r
-        (now (kinds .exit)) ⌝ }
+    requires { ⌜ Ahead (now places) (b .number) 0 k ⌝ }
+    ensures { λ r. ⌜ LineAnswered (now (line .entry)) (b .carry) (b .number) (now (places .entry)) k
+        (now (kinds .entry)) r (now (kinds .exit)) ⌝ }
 {
-    let next = kinds_by_class(line, class, ascii, number, places, k, kinds);
+    let number = b.number;
+    let carry = b.carry;
+    let next = kinds_by_class(line, class, b.ascii, number, places, k, kinds);
     if is_on(places, next, number) {
         return kinds_in_line(line, carry, number, places, next, kinds);
     }
@@ -344,7 +351,12 @@ fn read_line(
     let after = scan::classify(line, carry, scratch);
     if is_on(places, next, lines) {
         let ascii = ascii_to(source, at, end, p.ascii);
-        let to = answer_line(line, carry, scratch, ascii - at, lines, places, next, kinds);
+        let b = Before {
+            number: lines,
+            carry,
+            ascii: ascii - at,
+        };
+        let to = answer_line(line, scratch, b, places, next, kinds);
         return Progress {
             at: end + 1,
             lines: lines + 1,

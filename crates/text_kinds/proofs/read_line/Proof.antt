@@ -20,8 +20,8 @@ is-on-requires c κs = search needs
 ascii-to-requires : tie.Need-ascii-to-requires
 ascii-to-requires c κs = search needs
 
-sub-answer-line : tie.Need-sub-answer-line
-sub-answer-line c = search needs
+sub-t19 : tie.Need-sub-t19
+sub-t19 c = search needs
 
 answer-line-requires : tie.Need-answer-line-requires
 answer-line-requires c κs =
@@ -34,11 +34,11 @@ answer-line-requires c κs =
       ),
     )
 
-add-t20 : tie.Need-add-t20
-add-t20 c = search needs
+add-t19 : tie.Need-add-t19
+add-t19 c = search needs
 
-add-t23 : tie.Need-add-t23
-add-t23 c = omega (arith, c .before .before .before .before .before .before .before .before .before .before .before .before .before .before .before .before .before .before .pre .1 .1 .0 .small)
+add-t24 : tie.Need-add-t24
+add-t24 c = omega (arith, c .before .before .before .before .before .before .before .before .before .before .before .before .before .before .before .before .before .before .pre .1 .1 .0 .small)
 
 same-length : tie.Need-same-length
 same-length c = search needs
@@ -51,11 +51,11 @@ returns c =
     let s = c .before .before .before .before .before .before .before .before .before .before .before .before .before .before .before .before .before .before .pre in
     read-places (s .0) (s .1 .0) (s .1 .1 .0) (s .1 .1 .1 .0) (s .1 .1 .1 .1) _ (c .before .before .before .before .before .before .before .before .before .before .before .before .before .line-end .ensures) _ (c .before .before .before .before .before .before .before .before .before .before .before .before .line-at .ensures) (c .before .before .before .before .before .before .before .before .before .before .classify .ensures) _ (c .before .before .before .before .before .before .before .is-on .ensures) (c .before .before .before .before .before .before .if1 .taken) _ _ _ (c .before .before .answer-line .ensures) (c .before .before .before .before .before .ascii-to .ensures .0)
 
-add-t24 : tie.Need-add-t24
-add-t24 c = search needs
-
 add-t25 : tie.Need-add-t25
 add-t25 c = search needs
+
+add-t26 : tie.Need-add-t26
+add-t26 c = search needs
 
 same-length-3 : tie.Need-same-length-3
 same-length-3 c = search needs
@@ -68,5 +68,5 @@ returns-2 c =
 pub read-line-spec : {M : Type 1} → statement M
 read-line-spec =
     tie.close
-    (tie.spec line-end-requires line-at-requires classify-requires is-on-requires ascii-to-requires sub-answer-line
-    answer-line-requires add-t20 add-t23 same-length same-length-2 returns add-t24 add-t25 same-length-3 returns-2)
+    (tie.spec line-end-requires line-at-requires classify-requires is-on-requires ascii-to-requires sub-t19
+    answer-line-requires add-t19 add-t24 same-length same-length-2 returns add-t25 add-t26 same-length-3 returns-2)

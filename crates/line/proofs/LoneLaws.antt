@@ -21,7 +21,7 @@ use Rattle.rules.specs.Options.{Options, indentOf}
 use Rattle.rules.specs.Refusals.{maxSource}
 use Rattle.rules.specs.SplitImport.{Laid, splitImport}
 use Rattle.rules.specs.SplitOperation.{splitOnce, nextBreak, breakOn, breakFirst, layPieces, splitOperation}
-use Rattle.rules.specs.Line.{Formatter, dropBlank, linesBefore, continues, levelOf, oneLine, orOperation, broken, maySplit, splitWide, laid, placedLine, spacedLine}
+use Rattle.rules.specs.Line.{Formatter, linesBefore, continues, levelOf, oneLine, orOperation, broken, splitWide, laid, placedLine, spacedLine}
 use Rattle.rules.specs.declared.Carry.{Carry}
 use Rattle.rules.specs.declared.Ignore.{Ignore}
 use Rattle.rules.specs.declared.PrintWidth.{PrintWidth}
@@ -37,7 +37,6 @@ use Rattle.text.specs.Text.{Text, Line, Adds}
 use Rattle.text.specs.declared.Written.{Written}
 use Rattle.text.proofs.StepLaws.{grown-ordered}
 use Rattle.text.proofs.PadLaws.{indent-blanks, blanks-size}
-use Rattle.line.specs.declared.formatter.Prev.{Prev}
 use Rattle.line.specs.declared.style.Style.{Style}
 use Rattle.line.specs.Holds.{Record, prevOf, Holds, Ready, Stepped, Uses, ValidIndent}
 use Rattle.line.specs.Lone.{isLone, loneBy}

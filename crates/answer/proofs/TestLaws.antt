@@ -5,8 +5,8 @@ use mathlib.Core.List.{List, [], ◌∷◌}
 use mathlib.Core.Path.{◌≡◌, sym, ◌∙◌}
 use borrow.Author.Tests.{lt-ltb, le-ltb, eq-eqb, ne_eqb}
 use lib.ListN.{length, get_or}
-use Rattle.unicode.specs.Unicode.{prefix_len}
-use Rattle.unicode.proofs.Decode.{test_whole, test_part}
+use Rattle.utf8.specs.Unicode.{prefix_len}
+use Rattle.utf8.proofs.Decode.{test_whole, test_part}
 use Rattle.rules.specs.Basics.{choose}
 use Rattle.rules.specs.Refusals.{max_source, scratch_needed, refuse_if, tested, long_source, short_scratch, ill_formed, wrong_length, bits_set}
 use Rattle.rules.specs.Strengths.{table_length, last_bits}

@@ -1,4 +1,6 @@
 // Refusals: the tests that several calls share, numbers and places; and an outcome in the numbers that a host is told.
+#![tactic(auto)]
+
 ghost use Rattle.std.specs.Prelude.{◌≡◌, [], ◌∷◌, ◌≤◌, length};
 ghost use Rattle.rules.specs.Refusals.{max_source, scratch_needed, number_of, place_of, tested, long_source, short_scratch};
 ghost use Rattle.rules.specs.Refusals.{ill_formed, wrong_length, bits_set};
@@ -44,7 +46,7 @@ pub fn test_bytes(source: &[u8], each: usize, scratch: usize) -> Verdict
     if scratch < needed {
         return Verdict::Refused(Refusal::ScratchShort(needed));
     }
-    let prefix = unicode::well_formed_prefix(source);
+    let prefix = utf8::well_formed_prefix(source);
     if prefix != n {
         return Verdict::Refused(Refusal::NotUtf8(prefix));
     }

@@ -1,4 +1,6 @@
 // Tests of a byte, and of what a slice starts with; the quotes.
+#![tactic(auto)]
+
 ghost use Rattle.std.specs.Prelude.{◌≡◌};
 ghost use Rattle.rules.specs.Basics.{is_blank, is_opener, is_closer, is_ident, starts_with};
 ghost use Rattle.rules.specs.Scan.{quote};

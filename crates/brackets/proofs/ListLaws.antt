@@ -9,7 +9,7 @@ use native.Mathlib.Omega.{arith}
 use borrow.Author.Tests.{lt-ltb, le-ltb}
 use lib.ListN.{length, get_or, take, set, replicate, length-append, length-take, length-replicate, length-set, get_or-replicate, get_or-eq_default, get_or-append}
 use lib.Seq.{get_or-append-add, get_or-append_seam, get_or-take, get_or-set_same, get_or-set_other, ext_get_or}
-use Rattle.unicode.proofs.Tests.{split}
+use Rattle.utf8.proofs.Tests.{split}
 use Rattle.rules.specs.Basics.{choose}
 use Rattle.rules.specs.Brackets.{open_lines}
 use Rattle.rules.specs.Call.{filled, listed}

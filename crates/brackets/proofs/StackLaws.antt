@@ -10,10 +10,10 @@ use borrow.Author.Tests.{ne_eqb, eqb-true, le-leb, lt-leb, ltb-true, ltb-false}
 use lib.Dec.{eqb, leb, ltb}
 use lib.ListN.{length, get_or, drop, set, length-set, drop_of_length-le}
 use lib.Seq.{get_or-set_same, get_or-set_other, drop-cons}
-use Rattle.unicode.specs.Places.{NoneAmong}
+use Rattle.utf8.specs.Places.{NoneAmong}
 use Rattle.buffer.specs.Buffer.{part}
-use Rattle.unicode.specs.Unicode.{within}
-use Rattle.unicode.proofs.Tests.{by_test, in_range_law}
+use Rattle.utf8.specs.Unicode.{within}
+use Rattle.utf8.proofs.Tests.{by_test, in_range_law}
 use Rattle.rules.specs.Basics.{choose, is_closer, leading}
 use Rattle.rules.specs.Scan.{Cell, cell, is_code}
 use Rattle.rules.specs.ClassBytes.{class_of, cells_of}

@@ -1,6 +1,6 @@
 -- The stack of open brackets as it lies in scratch: from base on, the oldest first, three bytes for each.
 use Rattle.std.specs.Prelude.{ℕ, zero, suc, ◌+◌, ◌-◌, ◌*◌, ◌/◌, ◌%◌, ◌≤◌, ◌<◌, Bool, not, ◌||◌, true, false, List, [], ◌∷◌, ◌≡◌, eqb, ltb, length, get_or}
-use Rattle.unicode.specs.Unicode.{within}
+use Rattle.utf8.specs.Unicode.{within}
 use Rattle.rules.specs.Basics.{choose}
 use Rattle.rules.specs.Brackets.{Entry, Open, levels}
 use Rattle.rules.specs.Call.{listed}

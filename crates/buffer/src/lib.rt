@@ -1,4 +1,6 @@
 // Writing into lent buffers. An output may be too short: what fits is written, and the whole length is given.
+#![tactic(auto)]
+
 ghost use Rattle.std.specs.Prelude.{◌≡◌, ◌+◌, ◌≤◌, ◌<◌, ◌^◌, min, ◌++◌, length, replicate};
 ghost use Rattle.buffer.specs.Buffer.{Wrote, Appended, Finishes, AllAre};
 ghost use Rattle.buffer.specs.Copy.{Block, BlockPut, Copies};

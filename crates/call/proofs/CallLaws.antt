@@ -12,9 +12,9 @@ use borrow.Author.Tests.{lt-ltb, le-ltb, leb-true, eqb-true}
 use lib.Dec.{leb, eqb}
 use lib.ListN.{length, replicate}
 use lib.Seq.{take-nil}
-use Rattle.unicode.specs.Unicode.{size, decode, WellFormed}
-use Rattle.unicode.proofs.Decode.{test_wf}
-use Rattle.unicode.proofs.Tests.{and_left, and_right}
+use Rattle.utf8.specs.Unicode.{size, decode, WellFormed}
+use Rattle.utf8.proofs.Decode.{test_wf}
+use Rattle.utf8.proofs.Tests.{and_left, and_right}
 use Rattle.rules.specs.Basics.{choose}
 use Rattle.rules.specs.Lines.{as_str, lines_of, dominant_in, ends_in_lf}
 use Rattle.rules.specs.Options.{Options, all_blank, valid_indent, max_indent, max_ruler}

@@ -1,6 +1,6 @@
 -- What the finish gives, and a refusal.
 use Rattle.std.specs.Prelude.{ℕ, List, ◌≡◌, replicate}
-use Rattle.unicode.specs.Unicode.{encode, size}
+use Rattle.utf8.specs.Unicode.{encode, size}
 use Rattle.rules.specs.Options.{Options}
 use Rattle.rules.specs.Refusals.{short_output}
 use Rattle.rules.specs.Assembly.{Formatted}

@@ -1,6 +1,6 @@
 // Assembly: all lines of a source, the ending that they get, and the finish.
 ghost use Rattle.std.specs.Prelude.{◌≡◌, List, [], ℕ, ◌+◌, ◌*◌, ◌≤◌, length};
-ghost use Rattle.unicode.specs.Unicode.{decode, WellFormed};
+ghost use Rattle.utf8.specs.Unicode.{decode, WellFormed};
 ghost use Rattle.rules.specs.Basics.{choose};
 ghost use Rattle.rules.specs.Options.{max_ruler};
 ghost use Rattle.rules.specs.Assembly.{ending_of, last_ending, format_with};

@@ -1,4 +1,6 @@
 // The whole formatting call: the refusals, then the text, then the answer.
+#![tactic(auto)]
+
 ghost use Rattle.std.specs.Prelude.{◌≡◌, length};
 ghost use Rattle.rules.specs.Refusals.{tested};
 ghost use Rattle.rules.specs.Call.{format_tests};

@@ -14,10 +14,10 @@ use borrow.Author.Tests.{ltb-true, ltb-false, eq-eqb, ne_eqb}
 use lib.Dec.{ltb}
 use lib.ListN.{length, get_or, take, drop, length-drop}
 use lib.Seq.{take-length}
-use Rattle.unicode.specs.Unicode.{decode, WellFormed, code_at}
-use Rattle.unicode.specs.Places.{Step, Column}
-use Rattle.unicode.proofs.Scan.{ascii, ascii_step}
-use Rattle.unicode.proofs.Tests.{neither_left, neither_right}
+use Rattle.utf8.specs.Unicode.{decode, WellFormed, code_at}
+use Rattle.utf8.specs.Places.{Step, Column}
+use Rattle.utf8.proofs.Scan.{ascii, ascii_step}
+use Rattle.utf8.proofs.Tests.{neither_left, neither_right}
 use Rattle.buffer.specs.Buffer.{part}
 use Rattle.buffer.proofs.RegionLaws.{part_from}
 use Rattle.rules.specs.Basics.{choose, is}

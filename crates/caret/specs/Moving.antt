@@ -1,7 +1,7 @@
 -- What the contracts say of places in bytes.
 use Rattle.std.specs.Prelude.{ℕ, ◌-◌, ◌≤◌, Bool, true, List, ◌≡◌, length, take, drop}
-use Rattle.unicode.specs.Unicode.{decode, WellFormed}
-use Rattle.unicode.specs.Places.{Column}
+use Rattle.utf8.specs.Unicode.{decode, WellFormed}
+use Rattle.utf8.specs.Places.{Column}
 use Rattle.rules.specs.Basics.{is, count, split_on}
 use Rattle.rules.specs.Lines.{drop_cr}
 use Rattle.caret.specs.Caret.{past, is_place, place_of, line_of, column_of, moved_to}

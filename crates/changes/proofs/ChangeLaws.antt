@@ -10,11 +10,11 @@ use native.Mathlib.Omega.{arith}
 use lib.Dec.{T}
 use lib.ListN.{length, take, drop, length-append, length-drop, take-append-drop}
 use lib.Seq.{take_at, drop_at, drop-drop}
-use Rattle.unicode.specs.Unicode.{Scalars, encode_char, encode, size, decode, WellFormed}
-use Rattle.unicode.proofs.Tests.{by_test}
-use Rattle.unicode.proofs.Table.{front}
-use Rattle.unicode.proofs.Decode.{encode_append, encode_one}
-use Rattle.unicode.proofs.Decode.{decode_encode, decode_scalars, scalars_left, scalars_right, wf_encode}
+use Rattle.utf8.specs.Unicode.{Scalars, encode_char, encode, size, decode, WellFormed}
+use Rattle.utf8.proofs.Tests.{by_test}
+use Rattle.utf8.proofs.Table.{front}
+use Rattle.utf8.proofs.Decode.{encode_append, encode_one}
+use Rattle.utf8.proofs.Decode.{decode_encode, decode_scalars, scalars_left, scalars_right, wf_encode}
 use Rattle.buffer.specs.Buffer.{part}
 use Rattle.buffer.proofs.RegionLaws.{part_join}
 use Rattle.rules.specs.Basics.{same}

@@ -3,7 +3,7 @@ use Prim.Native.Nat.{ℕ}
 use Prim.Native.String.{String}
 use mathlib.Core.List.{List, [], ◌∷◌, ◌++◌}
 use mathlib.Core.Path.{◌≡◌, refl}
-use Rattle.unicode.specs.Unicode.{encode}
+use Rattle.utf8.specs.Unicode.{encode}
 use Rattle.rules.specs.Basics.{codes}
 use Rattle.rules.specs.Demand3.{strike}
 use Rattle.rules.proofs.Computing.{computing}

@@ -14,11 +14,11 @@ use borrow.Author.Count.{below_more}
 use borrow.Author.Tests.{ltb-false, eqb-true, not-false}
 use lib.Dec.{ltb, eqb}
 use lib.ListN.{length, get_or, drop, length-append}
-use Rattle.unicode.specs.Unicode.{encode_char, encode, size, decode, WellFormed, code_at}
-use Rattle.unicode.specs.Places.{Step}
-use Rattle.unicode.proofs.Decode.{encode_append, encode_one}
-use Rattle.unicode.proofs.Scan.{ascii, ascii_step}
-use Rattle.unicode.proofs.Tests.{by_test, neither_left, neither_right}
+use Rattle.utf8.specs.Unicode.{encode_char, encode, size, decode, WellFormed, code_at}
+use Rattle.utf8.specs.Places.{Step}
+use Rattle.utf8.proofs.Decode.{encode_append, encode_one}
+use Rattle.utf8.proofs.Scan.{ascii, ascii_step}
+use Rattle.utf8.proofs.Tests.{by_test, neither_left, neither_right}
 use Rattle.rules.specs.Demand3.{is_kept, strike}
 use Rattle.rules.proofs.Struck.{strike_append}
 use Rattle.gaps.specs.Gaps.{gap, after, Unkept, GapByte}

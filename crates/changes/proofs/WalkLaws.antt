@@ -10,11 +10,11 @@ use native.Mathlib.Omega.{arith}
 use lib.Dec.{T}
 use lib.ListN.{length, take, drop, set, length-append, length-drop}
 use lib.Seq.{take_at, length-take-le, drop-length}
-use Rattle.unicode.specs.Unicode.{Scalars, encode_char, encode, size, seq_at, chars, decode, code_at}
-use Rattle.unicode.specs.Places.{Step}
-use Rattle.unicode.proofs.Tests.{split, by_test}
-use Rattle.unicode.proofs.Decode.{decode_encode, decode_scalars, scalars_left}
-use Rattle.unicode.proofs.TrimScan.{first_char}
+use Rattle.utf8.specs.Unicode.{Scalars, encode_char, encode, size, seq_at, chars, decode, code_at}
+use Rattle.utf8.specs.Places.{Step}
+use Rattle.utf8.proofs.Tests.{split, by_test}
+use Rattle.utf8.proofs.Decode.{decode_encode, decode_scalars, scalars_left}
+use Rattle.utf8.proofs.TrimScan.{first_char}
 use Rattle.buffer.specs.Buffer.{part, put}
 use Rattle.buffer.proofs.RegionLaws.{set_put, put_more, length_put}
 use Rattle.rules.specs.Basics.{same}

@@ -1,6 +1,6 @@
 -- The changes that turn a source into its text, what carrying them out gives, and how a list holds them.
 use Rattle.std.specs.Prelude.{ℕ, suc, ◌+◌, ◌≤◌, List, [], ◌∷◌, ◌++◌, ◌≡◌, length, drop}
-use Rattle.unicode.specs.Unicode.{encode_char, size, decode, WellFormed}
+use Rattle.utf8.specs.Unicode.{encode_char, size, decode, WellFormed}
 use Rattle.buffer.specs.Buffer.{part}
 use Rattle.rules.specs.Basics.{choose, same}
 use Rattle.rules.specs.Demand3.{strike}

@@ -1,6 +1,6 @@
 -- Bytes that are the same in a source and its text are passed together.
 use Rattle.std.specs.Prelude.{ℕ, ◌+◌, ◌-◌, ◌≤◌, ◌<◌, Bool, true, false, List, ◌⊎◌, ◌≡◌, length, get_or, drop}
-use Rattle.unicode.specs.Unicode.{decode, WellFormed}
+use Rattle.utf8.specs.Unicode.{decode, WellFormed}
 use Rattle.rules.specs.Demand3.{is_kept, strike}
 use Rattle.changes.specs.Changes.{changes_from}
 

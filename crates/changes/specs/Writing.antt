@@ -1,6 +1,6 @@
 -- How changes get into a list.
 use Rattle.std.specs.Prelude.{ℕ, ◌+◌, ◌*◌, ◌≤◌, ◌<◌, ◌^◌, List, [], ◌∷◌, ◌++◌, ◌≡◌, length, take}
-use Rattle.unicode.specs.Unicode.{decode}
+use Rattle.utf8.specs.Unicode.{decode}
 use Rattle.buffer.specs.Buffer.{put}
 use Rattle.gaps.specs.Gaps.{GapEnd}
 use Rattle.changes.specs.Changes.{changes, numbers}

@@ -1,6 +1,8 @@
 // The changes that turn a source into its text: each replaces one gap.
+#![tactic(auto)]
+
 ghost use Rattle.std.specs.Prelude.{◌+◌, ◌<◌, ◌≤◌, ◌^◌, length, drop};
-ghost use Rattle.unicode.specs.Unicode.{decode};
+ghost use Rattle.utf8.specs.Unicode.{decode};
 ghost use Rattle.gaps.specs.Gaps.{gap, Alike};
 ghost use Rattle.changes.specs.Changes.{change_at};
 ghost use Rattle.changes.specs.Passing.{SameBytes, Behind, LastKept, Passed};
@@ -143,7 +145,7 @@ pub fn write_changes(source: &[u8], text: &[u8], list: &mut [u64]) -> usize
                 put: b - j,
             },
         );
-        let size = unicode::size_at(source, a);
+        let size = utf8::size_at(source, a);
         let k = same_run(source, a + size, text, b + size);
         i = a + size + k;
         j = b + size + k;

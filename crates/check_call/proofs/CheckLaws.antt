@@ -6,7 +6,7 @@ use mathlib.Core.List.{List, [], ◌++◌}
 use mathlib.Core.Path.{◌≡◌, refl, sym, ap, subst, ◌∙◌}
 use lib.Dec.{eqb}
 use lib.ListN.{length, replicate}
-use Rattle.unicode.specs.Unicode.{Scalars, encode, decode}
+use Rattle.utf8.specs.Unicode.{Scalars, encode, decode}
 use Rattle.rules.specs.Basics.{choose, same}
 use Rattle.rules.specs.Lines.{as_str, lines_of}
 use Rattle.rules.specs.Options.{Options, max_ruler}
@@ -42,7 +42,7 @@ use Rattle.check_call.specs.declared.CheckOutcome.{CheckOutcome}
 use Rattle.check_call.specs.CheckCall.{verdict_of, finding_of, outcome_after, outcome_of, one_if, answer_of, Compares, CheckedWith, Found}
 use Rattle.check_call.specs.CheckAnswered.{choices_of, CheckAnswered}
 use Rattle.check_call.proofs.SameLaws.{same_chars}
-use Rattle.unicode.proofs.Tests.{neither_left}
+use Rattle.utf8.proofs.Tests.{neither_left}
 
 -- ---- the lines, and the finish
 

@@ -6,9 +6,9 @@ use mathlib.Core.List.{List, [], ◌∷◌, ◌++◌, append-nil}
 use mathlib.Core.Path.{◌≡◌, sym, ap, ◌∙◌}
 use lib.ListN.{length, length-append}
 use lib.Seq.{take_all}
-use Rattle.unicode.specs.Unicode.{Scalars, encode, decode, WellFormed}
-use Rattle.unicode.proofs.Decode.{decode_encode}
-use Rattle.unicode.proofs.Tests.{by_test}
+use Rattle.utf8.specs.Unicode.{Scalars, encode, decode, WellFormed}
+use Rattle.utf8.proofs.Decode.{decode_encode}
+use Rattle.utf8.proofs.Tests.{by_test}
 use Rattle.rules.specs.Basics.{same, starts_with}
 use Rattle.rules.proofs.Prefix.{same_eq, same_itself}
 use Rattle.compare.specs.Common.{Tells}

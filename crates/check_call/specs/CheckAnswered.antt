@@ -1,6 +1,6 @@
 -- The exported contract of a call that asks whether a source is formatted already.
 use Rattle.std.specs.Prelude.{ℕ, List, ◌≡◌, length, replicate}
-use Rattle.unicode.specs.Unicode.{decode}
+use Rattle.utf8.specs.Unicode.{decode}
 use Rattle.rules.specs.Lines.{lines_of}
 use Rattle.rules.specs.Choices.{Choices, options_of}
 use Rattle.rules.specs.Assembly.{format_with}

@@ -1,6 +1,6 @@
 -- A call that asks whether a source is formatted already: its tests, what it comes to, and its answer in numbers.
 use Rattle.std.specs.Prelude.{ℕ, Bool, not, ◌||◌, List, ◌≡◌, eqb, length}
-use Rattle.unicode.specs.Unicode.{Scalars, decode}
+use Rattle.utf8.specs.Unicode.{Scalars, decode}
 use Rattle.compare.specs.Common.{Keeps}
 use Rattle.rules.specs.Basics.{choose, same}
 use Rattle.rules.specs.Options.{Options}

@@ -1,5 +1,7 @@
 // Is this source formatted already? The whole call: the refusals, then the lines, compared with the source as they
 // come, then the answer.
+#![tactic(auto)]
+
 ghost use Rattle.std.specs.Prelude.{◌≡◌, ◌||◌, ◌≤◌, eqb, length};
 ghost use Rattle.rules.specs.Options.{max_ruler};
 ghost use Rattle.call.specs.Formatted.{options_with};

@@ -3,9 +3,9 @@ use Prim.Native.Nat.{ℕ}
 use mathlib.Core.Bool.{Bool, true, true≢false}
 use mathlib.Core.List.{List, [], ◌∷◌, ◌++◌, reverse_aux, append_assoc, append-nil}
 use mathlib.Core.Path.{◌≡◌, refl, sym, ap, ◌∙◌}
-use Rattle.unicode.specs.Unicode.{trim, trim_end}
-use Rattle.unicode.proofs.Trim.{White, trim_none, trim_empty, end_none, end_twice}
-use Rattle.unicode.proofs.Tests.{and_left, and_right}
+use Rattle.utf8.specs.Unicode.{trim, trim_end}
+use Rattle.utf8.proofs.Trim.{White, trim_none, trim_empty, end_none, end_twice}
+use Rattle.utf8.proofs.Tests.{and_left, and_right}
 use Rattle.rules.specs.Basics.{is, is_empty, last_is}
 use Rattle.rules.specs.Options.{Options}
 use Rattle.rules.specs.Else.{is_plain_else, joinable, can_join, join_else}

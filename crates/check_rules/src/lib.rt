@@ -1,4 +1,5 @@
 // Is this source formatted already (C-19): definitions and laws, and what the code and the definitions share.
+#![tactic(auto)]
 
 // The answer in numbers, for a host: whether the text would equal the source, 1 or 0, and how many lines were read.
 #[repr(C)]

@@ -8,8 +8,8 @@ use lib.Dec.{leb}
 use lib.Count.{count_trailing_zeros}
 use lib.ListN.{get_or}
 use borrow.Author.Tests.{leb-true}
-use Rattle.unicode.specs.Masks.{Masked}
-use Rattle.unicode.proofs.Masks.{masked_same}
+use Rattle.utf8.specs.Masks.{Masked}
+use Rattle.utf8.proofs.Masks.{masked_same}
 use Rattle.compare.specs.Common.{RunOf}
 
 -- as many bytes as there are ones at a mask's end are the same

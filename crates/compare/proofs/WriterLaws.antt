@@ -10,7 +10,7 @@ use lib.Dec.{leb, eqb}
 use borrow.Author.Tests.{le-leb, lt-leb, eq-eqb, ne_eqb}
 use lib.ListN.{length, take, drop, replicate, length-append, length-drop, length-replicate, replicate-append-replicate, take-append-drop}
 use lib.Seq.{length-take-le, take_all, take-append_seam, drop-drop}
-use Rattle.unicode.proofs.Tests.{split}
+use Rattle.utf8.proofs.Tests.{split}
 use Rattle.buffer.specs.Buffer.{over, Appended, AllAre}
 use Rattle.buffer.specs.Repeat.{times}
 use Rattle.buffer.proofs.RegionLaws.{part_from}

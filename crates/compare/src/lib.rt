@@ -1,8 +1,10 @@
 // Where a text goes. With no model, to an output that may be too short. With a model, it is compared with that as it
 // comes, and nothing of it is written: three bytes keep how many of its first bytes are the model's. A text is cut back
 // by going on from a smaller place.
+#![tactic(auto)]
+
 ghost use Rattle.std.specs.Prelude.{◌≡◌, [], ◌++◌, ◌+◌, ◌*◌, ◌<◌, ◌≤◌, ◌^◌, min, length, drop, replicate};
-ghost use Rattle.unicode.specs.Places.{NoneAmong};
+ghost use Rattle.utf8.specs.Places.{NoneAmong};
 ghost use Rattle.buffer.specs.Repeat.{times};
 ghost use Rattle.compare.specs.Common.{common, Agreeing, EndsAlike, differ_at, StartsAlike};
 ghost use Rattle.compare.specs.Common.{RunOf, ending_of, cell_size, cell_of, CellPut, CellKept, Compared};
@@ -100,7 +102,7 @@ fn run_of(model: &[u8], b: u8, n: usize) -> bool
     requires n_bound { n ≤ 16 }
     ensures { RunOf model.now b n result }
 {
-    let m = unicode::byte_mask(model, 0, b);
+    let m = utf8::byte_mask(model, 0, b);
     n <= u32::trailing_zeros(m + 1) as usize
 }
 

@@ -10,11 +10,11 @@ use borrow.Author.Tests.{lt-ltb, le-ltb, ltb-true, ne_eqb, eq-eqb, eqb-true}
 use lib.Dec.{ltb, eqb}
 use lib.ListN.{length, take, drop, get_or, length-append, length-drop, drop_of_length-le}
 use lib.Seq.{take_at, get_or-drop}
-use Rattle.unicode.specs.Unicode.{Scalars, chars, encode_char, encode, decode, WellFormed, trim}
-use Rattle.unicode.proofs.Table.{Bytes, single, several, bytes}
-use Rattle.unicode.proofs.Tests.{and_left, and_right}
-use Rattle.unicode.proofs.Decode.{encode_nil, encode_cons, encode_one, decode_scalars, decode_encode, wf_encode}
-use Rattle.unicode.proofs.Cut.{AsciiCut, ascii_cut}
+use Rattle.utf8.specs.Unicode.{Scalars, chars, encode_char, encode, decode, WellFormed, trim}
+use Rattle.utf8.proofs.Table.{Bytes, single, several, bytes}
+use Rattle.utf8.proofs.Tests.{and_left, and_right}
+use Rattle.utf8.proofs.Decode.{encode_nil, encode_cons, encode_one, decode_scalars, decode_encode, wf_encode}
+use Rattle.utf8.proofs.Cut.{AsciiCut, ascii_cut}
 use Rattle.rules.specs.Basics.{choose, is, is_empty, first_is, last_is}
 use Rattle.rules.proofs.Choose.{choose_case, choose_true, choose_false}
 use Rattle.rules.proofs.Leading.{last_at}

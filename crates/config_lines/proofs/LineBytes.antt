@@ -6,9 +6,9 @@ use mathlib.Core.Bool.{Bool, true, ◌||◌}
 use mathlib.Core.List.{List, [], ◌∷◌, ◌++◌}
 use mathlib.Core.Path.{◌≡◌, refl, ap, ◌∙◌}
 use native.Mathlib.Omega.{arith}
-use Rattle.unicode.specs.Unicode.{encode_char, encode, decode, WellFormed, within}
-use Rattle.unicode.proofs.Table.{High, none, also, Bytes, single, several, bytes, encode_char_1}
-use Rattle.unicode.proofs.Tests.{by_test, in_range_law}
+use Rattle.utf8.specs.Unicode.{encode_char, encode, decode, WellFormed, within}
+use Rattle.utf8.proofs.Table.{High, none, also, Bytes, single, several, bytes, encode_char_1}
+use Rattle.utf8.proofs.Tests.{by_test, in_range_law}
 use Rattle.rules.specs.Basics.{choose, is, same}
 use Rattle.rules.proofs.Choose.{choose_true, choose_false}
 use Rattle.rules.proofs.StartsBytes.{all_ascii, on_decode, same_encode, steady_is}

@@ -7,10 +7,10 @@ use native.Mathlib.Omega.{arith}
 use borrow.Author.Tests.{lt-leb, ne_eqb, eqb-true, eqb-false}
 use lib.Dec.{eqb, leb}
 use lib.ListN.{length}
-use Rattle.unicode.specs.Unicode.{encode, decode, WellFormed}
-use Rattle.unicode.proofs.Table.{encode_char_1}
-use Rattle.unicode.proofs.Tests.{by_test, in_range_law}
-use Rattle.unicode.proofs.Decode.{encode_nil, encode_cons}
+use Rattle.utf8.specs.Unicode.{encode, decode, WellFormed}
+use Rattle.utf8.proofs.Table.{encode_char_1}
+use Rattle.utf8.proofs.Tests.{by_test, in_range_law}
+use Rattle.utf8.proofs.Decode.{encode_nil, encode_cons}
 use Rattle.rules.specs.Basics.{choose, codes, leading}
 use Rattle.rules.proofs.Choose.{choose_true, choose_false, choose_case}
 use Rattle.rules.proofs.StartsBytes.{Steady, on_decode, leading_encode}

@@ -8,8 +8,8 @@ use native.Mathlib.Omega.{arith}
 use borrow.Author.Tests.{lt-ltb, le-ltb, ne_eqb, eq-eqb}
 use lib.ListN.{length, take, drop, get_or, drop_of_length-le}
 use lib.Seq.{drop-cons, take-suc}
-use Rattle.unicode.specs.Unicode.{WellFormed, trim, trim_end}
-use Rattle.unicode.specs.Places.{TrimmedStart, TrimmedEnd}
+use Rattle.utf8.specs.Unicode.{WellFormed, trim, trim_end}
+use Rattle.utf8.specs.Places.{TrimmedStart, TrimmedEnd}
 use Rattle.buffer.proofs.RegionLaws.{part_from}
 use Rattle.rules.specs.Basics.{choose}
 use Rattle.config_rules.specs.Lines.{has_eq, key, setting}

@@ -7,8 +7,8 @@ use native.Mathlib.Omega.{arith}
 use borrow.Author.Tests.{lt-leb, eqb-true}
 use lib.Dec.{eqb, leb, ltb}
 use lib.ListN.{length}
-use Rattle.unicode.specs.Unicode.{within}
-use Rattle.unicode.proofs.Tests.{by_test, in_range_law}
+use Rattle.utf8.specs.Unicode.{within}
+use Rattle.utf8.proofs.Tests.{by_test, in_range_law}
 use Rattle.rules.specs.Basics.{choose, codes, same}
 use Rattle.rules.proofs.Choose.{choose_true, choose_false}
 use Rattle.rules.specs.declared.IndentSize.{IndentSize}

@@ -10,7 +10,7 @@ use borrow.Author.Tests.{lt-ltb, le-ltb, le-leb, lt-leb, ne_eqb, eq-eqb}
 use lib.Dec.{eqb, ltb, leb}
 use lib.ListN.{length, drop, get_or, drop_of_length-le}
 use lib.Seq.{drop-cons}
-use Rattle.unicode.proofs.Tests.{split}
+use Rattle.utf8.proofs.Tests.{split}
 use Rattle.rules.proofs.Choose.{choose_true, choose_false}
 use Rattle.config_rules.specs.Numbers.{is_digit, digit_count, value}
 use Rattle.config_rules.specs.Values.{is_whole}

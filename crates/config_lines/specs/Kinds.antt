@@ -1,6 +1,6 @@
 -- The kind of a trimmed line, by bytes.
 use Rattle.std.specs.Prelude.{ℕ, ◌+◌, ◌-◌, ◌<◌, ◌≤◌, List, ◌≡◌, length, take, drop}
-use Rattle.unicode.specs.Unicode.{decode, WellFormed, trim}
+use Rattle.utf8.specs.Unicode.{decode, WellFormed, trim}
 use Rattle.config_rules.specs.Lines.{Line, lower, line_of}
 use Rattle.config_rules.specs.Lines.Line.{nothing, header, pair}
 use Rattle.config_lines.specs.declared.kinds.LineKind.{LineKind}

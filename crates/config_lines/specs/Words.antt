@@ -1,6 +1,6 @@
 -- Words, and the parts of a line by bytes.
 use Rattle.std.specs.Prelude.{ℕ, ◌+◌, ◌≤◌, List, ◌≡◌, ltb, length, take, drop}
-use Rattle.unicode.specs.Unicode.{within, decode, WellFormed, trim}
+use Rattle.utf8.specs.Unicode.{within, decode, WellFormed, trim}
 use Rattle.rules.specs.Basics.{choose}
 use Rattle.config_rules.specs.Lines.{has_eq, key, setting}
 

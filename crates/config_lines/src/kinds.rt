@@ -1,6 +1,6 @@
 // The kinds of lines.
 ghost use Rattle.std.specs.Prelude.{◌≡◌};
-ghost use Rattle.unicode.specs.Unicode.{WellFormed};
+ghost use Rattle.utf8.specs.Unicode.{WellFormed};
 ghost use Rattle.config_rules.specs.Lines.{is_header};
 ghost use Rattle.config_lines.specs.Kinds.{KindOf};
 

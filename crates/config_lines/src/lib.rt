@@ -1,16 +1,18 @@
 // The lines of an .editorconfig text, by bytes.
+#![tactic(auto)]
+
 pub mod kinds;
 pub mod number;
 pub mod pairs;
 pub mod values;
 
 ghost use Rattle.std.specs.Prelude.{◌≡◌};
-ghost use Rattle.unicode.specs.Unicode.{WellFormed};
+ghost use Rattle.utf8.specs.Unicode.{WellFormed};
 ghost use Rattle.rules.specs.Basics.{same};
 ghost use Rattle.config_rules.specs.Lines.{lower};
 ghost use Rattle.config_lines.specs.Words.{lowered, EqAt, Trimmed};
 
-use unicode::{trim_end, trim_start};
+use utf8::{trim_end, trim_start};
 
 // A byte without regard to the case of the ASCII letters.
 fn lowered(c: u8) -> u8

@@ -11,11 +11,11 @@ use borrow.Author.Tests.{ne_eqb, eq-eqb}
 use lib.Dec.{eqb}
 use lib.ListN.{length, take, drop, get_or}
 use lib.Seq.{drop-cons, take-suc, take-length, drop-length}
-use Rattle.unicode.specs.Unicode.{Scalars, chars, encode_char, encode, decode, WellFormed}
-use Rattle.unicode.proofs.Table.{High, none, also, Bytes, single, several, bytes}
-use Rattle.unicode.proofs.Tests.{by_test}
-use Rattle.unicode.proofs.Decode.{decode_scalars}
-use Rattle.unicode.proofs.Cut.{AsciiCut, ascii_cut}
+use Rattle.utf8.specs.Unicode.{Scalars, chars, encode_char, encode, decode, WellFormed}
+use Rattle.utf8.proofs.Table.{High, none, also, Bytes, single, several, bytes}
+use Rattle.utf8.proofs.Tests.{by_test}
+use Rattle.utf8.proofs.Decode.{decode_scalars}
+use Rattle.utf8.proofs.Cut.{AsciiCut, ascii_cut}
 use Rattle.buffer.proofs.RegionLaws.{part_from}
 use Rattle.rules.specs.Basics.{choose, is, first_is}
 use Rattle.rules.specs.declared.Resolved.{Resolved}

@@ -7,9 +7,9 @@ use native.Mathlib.Omega.{arith}
 use borrow.Author.Tests.{lt-ltb, le-ltb, ltb-true, ltb-false, not-false}
 use lib.Dec.{ltb}
 use lib.ListN.{length, drop}
-use Rattle.unicode.specs.Unicode.{prefix_len, decode, WellFormed, well_formed}
-use Rattle.unicode.proofs.Tests.{by_test}
-use Rattle.unicode.proofs.Decode.{test_wf, test_whole, test_part, wf_whole}
+use Rattle.utf8.specs.Unicode.{prefix_len, decode, WellFormed, well_formed}
+use Rattle.utf8.proofs.Tests.{by_test}
+use Rattle.utf8.proofs.Decode.{test_wf, test_whole, test_part, wf_whole}
 use Rattle.buffer.specs.Buffer.{part}
 use Rattle.buffer.proofs.RegionLaws.{part_from}
 use Rattle.rules.specs.Basics.{choose}

@@ -1,6 +1,6 @@
 -- The directories of a path without a leading slash, from the nearest outward, by bytes.
 use Rattle.std.specs.Prelude.{ℕ, ◌-◌, ◌≤◌, false, List, [], ◌∷◌, ◌++◌, map, ◌≡◌, eqb, length, take, drop}
-use Rattle.unicode.specs.Unicode.{decode, WellFormed}
+use Rattle.utf8.specs.Unicode.{decode, WellFormed}
 use Rattle.rules.specs.Basics.{choose, is, first_is}
 use Rattle.rules.specs.declared.Resolved.{Resolved}
 use Rattle.config_rules.specs.Lines.{lines_of}

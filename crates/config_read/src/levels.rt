@@ -1,6 +1,6 @@
 // The directories of a path, and the text that belongs to each.
 ghost use Rattle.std.specs.Prelude.{[], ◌∷◌, ◌≤◌, length};
-ghost use Rattle.unicode.specs.Unicode.{WellFormed};
+ghost use Rattle.utf8.specs.Unicode.{WellFormed};
 ghost use Rattle.config_text.specs.Walk.{Readable};
 ghost use Rattle.config_text.specs.Steps.{Accepted};
 ghost use Rattle.config_read.specs.Levels.{LevelAt, LevelFrom, Nearest, Above, Applied, TopOf};

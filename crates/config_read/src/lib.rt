@@ -2,12 +2,14 @@
 //   levels     the directories of a path, from the nearest outward, and the text of each
 //   refusals   7, 4 and 8, each over all eight texts
 //   numbers    the answer in numbers
+#![tactic(auto)]
+
 pub mod levels;
 pub mod numbers;
 pub mod refusals;
 
 ghost use Rattle.std.specs.Prelude.{◌≡◌, [], ◌∷◌};
-ghost use Rattle.unicode.specs.Unicode.{WellFormed};
+ghost use Rattle.utf8.specs.Unicode.{WellFormed};
 ghost use Rattle.config_rules.specs.Values.{unset};
 ghost use Rattle.config_read.specs.Levels.{LevelAt, Resolving};
 ghost use Rattle.config_read.specs.Refusals.{AllAccepted};

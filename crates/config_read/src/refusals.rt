@@ -20,7 +20,7 @@ fn rank(text: &[u8]) -> u64
     if MAX_TEXT < text.len() {
         return 3;
     }
-    if unicode::well_formed_prefix(text) != text.len() {
+    if utf8::well_formed_prefix(text) != text.len() {
         return 2;
     }
     if config_text::has_long_name(text) {
@@ -32,7 +32,7 @@ fn rank(text: &[u8]) -> u64
 pub fn path_rank(path: &[u8]) -> u64
     ensures { result ≡ path_rank path.now }
 {
-    if unicode::well_formed_prefix(path) != path.len() {
+    if utf8::well_formed_prefix(path) != path.len() {
         return 2;
     }
     0

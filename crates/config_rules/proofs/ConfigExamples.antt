@@ -5,7 +5,7 @@ use mathlib.Core.Bool.{true, false}
 use mathlib.Core.List.{List, [], ◌∷◌, ◌++◌}
 use mathlib.Core.Path.{◌≡◌, refl}
 use lib.ListN.{replicate}
-use Rattle.unicode.specs.Unicode.{encode}
+use Rattle.utf8.specs.Unicode.{encode}
 use Rattle.rules.specs.Basics.{codes}
 use Rattle.rules.specs.declared.IndentStyle.{IndentStyle}
 use Rattle.rules.specs.declared.IndentSize.{IndentSize}

@@ -1,6 +1,6 @@
 -- The whole call, on bytes, and its answer in numbers.
 use Rattle.std.specs.Prelude.{ℕ, Bool, false, not, ◌||◌, List, [], ◌∷◌, map, ltb, length}
-use Rattle.unicode.specs.Unicode.{decode, well_formed}
+use Rattle.utf8.specs.Unicode.{decode, well_formed}
 use Rattle.rules.specs.Basics.{choose}
 use Rattle.rules.specs.declared.IndentStyle.{IndentStyle}
 use Rattle.rules.specs.declared.IndentSize.{IndentSize}

@@ -1,6 +1,6 @@
 -- The lines of a text, and their kinds.
 use Rattle.std.specs.Prelude.{ℕ, ◌+◌, ◌-◌, Bool, false, ◌&&◌, ◌||◌, List, [], ◌∷◌, map, eqb, ltb, length, drop, take}
-use Rattle.unicode.specs.Unicode.{within, trim}
+use Rattle.utf8.specs.Unicode.{within, trim}
 use Rattle.rules.specs.Basics.{choose, is, is_empty, first_is, last_is, split_on, pieces}
 
 pub data Line : Type 0 where

@@ -1,7 +1,7 @@
 -- Numbers as ranges and paths write them: digits after an optional minus.
 use Rattle.std.specs.Prelude.{ℕ, suc, ◌+◌, ◌-◌, ◌*◌, Bool, ◌&&◌, ◌||◌, eqb, leb, ltb, length, drop}
 use mathlib.Core.List.{List, [], ◌∷◌, foldl}
-use Rattle.unicode.specs.Unicode.{within}
+use Rattle.utf8.specs.Unicode.{within}
 use Rattle.rules.specs.Basics.{choose, is, first_is}
 
 abbrev pub is_digit : ℕ → Bool

@@ -1,6 +1,6 @@
 -- Which characters `[..]` names: l is what stands between the brackets.
 use Rattle.std.specs.Prelude.{ℕ, Bool, true, false, not, ◌&&◌, ◌||◌, List, [], ◌∷◌, eqb, drop}
-use Rattle.unicode.specs.Unicode.{within}
+use Rattle.utf8.specs.Unicode.{within}
 use Rattle.rules.specs.Basics.{choose, is, first_is}
 use Rattle.config_rules.specs.declared.Named.{Named}
 

@@ -1,4 +1,6 @@
 // The types that the code and the definitions of request C-12 share: our .editorconfig files.
+#![tactic(auto)]
+
 use rules::Resolved;
 
 // Between brackets, before a character: the one before it, where it may start a range; whether a `-` follows that one;

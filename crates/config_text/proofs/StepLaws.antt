@@ -7,7 +7,7 @@ use native.Mathlib.Omega.{arith}
 use borrow.Author.Tests.{ltb-false}
 use lib.Dec.{ltb}
 use lib.ListN.{length, take, drop}
-use Rattle.unicode.specs.Unicode.{decode, WellFormed, trim}
+use Rattle.utf8.specs.Unicode.{decode, WellFormed, trim}
 use Rattle.buffer.proofs.RegionLaws.{part_from}
 use Rattle.rules.specs.Basics.{choose, codes, same}
 use Rattle.rules.proofs.Choose.{choose_true, choose_false}

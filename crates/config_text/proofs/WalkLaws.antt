@@ -13,11 +13,11 @@ use borrow.Author.Tests.{le-leb, lt-leb, eq-eqb, ne_eqb, eqb-true}
 use lib.Dec.{leb, ltb}
 use lib.ListN.{length, take, drop, get_or, length-drop, drop_of_length-le}
 use lib.Seq.{drop-drop, take_all}
-use Rattle.unicode.specs.Unicode.{chars, code_at, encode, decode, WellFormed, trim}
-use Rattle.unicode.specs.Places.{Step}
-use Rattle.unicode.proofs.Tests.{split, neither_left, neither_right}
-use Rattle.unicode.proofs.Decode.{encode_nil, decode_scalars, decode_encode}
-use Rattle.unicode.proofs.Cut.{AsciiCut, ascii_cut}
+use Rattle.utf8.specs.Unicode.{chars, code_at, encode, decode, WellFormed, trim}
+use Rattle.utf8.specs.Places.{Step}
+use Rattle.utf8.proofs.Tests.{split, neither_left, neither_right}
+use Rattle.utf8.proofs.Decode.{encode_nil, decode_scalars, decode_encode}
+use Rattle.utf8.proofs.Cut.{AsciiCut, ascii_cut}
 use Rattle.rules.specs.Basics.{choose, is, first_is, Pieces, pieces, at_sep, split_on}
 use Rattle.rules.specs.declared.Resolved.{Resolved}
 use Rattle.rules.proofs.Choose.{choose_true, choose_false}

@@ -1,6 +1,6 @@
 -- What one line does to what is known so far.
 use Rattle.std.specs.Prelude.{ℕ, Bool, true, false, List, [], ◌∷◌, ◌≡◌}
-use Rattle.unicode.specs.Unicode.{decode, WellFormed}
+use Rattle.utf8.specs.Unicode.{decode, WellFormed}
 use Rattle.rules.specs.Basics.{choose, codes, same}
 use Rattle.rules.specs.declared.Resolved.{Resolved}
 use Rattle.config_rules.specs.Globs.{matches}

@@ -1,6 +1,6 @@
 -- The lines of a text from a byte on.
 use Rattle.std.specs.Prelude.{ℕ, ◌≤◌, List, [], map, ◌≡◌, leb, length, drop}
-use Rattle.unicode.specs.Unicode.{decode, WellFormed, trim}
+use Rattle.utf8.specs.Unicode.{decode, WellFormed, trim}
 use Rattle.rules.specs.Basics.{choose, pieces, split_on}
 use Rattle.config_rules.specs.Lines.{Line, line_of, without_bom}
 

@@ -1,8 +1,10 @@
 // One .editorconfig text, walked line by line: too long names, `root`, and the values that its sections set.
+#![tactic(auto)]
+
 pub mod steps;
 
 ghost use Rattle.std.specs.Prelude.{◌≡◌, false};
-ghost use Rattle.unicode.specs.Unicode.{WellFormed, decode};
+ghost use Rattle.utf8.specs.Unicode.{WellFormed, decode};
 ghost use Rattle.config_rules.specs.Lines.{lines_of};
 ghost use Rattle.config_rules.specs.Sections.{long_name, root_at, settings};
 ghost use Rattle.config_text.specs.Walk.{StartOf, Readable};
@@ -21,8 +23,8 @@ fn start_of(text: &[u8]) -> usize
     if text.len() == 0 {
         return 0;
     }
-    let n = unicode::size_at(text, 0);
-    if unicode::code_at(text, 0) == 0xFEFF {
+    let n = utf8::size_at(text, 0);
+    if utf8::code_at(text, 0) == 0xFEFF {
         return n;
     }
     0

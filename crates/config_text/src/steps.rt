@@ -1,6 +1,6 @@
 // What one trimmed line, of a kind, does.
 ghost use Rattle.std.specs.Prelude.{◌≡◌, [], ◌∷◌, ◌+◌, ◌<◌, ◌≤◌, length, take, drop};
-ghost use Rattle.unicode.specs.Unicode.{WellFormed, decode, trim};
+ghost use Rattle.utf8.specs.Unicode.{WellFormed, decode, trim};
 ghost use Rattle.rules.specs.Basics.{choose, codes, same};
 ghost use Rattle.config_rules.specs.Lines.{lower};
 ghost use Rattle.config_rules.specs.Values.{superseded};
@@ -30,7 +30,7 @@ pub fn is_long(kind: LineKind, line: &[u8]) -> bool
     match kind {
         LineKind::Nothing => false,
         LineKind::Header => {
-            let count = unicode::char_count(name_in(line));
+            let count = utf8::char_count(name_in(line));
             1024 < count.0
         }
         LineKind::Pair(_) => false,

@@ -1,4 +1,6 @@
 // Numbers in decimal digits, written into lent buffers.
+#![tactic(auto)]
+
 ghost use Rattle.std.specs.Prelude.{◌+◌, ◌≤◌, ◌<◌, ◌^◌, length};
 ghost use Rattle.decimal.specs.Decimal.{digits, Spelled, DecimalPut};
 

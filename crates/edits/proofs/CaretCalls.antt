@@ -4,7 +4,7 @@ use mathlib.Core.Bool.{Bool, true, false, not}
 use mathlib.Core.List.{List}
 use mathlib.Core.Path.{◌≡◌, sym, ap, ◌∙◌}
 use lib.ListN.{length, take, replicate}
-use Rattle.unicode.specs.Unicode.{decode}
+use Rattle.utf8.specs.Unicode.{decode}
 use Rattle.rules.specs.Refusals.{number_of, place_of, no_place}
 use Rattle.rules.specs.Call.{Call}
 use Rattle.rules.specs.declared.Refusal.{Refusal}

@@ -6,8 +6,8 @@ use mathlib.Core.List.{List, [], ◌∷◌, ◌++◌}
 use mathlib.Core.Path.{◌≡◌, refl, sym, ap, ◌∙◌}
 use native.Mathlib.Omega.{arith}
 use lib.ListN.{length, take, replicate, length-take, length-append, length-replicate}
-use Rattle.unicode.specs.Unicode.{decode}
-use Rattle.unicode.proofs.Decode.{test_wf}
+use Rattle.utf8.specs.Unicode.{decode}
+use Rattle.utf8.proofs.Decode.{test_wf}
 use Rattle.rules.specs.Refusals.{number_of, place_of, tested}
 use Rattle.rules.specs.Call.{Call, formatted, text_of, verdict_of, outcome_of, answer_of, filled, output_of}
 use Rattle.rules.specs.declared.Refusal.{Refusal}

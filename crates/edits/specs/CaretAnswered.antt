@@ -1,6 +1,6 @@
 -- The exported contract of a formatting call with a caret.
 use Rattle.std.specs.Prelude.{List, ◌≡◌, ℕ, take}
-use Rattle.unicode.specs.Unicode.{decode, WellFormed}
+use Rattle.utf8.specs.Unicode.{decode, WellFormed}
 use Rattle.rules.specs.Choices.{options_of}
 use Rattle.rules.specs.Call.{Call, format_call}
 use Rattle.rules.specs.Demand3.{Kept}

@@ -1,6 +1,6 @@
 -- A formatting call with a caret, which stands at a line and a column of the source.
 use Rattle.std.specs.Prelude.{ℕ, List, [], ◌∷◌}
-use Rattle.unicode.specs.Unicode.{decode}
+use Rattle.utf8.specs.Unicode.{decode}
 use Rattle.rules.specs.Refusals.{number_of, place_of, tested, no_place}
 use Rattle.rules.specs.Call.{Call, formatted, verdict_of}
 use Rattle.rules.specs.declared.Verdict.{Verdict}

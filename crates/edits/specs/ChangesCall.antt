@@ -1,6 +1,6 @@
 -- A formatting call with a list for the changes from the source to the text.
 use Rattle.std.specs.Prelude.{ℕ, ◌/◌, List, [], ◌∷◌, length, replicate}
-use Rattle.unicode.specs.Unicode.{decode}
+use Rattle.utf8.specs.Unicode.{decode}
 use Rattle.rules.specs.Refusals.{number_of, place_of, tested, short_list}
 use Rattle.rules.specs.Call.{Call, formatted, verdict_of, filled}
 use Rattle.rules.specs.declared.Verdict.{Verdict}

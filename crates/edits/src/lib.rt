@@ -1,4 +1,6 @@
 // Formatting calls for an editor: with the caret's place in the text, and as a list of changes.
+#![tactic(auto)]
+
 ghost use Rattle.std.specs.Prelude.{length};
 ghost use Rattle.call.specs.Ran.{call_of};
 ghost use Rattle.edits.specs.Text.{TextAnswered};

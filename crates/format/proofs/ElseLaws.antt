@@ -7,8 +7,8 @@ use native.Mathlib.Omega.{arith}
 use lib.Dec.{eqb}
 use lib.ListN.{length, get_or, take, drop}
 use lib.Seq.{length-take-le}
-use Rattle.unicode.specs.Unicode.{chars, decode, trim_start, trim_end, WellFormed, first_is_white}
-use Rattle.unicode.specs.Places.{TrimmedStart, TrimmedEnd}
+use Rattle.utf8.specs.Unicode.{chars, decode, trim_start, trim_end, WellFormed, first_is_white}
+use Rattle.utf8.specs.Places.{TrimmedStart, TrimmedEnd}
 use Rattle.buffer.proofs.RegionLaws.{part_from}
 use Rattle.rules.specs.Basics.{is, codes, at, is_empty, is_ident, starts_with, first_is, last_is, starts_then}
 use Rattle.rules.specs.Else.{starts_if, white_or_brace, is_plain_else, joinable}

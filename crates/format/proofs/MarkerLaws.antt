@@ -7,10 +7,10 @@ use native.Mathlib.Omega.{arith}
 use lib.Dec.{eqb, ltb}
 use lib.ListN.{length, take, drop, length-drop, drop_of_length-le}
 use borrow.Author.Tests.{ltb-true, ltb-false, eqb-true}
-use Rattle.unicode.specs.Unicode.{chars, decode, WellFormed, is_white, trim, trim_start}
-use Rattle.unicode.specs.Places.{TrimmedStart, TrimmedEnd}
-use Rattle.unicode.proofs.Tests.{by_test, and_left, and_right}
-use Rattle.unicode.proofs.Trim.{start_other, end_first}
+use Rattle.utf8.specs.Unicode.{chars, decode, WellFormed, is_white, trim, trim_start}
+use Rattle.utf8.specs.Places.{TrimmedStart, TrimmedEnd}
+use Rattle.utf8.proofs.Tests.{by_test, and_left, and_right}
+use Rattle.utf8.proofs.Trim.{start_other, end_first}
 use Rattle.buffer.proofs.RegionLaws.{part_from}
 use Rattle.rules.specs.Basics.{choose, codes, at, same, is_empty, leading, starts_with}
 use Rattle.rules.specs.Words.{drop_slashes, is_marker_text}

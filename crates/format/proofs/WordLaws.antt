@@ -7,9 +7,9 @@ use native.Mathlib.Omega.{arith}
 use borrow.Author.Tests.{eq-eqb, ne_eqb, eqb-true, eqb-false, ltb-true}
 use lib.Dec.{eqb, ltb}
 use lib.ListN.{length, get_or, take, drop, drop_of_length-le}
-use Rattle.unicode.specs.Unicode.{encode, chars, decode, WellFormed, is_white, first_is_white}
-use Rattle.unicode.proofs.Tests.{by_test, and_left, and_right}
-use Rattle.unicode.proofs.Scan.{ascii_step}
+use Rattle.utf8.specs.Unicode.{encode, chars, decode, WellFormed, is_white, first_is_white}
+use Rattle.utf8.proofs.Tests.{by_test, and_left, and_right}
+use Rattle.utf8.proofs.Scan.{ascii_step}
 use Rattle.buffer.proofs.RegionLaws.{part_from}
 use Rattle.rules.specs.Basics.{choose, codes, at, is_empty, same, one_of, starts_with, first_is, starts_then}
 use Rattle.rules.specs.Brackets.{leading_closers}

@@ -1,7 +1,7 @@
 -- A plain `else`, as the code finds it, and the facts of a line.
 use Rattle.std.specs.Prelude.{ℕ, Bool, true, not, ◌&&◌, ◌||◌, List, ◌≡◌}
-use Rattle.unicode.specs.Unicode.{decode, trim_start, trim_end}
-use Rattle.unicode.specs.Places.{TrimmedEnd}
+use Rattle.utf8.specs.Unicode.{decode, trim_start, trim_end}
+use Rattle.utf8.specs.Places.{TrimmedEnd}
 use Rattle.rules.specs.Basics.{is, codes, at, is_empty, is_ident, first_is, last_is, starts_then}
 use Rattle.rules.specs.Else.{starts_if, white_or_brace}
 use Rattle.format.specs.declared.else_line.LineFacts.{LineFacts}

@@ -1,6 +1,6 @@
 -- What a line starts with, as the code finds it.
 use Rattle.std.specs.Prelude.{ℕ, Bool, true, false, ◌||◌, List, ◌≡◌, eqb, drop}
-use Rattle.unicode.specs.Unicode.{decode, is_white}
+use Rattle.utf8.specs.Unicode.{decode, is_white}
 use Rattle.rules.specs.Basics.{choose, is, at, first_is, last_is}
 use Rattle.rules.specs.Words.{white_or_paren}
 use Rattle.rules.specs.Line.{continues}

@@ -1,6 +1,6 @@
 // Else: a plain `else`, and the facts of a line that it may join.
 ghost use Rattle.std.specs.Prelude.{◌≡◌};
-ghost use Rattle.unicode.specs.Unicode.{decode, trim_end, WellFormed};
+ghost use Rattle.utf8.specs.Unicode.{decode, trim_end, WellFormed};
 ghost use Rattle.rules.specs.Basics.{is, last_is};
 ghost use Rattle.rules.specs.Else.{starts_if, is_plain_else, joinable};
 ghost use Rattle.format.specs.Else.{if_word, plain_rest, Facts};
@@ -29,8 +29,8 @@ fn starts_if(rest: &[u8]) -> bool
     requires { WellFormed rest.now }
     ensures { result ≡ starts_if (decode rest.now) }
 {
-    if unicode::first_is_white(rest) {
-        let a = unicode::trim_start(rest);
+    if utf8::first_is_white(rest) {
+        let a = utf8::trim_start(rest);
         return starts_with_if(&rest[a..]);
     }
     false
@@ -82,7 +82,7 @@ pub fn trimmed_takes_else(line: &[u8]) -> bool
     ensures { result ≡ joinable (decode line.now) }
 {
     if ends_in_brace(line) {
-        let a = unicode::trim_start(line);
+        let a = utf8::trim_start(line);
         return !starts_with(&line[a..], b"else");
     }
     false
@@ -101,9 +101,9 @@ pub fn line_facts(line: &[u8]) -> LineFacts
     requires { WellFormed line.now }
     ensures { Facts line.now result }
 {
-    let e = unicode::trim_end(line);
+    let e = utf8::trim_end(line);
     let brace = ends_in_brace(&line[..e]);
-    let a = unicode::trim_start(line);
+    let a = utf8::trim_start(line);
     let else_first = starts_with(&line[a..], b"else");
     LineFacts {
         trimmed: e,

@@ -1,6 +1,6 @@
 // The marker: a line comment whose text is exactly `fmt-ignore`.
 ghost use Rattle.std.specs.Prelude.{◌≡◌, not};
-ghost use Rattle.unicode.specs.Unicode.{decode, WellFormed, trim, trim_start};
+ghost use Rattle.utf8.specs.Unicode.{decode, WellFormed, trim, trim_start};
 ghost use Rattle.rules.specs.Basics.{codes, same, is_empty};
 ghost use Rattle.rules.specs.Words.{is_marker_text};
 
@@ -20,9 +20,9 @@ fn is_marker_word(text: &[u8]) -> bool
     requires { WellFormed text.now }
     ensures { result ≡ same (trim (decode text.now)) (codes "fmt-ignore") }
 {
-    let a = unicode::trim_start(text);
+    let a = utf8::trim_start(text);
     let t = &text[a..];
-    let e = unicode::trim_end(t);
+    let e = utf8::trim_end(t);
     is_same(&t[..e], b"fmt-ignore")
 }
 
@@ -43,6 +43,6 @@ pub fn has_code(code: &[u8]) -> bool
     requires { WellFormed code.now }
     ensures { result ≡ not (is_empty (trim_start (decode code.now))) }
 {
-    let a = unicode::trim_start(code);
+    let a = utf8::trim_start(code);
     a < code.len()
 }

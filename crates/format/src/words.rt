@@ -1,6 +1,6 @@
 // Words: what a line starts with. Fixed byte strings are compared.
 ghost use Rattle.std.specs.Prelude.{◌≡◌, not, ◌&&◌, [], ◌∷◌, ◌<◌, length, get_or};
-ghost use Rattle.unicode.specs.Unicode.{decode, WellFormed};
+ghost use Rattle.utf8.specs.Unicode.{decode, WellFormed};
 ghost use Rattle.rules.specs.Basics.{codes, at, one_of, first_is};
 ghost use Rattle.rules.specs.Operators.{operators};
 ghost use Rattle.rules.specs.Words.{starts_with_word, starts_with_binary_op};
@@ -35,7 +35,7 @@ pub fn starts_white_or(rest: &[u8], c: u8) -> bool
     if rest[0] == c {
         return true;
     }
-    unicode::first_is_white(rest)
+    utf8::first_is_white(rest)
 }
 
 // The line starts with an operator of one byte, before white space or `(`.

@@ -12,11 +12,11 @@ use borrow.Author.Tests.{ne_eqb, eq-eqb, lt-ltb}
 use lib.Dec.{ltb, leb, eqb}
 use lib.ListN.{length, get_or, take, drop}
 use lib.Seq.{take_at, drop-length}
-use Rattle.unicode.specs.Unicode.{encode_char, encode, chars, decode, WellFormed, seq_at, code_at, is_white}
-use Rattle.unicode.specs.Places.{Step, WhiteAt}
-use Rattle.unicode.proofs.Decode.{encode_nil, encode_one, encode_append}
-use Rattle.unicode.proofs.Scan.{ascii, ascii_step, not_ascii}
-use Rattle.unicode.proofs.TrimScan.{low_white, first_char}
+use Rattle.utf8.specs.Unicode.{encode_char, encode, chars, decode, WellFormed, seq_at, code_at, is_white}
+use Rattle.utf8.specs.Places.{Step, WhiteAt}
+use Rattle.utf8.proofs.Decode.{encode_nil, encode_one, encode_append}
+use Rattle.utf8.proofs.Scan.{ascii, ascii_step, not_ascii}
+use Rattle.utf8.proofs.TrimScan.{low_white, first_char}
 use Rattle.buffer.specs.Buffer.{part}
 use Rattle.buffer.proofs.RegionLaws.{part_join}
 use Rattle.rules.specs.Basics.{is}

@@ -1,7 +1,7 @@
 -- The gaps between the characters that are kept: a source and its text differ in gaps alone.
 use Rattle.std.specs.Prelude.{ℕ, ◌+◌, ◌≤◌, ◌<◌, ◌^◌, Bool, true, false, not, List, [], ◌∷◌, ◌++◌, ◌≡◌, eqb, length, drop}
-use Rattle.unicode.specs.Unicode.{encode, decode, WellFormed, code_at}
-use Rattle.unicode.specs.Places.{Step}
+use Rattle.utf8.specs.Unicode.{encode, decode, WellFormed, code_at}
+use Rattle.utf8.specs.Places.{Step}
 use Rattle.buffer.specs.Buffer.{part}
 use Rattle.rules.specs.Basics.{choose}
 use Rattle.rules.specs.Demand3.{is_kept, strike}

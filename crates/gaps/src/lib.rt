@@ -1,6 +1,8 @@
 // The gaps between the characters of a text that are kept: neither white space nor a comma.
+#![tactic(auto)]
+
 ghost use Rattle.std.specs.Prelude.{◌<◌, length, drop};
-ghost use Rattle.unicode.specs.Unicode.{WellFormed};
+ghost use Rattle.utf8.specs.Unicode.{WellFormed};
 ghost use Rattle.gaps.specs.Gaps.{From, GapByte, UnkeptAt, GapEnd};
 
 // Whether an ASCII byte is white space or a comma. It makes no branch, so that the bytes of a block are tested at once.
@@ -18,7 +20,7 @@ pub fn unkept_at(s: &[u8], i: usize) -> usize
     if s[i] == b',' {
         return 1;
     }
-    unicode::white_at(s, i)
+    utf8::white_at(s, i)
 }
 
 // Where the gap ends that starts at i: the place of the first kept character from i on, or the end.

@@ -9,9 +9,9 @@ use borrow.Author.Tests.{eqb-true}
 use lib.Dec.{eqb}
 use lib.ListN.{length, drop, take, get_or, set, length-set, length-take, length-append, replicate, length-replicate, drop_of_length-le, get_or-eq_default}
 use lib.Seq.{take-suc-set, drop-cons, get_or-drop}
-use Rattle.unicode.specs.Unicode.{decode, WellFormed, code_at, chars}
-use Rattle.unicode.specs.Places.{Step}
-use Rattle.unicode.proofs.Tests.{by_test}
+use Rattle.utf8.specs.Unicode.{decode, WellFormed, code_at, chars}
+use Rattle.utf8.specs.Places.{Step}
+use Rattle.utf8.proofs.Tests.{by_test}
 use Rattle.rules.specs.Basics.{choose, is, first_is}
 use Rattle.rules.proofs.Choose.{choose_case}
 use Rattle.rules.proofs.StartsBytes.{on_decode, first_encode, steady_is}

@@ -6,8 +6,8 @@ use mathlib.Core.Path.{◌≡◌, refl, sym, ap, ◌∙◌}
 use native.Mathlib.Omega.{arith}
 use lib.ListN.{length, drop, take, get_or, replicate, length-replicate}
 use lib.Seq.{take-length}
-use Rattle.unicode.specs.Unicode.{decode, WellFormed, code_at, chars}
-use Rattle.unicode.specs.Places.{Back}
+use Rattle.utf8.specs.Unicode.{decode, WellFormed, code_at, chars}
+use Rattle.utf8.specs.Places.{Back}
 use Rattle.rules.specs.Basics.{choose}
 use Rattle.config_rules.specs.Globs.{suffix}
 use Rattle.glob_pass.specs.Kinds.{held}

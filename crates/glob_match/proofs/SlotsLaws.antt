@@ -10,7 +10,7 @@ use borrow.Author.Tests.{eqb-true, eqb-false}
 use lib.Dec.{eqb}
 use lib.ListN.{length, drop, get_or, set, length-set, drop_of_length-le, replicate}
 use lib.Seq.{get_or-set_same, get_or-set_other, drop-drop}
-use Rattle.unicode.proofs.Tests.{split, by_test}
+use Rattle.utf8.proofs.Tests.{split, by_test}
 use Rattle.rules.specs.Basics.{choose, first_is}
 use Rattle.rules.proofs.Choose.{choose_case}
 use Rattle.config_rules.specs.Numbers.{in_range, is_number, number_len, sign, digit_count}

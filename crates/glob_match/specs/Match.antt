@@ -1,6 +1,6 @@
 -- A path read from its end.
 use Rattle.std.specs.Prelude.{ℕ, ◌+◌, ◌<◌, Bool, List, ◌∷◌, ◌++◌, ◌≡◌, length, take, get_or}
-use Rattle.unicode.specs.Unicode.{decode}
+use Rattle.utf8.specs.Unicode.{decode}
 use Rattle.rules.specs.Basics.{choose, is, first_is}
 use Rattle.config_rules.specs.Name.{Token}
 use Rattle.config_rules.specs.Globs.{suffix, rooted, matches}

@@ -1,8 +1,10 @@
 // Whether the name of a section matches a path. The path is read from its end, with a `/` before it.
+#![tactic(auto)]
+
 pub mod name;
 
 ghost use Rattle.std.specs.Prelude.{◌≡◌, ◌∷◌, ◌≤◌, ◌<◌, length};
-ghost use Rattle.unicode.specs.Unicode.{WellFormed, decode};
+ghost use Rattle.utf8.specs.Unicode.{WellFormed, decode};
 ghost use Rattle.config_rules.specs.Globs.{matches};
 ghost use Rattle.glob_pass.specs.Kinds.{held};
 ghost use Rattle.glob_name.specs.Read.{Spaced};
@@ -10,7 +12,7 @@ ghost use Rattle.glob_match.specs.Match.{RangesNext, matches_at, first_place, Na
 
 use glob_pass::pass;
 use ranges::range_next;
-use unicode::{code_at, size_before};
+use utf8::{code_at, size_before};
 
 // What the ranges of a name say of one character more, from the values without it.
 fn ranges_next(

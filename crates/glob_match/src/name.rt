@@ -1,12 +1,12 @@
 // A name as it stands in a text: its characters, with a `/` before them, and whether it has a slash of its own.
 ghost use Rattle.std.specs.Prelude.{◌≡◌, ◌+◌, ◌≤◌, ◌<◌, length, drop};
-ghost use Rattle.unicode.specs.Unicode.{WellFormed, decode};
+ghost use Rattle.utf8.specs.Unicode.{WellFormed, decode};
 ghost use Rattle.rules.specs.Basics.{is, first_is};
 ghost use Rattle.config_rules.specs.Globs.{is_slash, has_slash};
 ghost use Rattle.glob_pass.specs.Kinds.{held_at, held};
 ghost use Rattle.glob_match.specs.Match.{Decoded};
 
-use unicode::{code_at, size_at};
+use utf8::{code_at, size_at};
 
 // Whether a name starts with a slash.
 pub fn starts_with_slash(name: &[u8]) -> bool

@@ -8,7 +8,7 @@ use native.Mathlib.Numerals.{add-one}
 use native.Mathlib.Omega.{arith}
 use lib.ListN.{length, drop, take, get_or, set, length-set, length-take, drop_of_length-le, get_or-eq_default}
 use lib.Seq.{drop-cons, take-suc-set, get_or-set_same, get_or-set_other, take-length}
-use Rattle.unicode.proofs.Tests.{split}
+use Rattle.utf8.proofs.Tests.{split}
 use Rattle.rules.specs.Basics.{choose}
 use Rattle.config_rules.specs.Name.{Token, Reading, tokens}
 use Rattle.glob_pass.specs.Kinds.{plain_at, held_at, held}

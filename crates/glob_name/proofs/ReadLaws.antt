@@ -11,7 +11,7 @@ use borrow.Author.Tests.{ne_eqb, lt-ltb, le-ltb, le-leb, lt-leb, eqb-true, eqb-f
 use lib.Dec.{eqb, ltb, leb}
 use lib.ListN.{length, drop, get_or, set, length-set, drop_of_length-le}
 use lib.Seq.{drop-cons, drop-drop, drop-length, get_or-set_same, get_or-set_other}
-use Rattle.unicode.proofs.Tests.{by_test, split, neither_left, neither_right}
+use Rattle.utf8.proofs.Tests.{by_test, split, neither_left, neither_right}
 use Rattle.rules.specs.Basics.{choose, is, at, first_is, starts_with}
 use Rattle.rules.proofs.Choose.{choose_true, choose_false}
 use Rattle.config_rules.specs.Numbers.{is_digit, digit_count, sign, number_len}

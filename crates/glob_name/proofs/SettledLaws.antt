@@ -7,8 +7,8 @@ use native.Mathlib.Omega.{arith}
 use borrow.Author.Tests.{ne_eqb, le-leb, lt-leb}
 use lib.Dec.{leb, eqb}
 use lib.ListN.{length, get_or}
-use Rattle.unicode.specs.Unicode.{within}
-use Rattle.unicode.proofs.Tests.{by_test}
+use Rattle.utf8.specs.Unicode.{within}
+use Rattle.utf8.proofs.Tests.{by_test}
 use Rattle.rules.specs.Basics.{choose, is_empty}
 use Rattle.config_rules.specs.Name.{innermost, closers, unopened, openers, settled_at, settled, tokens_of}
 use Rattle.glob_pass.specs.Kinds.{plain_at, brace_of, held_at, held}

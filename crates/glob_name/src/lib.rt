@@ -1,5 +1,7 @@
 // The name of a section in kinds, one for each of its characters: how it is read, and which of its braces stand for
 // themselves.
+#![tactic(auto)]
+
 pub mod braces;
 pub mod read;
 

@@ -11,7 +11,7 @@ use lib.ListN.{length, drop, get_or, set, length-set}
 use lib.Seq.{get_or-set_same, get_or-set_other, drop-length, set-set, set-get_or}
 use Rattle.rules.specs.Basics.{is_empty}
 use Rattle.rules.proofs.Choose.{choose_true, choose_false}
-use Rattle.unicode.specs.Unicode.{within}
+use Rattle.utf8.specs.Unicode.{within}
 use Rattle.config_rules.specs.Name.{Item, Token}
 use Rattle.config_rules.specs.Name.Token.{item}
 use Rattle.config_rules.specs.Globs.{Place, place_at, place_of}

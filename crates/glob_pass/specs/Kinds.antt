@@ -1,6 +1,6 @@
 -- A name as code holds it: a kind and a character for each place.
 use Rattle.std.specs.Prelude.{ℕ, ◌+◌, ◌≤◌, Bool, false, not, ◌&&◌, ◌||◌, List, [], ◌∷◌, ◌≡◌, eqb, length, drop, take, get_or}
-use Rattle.unicode.specs.Unicode.{within}
+use Rattle.utf8.specs.Unicode.{within}
 use Rattle.rules.specs.Basics.{choose, is}
 use Rattle.config_rules.specs.declared.Named.{Named}
 use Rattle.config_rules.specs.Sets.{itself, names, fresh, in_set}

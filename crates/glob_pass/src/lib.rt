@@ -1,5 +1,7 @@
 // One pass over a name that is held as a kind and a character for each place: which of its places match a string, read
 // from its end.
+#![tactic(auto)]
+
 pub mod set;
 
 ghost use Rattle.std.specs.Prelude.{◌≡◌, false, ◌&&◌, ◌<◌, ltb, length, drop};

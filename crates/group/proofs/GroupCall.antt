@@ -11,8 +11,8 @@ use borrow.Author.Tests.{lt-ltb, le-ltb}
 use lib.Dec.{ltb}
 use lib.ListN.{length, take, replicate}
 use lib.Seq.{take_at}
-use Rattle.unicode.specs.Unicode.{size, decode, encode, prefix_len, well_formed}
-use Rattle.unicode.proofs.Decode.{wf_whole, test_whole, test_part}
+use Rattle.utf8.specs.Unicode.{size, decode, encode, prefix_len, well_formed}
+use Rattle.utf8.proofs.Decode.{wf_whole, test_whole, test_part}
 use Rattle.buffer.specs.Buffer.{part, Appended, Finishes, Agree}
 use Rattle.buffer.proofs.AgreeLaws.{agree_nil, appended_agree, finishes_text}
 use Rattle.rules.specs.Basics.{choose}

@@ -1,6 +1,6 @@
 -- What a grouping call leaves in its buffers, step by step.
 use Rattle.std.specs.Prelude.{ℕ, ◌*◌, ◌≤◌, List, ◌≡◌, ltb, length, take, replicate}
-use Rattle.unicode.specs.Unicode.{WellFormed}
+use Rattle.utf8.specs.Unicode.{WellFormed}
 use Rattle.rules.specs.Basics.{choose}
 use Rattle.rules.specs.declared.Refusal.{Refusal}
 use Rattle.group_rules.specs.Grouping.{Grouping}

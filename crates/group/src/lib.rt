@@ -2,8 +2,10 @@
 //   group_read     checks the source, and writes the codes of its tokens into the scratch
 //   group_open     from the last code to the first: puts `(` where operations start
 //   group_close    from the first to the last: puts `)` where they end, and writes the text
+#![tactic(auto)]
+
 ghost use Rattle.std.specs.Prelude.{◌≡◌, length};
-ghost use Rattle.unicode.specs.Unicode.{decode};
+ghost use Rattle.utf8.specs.Unicode.{decode};
 ghost use Rattle.group_rules.specs.Grouping.{grouping};
 ghost use Rattle.group_rules.specs.Outcome.{group_answer};
 ghost use Rattle.group_rules.specs.Answered.{GroupAnswered};
@@ -80,7 +82,7 @@ fn run_group(source: &[u8], output: &mut [u8], scratch: &mut [u8]) -> GroupOutco
             GroupOutcome::Refused(Refusal::ScratchShort(needed)),
         );
     }
-    let prefix = unicode::well_formed_prefix(source);
+    let prefix = utf8::well_formed_prefix(source);
     if prefix != n {
         return refuse(
             output,

@@ -17,7 +17,7 @@ use Rattle.rules.specs.Basics.{choose}
 use Rattle.rules.proofs.Choose.{choose_true, choose_false}
 use Rattle.group_rules.specs.Grouping.{takes}
 use Rattle.group_rules.specs.Passes.{Pass, pass, closes_before, close_end, close_bracket, close_operator, forth_step, close_forth, closed_text}
-use Rattle.unicode.proofs.Tests.{and_left}
+use Rattle.utf8.proofs.Tests.{and_left}
 use Rattle.group_close.specs.Forth.{stack_of, Room, Closed, Stepped, Ready, ForthTo}
 use Rattle.group_close.specs.declared.Spot.{Spot}
 use Rattle.group_close.specs.declared.Forth.{Forth}

@@ -1,5 +1,7 @@
 // From the first byte of the opened text to its last: where operations end. The operators whose right operand still
 // goes on stand on a stack in front of the bytes that are left, the nearest on top, 0 for a bracket.
+#![tactic(auto)]
+
 ghost use Rattle.std.specs.Prelude.{◌≡◌, ◌∷◌, [], ◌+◌, ◌≤◌, ◌<◌, ◌^◌};
 ghost use Rattle.buffer.specs.Buffer.{part, Appended};
 ghost use Rattle.group_rules.specs.Passes.{closes_before, close_end, closed_text};

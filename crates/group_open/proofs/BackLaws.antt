@@ -15,7 +15,7 @@ use Rattle.rules.proofs.Choose.{choose_true, choose_false}
 use Rattle.group_rules.specs.Grouping.{takes}
 use Rattle.group_rules.proofs.TakesLaws.{star_is, takes_lt, takes_not}
 use Rattle.group_rules.specs.Passes.{Pass, pass, opens_after, open_bracket, open_operator, open_back, back_step, is_right_code, opened_text}
-use Rattle.unicode.proofs.Tests.{and_left}
+use Rattle.utf8.proofs.Tests.{and_left}
 use Rattle.group_open.specs.Back.{stack_of, pass_in, Room, Pushed, Opened, Moved, Backed, BackTo, OpenedAll}
 use Rattle.group_open.specs.declared.Spot.{Spot}
 use Rattle.group_open.specs.declared.Back.{Back}

@@ -1,6 +1,8 @@
 // From the last code to the first: where operations start. The operators whose left operand still goes on stand on a
 // stack in scratch after the opened text, the nearest on top, 0 for a bracket. Of n codes, the opened text ends at 3 ×
 // n.
+#![tactic(auto)]
+
 ghost use Rattle.std.specs.Prelude.{◌≡◌, ◌∷◌, ◌&&◌, eqb, ltb, ◌*◌, ◌-◌, ◌≤◌, ◌<◌, length, take};
 ghost use Rattle.buffer.specs.Buffer.{part};
 ghost use Rattle.group_rules.specs.Grouping.{takes};

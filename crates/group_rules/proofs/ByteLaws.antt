@@ -8,10 +8,10 @@ use native.Mathlib.Omega.{arith}
 use lib.Dec.{eqb}
 use borrow.Author.Tests as Tests
 use lib.ListN.{take}
-use Rattle.unicode.specs.Unicode.{encode_char, encode, decode, WellFormed}
-use Rattle.unicode.proofs.Table.{Bytes, bytes}
-use Rattle.unicode.proofs.Table as Tab
-use Rattle.unicode.proofs.Decode.{Ascii, ascii_append, encode_ascii, encode_cons, encode_nil}
+use Rattle.utf8.specs.Unicode.{encode_char, encode, decode, WellFormed}
+use Rattle.utf8.proofs.Table.{Bytes, bytes}
+use Rattle.utf8.proofs.Table as Tab
+use Rattle.utf8.proofs.Decode.{Ascii, ascii_append, encode_ascii, encode_cons, encode_nil}
 use Rattle.rules.specs.Basics.{choose, one_of, is_blank, is_ident}
 use Rattle.rules.specs.Operators.{operators}
 use Rattle.rules.specs.SplitOperation.{is_sign, keywords}

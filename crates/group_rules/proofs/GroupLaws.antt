@@ -2,8 +2,8 @@
 use Prim.Native.Nat.{ℕ}
 use mathlib.Core.List.{List, [], ◌∷◌, ◌++◌, reverse, reverse-cons, reverse-reverse, append_assoc, append-nil}
 use mathlib.Core.Path.{◌≡◌, refl, ap, sym, ◌∙◌, subst}
-use Rattle.unicode.specs.Unicode.{is_white, encode, decode}
-use Rattle.unicode.proofs.Decode.{decode_ascii}
+use Rattle.utf8.specs.Unicode.{is_white, encode, decode}
+use Rattle.utf8.proofs.Decode.{decode_ascii}
 use Rattle.rules.specs.Basics.{codes, keep}
 use Rattle.rules.proofs.Struck.{keep_append}
 use Rattle.group_rules.specs.Expression.{max_depth, Token, operator, closer, Reading, read, refused_at, reading}

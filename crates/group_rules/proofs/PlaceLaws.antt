@@ -16,7 +16,7 @@ use Rattle.rules.proofs.Computing.{computing}
 use Rattle.rules.proofs.Choose.{choose_case, choose_true, choose_false}
 use Rattle.group_rules.proofs.TableLaws.{or_cases, and_none, not_of, all_of, found}
 use Rattle.group_rules.specs.Expression.{max_depth, Token, word, operator, opener, closer, Stage, due, in_name, in_number, after, in_operator, State, state, Step, next, refused, starts_operator, open_step, close_step, due_step, after_step, stage_step, step, Reading, read, refused_at, ended, ending, on_step, read_from, reading_to, reading}
-use Rattle.unicode.proofs.Tests.{and_left, and_right}
+use Rattle.utf8.proofs.Tests.{and_left, and_right}
 
 -- what goes on so that an expression is read
 pub record Completed (i : ℕ) (s : State) : Type 0 where

@@ -6,7 +6,7 @@ use mathlib.Core.Path.{◌≡◌, refl}
 use native.Mathlib.Omega.{arith}
 use lib.Dec.{eqb, leb, ltb, lit≤}
 use borrow.Author.Tests.{eqb-true, leb-true}
-use Rattle.unicode.specs.Unicode.{within}
+use Rattle.utf8.specs.Unicode.{within}
 use Rattle.rules.specs.Basics.{is, one_of, is_ident}
 use Rattle.rules.specs.Operators.{operators}
 use Rattle.rules.specs.SplitOperation.{is_sign}
@@ -14,7 +14,7 @@ use Rattle.rules.proofs.Computing.{computing}
 use Rattle.group_rules.specs.Expression.{Token, word, sign, operator, opener, closer, is_digit}
 use Rattle.group_rules.specs.Grouping.{strength_of}
 use Rattle.group_rules.proofs.TableLaws.{or_cases, all_of, found}
-use Rattle.unicode.proofs.Tests.{and_left, and_right}
+use Rattle.utf8.proofs.Tests.{and_left, and_right}
 
 unfoldable pub Plain : List ℕ → Type 0
 Plain [] = Unit {0}

@@ -6,7 +6,7 @@ use mathlib.Core.List.{List, [], ◌∷◌, ◌++◌, reverse, reverse-reverse, 
 use mathlib.Core.Path.{◌≡◌, refl, ap, sym, ◌∙◌}
 use lib.Dec.{eqb}
 use borrow.Author.Tests.{eqb-true}
-use Rattle.unicode.specs.Unicode.{is_white}
+use Rattle.utf8.specs.Unicode.{is_white}
 use Rattle.rules.specs.Basics.{is, keep, is_blank}
 use Rattle.rules.specs.Operators.{operators}
 use Rattle.rules.proofs.Choose.{choose_case}

@@ -7,7 +7,7 @@ use native.Mathlib.Omega.{arith}
 use lib.Dec.{eqb, leb}
 use lib.ListN.{length, length-append}
 use borrow.Author.Tests.{lt-leb, ne_eqb, eqb-true, leb-true}
-use Rattle.unicode.specs.Unicode.{within}
+use Rattle.utf8.specs.Unicode.{within}
 use Rattle.rules.specs.Basics.{choose, is, one_of, is_blank, is_ident}
 use Rattle.rules.specs.Operators.{operators}
 use Rattle.rules.specs.SplitOperation.{is_sign, keywords}
@@ -19,7 +19,7 @@ use Rattle.group_rules.proofs.TokenLaws.{tokens_of}
 use Rattle.group_rules.proofs.TableLaws.{or_cases, not_of, all_of, found}
 use Rattle.group_rules.proofs.SpelledLaws.{digit_ident, AllSpelled, SpelledToken, AllAre, name, number, IsWord, is_name, is_number, IsOperator, one, two, spelled_first, spelled_second}
 use Rattle.group_rules.specs.Promises.{unbracketed, SameTree}
-use Rattle.unicode.proofs.Tests.{and_left, and_right}
+use Rattle.utf8.proofs.Tests.{and_left, and_right}
 
 -- every operation bracketed, and nothing else
 unfoldable pub bracket_all : Tree → Tree

@@ -6,15 +6,15 @@ use mathlib.Core.Path.{◌≡◌, refl}
 use native.Mathlib.Omega.{arith}
 use lib.Dec.{eqb, leb, ltb, lit<}
 use borrow.Author.Tests.{eqb-true, leb-true, ltb-true}
-use Rattle.unicode.specs.Unicode.{within}
-use Rattle.unicode.proofs.Decode.{Ascii}
+use Rattle.utf8.specs.Unicode.{within}
+use Rattle.utf8.proofs.Decode.{Ascii}
 use Rattle.rules.specs.Basics.{is, one_of, is_ident}
 use Rattle.rules.specs.Operators.{operators}
 use Rattle.rules.specs.SplitOperation.{is_sign, keywords}
 use Rattle.group_rules.specs.Expression.{Token, word, sign, operator, opener, closer, Stage, due, in_name, in_number, after, in_operator, is_digit, starts_operator}
 use Rattle.group_rules.proofs.PlainLaws.{Plain, PlainToken, AllPlain, digit_plain, ident_plain, sign_plain, operator_plain}
 use Rattle.group_rules.proofs.TableLaws.{or_cases, all_of, found}
-use Rattle.unicode.proofs.Tests.{and_left, and_right}
+use Rattle.utf8.proofs.Tests.{and_left, and_right}
 
 -- every character passes the test
 unfoldable pub AllAre : (ℕ → Bool) → List ℕ → Type 0

@@ -1,6 +1,6 @@
 -- C-21: what a grouping call gives: the answer, the output and the scratch, and what it promises of them.
 use Rattle.std.specs.Prelude.{ℕ, List, ◌≡◌, take, replicate}
-use Rattle.unicode.specs.Unicode.{decode}
+use Rattle.utf8.specs.Unicode.{decode}
 use Rattle.group_rules.specs.Promises.{Groups, Longest}
 use Rattle.group_rules.specs.Outcome.{group_outcome, group_answer, group_output}
 use Rattle.group_rules.specs.declared.GroupAnswer.{GroupAnswer}

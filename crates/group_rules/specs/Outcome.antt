@@ -1,6 +1,6 @@
 -- C-21: a grouping call on bytes: what it gives back, and what the output and the scratch hold after it.
 use Rattle.std.specs.Prelude.{ℕ, ◌+◌, ◌*◌, not, List, [], ltb, length, replicate}
-use Rattle.unicode.specs.Unicode.{well_formed, prefix_len, decode, encode, size}
+use Rattle.utf8.specs.Unicode.{well_formed, prefix_len, decode, encode, size}
 use Rattle.rules.specs.Basics.{choose}
 use Rattle.rules.specs.Refusals.{max_source, number_of, place_of}
 use Rattle.rules.specs.Call.{filled}

@@ -20,9 +20,9 @@ use mathlib.Core.List.{List, [], ◌++◌, append-nil}
 use mathlib.Core.Path.{◌≡◌, refl, sym, ap, ◌∙◌, subst}
 use lib.ListN.{length, take, drop, length-append, length-drop, drop_of_length-le}
 use lib.Seq.{take_all, take_at, drop_at, length-take-le}
-use Rattle.unicode.specs.Unicode.{encode, chars, decode, trim_start, trim_end, trim, WellFormed}
-use Rattle.unicode.specs.Places.{TrimmedStart, TrimmedEnd}
-use Rattle.unicode.proofs.Trim.{trim_swap}
+use Rattle.utf8.specs.Unicode.{encode, chars, decode, trim_start, trim_end, trim, WellFormed}
+use Rattle.utf8.specs.Places.{TrimmedStart, TrimmedEnd}
+use Rattle.utf8.proofs.Trim.{trim_swap}
 use Rattle.buffer.specs.Buffer.{part}
 use Rattle.buffer.specs.Repeat.{times}
 use Rattle.buffer.proofs.RegionLaws.{drop_take}

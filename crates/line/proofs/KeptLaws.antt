@@ -6,8 +6,8 @@ use mathlib.Core.List.{List, [], ◌++◌}
 use mathlib.Core.Path.{◌≡◌, refl, sym, ap, ◌∙◌, subst}
 use lib.ListN.{length, take, drop}
 use lib.Seq.{take-length, length-take-le}
-use Rattle.unicode.specs.Unicode.{encode, chars, decode, WellFormed}
-use Rattle.unicode.specs.Places.{TrimmedEnd}
+use Rattle.utf8.specs.Unicode.{encode, chars, decode, WellFormed}
+use Rattle.utf8.specs.Places.{TrimmedEnd}
 use Rattle.buffer.specs.Buffer.{part}
 use Rattle.buffer.specs.Repeat.{times}
 use Rattle.rules.specs.Basics.{choose, is_empty}

@@ -9,7 +9,7 @@ use mathlib.Core.Path.{◌≡◌, refl, sym, ap, ◌∙◌, subst}
 use borrow.Author.Tests.{eqb-true}
 use lib.Dec.{eqb}
 use lib.ListN.{length, drop, get_or}
-use Rattle.unicode.specs.Unicode.{decode, trim_end, WellFormed}
+use Rattle.utf8.specs.Unicode.{decode, trim_end, WellFormed}
 use Rattle.buffer.specs.Repeat.{times}
 use Rattle.rules.specs.Basics.{Pieces, choose, is_opener, is_closer, is_empty}
 use Rattle.rules.specs.Scan.{classify, carry_after}

@@ -1,6 +1,6 @@
 -- What the code holds of the formatter's record, and what a step of the code does.
 use Rattle.std.specs.Prelude.{ℕ, ◌+◌, ◌*◌, ◌≤◌, ◌^◌, Bool, true, false, List, ◌≡◌, length, take}
-use Rattle.unicode.specs.Unicode.{decode, trim, WellFormed}
+use Rattle.utf8.specs.Unicode.{decode, trim, WellFormed}
 use Rattle.buffer.specs.Buffer.{part}
 use Rattle.rules.specs.Basics.{choose, is, last_is}
 use Rattle.rules.specs.Scan.{classify, carry_after}

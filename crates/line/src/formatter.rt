@@ -6,7 +6,7 @@ use brackets::Nesting;
 use format::words::Declaration;
 use rules::{Carry, Ignore};
 use text::Written;
-use unicode::ByteOffset;
+use utf8::ByteOffset;
 
 // What later lines ask of a line: which declaration it is, and whether it ends in `}`.
 #[derive(Drop)]

@@ -1,6 +1,6 @@
 // Lines that go out as they are: inside a comment or a prefab, blank, protected.
 ghost use Rattle.std.specs.Prelude.{◌≡◌, not, ◌&&◌, ◌||◌, length, take};
-ghost use Rattle.unicode.specs.Unicode.{decode, WellFormed};
+ghost use Rattle.utf8.specs.Unicode.{decode, WellFormed};
 ghost use Rattle.rules.specs.Lines.{as_str};
 ghost use Rattle.rules.specs.Line.{in_block, in_code_now, block_after, protected_after};
 ghost use Rattle.text.specs.Text.{is_first};
@@ -188,8 +188,8 @@ pub fn raw_line(
 {
     let carry = st.carry;
     let ignore = st.ignore;
-    let tail = unicode::trim_end(raw);
-    let start = unicode::trim_start(&raw[..tail]);
+    let tail = utf8::trim_end(raw);
+    let start = utf8::trim_start(&raw[..tail]);
     let line = &raw[start..tail];
     let part = scanned_part(carry, raw, line);
     let n = part.len();

@@ -1,6 +1,6 @@
 // A line that is one bracket: it is code and spaced as it is, no else and no declaration, and never broken.
 ghost use Rattle.std.specs.Prelude.{◌≡◌, true, length};
-ghost use Rattle.unicode.specs.Unicode.{decode};
+ghost use Rattle.utf8.specs.Unicode.{decode};
 ghost use Rattle.rules.specs.Basics.{choose, is_closer};
 ghost use Rattle.rules.specs.Lines.{as_str};
 ghost use Rattle.rules.specs.Options.{Options};

@@ -13,8 +13,8 @@ use lib.Dec.{T, eqb}
 use borrow.Author.Tests.{eq-eqb, ne_eqb, eqb-true, eqb-false}
 use lib.ListN.{length, get_or, take, drop, length-take, length-drop, drop_of_length-le}
 use lib.Seq.{drop-cons}
-use Rattle.unicode.specs.Unicode.{is_scalar, Scalars}
-use Rattle.unicode.proofs.Tests.{by_test}
+use Rattle.utf8.specs.Unicode.{is_scalar, Scalars}
+use Rattle.utf8.proofs.Tests.{by_test}
 use Rattle.rules.specs.Basics.{choose, is, Pieces, pieces, at_sep, split_on}
 use Rattle.rules.specs.Lines.{drop_cr}
 use Rattle.line_ends.specs.LineEnds.{Ending, LineEnd}

@@ -10,10 +10,10 @@ use lib.Dec.{ltb}
 use lib.Count.{count_trailing_zeros, trailing_of_zero}
 use lib.ListN.{length}
 use borrow.Author.Tests.{eqb-false, ltb-true, ltb-false}
-use Rattle.unicode.specs.Places.{NoneAmong}
-use Rattle.unicode.specs.Masks.{Masked}
-use Rattle.unicode.proofs.Tests.{by_test}
-use Rattle.unicode.proofs.Masks.{masked_none, masked_within, masked_first}
+use Rattle.utf8.specs.Places.{NoneAmong}
+use Rattle.utf8.specs.Masks.{Masked}
+use Rattle.utf8.proofs.Tests.{by_test}
+use Rattle.utf8.proofs.Masks.{masked_none, masked_within, masked_first}
 use Rattle.line_ends.specs.LineEnds.{lf_at, Ending, LineEnd}
 use Rattle.line_ends.proofs.LineCuts.{ending_start, ending_none, ending_then, ending_lf}
 

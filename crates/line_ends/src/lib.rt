@@ -1,6 +1,8 @@
 // Where a line of a source ends.
+#![tactic(auto)]
+
 ghost use Rattle.std.specs.Prelude.{◌≡◌, cond, ◌+◌, ◌≤◌, length};
-ghost use Rattle.unicode.specs.Places.{NoneAmong};
+ghost use Rattle.utf8.specs.Places.{NoneAmong};
 ghost use Rattle.rules.specs.Lines.{drop_cr};
 ghost use Rattle.line_ends.specs.LineEnds.{lf_at, Ending, LineEnd};
 
@@ -80,7 +82,7 @@ pub fn line_end(source: &[u8], at: usize) -> usize
     }
     let mut i = at;
     while source.len() - i >= 16 {
-        let m = unicode::byte_mask(source, i, b'\n');
+        let m = utf8::byte_mask(source, i, b'\n');
         if m != 0 {
             return i + u32::trailing_zeros(m) as usize;
         }

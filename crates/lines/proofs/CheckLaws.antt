@@ -6,8 +6,8 @@ use mathlib.Core.List.{List, [], ◌∷◌, ◌++◌, map}
 use mathlib.Core.Path.{◌≡◌, refl, sym, ap, subst, ◌∙◌}
 use lib.ListN.{length, take, length-append}
 use lib.Seq.{take-append_seam}
-use Rattle.unicode.specs.Unicode.{Scalars, encode, decode, WellFormed}
-use Rattle.unicode.proofs.Decode.{encode_append, decode_scalars, scalars_left}
+use Rattle.utf8.specs.Unicode.{Scalars, encode, decode, WellFormed}
+use Rattle.utf8.proofs.Decode.{encode_append, decode_scalars, scalars_left}
 use Rattle.buffer.specs.Buffer.{part}
 use Rattle.rules.specs.Basics.{choose, same, starts_with}
 use Rattle.rules.specs.Lines.{as_str, drop_cr, lines_of}

@@ -2,8 +2,8 @@
 use Prim.Native.Nat.{ℕ}
 use mathlib.Core.List.{List, [], ◌∷◌, map}
 use mathlib.Core.Path.{◌≡◌, sym, ap, subst, ◌∙◌}
-use Rattle.unicode.specs.Unicode.{Scalars, encode, decode, WellFormed}
-use Rattle.unicode.proofs.Decode.{decode_scalars}
+use Rattle.utf8.specs.Unicode.{Scalars, encode, decode, WellFormed}
+use Rattle.utf8.proofs.Decode.{decode_scalars}
 use Rattle.rules.specs.Basics.{pieces, split_on}
 use Rattle.rules.specs.Lines.{drop_cr, lines_of}
 use Rattle.rules.proofs.LinesBytes.{lines_encode}

@@ -6,8 +6,8 @@ use mathlib.Core.Logic.{◌⊎◌, inl, inr}
 use mathlib.Core.Path.{◌≡◌, refl, sym, ap, subst, ◌∙◌}
 use lib.ListN.{length, take, drop, length-take, length-drop}
 use lib.Seq.{drop-drop, take_all}
-use Rattle.unicode.specs.Unicode.{decode, WellFormed}
-use Rattle.unicode.proofs.Tests.{split}
+use Rattle.utf8.specs.Unicode.{decode, WellFormed}
+use Rattle.utf8.proofs.Tests.{split}
 use Rattle.buffer.specs.Buffer.{part}
 use Rattle.rules.specs.Lines.{as_str, drop_cr, lines_of}
 use Rattle.rules.specs.Options.{Options}

@@ -1,6 +1,6 @@
 -- What the loop over the lines gives.
 use Rattle.std.specs.Prelude.{ℕ, ◌+◌, ◌*◌, ◌≤◌, Bool, true, false, not, List, [], ◌≡◌, length}
-use Rattle.unicode.specs.Unicode.{Scalars, decode, WellFormed}
+use Rattle.utf8.specs.Unicode.{Scalars, decode, WellFormed}
 use Rattle.rules.specs.Basics.{choose, same}
 use Rattle.rules.specs.Lines.{as_str, lines_of}
 use Rattle.rules.specs.Options.{Options}

@@ -1,4 +1,6 @@
 // The lines of a source, one after the other.
+#![tactic(auto)]
+
 ghost use Rattle.lines.specs.Lines.{Passed, Starts, Differs, AllRead};
 
 use line::formatter::Formatter;

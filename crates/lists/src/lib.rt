@@ -1,4 +1,6 @@
 // Lent lists of numbers: what stands after their entries is zeros.
+#![tactic(auto)]
+
 ghost use Rattle.std.specs.Prelude.{◌≡◌, ◌≤◌, length, replicate};
 ghost use Rattle.buffer.specs.Buffer.{Finishes};
 

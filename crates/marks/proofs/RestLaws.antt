@@ -8,7 +8,7 @@ use borrow.Author.Tests.{eqb-true}
 use lib.Dec.{T, eqb}
 use lib.ListN.{length, get_or, take, drop}
 use lib.Seq.{drop-cons}
-use Rattle.unicode.proofs.Tests.{by_test, and_left, and_right}
+use Rattle.utf8.proofs.Tests.{by_test, and_left, and_right}
 use Rattle.rules.specs.Basics.{choose, starts_with}
 use Rattle.rules.specs.Scan.{long, begin, in_code, in_quoted, in_interp, in_inner, in_block, in_prefab, mark_at, ordinary, next_of, next}
 use Rattle.rules.specs.ClassBytes.{class_byte, class_of}

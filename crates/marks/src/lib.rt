@@ -1,4 +1,6 @@
 // A line read one byte at a time, as a row of marks: a mark's mode tells a `${..}` from its string.
+#![tactic(auto)]
+
 pub mod within;
 
 ghost use Rattle.std.specs.Prelude.{◌≡◌, ◌∷◌, [], ◌+◌, ◌<◌, ◌^◌};

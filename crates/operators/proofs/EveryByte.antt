@@ -5,7 +5,7 @@ use mathlib.Core.Bool.{Bool, true, false, not, ◌&&◌, ◌||◌}
 use mathlib.Core.Logic.{◌⊎◌, inl, inr}
 use mathlib.Core.Path.{◌≡◌, refl, sym, ◌∙◌}
 use lib.Dec.{eqb}
-use Rattle.unicode.proofs.Tests.{and_left, and_right, split}
+use Rattle.utf8.proofs.Tests.{and_left, and_right, split}
 use Rattle.rules.specs.Basics.{first_is}
 use Rattle.rules.specs.Operators.{starts_one, starts_operator}
 

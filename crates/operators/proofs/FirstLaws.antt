@@ -9,7 +9,7 @@ use mathlib.Core.List.{List}
 use mathlib.Core.Path.{◌≡◌, refl, sym, ◌∙◌}
 use lib.ListN.{length, get_or, drop, drop_of_length-le}
 use lib.Seq.{drop-cons}
-use Rattle.unicode.specs.Places.{NoneAmong}
+use Rattle.utf8.specs.Places.{NoneAmong}
 use Rattle.rules.specs.Operators.{starts_operator}
 use Rattle.operators.specs.First.{operator_starts_at, any_starts, NoneBefore}
 

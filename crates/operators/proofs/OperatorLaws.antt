@@ -10,7 +10,7 @@ use borrow.Author.Tests.{ne_eqb, eqb-true, le-ltb, lt-ltb, ltb-true, ltb-false}
 use Rattle.rules.specs.Basics.{choose, same, one_of}
 use Rattle.rules.specs.Operators.{operators, index_in}
 use Rattle.rules.specs.SplitOperation.{precedence}
-use Rattle.unicode.proofs.Tests.{by_test}
+use Rattle.utf8.proofs.Tests.{by_test}
 
 -- ---- the list of operators
 

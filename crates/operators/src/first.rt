@@ -1,6 +1,6 @@
 // Whether an operator can start in a line at all: most bytes start none.
 ghost use Rattle.std.specs.Prelude.{◌≡◌, ◌+◌, ◌≤◌, length};
-ghost use Rattle.unicode.specs.Places.{NoneAmong};
+ghost use Rattle.utf8.specs.Places.{NoneAmong};
 ghost use Rattle.operators.specs.First.{operator_starts_at, any_starts, NoneBefore};
 ghost use Rattle.rules.specs.Operators.{starts_operator};
 

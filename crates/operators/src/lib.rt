@@ -1,6 +1,8 @@
 // The operators: which they are, by their places in document 01's tightness list, and their strengths in a table. The
 // places stand here alone; the list of the rules has the same order, and the contracts say so. They are found by
 // comparing bytes: a table that is indexed would be slower.
+#![tactic(auto)]
+
 pub mod first;
 
 ghost use Rattle.std.specs.Prelude.{◌≡◌, [], ◌∷◌, ◌<◌, get_or};

@@ -22,7 +22,7 @@ use Rattle.options.specs.declared.numbers.EndingNamed.{EndingNamed}
 use Rattle.options.specs.declared.numbers.NewlineNamed.{NewlineNamed}
 use Rattle.options.proofs.ListLaws.{drop_next, times_one}
 use Rattle.options.proofs.HeldLaws.{stepped, in_held, held_again}
-use Rattle.unicode.proofs.Tests.{and_left}
+use Rattle.utf8.proofs.Tests.{and_left}
 
 -- ---- the bytes of an indent: those before i are blank
 

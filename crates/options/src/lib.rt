@@ -1,4 +1,6 @@
 // options.rs: what the host chooses, and the steps that change it.
+#![tactic(auto)]
+
 ghost use Rattle.std.specs.Prelude.{◌≡◌, true, false, ◌≤◌, length};
 ghost use Rattle.buffer.specs.Repeat.{times};
 ghost use Rattle.rules.specs.Options.{max_indent, defaults, with_indent, indent_with};

@@ -6,7 +6,7 @@ use mathlib.Core.Option.{Option, none, some}
 use mathlib.Core.Path.{◌≡◌, refl, sym, ap, ◌∙◌, subst}
 use native.Mathlib.Omega.{arith}
 use lib.ListN.{length}
-use Rattle.unicode.specs.Unicode.{encode, decode, size}
+use Rattle.utf8.specs.Unicode.{encode, decode, size}
 use Rattle.compare.specs.Common.{Compared}
 use Rattle.rules.specs.Basics.{choose, is, is_empty, last_is}
 use Rattle.rules.specs.Lines.{as_str}

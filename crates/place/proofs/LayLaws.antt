@@ -8,7 +8,7 @@ use native.Mathlib.Omega.{arith}
 use borrow.Author.Tests.{ne_eqb}
 use lib.Dec.{eqb}
 use lib.ListN.{length}
-use Rattle.unicode.specs.Unicode.{decode}
+use Rattle.utf8.specs.Unicode.{decode}
 use Rattle.rules.specs.Basics.{choose, is_empty}
 use Rattle.rules.specs.Scan.{classify, all_code_or_str}
 use Rattle.rules.specs.Lines.{as_str}
@@ -19,7 +19,7 @@ use Rattle.rules.specs.Else.{is_plain_else, can_join}
 use Rattle.rules.specs.Line.{Formatter, else_line, drop_blank, lines_before, continues, level_of, one_line, split_wide, may_split, laid, placed_line, spaced_line}
 use Rattle.rules.specs.declared.Carry.{Carry}
 use Rattle.rules.specs.declared.PrintWidth.{PrintWidth}
-use Rattle.unicode.proofs.Tests.{and_right}
+use Rattle.utf8.proofs.Tests.{and_right}
 use Rattle.rules.proofs.Choose.{choose_true, choose_false}
 use Rattle.rules.proofs.StartsBytes.{on_decode, closers_encode}
 use Rattle.brackets.specs.Stack.{stacked}

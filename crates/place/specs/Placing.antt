@@ -1,7 +1,7 @@
 -- What putting a line into the text does.
 use Rattle.std.specs.Prelude.{ℕ, ◌+◌, ◌*◌, ◌≤◌, ◌<◌, ◌^◌, Bool, true, false, ◌≡◌, eqb, ltb, length, drop}
 use mathlib.Core.List.{List, reverse_aux}
-use Rattle.unicode.specs.Unicode.{decode, trim_end, WellFormed}
+use Rattle.utf8.specs.Unicode.{decode, trim_end, WellFormed}
 use Rattle.rules.specs.Basics.{choose}
 use Rattle.rules.specs.Scan.{classify}
 use Rattle.rules.specs.ClassBytes.{class_bytes}

@@ -1,7 +1,9 @@
 // The line that goes on, put into the text: joined to the newest line, or indented, or split.
+#![tactic(auto)]
+
 ghost use Rattle.std.specs.Prelude.{◌≡◌, true, ◌&&◌, ◌+◌, ◌*◌, ◌≤◌, ◌<◌, ◌^◌, length, ◌++◌};
 ghost use Rattle.rules.specs.Basics.{choose};
-ghost use Rattle.unicode.specs.Unicode.{decode, trim_end, WellFormed};
+ghost use Rattle.utf8.specs.Unicode.{decode, trim_end, WellFormed};
 ghost use Rattle.buffer.specs.Repeat.{times};
 ghost use Rattle.rules.specs.Lines.{as_str};
 ghost use Rattle.text.specs.Text.{Adds, Joins, Ordered, far_place, is_joinable};
@@ -24,7 +26,7 @@ use split::{Layout, over_wide};
 use split_import::{ImportSplit, split_import};
 use split_operation::{OperationSplit, split_operation};
 use text::{Adding, Last, Written};
-use unicode::Utf16Column;
+use utf8::Utf16Column;
 
 // How a line is put into the text: in which style, how many leading closers it has and how many levels are left after
 // these popped, what the next line asks of it, and whether it is a marker.

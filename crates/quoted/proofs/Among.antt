@@ -2,7 +2,7 @@
 use Prim.Native.Nat.{ℕ}
 use mathlib.Core.Logic.{◌⊎◌, inl, inr}
 use mathlib.Core.List.{List, [], ◌∷◌, ◌++◌}
-use Rattle.unicode.specs.Unicode.{trim_end}
+use Rattle.utf8.specs.Unicode.{trim_end}
 use Rattle.rules.specs.Basics.{codes}
 use Rattle.rules.specs.Else.{join_else}
 use Rattle.rules.specs.Line.{Formatter, drop_blank, lines_before}

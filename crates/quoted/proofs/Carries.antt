@@ -9,7 +9,7 @@ use mathlib.Core.Bool.{Bool, true, false, ◌||◌}
 use mathlib.Core.List.{List, [], ◌∷◌, ◌++◌, foldl}
 use mathlib.Core.Path.{◌≡◌, refl, sym, ap, ◌∙◌, subst}
 use borrow.Author.Tests.{eqb-true}
-use Rattle.unicode.proofs.Tests.{by_test, and_right}
+use Rattle.utf8.proofs.Tests.{by_test, and_right}
 use Rattle.rules.specs.Basics.{choose, is, codes, is_blank}
 use Rattle.rules.specs.Scan.{one, long, in_code, mark_at, ordinary, next_of, next, cell, scan, final, begin, open_after, classify, carry_after, is_code}
 use Rattle.rules.specs.Spacing.{Spaced, spaced, cons_blank, trim_blanks, put_plain, put_after_comma, put_at, space_step, normalize_spacing, respaced}

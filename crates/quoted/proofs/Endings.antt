@@ -6,7 +6,7 @@ use mathlib.Core.List.{List, [], ◌∷◌}
 use mathlib.Core.Path.{◌≡◌, refl, ap}
 use lib.Dec.{eqb}
 use borrow.Author.Tests.{eqb-true}
-use Rattle.unicode.proofs.Tests.{and_left, and_right}
+use Rattle.utf8.proofs.Tests.{and_left, and_right}
 use Rattle.rules.specs.Basics.{is, codes, is_blank, starts_with}
 use Rattle.rules.specs.Scan.{one, long, in_code, in_quoted, in_interp, in_inner, in_block, in_prefab, mark_at, next_of, next, begin, is_code}
 use Rattle.rules.specs.Prefabs.{in_code_mode}

@@ -4,8 +4,8 @@ use Prim.Native.Nat.{ℕ}
 use mathlib.Core.Bool.{Bool, true}
 use mathlib.Core.List.{List, [], ◌∷◌, ◌++◌, reverse_aux}
 use mathlib.Core.Path.{◌≡◌, refl, sym, ap, ◌∙◌}
-use Rattle.unicode.specs.Unicode.{trim}
-use Rattle.unicode.proofs.Trim.{White}
+use Rattle.utf8.specs.Unicode.{trim}
+use Rattle.utf8.proofs.Trim.{White}
 use Rattle.rules.specs.Basics.{choose, is_empty}
 use Rattle.rules.specs.Options.{Options, indent_of}
 use Rattle.rules.specs.Scan.{classify, carry_after, final}

@@ -5,7 +5,7 @@ use mathlib.Core.List.{List}
 use mathlib.Core.Path.{◌≡◌, refl, sym, ap, ◌∙◌}
 use lib.Dec.{eqb}
 use borrow.Author.Tests.{eqb-true}
-use Rattle.unicode.proofs.Tests.{by_test, and_left, and_right}
+use Rattle.utf8.proofs.Tests.{by_test, and_left, and_right}
 use Rattle.rules.specs.Scan.{in_code, in_quoted, in_interp, in_inner, in_block, in_prefab, mark_at, ordinary, next, is_code}
 use Rattle.rules.specs.Prefabs.{in_code_mode, in_prefab_mode, opens}
 use Rattle.rules.specs.declared.Class.{Class}

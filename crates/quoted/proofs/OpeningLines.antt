@@ -6,8 +6,8 @@ use mathlib.Core.Logic.{◌⊎◌, inl, inr}
 use mathlib.Core.List.{List, [], ◌∷◌, ◌++◌, foldl, foldl-append, append_assoc, append_cancel_left}
 use mathlib.Core.Option.{Option, none, some}
 use mathlib.Core.Path.{◌≡◌, refl, sym, ap, ◌∙◌}
-use Rattle.unicode.specs.Unicode.{is_white, trim, trim_end, trim_start}
-use Rattle.unicode.proofs.Trim.{White, trim_split, end_append, end_first, end_append_white, end_twice}
+use Rattle.utf8.specs.Unicode.{is_white, trim, trim_end, trim_start}
+use Rattle.utf8.proofs.Trim.{White, trim_split, end_append, end_first, end_append_white, end_twice}
 use Rattle.rules.specs.Basics.{codes}
 use Rattle.rules.specs.Scan.{chars_of, begin, classify}
 use Rattle.rules.specs.Spacing.{Spaced, spaced, space_step, normalize_spacing, respaced}

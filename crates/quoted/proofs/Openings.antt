@@ -6,8 +6,8 @@ use mathlib.Core.Option.{Option, none, some}
 use mathlib.Core.Path.{◌≡◌, refl, sym, ap, ◌∙◌}
 use lib.Dec.{eqb}
 use borrow.Author.Tests.{eqb-true}
-use Rattle.unicode.proofs.Tests.{by_test, and_left, and_right}
-use Rattle.unicode.proofs.Trim.{White}
+use Rattle.utf8.proofs.Tests.{by_test, and_left, and_right}
+use Rattle.utf8.proofs.Trim.{White}
 use Rattle.rules.specs.Basics.{choose, starts_with, codes}
 use Rattle.rules.specs.Scan.{in_code, next_of, next, Cell, cell, chars_of, scan, begin, is_prefab}
 use Rattle.rules.specs.Prefabs.{Prefab, in_code_mode, in_prefab_mode, opens, stays, opened, left_open}

@@ -10,7 +10,7 @@ use mathlib.Core.Option.{Option, none, some, map}
 use mathlib.Core.Path.{◌≡◌, refl, sym, ap, ◌∙◌, subst}
 use lib.Dec.{eqb}
 use lib.ListN.{length, length-append}
-use Rattle.unicode.specs.Unicode.{is_white}
+use Rattle.utf8.specs.Unicode.{is_white}
 use Rattle.rules.specs.Basics.{choose, codes, keep, pieces, split_on}
 use Rattle.rules.specs.Lines.{drop_cr}
 use Rattle.rules.specs.Scan.{next, chars_of, begin, carry_after, is_str}

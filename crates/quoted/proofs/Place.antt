@@ -6,8 +6,8 @@ use Prim.Native.Nat.{ℕ}
 use mathlib.Core.Logic.{inl, inr}
 use mathlib.Core.List.{List, [], ◌∷◌, ◌++◌, append_assoc, append-nil, nil≢cons}
 use mathlib.Core.Path.{◌≡◌, refl, sym, ap, ◌∙◌, subst}
-use Rattle.unicode.specs.Unicode.{is_white, trim, trim_end}
-use Rattle.unicode.proofs.Trim.{White, end_append, end_first}
+use Rattle.utf8.specs.Unicode.{is_white, trim, trim_end}
+use Rattle.utf8.proofs.Trim.{White, end_append, end_first}
 use Rattle.rules.specs.Basics.{codes}
 use Rattle.rules.specs.Scan.{chars_of, begin, classify}
 use Rattle.rules.specs.Spacing.{normalize_spacing, respaced}

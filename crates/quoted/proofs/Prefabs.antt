@@ -7,9 +7,9 @@ use mathlib.Core.Logic.{inl, inr}
 use mathlib.Core.List.{List, [], ◌∷◌, ◌++◌, map, foldl, reverse_aux, append_assoc, append-nil}
 use mathlib.Core.Option.{Option, none, some}
 use mathlib.Core.Path.{◌≡◌, refl, sym, ap, ◌∙◌, subst}
-use Rattle.unicode.specs.Unicode.{trim_end}
-use Rattle.unicode.proofs.Tests.{and_left, and_right}
-use Rattle.unicode.proofs.Trim.{White}
+use Rattle.utf8.specs.Unicode.{trim_end}
+use Rattle.utf8.proofs.Tests.{and_left, and_right}
+use Rattle.utf8.proofs.Trim.{White}
 use Rattle.rules.specs.Basics.{choose, codes, is_empty, pieces, split_on}
 use Rattle.rules.specs.Lines.{as_str, drop_cr, lines_of}
 use Rattle.rules.specs.Options.{Options, all_blank}

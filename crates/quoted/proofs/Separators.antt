@@ -11,9 +11,9 @@ use mathlib.Core.List.{List, [], ◌∷◌, ◌++◌, append-nil}
 use mathlib.Core.Path.{◌≡◌, refl, sym, ap, ◌∙◌}
 use lib.Dec.{eqb, leb}
 use borrow.Author.Tests.{eqb-true, ne_eqb, leb-true}
-use Rattle.unicode.specs.Unicode.{is_white}
-use Rattle.unicode.proofs.Tests.{by_test, and_left, and_right}
-use Rattle.unicode.proofs.Trim.{White}
+use Rattle.utf8.specs.Unicode.{is_white}
+use Rattle.utf8.proofs.Tests.{by_test, and_left, and_right}
+use Rattle.utf8.proofs.Trim.{White}
 use Rattle.rules.specs.Basics.{choose, starts_with}
 use Rattle.rules.specs.Scan.{long, in_code, in_quoted, in_interp, in_inner, in_block, in_prefab, mark_at, next_of, next, begin}
 use Rattle.rules.specs.Prefabs.{opens}

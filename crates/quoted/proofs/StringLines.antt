@@ -3,8 +3,8 @@ use Prim.Native.Nat.{ℕ}
 use mathlib.Core.Logic.{inl}
 use mathlib.Core.List.{List, [], ◌∷◌, ◌++◌}
 use mathlib.Core.Path.{◌≡◌, refl, ◌∙◌}
-use Rattle.unicode.specs.Unicode.{trim}
-use Rattle.unicode.proofs.Trim.{White}
+use Rattle.utf8.specs.Unicode.{trim}
+use Rattle.utf8.proofs.Trim.{White}
 use Rattle.rules.specs.Scan.{begin}
 use Rattle.rules.specs.Spacing.{respaced}
 use Rattle.rules.specs.Else.{join_else}

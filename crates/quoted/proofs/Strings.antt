@@ -9,8 +9,8 @@ use mathlib.Core.Option.{Option, none, some, map}
 use mathlib.Core.Path.{◌≡◌, refl, sym, ap, ◌∙◌}
 use lib.Dec.{eqb}
 use borrow.Author.Tests.{eqb-true}
-use Rattle.unicode.specs.Unicode.{is_white}
-use Rattle.unicode.proofs.Tests.{and_left}
+use Rattle.utf8.specs.Unicode.{is_white}
+use Rattle.utf8.proofs.Tests.{and_left}
 use Rattle.rules.specs.Basics.{choose, is, is_blank, is_closer, starts_with}
 use Rattle.rules.specs.Scan.{quote, long, in_code, in_quoted, in_interp, in_inner, mark_at, next_of, next, Cell, cell, chars_of, scan, is_str}
 use Rattle.rules.specs.Prefabs.{in_code_mode, opens}

@@ -3,8 +3,8 @@ use Prim.Native.Nat.{ℕ}
 use mathlib.Core.Bool.{true}
 use mathlib.Core.List.{List, [], ◌∷◌, ◌++◌, map, foldl, flatten, append_assoc, append-nil}
 use mathlib.Core.Path.{◌≡◌, refl, ap, ◌∙◌, subst}
-use Rattle.unicode.specs.Unicode.{is_white}
-use Rattle.unicode.proofs.Trim.{White}
+use Rattle.utf8.specs.Unicode.{is_white}
+use Rattle.utf8.proofs.Trim.{White}
 use Rattle.rules.specs.Basics.{codes, pieces, split_on}
 use Rattle.rules.specs.Lines.{as_str, drop_cr, lines_of}
 use Rattle.rules.specs.Options.{Options, all_blank}

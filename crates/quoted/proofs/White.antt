@@ -5,9 +5,9 @@ use mathlib.Core.Bool.{true}
 use mathlib.Core.List.{List, [], ◌∷◌, ◌++◌, append_assoc, append-nil}
 use mathlib.Core.Option.{none, some, map}
 use mathlib.Core.Path.{◌≡◌, refl, sym, ap, ◌∙◌}
-use Rattle.unicode.specs.Unicode.{is_white, trim}
-use Rattle.unicode.proofs.Tests.{by_test}
-use Rattle.unicode.proofs.Trim.{White, trim_split}
+use Rattle.utf8.specs.Unicode.{is_white, trim}
+use Rattle.utf8.proofs.Tests.{by_test}
+use Rattle.utf8.proofs.Trim.{White, trim_split}
 use Rattle.rules.specs.Basics.{choose}
 use Rattle.rules.specs.Scan.{next, begin, is_str, final, open_after, carry_after}
 use Rattle.rules.specs.Prefabs.{in_code_mode, opens}

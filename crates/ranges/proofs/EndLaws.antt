@@ -10,7 +10,7 @@ use borrow.Author.Tests.{lt-ltb, le-ltb, eq-eqb, ne_eqb, eqb-false}
 use lib.Dec.{eqb, ltb}
 use lib.ListN.{length, drop, take, get_or, length-drop, drop_of_length-le}
 use lib.Seq.{drop-cons, take-suc, get_or-drop, drop-drop}
-use Rattle.unicode.proofs.Tests.{split, by_test, in_range_law}
+use Rattle.utf8.proofs.Tests.{split, by_test, in_range_law}
 use Rattle.rules.specs.Basics.{choose, is, first_is}
 use Rattle.rules.proofs.Choose.{choose_case, choose_true, choose_false}
 use Rattle.config_rules.specs.Numbers.{is_digit, digit_count, sign, number_len, value}

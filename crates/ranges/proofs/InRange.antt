@@ -9,7 +9,7 @@ use native.Mathlib.Omega.{arith}
 use borrow.Author.Tests.{lt-ltb, le-leb, lt-leb, eq-eqb, ne_eqb, eqb-true, eqb-false}
 use lib.Dec.{eqb, ltb, leb}
 use lib.ListN.{length, drop, take}
-use Rattle.unicode.proofs.Tests.{split, by_test}
+use Rattle.utf8.proofs.Tests.{split, by_test}
 use Rattle.rules.specs.Basics.{choose, first_is}
 use Rattle.rules.proofs.Choose.{choose_true, choose_false}
 use Rattle.config_rules.specs.Numbers.{is_digit, digit_count, sign, number_len, is_number, value, up, down, at_most, in_range}

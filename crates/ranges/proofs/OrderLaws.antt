@@ -10,7 +10,7 @@ use native.Mathlib.Omega.{arith}
 use borrow.Author.Tests.{lt-ltb, le-ltb}
 use lib.Dec.{ltb}
 use lib.ListN.{length, drop, take, get_or}
-use Rattle.unicode.proofs.Tests.{split, in_range_law, and_left, and_right}
+use Rattle.utf8.proofs.Tests.{split, in_range_law, and_left, and_right}
 use Rattle.rules.specs.Basics.{choose}
 use Rattle.config_rules.specs.Numbers.{is_digit, value}
 use Rattle.config_rules.specs.Globs.{Strings, some_then, never}

@@ -10,7 +10,7 @@ use borrow.Author.Tests.{lt-ltb, le-ltb, le-leb, lt-leb, ne_eqb}
 use lib.Dec.{eqb, ltb, leb}
 use lib.ListN.{length, get_or, set, length-set, get_or-eq_default}
 use lib.Seq.{get_or-set_same, get_or-set_other}
-use Rattle.unicode.proofs.Tests.{split}
+use Rattle.utf8.proofs.Tests.{split}
 use Rattle.rules.specs.Basics.{choose}
 use Rattle.ranges.specs.Slots.{order_then, inside_of, whole_of}
 use Rattle.ranges.specs.Ranges.{lows, lows_of, Ordered, slot_step, slot_in, any_slot, turned, opposite, Moved, RangeOf, FarNext}

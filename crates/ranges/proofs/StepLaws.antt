@@ -9,7 +9,7 @@ use borrow.Author.Tests.{eq-eqb, ne_eqb, eqb-true, eqb-false, lt-leb, lt-ltb, le
 use lib.Dec.{eqb, ltb}
 use lib.ListN.{length, drop, take, get_or, set, length-set}
 use lib.Seq.{drop-length, get_or-set_same, get_or-set_other}
-use Rattle.unicode.proofs.Tests.{split, by_test, in_range_law, and_left, and_right}
+use Rattle.utf8.proofs.Tests.{split, by_test, in_range_law, and_left, and_right}
 use Rattle.rules.specs.Basics.{choose}
 use Rattle.config_rules.specs.Numbers.{is_digit, value, in_range}
 use Rattle.config_rules.specs.Globs.{Strings, some_then}

@@ -1,4 +1,6 @@
 // Ranges: numbers of any length in a path, compared with the ends of a range digit by digit, the lowest first.
+#![tactic(auto)]
+
 ghost use Rattle.std.specs.Prelude.{◌≡◌, ◌+◌, ◌≤◌, ◌<◌, length, get_or, take, drop};
 ghost use Rattle.config_rules.specs.Numbers.{number_len};
 ghost use Rattle.glob_name.specs.Read.{range_more};

@@ -1,4 +1,6 @@
 // Formats every source of a stored list and compares the texts with the Rust's answers, which the list holds.
+#![tactic(auto)]
+
 ghost use Rattle.std.specs.Prelude.{◌≡◌, length};
 
 use libc::{STDIN_FILENO, STDOUT_FILENO};

@@ -9,7 +9,7 @@ use mathlib.Core.List.{List}
 use mathlib.Core.Path.{◌≡◌, refl, sym, ap, ◌∙◌}
 use borrow.Author.Tests.{lt-ltb, le-ltb, le-leb, lt-leb, eq-eqb, ne_eqb}
 use lib.ListN.{length, get_or, take, length-take}
-use Rattle.unicode.proofs.Tests.{by_test}
+use Rattle.utf8.proofs.Tests.{by_test}
 use Rattle.rules.proofs.Prefix.{same_eq, same_itself}
 use Rattle.buffer.specs.Buffer.{part}
 use Rattle.rules.specs.Basics.{choose, same}

@@ -1,4 +1,6 @@
 // A list from its start to its end: comments, which go from `#` to the line's end, and cases.
+#![tactic(auto)]
+
 ghost use Rattle.std.specs.Prelude.{◌≡◌, ◌≤◌, length};
 ghost use Rattle.replay_run.specs.Stored.{CaseIn};
 ghost use Rattle.replay_run.specs.Replay.{agrees as agreesWith, agreed, differed, CountsFit, StepReady, Advanced};

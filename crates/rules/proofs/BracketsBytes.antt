@@ -10,9 +10,9 @@ use mathlib.Core.Path.{◌≡◌, refl, sym, ap, ◌∙◌}
 use lib.Dec.{ltb}
 use lib.ListN.{take, drop}
 use borrow.Author.Tests.{ltb-true}
-use Rattle.unicode.specs.Unicode.{encode_char, encode}
-use Rattle.unicode.proofs.Tests.{and_left, and_right}
-use Rattle.unicode.proofs.Table.{encode_char_1, High, none, also}
+use Rattle.utf8.specs.Unicode.{encode_char, encode}
+use Rattle.utf8.proofs.Tests.{and_left, and_right}
+use Rattle.utf8.proofs.Table.{encode_char_1, High, none, also}
 use Rattle.rules.specs.declared.Class.{Class}
 use Rattle.rules.specs.declared.Carry.{Carry}
 use Rattle.rules.specs.Basics.{choose}

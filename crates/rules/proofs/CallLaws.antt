@@ -12,10 +12,10 @@ use lib.Dec.{T, leb, ltb}
 use lib.ListN.{length, take}
 use lib.Seq.{take-append_seam}
 use borrow.Author.Tests.{ltb-true, ltb-false, eqb-true, not-false, le-leb, lt-leb, ne_eqb}
-use Rattle.unicode.specs.Unicode.{is_scalar, Scalars, decode, WellFormed, is_white}
-use Rattle.unicode.proofs.Tests.{by_test, and_right}
-use Rattle.unicode.proofs.Table.{scalar_low}
-use Rattle.unicode.proofs.Decode.{decode_encode, decode_scalars, wf_encode}
+use Rattle.utf8.specs.Unicode.{is_scalar, Scalars, decode, WellFormed, is_white}
+use Rattle.utf8.proofs.Tests.{by_test, and_right}
+use Rattle.utf8.proofs.Table.{scalar_low}
+use Rattle.utf8.proofs.Decode.{decode_encode, decode_scalars, wf_encode}
 use Rattle.rules.specs.Basics.{is, cons_if, keep}
 use Rattle.rules.specs.Demand3.{is_kept, strike, Kept}
 use Rattle.rules.specs.Options.{all_blank, valid_indent, max_indent, max_ruler}

@@ -15,7 +15,7 @@ use lib.Dec.{eqb, leb}
 use borrow.Author.Tests.{ne_eqb, lt-leb}
 use lib.ListN.{length, get_or, take, drop, drop_of_length-le}
 use lib.Seq.{drop-cons, take-suc}
-use Rattle.unicode.specs.Unicode.{decode, WellFormed}
+use Rattle.utf8.specs.Unicode.{decode, WellFormed}
 use Rattle.rules.specs.declared.Class.{Class}
 use Rattle.rules.specs.declared.Carry.{Carry}
 use Rattle.rules.specs.Basics.{choose}

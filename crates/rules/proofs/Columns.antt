@@ -17,11 +17,11 @@ use lib.Dec.{eqb, ltb}
 use lib.ListN.{length, length-append}
 use borrow.Author.Tests.{eqb-true, lt-ltb, le-ltb, ltb-true}
 use Rattle.buffer.specs.Repeat.{times}
-use Rattle.unicode.specs.Unicode.{encode_char, encode, size, units, width}
-use Rattle.unicode.proofs.Tests.{by_test, and_left, and_right}
-use Rattle.unicode.proofs.Table.{Shape, one, two, three, four, shape}
-use Rattle.unicode.proofs.Bytewise.{width_nil, width_cons}
-use Rattle.unicode.proofs.Decode.{encode_cons}
+use Rattle.utf8.specs.Unicode.{encode_char, encode, size, units, width}
+use Rattle.utf8.proofs.Tests.{by_test, and_left, and_right}
+use Rattle.utf8.proofs.Table.{Shape, one, two, three, four, shape}
+use Rattle.utf8.proofs.Bytewise.{width_nil, width_cons}
+use Rattle.utf8.proofs.Decode.{encode_cons}
 use Rattle.rules.specs.Basics.{choose, is, is_blank, count}
 use Rattle.rules.specs.Options.{all_blank, next_stop, column_after, measure}
 use Rattle.rules.proofs.Choose.{choose_case, choose_true, choose_false}

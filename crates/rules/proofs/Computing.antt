@@ -1,5 +1,5 @@
 -- Opens every definition, so that examples compute: `unfolding computing`.
-use Rattle.unicode.specs.Unicode.{is_scalar, encode_char, encode, tail, second, seq_len, code_of, chars, well_formed, units, width, is_white, trim_start, cons_trimmed, trim_end, trim}
+use Rattle.utf8.specs.Unicode.{is_scalar, encode_char, encode, tail, second, seq_len, code_of, chars, well_formed, units, width, is_white, trim_start, cons_trimmed, trim_end, trim}
 use Rattle.buffer.specs.Repeat.{times}
 use Rattle.rules.specs.Basics.{choose, is_ident, same, one_of, starts_with, first_is, last_is, leading, starts_then, keep, count, at_sep, split_on}
 use Rattle.rules.specs.Options.{all_blank, valid_indent, indent_with, indent_of, column_after, measure, over_wide}

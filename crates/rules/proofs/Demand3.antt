@@ -4,8 +4,8 @@ use mathlib.Core.Bool.{Bool, true, false}
 use mathlib.Core.List.{List, [], ◌∷◌, flatten, append-nil}
 use mathlib.Core.Path.{◌≡◌, refl, sym, ap, ◌∙◌}
 use borrow.Author.Tests.{eqb-true}
-use Rattle.unicode.specs.Unicode.{is_white}
-use Rattle.unicode.proofs.Trim.{White}
+use Rattle.utf8.specs.Unicode.{is_white}
+use Rattle.utf8.proofs.Trim.{White}
 use Rattle.rules.specs.Basics.{is, Pieces, pieces, split_on, at_sep}
 use Rattle.rules.specs.Demand3.{Kept}
 use Rattle.rules.specs.Lines.{as_str, drop_cr, lines_of}

@@ -5,8 +5,8 @@ use mathlib.Core.Bool.{Bool, true}
 use mathlib.Core.List.{List, [], ◌∷◌, ◌++◌, flatten, foldl, append_assoc, append-nil}
 use mathlib.Core.Option.{Option, none, some}
 use mathlib.Core.Path.{◌≡◌, refl, sym}
-use Rattle.unicode.specs.Unicode.{is_white, trim}
-use Rattle.unicode.proofs.Trim.{White}
+use Rattle.utf8.specs.Unicode.{is_white, trim}
+use Rattle.utf8.proofs.Trim.{White}
 use Rattle.rules.specs.Basics.{codes, is_empty}
 use Rattle.rules.specs.Demand3.{Kept}
 use Rattle.rules.specs.Options.{Options, indent_of}

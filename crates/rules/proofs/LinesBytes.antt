@@ -6,8 +6,8 @@ use native.Mathlib.Omega.{arith}
 use mathlib.Core.Bool.{Bool, false}
 use mathlib.Core.List.{List, [], ◌∷◌, ◌++◌, map}
 use mathlib.Core.Path.{◌≡◌, refl, sym, ap, ◌∙◌}
-use Rattle.unicode.specs.Unicode.{encode_char, encode}
-use Rattle.unicode.proofs.Table.{High, none, also, Bytes, single, several, bytes}
+use Rattle.utf8.specs.Unicode.{encode_char, encode}
+use Rattle.utf8.proofs.Table.{High, none, also, Bytes, single, several, bytes}
 use Rattle.rules.specs.Basics.{choose, is, is_empty, pieces, split_on, count}
 use Rattle.rules.specs.Lines.{drop_cr, lines_of, crlfs, dominant_in, ends_in_lf}
 use Rattle.rules.specs.TextKind.{rust_lines}

@@ -11,9 +11,9 @@ use lib.Dec.{eqb, ltb}
 use lib.ListN.{length, take, drop, get_or}
 use lib.Seq.{get_or-take}
 use borrow.Author.Tests.{eqb-true, ne_eqb, le-ltb}
-use Rattle.unicode.specs.Unicode.{tail, encode_char, encode}
-use Rattle.unicode.proofs.Tests.{and_left, and_right, by_test}
-use Rattle.unicode.proofs.Table.{Shape, one, two, three, four, shape, tail_make, not_tail_low, not_tail_high, Bytes, single, several, bytes}
+use Rattle.utf8.specs.Unicode.{tail, encode_char, encode}
+use Rattle.utf8.proofs.Tests.{and_left, and_right, by_test}
+use Rattle.utf8.proofs.Table.{Shape, one, two, three, four, shape, tail_make, not_tail_low, not_tail_high, Bytes, single, several, bytes}
 use Rattle.rules.specs.declared.Class.{Class}
 use Rattle.rules.specs.Basics.{choose, is, codes, at, same, one_of, starts_with, first_is, Pieces}
 use Rattle.rules.specs.Scan.{Cell, cell, chars_of, is_str}

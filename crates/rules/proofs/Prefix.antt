@@ -16,9 +16,9 @@ use mathlib.Core.Path.{◌≡◌, refl, sym, ap, ◌∙◌}
 use lib.Dec.{eqb}
 use lib.ListN.{length, take, drop, get_or, get_or-append}
 use borrow.Author.Tests.{eq-eqb, eqb-true, eqb-false, ne_eqb, lt-leb, not-true, not-false}
-use Rattle.unicode.specs.Unicode.{within, is_white}
-use Rattle.unicode.proofs.Tests.{by_test, and_left, and_right, in_range_law, split}
-use Rattle.unicode.proofs.Trim.{White}
+use Rattle.utf8.specs.Unicode.{within, is_white}
+use Rattle.utf8.proofs.Tests.{by_test, and_left, and_right, in_range_law, split}
+use Rattle.utf8.proofs.Trim.{White}
 use Rattle.rules.specs.declared.Class.{Class}
 use Rattle.rules.specs.declared.Carry.{Carry}
 use Rattle.rules.specs.declared.Mode.{Mode}

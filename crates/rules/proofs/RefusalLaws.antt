@@ -12,7 +12,7 @@ use mathlib.Core.Path.{◌≡◌, refl, sym, ◌∙◌}
 use native.Mathlib.Omega.{arith}
 use lib.ListN.{length}
 use borrow.Author.Tests.{ltb-false, not-false}
-use Rattle.unicode.specs.Unicode.{well_formed}
+use Rattle.utf8.specs.Unicode.{well_formed}
 use Rattle.rules.specs.Basics.{choose}
 use Rattle.rules.specs.Options.{max_ruler}
 use Rattle.rules.specs.Refusals.{max_source, scratch_needed, number_of, refuse_if, tested, long_source, bad_option, short_scratch, ill_formed, short_output, unordered, short_kinds, wide_ruler}

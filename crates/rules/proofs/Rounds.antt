@@ -12,7 +12,7 @@ use mathlib.Core.Path.{◌≡◌, refl, sym, ap, ◌∙◌}
 use lib.Dec.{eqb}
 use lib.ListN.{length}
 use borrow.Author.Tests.{eqb-false}
-use Rattle.unicode.proofs.Trim.{length_trim}
+use Rattle.utf8.proofs.Trim.{length_trim}
 use Rattle.rules.specs.Basics.{Pieces}
 use Rattle.rules.specs.Options.{Options}
 use Rattle.rules.specs.Scan.{Cell, chars_of, classify}

@@ -5,8 +5,8 @@ use mathlib.Core.Bool.{Bool, true, false}
 use mathlib.Core.List.{List, [], ◌∷◌, map}
 use mathlib.Core.Path.{◌≡◌, refl}
 use lib.Dec.{T}
-use Rattle.unicode.specs.Unicode.{is_scalar, Scalars, encode, decode}
-use Rattle.unicode.proofs.Decode.{decode_encode}
+use Rattle.utf8.specs.Unicode.{is_scalar, Scalars, encode, decode}
+use Rattle.utf8.proofs.Decode.{decode_encode}
 use Rattle.rules.specs.Basics.{is, Pieces, pieces, at_sep, split_on}
 
 abbrev pub AllScalars : List (List ℕ) → Type 0

@@ -13,10 +13,10 @@ use mathlib.Core.List.{List, [], ◌∷◌, ◌++◌, foldl, foldl-append}
 use mathlib.Core.Path.{◌≡◌, refl, sym, ap, subst, ◌∙◌}
 use lib.Dec.{eqb, ltb}
 use lib.ListN.{length}
-use Rattle.unicode.specs.Unicode.{encode_char, encode}
-use Rattle.unicode.proofs.Tests.{and_left, and_right}
-use Rattle.unicode.proofs.Table.{High, none, also, Bytes, single, several, bytes}
-use Rattle.unicode.proofs.Decode.{encode_cons}
+use Rattle.utf8.specs.Unicode.{encode_char, encode}
+use Rattle.utf8.proofs.Tests.{and_left, and_right}
+use Rattle.utf8.proofs.Table.{High, none, also, Bytes, single, several, bytes}
+use Rattle.utf8.proofs.Decode.{encode_cons}
 use Rattle.rules.specs.declared.Class.{Class}
 use Rattle.rules.specs.declared.Carry.{Carry}
 use Rattle.rules.specs.declared.Mode.{Mode}

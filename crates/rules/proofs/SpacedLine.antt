@@ -10,11 +10,11 @@ use mathlib.Core.List.{List, [], ◌∷◌, ◌++◌, foldl}
 use mathlib.Core.Path.{◌≡◌, refl, sym, ap, ◌∙◌, subst}
 use lib.ListN.{length, drop, length-append, length-drop}
 use borrow.Author.Tests.{not-false, eqb-true}
-use Rattle.unicode.specs.Unicode.{Scalars, encode_char, encode, decode, WellFormed, is_white, cons_trimmed, trim_end}
-use Rattle.unicode.proofs.Tests.{and_right}
-use Rattle.unicode.proofs.Table.{Bytes, single, several, bytes}
-use Rattle.unicode.proofs.Decode.{decode_encode, decode_scalars, wf_encode}
-use Rattle.unicode.proofs.Trim.{end_other}
+use Rattle.utf8.specs.Unicode.{Scalars, encode_char, encode, decode, WellFormed, is_white, cons_trimmed, trim_end}
+use Rattle.utf8.proofs.Tests.{and_right}
+use Rattle.utf8.proofs.Table.{Bytes, single, several, bytes}
+use Rattle.utf8.proofs.Decode.{decode_encode, decode_scalars, wf_encode}
+use Rattle.utf8.proofs.Trim.{end_other}
 use Rattle.rules.specs.Basics.{choose, is, codes, is_blank, is_opener, is_empty, count}
 use Rattle.rules.specs.Scan.{Cell, is_code, chars_of, classify}
 use Rattle.rules.specs.ClassBytes.{class_bytes, cells_of}

@@ -8,9 +8,9 @@ use mathlib.Core.List.{List, [], ◌∷◌, ◌++◌, foldl, append-nil, append_
 use mathlib.Core.Path.{◌≡◌, refl, sym, ap, ◌∙◌}
 use lib.Dec.{lit<}
 use lib.ListN.{length, length-append}
-use Rattle.unicode.specs.Unicode.{encode_char, encode}
-use Rattle.unicode.proofs.Table.{encode_char_1, High, none, also, Bytes, single, several, bytes}
-use Rattle.unicode.proofs.Decode.{encode_append, encode_one}
+use Rattle.utf8.specs.Unicode.{encode_char, encode}
+use Rattle.utf8.proofs.Table.{encode_char_1, High, none, also, Bytes, single, several, bytes}
+use Rattle.utf8.proofs.Decode.{encode_append, encode_one}
 use Rattle.rules.specs.declared.Class.{Class}
 use Rattle.rules.specs.declared.Gap.{Gap}
 use Rattle.rules.specs.Basics.{choose, is_blank}

@@ -4,9 +4,9 @@ use mathlib.Core.Bool.{Bool, true, false, ◌||◌}
 use mathlib.Core.List.{List, [], ◌∷◌, ◌++◌, foldl, append_assoc, append-nil}
 use mathlib.Core.Path.{◌≡◌, refl, sym, ap}
 use borrow.Author.Tests.{eqb-true}
-use Rattle.unicode.specs.Unicode.{is_white}
-use Rattle.unicode.proofs.Tests.{and_left, and_right}
-use Rattle.unicode.proofs.Trim.{White}
+use Rattle.utf8.specs.Unicode.{is_white}
+use Rattle.utf8.proofs.Tests.{and_left, and_right}
+use Rattle.utf8.proofs.Trim.{White}
 use Rattle.rules.specs.Basics.{is, codes, is_blank}
 use Rattle.rules.specs.Options.{all_blank}
 use Rattle.rules.specs.Scan.{Cell, chars_of, is_code}

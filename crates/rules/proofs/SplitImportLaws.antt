@@ -8,9 +8,9 @@ use mathlib.Core.Option.{Option, none, some}
 use mathlib.Core.Path.{◌≡◌, refl, sym, ap, ◌∙◌, subst}
 use lib.ListN.{length}
 use borrow.Author.Tests.{eqb-true}
-use Rattle.unicode.specs.Unicode.{is_white, trim, trim_end}
-use Rattle.unicode.proofs.Tests.{and_right}
-use Rattle.unicode.proofs.Trim.{White}
+use Rattle.utf8.specs.Unicode.{is_white, trim, trim_end}
+use Rattle.utf8.proofs.Tests.{and_right}
+use Rattle.utf8.proofs.Trim.{White}
 use Rattle.rules.specs.Basics.{choose, is, codes, is_empty, keep, count, Pieces, pieces, split_on, at_sep}
 use Rattle.rules.specs.Demand3.{strike_white, strike, commas_in, Kept}
 use Rattle.rules.specs.Options.{Options, indent_of}

@@ -16,9 +16,9 @@ use mathlib.Core.Path.{◌≡◌, refl, sym, ap, subst, ◌∙◌}
 use lib.Dec.{eqb, ltb}
 use lib.ListN.{length, length-append}
 use borrow.Author.Tests.{eqb-true, not-true, ltb-true, ltb-false}
-use Rattle.unicode.specs.Unicode.{is_white, trim_start, trim_end, trim}
-use Rattle.unicode.proofs.Tests.{and_left, and_right}
-use Rattle.unicode.proofs.Trim.{White, start_append_white, start_other, end_split, end_append, end_append_white, length_trim_end}
+use Rattle.utf8.specs.Unicode.{is_white, trim_start, trim_end, trim}
+use Rattle.utf8.proofs.Tests.{and_left, and_right}
+use Rattle.utf8.proofs.Trim.{White, start_append_white, start_other, end_split, end_append, end_append_white, length_trim_end}
 use Rattle.rules.specs.Basics.{choose, is, at, is_empty, starts_with, last_is, Pieces}
 use Rattle.rules.specs.Options.{Options, all_blank, indent_of}
 use Rattle.rules.specs.Scan.{Cell, chars_of, is_code, before, from, classify}

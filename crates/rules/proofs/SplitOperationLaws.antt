@@ -7,8 +7,8 @@ use mathlib.Core.Path.{◌≡◌, refl, ap, ◌∙◌}
 use lib.Dec.{eqb}
 use lib.ListN.{length}
 use Rattle.buffer.specs.Repeat.{times}
-use Rattle.unicode.specs.Unicode.{trim}
-use Rattle.unicode.proofs.Trim.{White, white_append}
+use Rattle.utf8.specs.Unicode.{trim}
+use Rattle.utf8.proofs.Trim.{White, white_append}
 use Rattle.rules.specs.Basics.{Pieces, pieces}
 use Rattle.rules.specs.Options.{Options, indent_of}
 use Rattle.rules.specs.Scan.{Cell, chars_of, classify}

@@ -14,10 +14,10 @@ use lib.Dec.{eqb}
 use lib.ListN.{length}
 use borrow.Author.Tests.{ltb-true}
 use Rattle.buffer.specs.Repeat.{times}
-use Rattle.unicode.specs.Unicode.{encode_char, encode, size, trim, trim_end}
-use Rattle.unicode.proofs.Tests.{and_left, and_right}
-use Rattle.unicode.proofs.Decode.{Ascii, encode_nil, encode_ascii, size_append}
-use Rattle.unicode.proofs.Trim.{end_split, trim_split}
+use Rattle.utf8.specs.Unicode.{encode_char, encode, size, trim, trim_end}
+use Rattle.utf8.proofs.Tests.{and_left, and_right}
+use Rattle.utf8.proofs.Decode.{Ascii, encode_nil, encode_ascii, size_append}
+use Rattle.utf8.proofs.Trim.{end_split, trim_split}
 use Rattle.rules.specs.Basics.{choose, is, codes, is_blank, is_empty, Pieces, pieces, at_sep, split_on}
 use Rattle.rules.specs.Options.{Options, max_indent, all_blank, indent_of}
 use Rattle.rules.specs.Scan.{Cell, chars_of, classify}

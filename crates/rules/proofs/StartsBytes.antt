@@ -17,11 +17,11 @@ use mathlib.Core.Path.{◌≡◌, refl, sym, ap, subst, ◌∙◌}
 use lib.Dec.{eqb, ltb}
 use lib.ListN.{length, take, drop, take-append-drop}
 use borrow.Author.Tests.{ne_eqb, eqb-true, ltb-true, ltb-false, lt-leb}
-use Rattle.unicode.specs.Unicode.{Scalars, encode_char, encode, decode, WellFormed}
-use Rattle.unicode.specs.Places.{Column}
-use Rattle.unicode.proofs.Tests.{by_test, and_left, and_right}
-use Rattle.unicode.proofs.Table.{encode_char_1, High, none, also, Bytes, single, several, bytes}
-use Rattle.unicode.proofs.Decode.{encode_nil, scalars_right, decode_scalars, decode_encode, wf_encode}
+use Rattle.utf8.specs.Unicode.{Scalars, encode_char, encode, decode, WellFormed}
+use Rattle.utf8.specs.Places.{Column}
+use Rattle.utf8.proofs.Tests.{by_test, and_left, and_right}
+use Rattle.utf8.proofs.Table.{encode_char_1, High, none, also, Bytes, single, several, bytes}
+use Rattle.utf8.proofs.Decode.{encode_nil, scalars_right, decode_scalars, decode_encode, wf_encode}
 use Rattle.rules.specs.Basics.{choose, is, is_blank, is_opener, is_closer, is_ident, is_empty, same, starts_with, first_is, last_is, starts_then, leading}
 use Rattle.rules.specs.Brackets.{leading_closers}
 use Rattle.rules.proofs.Choose.{choose_case}

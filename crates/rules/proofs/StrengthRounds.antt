@@ -16,9 +16,9 @@ use mathlib.Core.Option.{Option, none, some}
 use mathlib.Core.Path.{◌≡◌, refl, sym, ap, subst, ◌∙◌}
 use lib.ListN.{length, take, length-append}
 use borrow.Author.Tests.{not-true}
-use Rattle.unicode.specs.Unicode.{is_white, trim}
-use Rattle.unicode.proofs.Tests.{and_left, and_right, split}
-use Rattle.unicode.proofs.Trim.{White, trim_split}
+use Rattle.utf8.specs.Unicode.{is_white, trim}
+use Rattle.utf8.proofs.Tests.{and_left, and_right, split}
+use Rattle.utf8.proofs.Trim.{White, trim_split}
 use Rattle.rules.specs.declared.Class.{Class}
 use Rattle.rules.specs.declared.Carry.{Carry}
 use Rattle.rules.specs.Basics.{Pieces}

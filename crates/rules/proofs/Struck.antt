@@ -11,8 +11,8 @@ use mathlib.Core.Path.{◌≡◌, refl, sym, ap, ◌∙◌}
 use native.Mathlib.Omega.{arith}
 use lib.ListN.{length, length-append}
 use borrow.Author.Tests.{eqb-true}
-use Rattle.unicode.specs.Unicode.{is_white, trim, trim_end}
-use Rattle.unicode.proofs.Trim.{White, end_split, trim_split}
+use Rattle.utf8.specs.Unicode.{is_white, trim, trim_end}
+use Rattle.utf8.proofs.Trim.{White, end_split, trim_split}
 use Rattle.rules.specs.Basics.{choose, is, cons_if, keep, count}
 use Rattle.rules.specs.Demand3.{strike_white, is_kept, strike, commas_in, Kept}
 use Rattle.rules.specs.declared.PrintWidth.{PrintWidth}

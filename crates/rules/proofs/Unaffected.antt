@@ -7,7 +7,7 @@ use mathlib.Core.Bool.{Bool, true, false, not, ◌&&◌, ◌||◌}
 use mathlib.Core.List.{List, [], ◌∷◌, foldl, map}
 use mathlib.Core.Path.{◌≡◌, refl, sym, ap, ◌∙◌}
 use lib.ListN.{length, drop, length-map}
-use Rattle.unicode.specs.Unicode.{trim}
+use Rattle.utf8.specs.Unicode.{trim}
 use Rattle.rules.specs.Basics.{choose, is, is_empty, is_opener, is_closer}
 use Rattle.rules.specs.Scan.{Cell, classify, is_code}
 use Rattle.rules.specs.Spacing.{respaced}

@@ -10,8 +10,8 @@ use mathlib.Core.List.{List, [], ◌∷◌, ◌++◌, map, foldl}
 use mathlib.Core.Option.{Option, some}
 use mathlib.Core.Path.{◌≡◌, refl, sym, ap, ◌∙◌}
 use lib.Dec.{ltb}
-use Rattle.unicode.specs.Unicode.{encode_char, encode}
-use Rattle.unicode.proofs.Table.{High, none, also, Bytes, single, several, bytes}
+use Rattle.utf8.specs.Unicode.{encode_char, encode}
+use Rattle.utf8.proofs.Table.{High, none, also, Bytes, single, several, bytes}
 use Rattle.rules.specs.declared.Class.{Class}
 use Rattle.rules.specs.Basics.{choose, is, codes, is_blank, is_ident, same, one_of, Pieces, pieces, at_sep, split_on}
 use Rattle.rules.specs.Scan.{Cell, cell, is_code}

@@ -1,7 +1,7 @@
 -- Assembly: lines in, lines out; empty lines at the end go; the rest joined by the ending.
 use Rattle.std.specs.Prelude.{ℕ}
 use mathlib.Core.List.{List, [], ◌∷◌, ◌++◌, foldl}
-use Rattle.unicode.specs.Unicode.{encode, decode}
+use Rattle.utf8.specs.Unicode.{encode, decode}
 use Rattle.rules.specs.Basics.{choose}
 use Rattle.rules.specs.Lines.{as_str, lines_of, dominant_in, ends_in_lf}
 use Rattle.rules.specs.Options.{Options, defaults, with_indent}

@@ -1,7 +1,7 @@
 -- A formatting call on bytes: what it gives back, and what the output, the list of open brackets and the scratch hold
 -- after it.
 use Rattle.std.specs.Prelude.{ℕ, ◌-◌, Bool, not, List, [], ◌∷◌, ◌++◌, length, take, replicate}
-use Rattle.unicode.specs.Unicode.{decode, encode}
+use Rattle.utf8.specs.Unicode.{decode, encode}
 use Rattle.rules.specs.Choices.{Choices, valid_options, options_of}
 use Rattle.rules.specs.Assembly.{Formatted, format_with}
 use Rattle.rules.specs.Refusals.{scratch_needed, number_of, place_of, tested, wrong_length, bits_set, long_source}

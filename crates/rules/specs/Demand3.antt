@@ -1,6 +1,6 @@
 -- Demand 3: what a text keeps of its source. A comma is U+002C wherever it stands, in strings and comments too.
 use Rattle.std.specs.Prelude.{ℕ, ◌+◌, Bool, not, ◌&&◌, List, ◌≡◌}
-use Rattle.unicode.specs.Unicode.{is_white}
+use Rattle.utf8.specs.Unicode.{is_white}
 use Rattle.rules.specs.Basics.{is, keep, count}
 use Rattle.rules.specs.declared.PrintWidth.{PrintWidth}
 

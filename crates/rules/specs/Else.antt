@@ -1,6 +1,6 @@
 -- A plain `else`, and the line that it joins.
 use Rattle.std.specs.Prelude.{ℕ, Bool, true, false, not, ◌&&◌, ◌||◌, List, [], ◌∷◌, ◌++◌, drop}
-use Rattle.unicode.specs.Unicode.{is_white, trim_start, trim_end}
+use Rattle.utf8.specs.Unicode.{is_white, trim_start, trim_end}
 use Rattle.rules.specs.Basics.{is, codes, at, starts_then, first_is, last_is, is_ident}
 
 -- white space and the word `if` follow

@@ -2,7 +2,7 @@
 use Rattle.std.specs.Prelude.{ℕ, ◌+◌, Bool, true, false, not, ◌&&◌, ◌||◌, eqb, ltb, length, drop}
 use mathlib.Core.List.{List, [], ◌∷◌, ◌++◌, reverse_aux}
 use Rattle.std.proofs.Math.Option.{Option, none, some}
-use Rattle.unicode.specs.Unicode.{trim, trim_end}
+use Rattle.utf8.specs.Unicode.{trim, trim_end}
 use Rattle.rules.specs.Basics.{choose, is, codes, at, last_is, is_empty}
 use Rattle.rules.specs.Scan.{classify, carry_after, all_code_or_str}
 use Rattle.rules.specs.Options.{Options, indent_of, over_wide}

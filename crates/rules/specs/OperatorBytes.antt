@@ -1,7 +1,7 @@
 -- Operators, as the code finds them on a line's bytes. `top_level_ops` itself would take the tail bytes of an escaped
 -- longer character for ordinary characters, so a byte that is a tail changes nothing here.
 use Rattle.std.specs.Prelude.{ℕ, List, [], ◌∷◌}
-use Rattle.unicode.specs.Unicode.{tail}
+use Rattle.utf8.specs.Unicode.{tail}
 use Rattle.rules.specs.Basics.{choose}
 use Rattle.rules.specs.Scan.{Cell, chars_of}
 use Rattle.rules.specs.SplitOperation.{Ops, OpStep, op_step, OpMark, op_mark}

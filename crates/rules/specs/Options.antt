@@ -1,7 +1,7 @@
 -- options.rs: what the host chooses, the defaults, and `indent_with` with its limit.
 use Rattle.std.specs.Prelude.{ℕ, ◌+◌, ◌*◌, ◌/◌, Bool, true, false, ◌&&◌, List, [], ◌∷◌, leb, ltb, length}
 use Rattle.buffer.specs.Repeat.{times}
-use Rattle.unicode.specs.Unicode.{units}
+use Rattle.utf8.specs.Unicode.{units}
 use Rattle.rules.specs.Basics.{choose, is, codes, is_blank}
 use Rattle.rules.specs.Strengths.{built_in}
 use Rattle.rules.specs.declared.EndOfLine.{EndOfLine}

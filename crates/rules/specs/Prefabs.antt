@@ -1,7 +1,7 @@
 -- C-22: the prefabs that are closed on a later line, with the lines strictly between; how those follow in a text.
 use Rattle.std.specs.Prelude.{ℕ, eqb, Bool, true, ◌&&◌, ◌⊎◌, List, [], ◌∷◌, ◌++◌, ◌≡◌}
 use Rattle.std.proofs.Math.Option.{Option, none, some}
-use Rattle.unicode.specs.Unicode.{trim_end}
+use Rattle.utf8.specs.Unicode.{trim_end}
 use Rattle.rules.specs.Basics.{choose, codes, pieces, split_on}
 use Rattle.rules.specs.Lines.{drop_cr}
 use Rattle.rules.specs.Scan.{ordinary, is_code, is_prefab, next, begin, carry_after}

@@ -1,7 +1,7 @@
 -- Who can get a call turned away: the refusals' numbers and places, how they are tested, and the tests that several
 -- calls share.
 use Rattle.std.specs.Prelude.{ℕ, ◌+◌, ◌*◌, Bool, not, List, [], ◌∷◌, ltb, eqb, length}
-use Rattle.unicode.specs.Unicode.{well_formed, prefix_len}
+use Rattle.utf8.specs.Unicode.{well_formed, prefix_len}
 use Rattle.rules.specs.Basics.{choose}
 use Rattle.rules.specs.Strengths.{table_length, last_bits}
 use Rattle.rules.specs.Options.{max_ruler}

@@ -3,7 +3,7 @@ use Rattle.std.specs.Prelude.{ℕ, suc, ◌+◌, Bool, true, not, ◌&&◌, leb,
 use Prim.Native.Char.{Char}
 use mathlib.Core.List.{List, [], ◌∷◌, ◌++◌, foldl, reverse}
 use Rattle.std.proofs.Math.Option.{Option, none, some}
-use Rattle.unicode.specs.Unicode.{trim, trim_end}
+use Rattle.utf8.specs.Unicode.{trim, trim_end}
 use Rattle.rules.specs.Basics.{choose, is, codes, starts_then, pieces, split_on, is_empty, is_ident}
 use Rattle.rules.specs.Scan.{Cell, chars_of, is_code, before, from}
 use Rattle.rules.specs.Options.{Options, indent_of, over_wide}

@@ -2,7 +2,7 @@
 use Rattle.std.specs.Prelude.{ℕ, zero, suc, min, Bool, true, false, not, ◌&&◌, ◌||◌, eqb, length, drop, take, get_or}
 use mathlib.Core.List.{List, [], ◌∷◌, ◌++◌, map, foldl, reverse}
 use Rattle.std.proofs.Math.Option.{Option, none, some}
-use Rattle.unicode.specs.Unicode.{trim}
+use Rattle.utf8.specs.Unicode.{trim}
 use Rattle.rules.specs.Basics.{choose, is, codes, at, same, one_of, leading, first_is, Pieces, is_blank, is_opener}
 use Rattle.rules.specs.Basics.{is_closer, is_ident}
 use Rattle.rules.specs.Scan.{Cell, chars_of, is_code, is_str, classify}

@@ -1,6 +1,6 @@
 -- text_kind_at: a place is a line and a character column, both from 0.
 use Rattle.std.specs.Prelude.{ℕ, zero, suc, Bool, true, false, List, [], ◌∷◌, get_or}
-use Rattle.unicode.specs.Unicode.{decode}
+use Rattle.utf8.specs.Unicode.{decode}
 use Rattle.rules.specs.Basics.{choose, pieces, split_on}
 use Rattle.rules.specs.Lines.{drop_cr}
 use Rattle.rules.specs.Scan.{next, begin, carry_after}

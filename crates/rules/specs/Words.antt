@@ -1,6 +1,6 @@
 -- The words and operators that a line starts with, and the marker: fixed texts that are compared.
 use Rattle.std.specs.Prelude.{ℕ, Bool, true, false, not, ◌&&◌, ◌||◌, List, [], ◌∷◌, drop}
-use Rattle.unicode.specs.Unicode.{is_white, trim, trim_start}
+use Rattle.utf8.specs.Unicode.{is_white, trim, trim_start}
 use Rattle.rules.specs.Basics.{is, codes, at, same, leading, starts_then, is_empty, is_blank}
 use Rattle.rules.specs.Operators.{operators}
 use Rattle.rules.specs.Scan.{Cell, chars_of, code_part, comment_part}

@@ -1,4 +1,5 @@
 // The types that the code and the definitions of document 01 share.
+#![tactic(auto)]
 
 // What a character of a line is part of.
 #[derive(Drop)]

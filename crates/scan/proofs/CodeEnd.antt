@@ -14,7 +14,7 @@ use Rattle.rules.specs.ClassBytes.{cells_of, class_of}
 use Rattle.rules.proofs.CellsLaws.{comment_byte, code_or_str_byte}
 use Rattle.rules.proofs.Choose.{choose_true, choose_false}
 use Rattle.scan.specs.CodeEnd.{code_length, comment_at, NoComment, only_code_or_str}
-use Rattle.unicode.specs.Places.{NoneAmong}
+use Rattle.utf8.specs.Places.{NoneAmong}
 
 -- none of the first i class bytes is a `//` comment's
 pub record Passed (ks : List ℕ) (i : ℕ) : Type 0 where

@@ -10,7 +10,7 @@ use lib.Dec.{eqb}
 use lib.ListN.{length, get_or, take, drop, set, replicate, length-replicate, length-drop, length-set}
 use lib.Seq.{length-take-le}
 use Rattle.buffer.specs.Buffer.{put}
-use Rattle.unicode.specs.Places.{NoneAmong}
+use Rattle.utf8.specs.Places.{NoneAmong}
 use Rattle.buffer.proofs.RegionLaws.{put_back, put_nil, put_put, set_put}
 use Rattle.rules.specs.declared.Class.{Class}
 use Rattle.rules.specs.declared.Carry.{Carry}

@@ -1,8 +1,10 @@
 // What each byte of a line is part of: code, a string, a comment, or a prefab. Code, a block comment and a prefab have
 // a function each, which reads on until another of them begins or the line ends. Strings and `//` comments end with
 // their line, so they are read within code.
+#![tactic(auto)]
+
 ghost use Rattle.std.specs.Prelude.{◌≡◌, not, ◌∷◌, [], ◌+◌, ◌<◌, ◌≤◌, ◌^◌, length, drop};
-ghost use Rattle.unicode.specs.Places.{NoneAmong};
+ghost use Rattle.utf8.specs.Places.{NoneAmong};
 ghost use Rattle.rules.specs.Basics.{starts_with};
 ghost use Rattle.rules.specs.Scan.{quote};
 ghost use Rattle.basics.specs.Depth.{carry_depth};

@@ -5,7 +5,7 @@ use mathlib.Core.List.{List, [], ◌∷◌}
 use mathlib.Core.Path.{◌≡◌, refl, sym, ◌∙◌}
 use lib.ListN.{length, get_or, take}
 use borrow.Author.Tests.{le-leb, lt-leb, eq-eqb, ne_eqb}
-use Rattle.unicode.proofs.Tests.{in_range_law}
+use Rattle.utf8.proofs.Tests.{in_range_law}
 use Rattle.rules.specs.Basics.{choose}
 use Rattle.rules.proofs.Choose.{choose_case, choose_true, choose_false}
 use Rattle.short_sources.specs.Printed.{digit_in, greatest_in}

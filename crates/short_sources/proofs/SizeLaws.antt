@@ -11,9 +11,9 @@ use lib.Dec.{ltb}
 use lib.ListN.{length, drop, length-append, length-drop}
 use borrow.Author.Tests.{le-ltb}
 use Rattle.buffer.proofs.RepeatLaws.{length_times}
-use Rattle.unicode.specs.Unicode.{encode_char, encode, units, width, trim, trim_end}
-use Rattle.unicode.proofs.Tests.{cond_elim}
-use Rattle.unicode.proofs.Trim.{length_trim, length_trim_end}
+use Rattle.utf8.specs.Unicode.{encode_char, encode, units, width, trim, trim_end}
+use Rattle.utf8.proofs.Tests.{cond_elim}
+use Rattle.utf8.proofs.Trim.{length_trim, length_trim_end}
 use Rattle.rules.specs.Basics.{choose, is, is_opener, Pieces, pieces, at_sep, split_on, codes, count}
 use Rattle.rules.specs.Scan.{classify}
 use Rattle.rules.specs.Lines.{as_str, lines_of, drop_cr}

@@ -10,9 +10,9 @@ use mathlib.Core.Path.{◌≡◌, refl, ap, ◌∙◌}
 use lib.ListN.{length, get_or, take}
 use lib.Dec.{ltb}
 use borrow.Author.Tests.{le-ltb, ltb-true}
-use Rattle.unicode.specs.Unicode.{decode, encode}
-use Rattle.unicode.proofs.Tests.{and_left, and_right}
-use Rattle.unicode.proofs.Decode.{Ascii, decode_ascii, wf_ascii, wf_test}
+use Rattle.utf8.specs.Unicode.{decode, encode}
+use Rattle.utf8.proofs.Tests.{and_left, and_right}
+use Rattle.utf8.proofs.Decode.{Ascii, decode_ascii, wf_ascii, wf_test}
 use Rattle.buffer.specs.Buffer.{Appended}
 use Rattle.buffer.proofs.WriteLaws.{appended_append}
 use Rattle.decimal.specs.Decimal.{digits, DecimalPut}

@@ -1,5 +1,7 @@
 // Formats every short source in order with the default options, and prints for each the text's length in bytes, LF and
 // the text. Standard input may hold a digit from 0 to 6, the greatest length of a source; anything else means 6.
+#![tactic(auto)]
+
 use crate::page::{fill, greatest};
 use libc::{STDIN_FILENO, STDOUT_FILENO};
 

@@ -15,7 +15,7 @@ use lib.Dec.{eqb}
 use lib.ListN.{length, get_or, take, replicate, length-append}
 use lib.Seq.{take-suc, take_all, take-append_seam}
 use borrow.Author.Tests.{eq-eqb}
-use Rattle.unicode.proofs.Tests.{split, and_left, and_right}
+use Rattle.utf8.proofs.Tests.{split, and_left, and_right}
 use Rattle.rules.specs.Basics.{choose}
 use Rattle.rules.specs.Call.{filled}
 use Rattle.rules.proofs.Choose.{choose_true, choose_false}

@@ -12,7 +12,7 @@ use mathlib.Core.Logic.{◌⊎◌, inl, inr}
 use mathlib.Core.Path.{◌≡◌, refl, sym, ap, ◌∙◌}
 use lib.ListN.{length, get_or, length-append, length-map, get_or-append}
 use lib.Seq.{get_or-append-add}
-use Rattle.unicode.proofs.Tests.{split}
+use Rattle.utf8.proofs.Tests.{split}
 use Rattle.short_texts.specs.Texts.{letters, led, of_length, shorter, texts}
 
 -- ---- how many

@@ -1,5 +1,7 @@
 // Every text over twelve characters, of at most six of them: shorter ones first, then in the order of the characters.
 // One text a step; the state goes in by value and comes back.
+#![tactic(auto)]
+
 ghost use Rattle.std.specs.Prelude.{◌≡◌, [], ◌+◌, ◌<◌, length, get_or};
 ghost use Rattle.rules.specs.Call.{filled};
 ghost use Rattle.short_texts.specs.Texts.{letters, of_length, texts};

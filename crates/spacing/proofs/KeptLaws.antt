@@ -9,7 +9,7 @@ use borrow.Author.Tests.{ne_eqb, eqb-true}
 use lib.Dec.{eqb}
 use lib.ListN.{length, get_or, take, drop}
 use lib.Seq.{take-suc, take_all}
-use Rattle.unicode.proofs.Tests.{by_test}
+use Rattle.utf8.proofs.Tests.{by_test}
 use Rattle.rules.specs.Basics.{choose, is_blank, is_closer}
 use Rattle.rules.specs.Scan.{Cell, cell, is_code}
 use Rattle.rules.specs.ClassBytes.{class_of, cells_of, cell_at}

@@ -9,8 +9,8 @@ use borrow.Author.Tests.{eqb-true, eqb-false, not-false}
 use lib.Dec.{eqb}
 use lib.ListN.{length, get_or}
 use mathlib.Core.Logic.{◌⊎◌, inl, inr}
-use Rattle.unicode.specs.Places.{NoneAmong}
-use Rattle.unicode.proofs.Tests.{by_test, split, neither_left, neither_right}
+use Rattle.utf8.specs.Places.{NoneAmong}
+use Rattle.utf8.proofs.Tests.{by_test, split, neither_left, neither_right}
 use Rattle.rules.specs.Basics.{is_blank, is_closer}
 use Rattle.rules.specs.Scan.{is_code}
 use Rattle.rules.specs.ClassBytes.{class_of}

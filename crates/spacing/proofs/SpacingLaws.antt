@@ -12,8 +12,8 @@ use lib.Dec.{eqb}
 use lib.ListN.{length, get_or, take, drop, set, length-drop}
 use lib.Seq.{take-suc, take-suc-set, drop-set-add, get_or-drop}
 use Rattle.buffer.specs.Buffer.{part}
-use Rattle.unicode.specs.Places.{NoneAmong}
-use Rattle.unicode.proofs.Tests.{split}
+use Rattle.utf8.specs.Places.{NoneAmong}
+use Rattle.utf8.proofs.Tests.{split}
 use Rattle.rules.specs.Basics.{choose, is_blank}
 use Rattle.rules.specs.Scan.{Cell, cell, is_code}
 use Rattle.rules.specs.ClassBytes.{class_of, cells_of}

@@ -1,6 +1,8 @@
 // Spacing: the respaced line, written into scratch, and the test whether a line is spaced already.
+#![tactic(auto)]
+
 ghost use Rattle.std.specs.Prelude.{◌≡◌, ◌&&◌, false, ◌++◌, ◌∷◌, [], ◌+◌, ◌<◌, ◌≤◌, length};
-ghost use Rattle.unicode.specs.Places.{NoneAmong};
+ghost use Rattle.utf8.specs.Places.{NoneAmong};
 ghost use Rattle.rules.specs.declared.Gap.{Gap};
 ghost use Rattle.buffer.specs.Buffer.{part};
 ghost use Rattle.rules.specs.Basics.{choose, is_blank};

@@ -9,8 +9,8 @@ use Rattle.compare.specs.Common.{Compared}
 use Rattle.buffer.specs.Repeat.{times}
 use Rattle.buffer.proofs.RepeatLaws.{length_times}
 use Rattle.compare.proofs.WriterLaws.{compared_append}
-use Rattle.unicode.specs.Unicode.{encode}
-use Rattle.unicode.proofs.Decode.{encode_nil, encode_append, encode_ascii, wf_encode}
+use Rattle.utf8.specs.Unicode.{encode}
+use Rattle.utf8.proofs.Decode.{encode_nil, encode_append, encode_ascii, wf_encode}
 use Rattle.rules.specs.Options.{Options, indent_of}
 use Rattle.rules.specs.Assembly.{joined}
 use Rattle.split.specs.Measure.{Indent}

@@ -1,8 +1,8 @@
 -- Columns and parts of a line.
 use Rattle.std.specs.Prelude.{ℕ, ◌+◌, ◌-◌, ◌*◌, ◌^◌, ◌≤◌, ◌<◌, eqb, ltb, Bool, true, List, ◌++◌, ◌≡◌, length}
 use Rattle.buffer.specs.Buffer.{part}
-use Rattle.unicode.specs.Unicode.{decode, WellFormed, trim}
-use Rattle.unicode.specs.Places.{units_of, TrimmedStart}
+use Rattle.utf8.specs.Unicode.{decode, WellFormed, trim}
+use Rattle.utf8.specs.Places.{units_of, TrimmedStart}
 use Rattle.buffer.specs.Repeat.{times}
 use Rattle.rules.specs.Basics.{choose}
 use Rattle.rules.specs.Options.{Options, all_blank, next_stop, measure}

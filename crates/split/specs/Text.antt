@@ -2,7 +2,7 @@
 use Rattle.std.specs.Prelude.{ℕ, ◌+◌, ◌*◌, ◌^◌, ◌≤◌, ◌<◌, true, List, [], ◌∷◌, ◌++◌, reverse, ◌≡◌, length}
 use Rattle.compare.specs.Common.{Compared}
 use Rattle.buffer.specs.Repeat.{times}
-use Rattle.unicode.specs.Unicode.{encode, size, WellFormed}
+use Rattle.utf8.specs.Unicode.{encode, size, WellFormed}
 use Rattle.rules.specs.Options.{Options, defaults, all_blank}
 use Rattle.rules.specs.Assembly.{joined}
 use Rattle.split.specs.Measure.{Indent}

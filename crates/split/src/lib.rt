@@ -1,14 +1,16 @@
 // What the splits by import and by operators share: columns, parts without the white space around them, a line written
 // after others.
+#![tactic(auto)]
+
 ghost use Rattle.std.specs.Prelude.{◌+◌, ◌≤◌, ◌<◌, ◌^◌, ◌≡◌, length};
-ghost use Rattle.unicode.specs.Unicode.{decode, WellFormed, width};
+ghost use Rattle.utf8.specs.Unicode.{decode, WellFormed, width};
 ghost use Rattle.rules.specs.Lines.{as_str};
 ghost use Rattle.split.specs.Measure.{ByteMeasured, Measurable, Measured, Indent, IndentMeasured, Wide, Within};
 ghost use Rattle.split.specs.Measure.{Trimmed};
 ghost use Rattle.split.specs.Text.{lay, LineRoom, LineWritten};
 
 use rules::{LineEnding, Strengths};
-use unicode::Utf16Column;
+use utf8::Utf16Column;
 
 // How a line is laid out: at which level, in which width, with which ruler tab, and where it is broken the line ending
 // and the strengths of the operators.
@@ -31,7 +33,7 @@ fn column_after(ruler: u8, from: usize, b: u8) -> usize
         let step = ruler as usize;
         return from + (step - from % step);
     }
-    from + unicode::units(b)
+    from + utf8::units(b)
 }
 
 // The column that a part reaches at a ruler above 0.
@@ -53,10 +55,10 @@ fn count_units(s: &[u8]) -> usize
     requires { WellFormed s.now × (length s.now < 2 ^ 62) }
     ensures { result ≡ width (decode s.now) }
 {
-    let mut i = unicode::past_blocks(s, 0);
+    let mut i = utf8::past_blocks(s, 0);
     let mut n = i;
     while i < s.len() {
-        n += unicode::units(s[i]);
+        n += utf8::units(s[i]);
         i += 1;
     }
     n
@@ -136,8 +138,8 @@ pub fn trim_part(s: &[u8], a: usize, e: usize) -> Part
     ensures { Trimmed s.now a e result }
 {
     let p = &s[a..e];
-    let n = unicode::trim_start(p);
-    let m = unicode::trim_end(&p[n..]);
+    let n = utf8::trim_start(p);
+    let m = utf8::trim_end(&p[n..]);
     Part {
         start: a + n,
         end: a + n + m,

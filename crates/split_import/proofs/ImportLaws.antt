@@ -16,12 +16,12 @@ use Rattle.compare.specs.Common.{Compared}
 use Rattle.buffer.specs.Repeat.{times}
 use Rattle.buffer.proofs.RegionLaws.{part_from}
 use Rattle.compare.proofs.WriterLaws.{compared_append}
-use Rattle.unicode.specs.Unicode.{encode_char, encode, decode, Scalars, trim_end}
-use Rattle.unicode.specs.Places.{NoneAmong, TrimmedEnd}
-use Rattle.unicode.proofs.Tests.{by_test, and_right}
-use Rattle.unicode.proofs.Table.{encode_char_1, Bytes, single, several}
-use Rattle.unicode.proofs.Table.{bytes as bytes_of}
-use Rattle.unicode.proofs.Decode.{encode_nil, encode_append, encode_ascii, decode_encode, decode_scalars, wf_encode}
+use Rattle.utf8.specs.Unicode.{encode_char, encode, decode, Scalars, trim_end}
+use Rattle.utf8.specs.Places.{NoneAmong, TrimmedEnd}
+use Rattle.utf8.proofs.Tests.{by_test, and_right}
+use Rattle.utf8.proofs.Table.{encode_char_1, Bytes, single, several}
+use Rattle.utf8.proofs.Table.{bytes as bytes_of}
+use Rattle.utf8.proofs.Decode.{encode_nil, encode_append, encode_ascii, decode_encode, decode_scalars, wf_encode}
 use Rattle.rules.specs.declared.Carry.{Carry}
 use Rattle.rules.specs.Basics.{choose, codes, starts_with, first_is, starts_then, is_ident}
 use Rattle.rules.specs.Options.{Options, indent_of, over_wide}

@@ -14,15 +14,15 @@ use Rattle.compare.specs.Common.{Compared}
 use Rattle.buffer.specs.Repeat.{times}
 use Rattle.buffer.proofs.RegionLaws.{part_from, part_more, part_join}
 use Rattle.compare.proofs.WriterLaws.{compared_nil, compared_append}
-use Rattle.unicode.specs.Unicode.{encode, decode, WellFormed, units, trim}
-use Rattle.unicode.proofs.Tests.{by_test}
-use Rattle.unicode.proofs.Decode.{encode_nil, encode_append, encode_ascii, decode_ascii, decode_scalars}
+use Rattle.utf8.specs.Unicode.{encode, decode, WellFormed, units, trim}
+use Rattle.utf8.proofs.Tests.{by_test}
+use Rattle.utf8.proofs.Decode.{encode_nil, encode_append, encode_ascii, decode_ascii, decode_scalars}
 use Rattle.rules.specs.Basics.{choose, is_empty, Pieces, pieces, at_sep, split_on, is, codes}
 use Rattle.rules.specs.Options.{Options, measure, over_wide}
 use Rattle.rules.specs.SplitImport.{cons_name, names_of, blanks_of, with_comma, add_name, fill_names}
 use Rattle.rules.proofs.Choose.{choose_true, choose_false}
 use Rattle.rules.proofs.WordsBytes.{pieces_encode}
-use Rattle.unicode.specs.declared.Utf16Column.{Utf16Column}
+use Rattle.utf8.specs.declared.Utf16Column.{Utf16Column}
 use Rattle.split.specs.declared.Part.{Part}
 use Rattle.split.specs.Measure.{Measured, Indent, last_indent, IndentMeasured, Within, Trimmed}
 use Rattle.split.specs.Text.{indented, lay, AllWell, following, line_room}

@@ -3,7 +3,7 @@ use Rattle.std.specs.Prelude.{ℕ, ◌+◌, ◌^◌, ◌≤◌, ◌<◌, List, [
 use Rattle.std.proofs.Math.Option.{Option, none, some}
 use Rattle.buffer.specs.Buffer.{part}
 use Rattle.compare.specs.Common.{Compared}
-use Rattle.unicode.specs.Unicode.{encode, decode, WellFormed, trim_end}
+use Rattle.utf8.specs.Unicode.{encode, decode, WellFormed, trim_end}
 use Rattle.rules.specs.declared.Carry.{Carry}
 use Rattle.rules.specs.Options.{Options}
 use Rattle.rules.specs.Scan.{classify}

@@ -3,7 +3,7 @@ use Rattle.std.specs.Prelude.{ℕ, ◌+◌, ◌-◌, ◌*◌, ◌^◌, ◌≤◌
 use Rattle.buffer.specs.Buffer.{part}
 use Rattle.compare.specs.Common.{Compared}
 use Rattle.buffer.specs.Repeat.{times}
-use Rattle.unicode.specs.Unicode.{encode, decode, WellFormed}
+use Rattle.utf8.specs.Unicode.{encode, decode, WellFormed}
 use Rattle.rules.specs.Basics.{choose, is_empty, pieces, split_on}
 use Rattle.rules.specs.Options.{measure}
 use Rattle.rules.specs.Scan.{Cell, is_code}

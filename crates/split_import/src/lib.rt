@@ -1,9 +1,11 @@
 // split_import: the names of an over-wide import, refilled over lines.
+#![tactic(auto)]
+
 ghost use Rattle.std.specs.Prelude.{◌≡◌, ◌&&◌, [], ◌∷◌, ◌++◌, ◌+◌, ◌-◌, ◌≤◌, ◌<◌, ◌^◌, eqb, ltb, length};
 ghost use Rattle.buffer.specs.Buffer.{part};
 ghost use Rattle.compare.specs.Common.{Compared};
-ghost use Rattle.unicode.specs.Unicode.{decode};
-ghost use Rattle.unicode.specs.Places.{NoneAmong};
+ghost use Rattle.utf8.specs.Unicode.{decode};
+ghost use Rattle.utf8.specs.Places.{NoneAmong};
 ghost use Rattle.rules.specs.Options.{Options};
 ghost use Rattle.rules.specs.Lines.{as_str};
 ghost use Rattle.rules.specs.Scan.{is_code, classify};
@@ -19,7 +21,7 @@ ghost use Rattle.split_import.specs.Import.{HeadFits, HeadWritten, Braces, parts
 
 use basics::{is_ident, starts_with};
 use split::{Layout, Part, indent_column, measure_from, trim_part, write_line};
-use unicode::Utf16Column;
+use utf8::Utf16Column;
 
 // The lines that an import is split into, written: the next place, where the last line starts, and how many blank names
 // are dropped.
@@ -314,7 +316,7 @@ fn write_head(
     ensures { HeadWritten head.now indent.now level model.now out.old
         out.new at result }
 {
-    let n = unicode::trim_end(head);
+    let n = utf8::trim_end(head);
     let m = compare::append_indented(model, out, at, indent, level, &head[..n]);
     compare::append(model, out, m, b" {")
 }

@@ -9,12 +9,12 @@ use lib.ListN.{length, take, drop, length-append, length-drop, take-append-drop}
 use lib.Seq.{length-take-le, take_at, drop_at, drop-drop, take-take}
 use borrow.Author.Tests.{eqb-true}
 use Rattle.buffer.specs.Buffer.{part}
-use Rattle.unicode.specs.Unicode.{encode_char, encode, decode, WellFormed, is_white, trim_start}
-use Rattle.unicode.specs.Places.{TrimmedStart}
-use Rattle.unicode.proofs.Decode.{encode_append}
-use Rattle.unicode.proofs.Table.{High, none, also, Bytes, single, several, bytes}
-use Rattle.unicode.proofs.Tests.{by_test, and_left, and_right}
-use Rattle.unicode.proofs.Trim.{White, start_split}
+use Rattle.utf8.specs.Unicode.{encode_char, encode, decode, WellFormed, is_white, trim_start}
+use Rattle.utf8.specs.Places.{TrimmedStart}
+use Rattle.utf8.proofs.Decode.{encode_append}
+use Rattle.utf8.proofs.Table.{High, none, also, Bytes, single, several, bytes}
+use Rattle.utf8.proofs.Tests.{by_test, and_left, and_right}
+use Rattle.utf8.proofs.Trim.{White, start_split}
 use Rattle.rules.specs.declared.Carry.{Carry}
 use Rattle.rules.specs.declared.Class.{Class}
 use Rattle.rules.specs.declared.Mode.{Mode}

@@ -9,8 +9,8 @@ use native.Mathlib.Omega.{arith}
 use lib.Dec.{eqb}
 use lib.ListN.{length, get_or, take, drop}
 use borrow.Author.Tests.{eqb-true, lt-leb, ltb-true}
-use Rattle.unicode.specs.Unicode.{tail}
-use Rattle.unicode.proofs.Tests.{by_test, split, and_left, and_right}
+use Rattle.utf8.specs.Unicode.{tail}
+use Rattle.utf8.proofs.Tests.{by_test, split, and_left, and_right}
 use Rattle.rules.specs.declared.Class.{Class}
 use Rattle.rules.specs.Basics.{choose, same, one_of, starts_with, is_ident, is_opener, is_closer}
 use Rattle.rules.specs.Scan.{cell, is_code}

@@ -15,9 +15,9 @@ use Rattle.buffer.specs.Buffer.{part}
 use Rattle.compare.specs.Common.{Compared}
 use Rattle.buffer.specs.Repeat.{times}
 use Rattle.compare.proofs.WriterLaws.{compared_nil, compared_append}
-use Rattle.unicode.specs.Unicode.{encode, decode, Scalars, WellFormed, trim}
-use Rattle.unicode.proofs.Tests.{split}
-use Rattle.unicode.proofs.Decode.{decode_encode, decode_scalars, wf_encode}
+use Rattle.utf8.specs.Unicode.{encode, decode, Scalars, WellFormed, trim}
+use Rattle.utf8.proofs.Tests.{split}
+use Rattle.utf8.proofs.Decode.{decode_encode, decode_scalars, wf_encode}
 use Rattle.rules.specs.declared.Carry.{Carry}
 use Rattle.rules.specs.Basics.{choose, is_empty, Pieces}
 use Rattle.rules.specs.Scan.{Cell, classify, all_code_or_str}

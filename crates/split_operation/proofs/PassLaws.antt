@@ -14,7 +14,7 @@ use borrow.Author.Tests.{eq-eqb, ne_eqb, eqb-true, eqb-false, lt-ltb, le-ltb, lt
 use Rattle.buffer.specs.Buffer.{part}
 use Rattle.buffer.proofs.RegionLaws.{part_from, part_more}
 use mathlib.Core.Logic.{◌⊎◌, inl, inr}
-use Rattle.unicode.proofs.Tests.{by_test, split}
+use Rattle.utf8.proofs.Tests.{by_test, split}
 use Rattle.split.proofs.MeasureLaws.{part_length}
 use Rattle.rules.specs.Basics.{choose, same, one_of, starts_with, Pieces, is_opener, is_closer}
 use Rattle.rules.specs.Scan.{Cell, chars_of, is_code}

@@ -1,7 +1,7 @@
 -- What split_operation gives.
 use Rattle.std.specs.Prelude.{ℕ, suc, ◌+◌, ◌-◌, ◌*◌, ◌^◌, ◌≤◌, ◌<◌, Bool, true, false, not, List, [], ◌++◌, map, ◌≡◌, ltb, eqb, length}
 use Rattle.compare.specs.Common.{Compared}
-use Rattle.unicode.specs.Unicode.{encode, decode, WellFormed, trim}
+use Rattle.utf8.specs.Unicode.{encode, decode, WellFormed, trim}
 use Rattle.rules.specs.declared.Carry.{Carry}
 use Rattle.rules.specs.Basics.{choose, is_empty, Pieces}
 use Rattle.rules.specs.Scan.{Cell, classify, all_code_or_str}

@@ -1,8 +1,10 @@
 // split_operation: an over-wide expression broken before its loosest operators.
+#![tactic(auto)]
+
 pub mod pass;
 
 ghost use Rattle.std.specs.Prelude.{◌≡◌, ◌+◌};
-ghost use Rattle.unicode.specs.Unicode.{decode};
+ghost use Rattle.utf8.specs.Unicode.{decode};
 ghost use Rattle.rules.specs.Lines.{as_str};
 ghost use Rattle.rules.specs.Options.{Options};
 ghost use Rattle.rules.specs.Strengths.{strengths_in};
@@ -16,7 +18,7 @@ use operators::first::has_operator;
 use pass::{Break, Cut, find_break, next_op, unbroken};
 use rules::{LineEnding, Strengths};
 use split::{Layout, NewLine, over_wide, trim_part, write_line};
-use unicode::Utf16Column;
+use utf8::Utf16Column;
 
 // The line whole, or the lines that it is broken into, written: the last of them.
 #[derive(Drop)]

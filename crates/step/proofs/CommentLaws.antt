@@ -7,7 +7,7 @@ use mathlib.Core.Path.{◌≡◌, refl, sym, ap, ◌∙◌, subst}
 use borrow.Author.Tests.{eq-eqb}
 use lib.Dec.{eqb}
 use lib.ListN.{length, take, drop, get_or, drop_of_length-le}
-use Rattle.unicode.specs.Unicode.{chars, decode, WellFormed}
+use Rattle.utf8.specs.Unicode.{chars, decode, WellFormed}
 use Rattle.rules.specs.Basics.{choose, starts_with}
 use Rattle.rules.specs.Scan.{long, one, in_code, in_quoted, in_interp, in_inner, in_block, in_prefab, mark_at, next_of, next, classes_of, scan, begin, classify, is_line_comment}
 use Rattle.rules.specs.ClassBytes.{class_byte, class_bytes}

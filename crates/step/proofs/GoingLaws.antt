@@ -6,7 +6,7 @@ use mathlib.Core.List.{List}
 use mathlib.Core.Path.{◌≡◌, refl, sym, ap, ◌∙◌, subst}
 use lib.ListN.{length, take, drop}
 use lib.Seq.{length-take-le}
-use Rattle.unicode.specs.Unicode.{encode, decode, WellFormed}
+use Rattle.utf8.specs.Unicode.{encode, decode, WellFormed}
 use Rattle.buffer.specs.Buffer.{part}
 use Rattle.rules.specs.Basics.{choose, count, is_opener}
 use Rattle.rules.specs.Scan.{chars_of, classify, carry_after}

@@ -8,9 +8,9 @@ use borrow.Author.Tests.{eqb-true}
 use lib.Dec.{eqb}
 use lib.ListN.{length, take, drop, length-drop}
 use lib.Seq.{length-take-le}
-use Rattle.unicode.specs.Unicode.{Scalars, encode, decode, WellFormed, is_white, trim_start}
-use Rattle.unicode.proofs.Tests.{and_left}
-use Rattle.unicode.proofs.Decode.{decode_encode, decode_scalars, wf_encode, scalars_left, scalars_right}
+use Rattle.utf8.specs.Unicode.{Scalars, encode, decode, WellFormed, is_white, trim_start}
+use Rattle.utf8.proofs.Tests.{and_left}
+use Rattle.utf8.proofs.Decode.{decode_encode, decode_scalars, wf_encode, scalars_left, scalars_right}
 use Rattle.buffer.proofs.RegionLaws.{part_from}
 use Rattle.rules.specs.Basics.{choose, is_empty, starts_with, starts_then, keep, leading}
 use Rattle.rules.specs.Scan.{Cell, chars_of, classify, before, from, code_part, comment_part, is_line_comment}

@@ -5,7 +5,7 @@ use mathlib.Core.Bool.{Bool, false}
 use mathlib.Core.List.{List, [], ◌∷◌}
 use mathlib.Core.Path.{◌≡◌, sym, ap, ◌∙◌, subst}
 use lib.ListN.{length, drop}
-use Rattle.unicode.specs.Unicode.{encode, decode, WellFormed, trim_end}
+use Rattle.utf8.specs.Unicode.{encode, decode, WellFormed, trim_end}
 use Rattle.buffer.specs.Buffer.{part}
 use Rattle.rules.specs.Basics.{is_empty}
 use Rattle.rules.specs.Scan.{classify}

@@ -7,10 +7,10 @@ use mathlib.Core.Path.{◌≡◌, refl, sym, ap, ◌∙◌, subst}
 use borrow.Author.Tests.{not-true}
 use lib.ListN.{length, take, drop, get_or, length-drop}
 use lib.Seq.{take-length, length-take-le}
-use Rattle.unicode.specs.Unicode.{chars, decode, trim_end, trim_start, trim}
-use Rattle.unicode.specs.Places.{TrimmedStart, TrimmedEnd}
-use Rattle.unicode.proofs.Tests.{and_left, and_right}
-use Rattle.unicode.proofs.Trim.{trim_trim_end}
+use Rattle.utf8.specs.Unicode.{chars, decode, trim_end, trim_start, trim}
+use Rattle.utf8.specs.Places.{TrimmedStart, TrimmedEnd}
+use Rattle.utf8.proofs.Tests.{and_left, and_right}
+use Rattle.utf8.proofs.Trim.{trim_trim_end}
 use Rattle.rules.specs.Basics.{choose, is_empty}
 use Rattle.rules.specs.Scan.{classify, carry_after}
 use Rattle.rules.specs.ClassBytes.{class_bytes}

@@ -1,6 +1,6 @@
 -- A line of code on its way: whether it holds a marker, how it goes on after spacing, and what it leaves.
 use Rattle.std.specs.Prelude.{ℕ, ◌+◌, ◌-◌, ◌*◌, ◌≤◌, Bool, true, false, List, ◌≡◌, length, drop, get_or}
-use Rattle.unicode.specs.Unicode.{encode, decode, trim_end, WellFormed}
+use Rattle.utf8.specs.Unicode.{encode, decode, trim_end, WellFormed}
 use Rattle.buffer.specs.Buffer.{part}
 use Rattle.rules.specs.Basics.{choose, is_empty}
 use Rattle.rules.specs.Scan.{classify, carry_after}

@@ -1,6 +1,8 @@
 // One line of the source, of any kind.
+#![tactic(auto)]
+
 ghost use Rattle.std.specs.Prelude.{◌≡◌, false, not, ◌&&◌, ◌+◌, ◌≤◌, length};
-ghost use Rattle.unicode.specs.Unicode.{encode, decode, WellFormed};
+ghost use Rattle.utf8.specs.Unicode.{encode, decode, WellFormed};
 ghost use Rattle.rules.specs.Lines.{as_str};
 ghost use Rattle.rules.specs.Line.{protects, in_block};
 ghost use Rattle.rules.specs.Options.{Options};
@@ -341,8 +343,8 @@ fn code_line(
         (as_str setup.style.ending) st out.old scratch.old result out.new
         scratch.new }
 {
-    let tail = unicode::trim_end(raw);
-    let start = unicode::trim_start(&raw[..tail]);
+    let tail = utf8::trim_end(raw);
+    let start = utf8::trim_start(&raw[..tail]);
     let style = setup.style;
     let unit = setup.unit;
     let ending = style.ending;

@@ -7,9 +7,9 @@ use native.Mathlib.Omega.{arith}
 use lib.Dec.{eqb}
 use lib.ListN.{take}
 use lib.Seq.{take-append_seam}
-use Rattle.unicode.specs.Unicode.{encode, size, trim_end}
-use Rattle.unicode.proofs.Decode.{encode_append, size_append}
-use Rattle.unicode.proofs.Trim.{end_split}
+use Rattle.utf8.specs.Unicode.{encode, size, trim_end}
+use Rattle.utf8.proofs.Decode.{encode_append, size_append}
+use Rattle.utf8.proofs.Trim.{end_split}
 use Rattle.rules.specs.Basics.{choose, is_empty}
 use Rattle.rules.specs.Assembly.{joined, drop_empty}
 use Rattle.rules.specs.Line.{drop_blank}

@@ -7,11 +7,11 @@ use native.Mathlib.Omega.{arith}
 use borrow.Author.Tests.{eqb-true, ne_eqb, not-true}
 use lib.Dec.{eqb}
 use lib.ListN.{length, length-append}
-use Rattle.unicode.specs.Unicode.{encode_char, encode, size, is_white, trim_start, trim_end}
-use Rattle.unicode.proofs.Tests.{by_test, and_left, and_right}
-use Rattle.unicode.proofs.Decode.{Ascii, ascii_append, encode_nil, encode_cons, encode_ascii, encode_append}
-use Rattle.unicode.proofs.Table.{Shape, one, two, three, four, shape}
-use Rattle.unicode.proofs.Trim.{White, white_append, start_append_white, start_white, start_other, end_append, end_none, end_split}
+use Rattle.utf8.specs.Unicode.{encode_char, encode, size, is_white, trim_start, trim_end}
+use Rattle.utf8.proofs.Tests.{by_test, and_left, and_right}
+use Rattle.utf8.proofs.Decode.{Ascii, ascii_append, encode_nil, encode_cons, encode_ascii, encode_append}
+use Rattle.utf8.proofs.Table.{Shape, one, two, three, four, shape}
+use Rattle.utf8.proofs.Trim.{White, white_append, start_append_white, start_white, start_other, end_append, end_none, end_split}
 use Rattle.buffer.specs.Repeat.{times}
 use Rattle.rules.specs.Basics.{is, codes, starts_with, last_is, is_blank}
 use Rattle.rules.specs.Options.{all_blank}

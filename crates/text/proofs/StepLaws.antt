@@ -7,10 +7,10 @@ use native.Mathlib.Omega.{arith}
 use lib.Dec.{eqb}
 use lib.ListN.{length, replicate, length-append}
 use lib.Seq.{length-take-le}
-use Rattle.unicode.specs.Unicode.{encode, decode, size, trim_end}
-use Rattle.unicode.proofs.Trim.{White, white_append, end_none}
+use Rattle.utf8.specs.Unicode.{encode, decode, size, trim_end}
+use Rattle.utf8.proofs.Trim.{White, white_append, end_none}
 use borrow.Author.Tests.{eq-eqb, eqb-true}
-use Rattle.unicode.proofs.Decode.{encode_nil, encode_append, encode_ascii, size_append}
+use Rattle.utf8.proofs.Decode.{encode_nil, encode_append, encode_ascii, size_append}
 use Rattle.buffer.specs.Buffer.{Finishes}
 use Rattle.buffer.specs.Repeat.{times}
 use Rattle.buffer.proofs.AgreeLaws.{finishes_text}

@@ -1,7 +1,7 @@
 -- The text as its lines, the newest first, joined by the ending `eol`; and what the code holds of it.
 use Rattle.std.specs.Prelude.{ℕ, ◌+◌, ◌≤◌, ◌^◌, Bool, true, false, List, [], ◌∷◌, ◌++◌, ◌≡◌, eqb, length, replicate}
-use Rattle.unicode.specs.Unicode.{encode, decode, size, trim_end, WellFormed}
-use Rattle.unicode.specs.Places.{TrimmedEnd}
+use Rattle.utf8.specs.Unicode.{encode, decode, size, trim_end, WellFormed}
+use Rattle.utf8.specs.Places.{TrimmedEnd}
 use Rattle.compare.specs.Common.{Keeps, ending_of}
 use Rattle.check_rules.specs.Check.{settled_lines, closed}
 use Rattle.rules.specs.Basics.{choose, is, last_is}

@@ -1,7 +1,9 @@
 // The text so far, in an output that may be too short or compared with a model (crate compare): lines are added at its
 // end, and the newest can be cut back.
+#![tactic(auto)]
+
 ghost use Rattle.std.specs.Prelude.{◌≡◌, true, [], ◌++◌, ◌+◌, ◌<◌, ◌≤◌, ◌^◌, length};
-ghost use Rattle.unicode.specs.Unicode.{decode};
+ghost use Rattle.utf8.specs.Unicode.{decode};
 ghost use Rattle.buffer.specs.Repeat.{times};
 ghost use Rattle.compare.specs.Common.{Compared};
 ghost use Rattle.rules.specs.Basics.{choose};
@@ -12,7 +14,7 @@ ghost use Rattle.text.specs.Text.{after_lines, Ordered, Line, ElseLine, SepLen, 
 ghost use Rattle.text.specs.Text.{Ended, Finished};
 
 use rules::LineEnding;
-use unicode::ByteOffset;
+use utf8::ByteOffset;
 
 // The newest line of the text: none, an empty one, one that can take an else, any other.
 #[derive(Drop)]

@@ -7,9 +7,9 @@ use mathlib.Core.Bool.{true, false}
 use mathlib.Core.List.{List, [], ◌∷◌, ◌++◌, map}
 use mathlib.Core.Path.{◌≡◌, refl, sym, ap, ◌∙◌}
 use lib.ListN.{length}
-use Rattle.unicode.specs.Unicode.{encode_char, encode, tail, decode, WellFormed}
-use Rattle.unicode.proofs.Table.{Shape, one, two, three, four, shape, tail_view, tail_make, not_tail_low, not_tail_high}
-use Rattle.unicode.proofs.Decode.{encode_cons}
+use Rattle.utf8.specs.Unicode.{encode_char, encode, tail, decode, WellFormed}
+use Rattle.utf8.proofs.Table.{Shape, one, two, three, four, shape, tail_view, tail_make, not_tail_low, not_tail_high}
+use Rattle.utf8.proofs.Decode.{encode_cons}
 use Rattle.rules.specs.declared.Carry.{Carry}
 use Rattle.rules.specs.declared.Mode.{Mode}
 use Rattle.rules.specs.declared.Mark.{Mark}

@@ -6,8 +6,8 @@ use native.Mathlib.Omega.{arith}
 use mathlib.Core.List.{List, [], ◌∷◌}
 use mathlib.Core.Path.{◌≡◌, sym, ap, ◌∙◌}
 use lib.ListN.{length, replicate}
-use Rattle.unicode.specs.Unicode.{decode}
-use Rattle.unicode.proofs.Decode.{test_wf}
+use Rattle.utf8.specs.Unicode.{decode}
+use Rattle.utf8.proofs.Decode.{test_wf}
 use Rattle.rules.specs.declared.Refusal.{Refusal}
 use Rattle.rules.specs.declared.Verdict.{Verdict}
 use Rattle.rules.specs.declared.TextKind.{TextKind}

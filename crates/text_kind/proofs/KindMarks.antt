@@ -8,7 +8,7 @@ use mathlib.Core.List.{List, ◌∷◌}
 use mathlib.Core.Path.{◌≡◌, refl, sym, ap, ◌∙◌}
 use lib.ListN.{length, get_or, drop, drop_of_length-le, get_or-eq_default}
 use lib.Seq.{drop-cons}
-use Rattle.unicode.specs.Unicode.{tail}
+use Rattle.utf8.specs.Unicode.{tail}
 use Rattle.buffer.specs.Buffer.{part}
 use Rattle.buffer.proofs.RegionLaws.{part_from}
 use Rattle.rules.specs.declared.Carry.{Carry}

@@ -1,6 +1,6 @@
 -- Text kinds read off a line's bytes, and what their reading asks of a source.
 use Rattle.std.specs.Prelude.{ℕ, zero, suc, ◌+◌, ◌≤◌, ◌<◌, ◌^◌, List, [], ◌∷◌, length, get_or}
-use Rattle.unicode.specs.Unicode.{tail, WellFormed}
+use Rattle.utf8.specs.Unicode.{tail, WellFormed}
 use Rattle.split.specs.Text.{first_of}
 use Rattle.rules.specs.Basics.{choose, pieces, split_on}
 use Rattle.rules.specs.Scan.{next, begin, carry_after}

@@ -1,7 +1,9 @@
 // text_kind_at: a source's lines are read for what they leave open, up to the line asked for, and that line for its
 // marks, up to the column.
+#![tactic(auto)]
+
 ghost use Rattle.std.specs.Prelude.{◌≡◌, ◌+◌, ◌<◌, ◌^◌, length, get_or, drop};
-ghost use Rattle.unicode.specs.Unicode.{decode};
+ghost use Rattle.utf8.specs.Unicode.{decode};
 ghost use Rattle.rules.specs.Scan.{begin};
 ghost use Rattle.rules.specs.Refusals.{tested};
 ghost use Rattle.rules.specs.TextKind.{kind_tests, in_interpolation, class_kind, text_kind_at, kind_outcome_of, kind_number};
@@ -13,7 +15,7 @@ ghost use Rattle.text_kind.specs.Kind.{byte_kinds, line_at, SourceFits};
 use answer::{number_of, place_of};
 use line_ends::{line_end, without_cr};
 use rules::{Carry, Class, Kind, KindOutcome, Mode, TextKind, Verdict};
-use unicode::CharColumn;
+use utf8::CharColumn;
 
 // The bytes of scratch for each of the source's, beside 256.
 pub const KIND_SCRATCH: usize = 8;
@@ -66,7 +68,7 @@ fn kind_in_line(line: &[u8], carry: Carry, column: CharColumn) -> TextKind
     while i < line.len() {
         let before = t.mode;
         t = marks::next_mark(&line[i..], t);
-        if unicode::is_tail(line[i]) {
+        if utf8::is_tail(line[i]) {
             i += 1;
             continue;
         }

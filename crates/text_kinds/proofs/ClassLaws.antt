@@ -10,9 +10,9 @@ use borrow.Author.Tests.{ltb-false, le-ltb, ne_eqb}
 use lib.Dec.{T, eqb}
 use lib.ListN.{length, get_or, take, length-take}
 use lib.Seq.{get_or-take, take_at}
-use Rattle.unicode.specs.Places.{high_at, AsciiRun}
-use Rattle.unicode.proofs.Table.{not_tail_low}
-use Rattle.unicode.proofs.Tests.{split}
+use Rattle.utf8.specs.Places.{high_at, AsciiRun}
+use Rattle.utf8.proofs.Table.{not_tail_low}
+use Rattle.utf8.proofs.Tests.{split}
 use Rattle.rules.specs.declared.Carry.{Carry}
 use Rattle.rules.specs.declared.Class.{Class}
 use Rattle.rules.specs.declared.Mark.{Mark}

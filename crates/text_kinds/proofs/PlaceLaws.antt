@@ -10,7 +10,7 @@ use borrow.Author.Tests.{lt-ltb, le-ltb, eq-eqb, ne_eqb, ltb-true, leb-true, eqb
 use lib.Dec.{eqb, leb, ltb}
 use lib.ListN.{length, get_or, drop, length-drop}
 use lib.Seq.{drop-cons}
-use Rattle.unicode.proofs.Tests.{split, and_left, and_right}
+use Rattle.utf8.proofs.Tests.{split, and_left, and_right}
 use Rattle.text_kinds.specs.Places.{Place, place_at, places_in, not_after, ascending}
 use Rattle.text_kinds.specs.Reading.{line_of, column_of, place_count, From, IsPlace, IsOn}
 

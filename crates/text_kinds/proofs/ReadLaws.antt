@@ -8,9 +8,9 @@ use mathlib.Core.Logic.{◌⊎◌, inl, inr}
 use mathlib.Core.Path.{◌≡◌, refl, sym, ap, ◌∙◌}
 use lib.ListN.{length, get_or, take, drop, replicate, length-take, length-drop, length-map, length-replicate, drop_of_length-le, take-append-drop, get_or-eq_default}
 use lib.Seq.{drop-drop, take-length, get_or-take, get_or-drop}
-use Rattle.unicode.specs.Unicode.{encode, decode, WellFormed}
-use Rattle.unicode.specs.Places.{high_at}
-use Rattle.unicode.proofs.Tests.{split}
+use Rattle.utf8.specs.Unicode.{encode, decode, WellFormed}
+use Rattle.utf8.specs.Places.{high_at}
+use Rattle.utf8.proofs.Tests.{split}
 use Rattle.rules.specs.declared.Carry.{Carry}
 use Rattle.rules.specs.declared.TextKind.{TextKind}
 use Rattle.rules.specs.Basics.{pieces, split_on}

@@ -1,6 +1,6 @@
 -- The exported contract of a call for the text kinds of a list of places.
 use Rattle.std.specs.Prelude.{List, ◌≡◌, ℕ, length, replicate}
-use Rattle.unicode.specs.Unicode.{decode}
+use Rattle.utf8.specs.Unicode.{decode}
 use Rattle.text_kinds.specs.Places.{places_in, lines_classified, kinds_verdict, kinds_answer, kinds_left, kinds_of}
 use Rattle.text_kinds.specs.declared.Kinds.{Kinds}
 

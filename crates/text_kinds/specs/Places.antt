@@ -1,6 +1,6 @@
 -- text_kinds: the text kinds of a list of places, how many lines are classified for it, and the refusals.
 use Rattle.std.specs.Prelude.{ℕ, suc, min, max, Bool, true, ◌&&◌, ◌||◌, List, [], ◌∷◌, ◌++◌, map, eqb, leb, ltb, length, replicate}
-use Rattle.unicode.specs.Unicode.{decode}
+use Rattle.utf8.specs.Unicode.{decode}
 use Rattle.rules.specs.Basics.{pieces, split_on}
 use Rattle.rules.specs.Refusals.{number_of, place_of, tested, unordered, short_kinds}
 use Rattle.rules.specs.Call.{filled}

@@ -10,8 +10,8 @@ use Rattle.rules.specs.Call.{filled}
 use Rattle.rules.specs.declared.Refusal.{Refusal}
 use Rattle.rules.specs.TextKind.{rust_lines, text_kind_at, class_kind, kind_number}
 use Rattle.basics.specs.Depth.{carry_depth}
-use Rattle.unicode.specs.Unicode.{decode}
-use Rattle.unicode.specs.Places.{high_at}
+use Rattle.utf8.specs.Unicode.{decode}
+use Rattle.utf8.specs.Places.{high_at}
 use Rattle.text_kind.specs.Kind.{byte_kinds, kind_from}
 use Rattle.text_kinds.specs.Places.{Place, place_at, places_in, ascending, kind_of_place, lines_asked, lines_classified}
 use Rattle.text_kinds.specs.Places.{kinds_verdict, kinds_answer, kinds_left, kinds_of}

@@ -1,6 +1,8 @@
 // text_kinds: the text kinds of a list of places, in one reading of the source.
+#![tactic(auto)]
+
 ghost use Rattle.std.specs.Prelude.{◌≡◌, true, ◌<◌, ◌≤◌, length};
-ghost use Rattle.unicode.specs.Places.{high_at};
+ghost use Rattle.utf8.specs.Places.{high_at};
 ghost use Rattle.rules.specs.TextKind.{kind_number};
 ghost use Rattle.text_kinds.specs.Places.{place_at, places_in, not_after, ascending, list_tests, kinds_verdict};
 ghost use Rattle.text_kinds.specs.Reading.{IsPlace, IsOn, Listed, Answered, PassedOver, Ahead, Shallow, Without};
@@ -163,7 +165,7 @@ fn kinds_in_line(
     while i < line.len() {
         let before = t.mode;
         t = marks::next_mark(&line[i..], t);
-        if unicode::is_tail(line[i]) {
+        if utf8::is_tail(line[i]) {
             i += 1;
             continue;
         }
@@ -321,7 +323,7 @@ fn ascii_to(source: &[u8], at: usize, end: usize, ascii: usize) -> usize
     if end <= ascii {
         return ascii;
     }
-    unicode::past_blocks(source, at)
+    utf8::past_blocks(source, at)
 }
 
 // One line more. A line that no place is on is only read for what it leaves open.

@@ -6,7 +6,7 @@ use mathlib.Core.Path.{◌≡◌, refl, sym, ap, ◌∙◌}
 use lib.Dec.{eqb}
 use lib.ListN.{length, take}
 use borrow.Author.Tests.{eq-eqb, eqb-true}
-use Rattle.unicode.proofs.Tests.{by_test, and_right, neither_left, neither_right}
+use Rattle.utf8.proofs.Tests.{by_test, and_right, neither_left, neither_right}
 use Rattle.rules.specs.Basics.{same, one_of, first_is}
 use Rattle.rules.specs.Scan.{Cell, chars_of}
 use Rattle.rules.specs.Operators.{operators, starts_one, starts_operator}

@@ -18,8 +18,8 @@ use Rattle.rules.proofs.CellsLaws.{str_byte}
 use Rattle.rules.proofs.Choose.{choose_true, choose_false}
 use Rattle.rules.proofs.StartsBytes.{choose_both}
 use Rattle.rules.proofs.Leading.{Passing, passing_start, passing_more, passing_stop, passing_end}
-use Rattle.unicode.specs.Unicode.{tail}
-use Rattle.unicode.proofs.Tests.{by_test, and_left}
+use Rattle.utf8.specs.Unicode.{tail}
+use Rattle.utf8.proofs.Tests.{by_test, and_left}
 use Rattle.buffer.proofs.RegionLaws.{part_from}
 use Rattle.operators.proofs.OperatorLaws.{strength_index, one_of_index, is_operator, no_operator}
 use Rattle.top_level_ops.specs.Steps.{AtomLen, AtomAt, sign_step, token_step, step_with, ops_of, step_or, passed_in, bracket_in, code_or, fresh_or, skip_or, byte_or}

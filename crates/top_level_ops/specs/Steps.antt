@@ -1,6 +1,6 @@
 -- The state and the step of top_level_ops as the code holds them.
 use Rattle.std.specs.Prelude.{ℕ, zero, suc, ◌<◌, ◌≤◌, ◌^◌, Bool, true, false, not, ◌&&◌, ◌||◌, List, ◌≡◌, eqb, length, take, drop, get_or}
-use Rattle.unicode.specs.Unicode.{tail}
+use Rattle.utf8.specs.Unicode.{tail}
 use Rattle.rules.specs.Basics.{choose, is, at, is_blank, is_opener, is_closer}
 use Rattle.rules.specs.Scan.{Cell, is_str}
 use Rattle.rules.specs.SplitOperation.{Ops, OpStep, ends_operand, token, escape, bracket, atom_len, starts_pair}

@@ -1,4 +1,6 @@
 // top_level_ops: where the binary operators outside every bracket are, byte by byte.
+#![tactic(auto)]
+
 ghost use Rattle.std.specs.Prelude.{◌≡◌, not, ◌&&◌, ◌||◌, ◌<◌, eqb, length, get_or, drop, take};
 ghost use Rattle.rules.specs.Basics.{choose, is, at, first_is};
 ghost use Rattle.rules.specs.Scan.{cell};
@@ -316,7 +318,7 @@ pub fn plain_step(s: OpState, k: u8, c: u8) -> PlainStep
     requires { FewBrackets s }
     ensures { (t : OpStep) → step_or result.token t result.after ≡ byte_or t (ops_of s) (cell c (class_of k)) }
 {
-    if unicode::is_tail(c) {
+    if utf8::is_tail(c) {
         return PlainStep {
             token: false,
             after: s,

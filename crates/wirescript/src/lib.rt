@@ -1,4 +1,6 @@
 // What a host links.
+#![tactic(auto)]
+
 pub mod caret;
 pub mod changes;
 pub mod checking;
@@ -16,7 +18,7 @@ ghost use Rattle.call.specs.FormatAnswered.{FormatAnswered};
 ghost use Rattle.text_kind.specs.KindAnswered.{KindAnswered};
 
 use rules::{Answer, Kind, OptionNumbers};
-use unicode::CharColumn;
+use utf8::CharColumn;
 
 // What the character at a line and a column, both from 0, is part of: 0 code, 1 a string, 2 a comment.
 #[unsafe(no_mangle)]

@@ -1,5 +1,7 @@
 // Inner functions for the runs beside the Rust's own: no part of what a host links. Each checks what the function asks,
 // and answers zeros where it does not hold.
+#![tactic(auto)]
+
 ghost use Rattle.std.specs.Prelude.{◌≡◌, ◌+◌, ◌*◌, ◌≤◌, length};
 ghost use Rattle.rules.specs.Brackets.{levels};
 ghost use Rattle.brackets.specs.Stack.{entry_size, stacked};

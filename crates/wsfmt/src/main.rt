@@ -1,4 +1,6 @@
 // Formats standard input, up to 4,096 bytes, with the default options.
+#![tactic(auto)]
+
 use libc::{STDIN_FILENO, STDOUT_FILENO};
 use wsfmt_run::{MAX_INPUT, MAX_TEXT};
 

@@ -1,6 +1,8 @@
 // Does what wsfmt does for each source of a stored list, in which a zero byte ends each. For each it writes the
 // length of what wsfmt writes, LF, and that. `stdin` and `stdout` are what `program sources` and `program written`
 // of rust/runs print: the Rust's texts, and the refusals that 01 names.
+#![tactic(auto)]
+
 ghost use Rattle.std.specs.Prelude.{◌≤◌, ◌<◌, length};
 
 use libc::{STDIN_FILENO, STDOUT_FILENO};

@@ -11,8 +11,8 @@ use mathlib.Core.Path.{◌≡◌, sym, ap, ◌∙◌}
 use borrow.Author.Tests.{lt-ltb, le-ltb}
 use lib.Dec.{ltb}
 use lib.ListN.{length, replicate, length-append}
-use Rattle.unicode.specs.Unicode.{well_formed, prefix_len}
-use Rattle.unicode.proofs.Tests.{by_test}
+use Rattle.utf8.specs.Unicode.{well_formed, prefix_len}
+use Rattle.utf8.proofs.Tests.{by_test}
 use Rattle.buffer.specs.Buffer.{over, Wrote, Appended}
 use Rattle.buffer.proofs.OverLaws.{over_nil}
 use Rattle.buffer.proofs.WriteLaws.{appended_append}

@@ -1,6 +1,6 @@
 -- 01's program: from the bytes of standard input to the bytes written.
 use Rattle.std.specs.Prelude.{ℕ, ◌≤◌, not, List, ◌++◌, ◌≡◌, ltb, length}
-use Rattle.unicode.specs.Unicode.{well_formed, prefix_len}
+use Rattle.utf8.specs.Unicode.{well_formed, prefix_len}
 use Rattle.decimal.specs.Decimal.{digits}
 use Rattle.rules.specs.Basics.{choose, codes}
 use Rattle.rules.specs.Assembly.{default_text}

@@ -1,4 +1,6 @@
 // What the program does: from the bytes that it read to the bytes that it writes.
+#![tactic(auto)]
+
 ghost use Rattle.std.specs.Prelude.{◌≤◌, length};
 ghost use Rattle.buffer.specs.Buffer.{Wrote};
 ghost use Rattle.wsfmt_run.specs.Program.{max_input, refusal, Printed};

@@ -1,4 +1,4 @@
-use Rattle.unicode.proofs.Tests.{tests}
+use Rattle.utf8.proofs.Tests.{tests}
 use Rattle.basics.proofs.is_blank.Statement.{statement}
 use Rattle.basics.proofs.is_blank.Tie as tie
 

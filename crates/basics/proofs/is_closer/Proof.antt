@@ -1,4 +1,4 @@
-use Rattle.unicode.proofs.Tests.{tests}
+use Rattle.utf8.proofs.Tests.{tests}
 use Rattle.basics.proofs.is_closer.Statement.{statement}
 use Rattle.basics.proofs.is_closer.Tie as tie
 

@@ -1,10 +1,10 @@
 -- `any_turn` meets its contract: the invariant is `NoneAmong`, `any` is false only if none of the first k bytes may
--- turn; its laws are in unicode/proofs/Among.antt.
+-- turn; its laws are in utf8/proofs/Among.antt.
 use borrow.Author.Rules.{rules}
 use native.Mathlib.Omega.{arith}
 use Prim.Native.Nat.{◌-◌}
-use Rattle.unicode.specs.Places.{NoneAmong}
-use Rattle.unicode.proofs.Among.{among_start, among_more, among_all}
+use Rattle.utf8.specs.Places.{NoneAmong}
+use Rattle.utf8.proofs.Among.{among_start, among_more, among_all}
 use Rattle.brackets.specs.Stack.{turns_at}
 use Rattle.brackets.proofs.any_turn.Statement.{statement}
 use Rattle.brackets.proofs.any_turn.Tie as tie

@@ -1,5 +1,5 @@
 use Rattle.rules.specs.Basics.{choose}
-use Rattle.unicode.proofs.Tests.{tests}
+use Rattle.utf8.proofs.Tests.{tests}
 use Rattle.brackets.proofs.level_of.Statement.{statement}
 use Rattle.brackets.proofs.level_of.Tie as tie
 

@@ -1,9 +1,9 @@
--- `differ` meets its contract: the invariant is `NoneAmong`, whose laws are in unicode/proofs/Among.antt.
+-- `differ` meets its contract: the invariant is `NoneAmong`, whose laws are in utf8/proofs/Among.antt.
 use Prim.Native.Nat.{◌-◌}
 use native.Mathlib.Omega.{arith}
 use mathlib.Core.Path.{refl}
-use Rattle.unicode.specs.Places.{NoneAmong}
-use Rattle.unicode.proofs.Among.{among_start, among_more, among_all}
+use Rattle.utf8.specs.Places.{NoneAmong}
+use Rattle.utf8.proofs.Among.{among_start, among_more, among_all}
 use Rattle.compare.specs.Common.{differ_at}
 use Rattle.compare.proofs.differ.Statement.{statement}
 use Rattle.compare.proofs.differ.Tie as tie

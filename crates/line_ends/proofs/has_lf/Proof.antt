@@ -1,9 +1,9 @@
--- `has_lf` meets its contract: the invariant is `NoneAmong`, whose laws are in unicode/proofs/Among.antt.
+-- `has_lf` meets its contract: the invariant is `NoneAmong`, whose laws are in utf8/proofs/Among.antt.
 use Prim.Native.Nat.{◌-◌}
 use native.Mathlib.Omega.{arith}
 use mathlib.Core.Path.{refl}
-use Rattle.unicode.specs.Places.{NoneAmong}
-use Rattle.unicode.proofs.Among.{among_start, among_more, among_all}
+use Rattle.utf8.specs.Places.{NoneAmong}
+use Rattle.utf8.proofs.Among.{among_start, among_more, among_all}
 use Rattle.line_ends.specs.LineEnds.{lf_at}
 use Rattle.line_ends.proofs.has_lf.Statement.{statement}
 use Rattle.line_ends.proofs.has_lf.Tie as tie

@@ -5,7 +5,7 @@ use native.Mathlib.Omega.{arith}
 use Prim.Native.Nat.{◌-◌, ◌≤◌}
 use lib.Count.{count_trailing_zeros, trailing_le}
 use lib.ListN.{length}
-use Rattle.unicode.proofs.Masks.{masked_within}
+use Rattle.utf8.proofs.Masks.{masked_within}
 use Rattle.line_ends.specs.LineEnds.{Ending}
 use Rattle.line_ends.proofs.LineCuts.{ending_start, ending_here, ending_then, ending_line}
 use Rattle.line_ends.proofs.Masks.{mask_none, line_mask}

@@ -1,11 +1,11 @@
 -- `any_comment` meets its contract: the invariant is `NoneAmong`, `any` is false only if none of the first k class
--- bytes is a `//` comment's; its laws are in unicode/proofs/Among.antt.
+-- bytes is a `//` comment's; its laws are in utf8/proofs/Among.antt.
 use borrow.Author.Rules.{rules}
 use Prim.Native.Nat.{◌-◌}
 use native.Mathlib.Omega.{arith}
 use mathlib.Core.Path.{refl}
-use Rattle.unicode.specs.Places.{NoneAmong}
-use Rattle.unicode.proofs.Among.{among_start, among_more, among_all}
+use Rattle.utf8.specs.Places.{NoneAmong}
+use Rattle.utf8.proofs.Among.{among_start, among_more, among_all}
 use Rattle.scan.specs.CodeEnd.{comment_at}
 use Rattle.scan.proofs.any_comment.Statement.{statement}
 use Rattle.scan.proofs.any_comment.Tie as tie

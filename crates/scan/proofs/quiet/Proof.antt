@@ -1,11 +1,11 @@
 -- `quiet` meets its contract: the invariant is `NoneAmong`, `any` is false only if none of the first k bytes starts
--- something in code; its laws are in unicode/proofs/Among.antt.
+-- something in code; its laws are in utf8/proofs/Among.antt.
 use borrow.Author.Rules.{rules}
 use native.Mathlib.Omega.{arith}
 use Prim.Native.Nat.{◌-◌}
 use mathlib.Core.Bool.{not-not}
-use Rattle.unicode.specs.Places.{NoneAmong}
-use Rattle.unicode.proofs.Among.{among_start, among_more, among_all}
+use Rattle.utf8.specs.Places.{NoneAmong}
+use Rattle.utf8.proofs.Among.{among_start, among_more, among_all}
 use Rattle.scan.specs.Stretch.{starts_at}
 use Rattle.scan.proofs.quiet.Statement.{statement}
 use Rattle.scan.proofs.quiet.Tie as tie

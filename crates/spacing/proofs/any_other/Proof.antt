@@ -1,10 +1,10 @@
 -- `any_other` meets its contract: the invariant is `NoneAmong`, `any` is false only if the first k bytes are spaces;
--- its laws are in unicode/proofs/Among.antt.
+-- its laws are in utf8/proofs/Among.antt.
 use borrow.Author.Rules.{rules}
 use Prim.Native.Nat.{◌-◌}
 use mathlib.Core.Path.{refl}
-use Rattle.unicode.specs.Places.{NoneAmong}
-use Rattle.unicode.proofs.Among.{among_start, among_more, among_all}
+use Rattle.utf8.specs.Places.{NoneAmong}
+use Rattle.utf8.proofs.Among.{among_start, among_more, among_all}
 use Rattle.spacing.specs.Respaced.{other_at}
 use Rattle.spacing.proofs.any_other.Statement.{statement}
 use Rattle.spacing.proofs.any_other.Tie as tie

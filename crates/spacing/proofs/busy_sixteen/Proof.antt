@@ -1,9 +1,9 @@
 -- `busy_sixteen` meets its contract: the invariant is `NoneAmong`, `any` is false only if none of the first k bytes is
--- busy; its laws are in unicode/proofs/Among.antt.
+-- busy; its laws are in utf8/proofs/Among.antt.
 use borrow.Author.Rules.{rules}
 use Prim.Native.Nat.{◌-◌}
-use Rattle.unicode.specs.Places.{NoneAmong}
-use Rattle.unicode.proofs.Among.{among_start, among_more, among_all}
+use Rattle.utf8.specs.Places.{NoneAmong}
+use Rattle.utf8.proofs.Among.{among_start, among_more, among_all}
 use Rattle.spacing.specs.Respaced.{busy_at}
 use Rattle.spacing.proofs.busy_sixteen.Statement.{statement}
 use Rattle.spacing.proofs.busy_sixteen.Tie as tie

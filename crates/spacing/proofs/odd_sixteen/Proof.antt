@@ -1,9 +1,9 @@
 -- `odd_sixteen` meets its contract: the invariant is `NoneAmong`, `any` is false only if none of the first k bytes is
--- odd; its laws are in unicode/proofs/Among.antt.
+-- odd; its laws are in utf8/proofs/Among.antt.
 use borrow.Author.Rules.{rules}
 use Prim.Native.Nat.{◌-◌}
-use Rattle.unicode.specs.Places.{NoneAmong}
-use Rattle.unicode.proofs.Among.{among_start, among_more, among_all}
+use Rattle.utf8.specs.Places.{NoneAmong}
+use Rattle.utf8.proofs.Among.{among_start, among_more, among_all}
 use Rattle.spacing.specs.Respaced.{odd_at}
 use Rattle.spacing.proofs.odd_sixteen.Statement.{statement}
 use Rattle.spacing.proofs.odd_sixteen.Tie as tie

@@ -1,9 +1,9 @@
--- `count_units` meets its contract: the invariant is `SumScan`, whose laws are in proofs/Bytewise.antt of unicode.
+-- `count_units` meets its contract: the invariant is `SumScan`, whose laws are in proofs/Bytewise.antt of utf8.
 use Prim.Native.Nat.{◌-◌}
 use borrow.Author.Rules.{rules}
 use lib.ListN.{length}
-use Rattle.unicode.specs.Places.{units_of}
-use Rattle.unicode.proofs.Bytewise.{SumScan, sum_turn, width_end}
+use Rattle.utf8.specs.Places.{units_of}
+use Rattle.utf8.proofs.Bytewise.{SumScan, sum_turn, width_end}
 use Rattle.split.proofs.MeasureLaws.{ascii_sum}
 use Rattle.split.proofs.count_units.Statement.{statement}
 use Rattle.split.proofs.count_units.Tie as tie

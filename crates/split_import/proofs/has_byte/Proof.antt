@@ -1,9 +1,9 @@
--- `has_byte` meets its contract: the invariant is `NoneAmong`, whose laws are in unicode/proofs/Among.antt.
+-- `has_byte` meets its contract: the invariant is `NoneAmong`, whose laws are in utf8/proofs/Among.antt.
 use native.Mathlib.Omega.{arith}
 use Prim.Native.Nat.{◌-◌}
 use mathlib.Core.Path.{refl}
-use Rattle.unicode.specs.Places.{NoneAmong}
-use Rattle.unicode.proofs.Among.{among_start, among_more, among_all}
+use Rattle.utf8.specs.Places.{NoneAmong}
+use Rattle.utf8.proofs.Among.{among_start, among_more, among_all}
 use Rattle.split_import.specs.Names.{byte_at}
 use Rattle.split_import.proofs.has_byte.Statement.{statement}
 use Rattle.split_import.proofs.has_byte.Tie as tie

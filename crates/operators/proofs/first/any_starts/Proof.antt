@@ -1,10 +1,10 @@
 -- `any_starts` meets its contract: the invariant is `NoneAmong`, `any` is false only if no operator starts at the first
--- k bytes; its laws are in unicode/proofs/Among.antt.
+-- k bytes; its laws are in utf8/proofs/Among.antt.
 use borrow.Author.Rules.{rules}
 use native.Mathlib.Omega.{arith}
 use Prim.Native.Nat.{◌-◌}
-use Rattle.unicode.specs.Places.{NoneAmong}
-use Rattle.unicode.proofs.Among.{among_start, among_more, among_all}
+use Rattle.utf8.specs.Places.{NoneAmong}
+use Rattle.utf8.proofs.Among.{among_start, among_more, among_all}
 use Rattle.operators.specs.First.{operator_starts_at}
 use Rattle.operators.proofs.first.any_starts.Statement.{statement}
 use Rattle.operators.proofs.first.any_starts.Tie as tie

@@ -1,0 +1,166 @@
+-- Laws for a scan of a list s of bytes: at a place i, n bytes on.
+--     step         the character at i, where a sequence of n bytes starts there
+--     ascii        a byte below 80 hex is a character
+--     stops        where no sequence starts, nothing is read
+--     at_end       at the end nothing is left
+--     wf_sequence  in a well-formed rest a sequence starts
+--     AsciiRun     the loops over bytes that are ASCII
+use Prim.Native.Nat.{ℕ, zero, suc, ◌+◌, ◌-◌, ◌<◌, ◌≤◌}
+use mathlib.Core.Bool.{Bool, false}
+use mathlib.Core.List.{List, [], ◌∷◌, ◌++◌}
+use mathlib.Core.Logic.{◌⊎◌, inl, inr}
+use mathlib.Core.Path.{◌≡◌, refl, sym, ap, ◌∙◌, subst}
+use native.Mathlib.Omega.{arith}
+use native.Mathlib.Nat.{le_refl, add-zero}
+use borrow.Author.Tests.{ltb-false}
+use lib.ListN.{length, get_or, drop, length-drop, length-append}
+use lib.Seq.{drop-drop, drop-length, get_or-drop}
+use Rattle.utf8.specs.Unicode.{encode_char, encode, size, seq_len, code_of, seq_at, code_at, chars, decode, prefix_len, WellFormed}
+use Rattle.utf8.specs.Places.{Step, SeqAt, NoneAmong, high_at, AsciiRun}
+use Rattle.utf8.proofs.Tests.{split}
+use Rattle.utf8.proofs.Table.{encode_char_1, len_1, code_1, lead_2, lead_3, lead_4}
+use Rattle.utf8.proofs.Decode.{decode_step, decode_stop, Read, read, wf_step}
+
+pub step : (s : List ℕ) (i n : ℕ) → i < length s → n ≡ seq_at (drop i s) → 0 < n → Step s i n
+unfolding encode
+step s i zero h e p = absurd (omega arith)
+step s i (suc n) h e p =
+    let k : 0 < length (drop i s) = simp length-drop (omega arith) in
+    let r : Read (drop i s) (suc n) = read (drop i s) n k (sym e) in
+    let d : drop (suc n) (drop i s) ≡ drop (i + suc n) s = drop-drop (suc n) i s in
+    let c : decode (drop i s) ≡ code_at (drop i s) ∷ decode (drop (i + suc n) s) = decode_step (drop i s) n k (sym e) ∙ rw d in
+    let b : drop i s ≡ encode_char (code_at (drop i s)) ++ drop (i + suc n) s = r.split ∙ rw d in
+    record {
+      some = omega arith;
+      fits = omega (arith, r.fits, length-drop i s);
+      scalar = r.scalar;
+      chars = c;
+      bytes = b;
+      long = r.long;
+      well = λ w. wf_step (code_at (drop i s)) (drop (i + suc n) s) r.scalar (subst WellFormed b w);
+      prefix = ap size c ∙ length-append (encode_char (code_at (drop i s))) (encode (decode (drop (i + suc n) s))) ∙ rw r.long;
+    }
+
+pub ascii : (s : List ℕ) (i : ℕ) → get_or s i 0 < 0x80 → (1 ≡ seq_at (drop i s)) × (code_at (drop i s) ≡ get_or s i 0)
+ascii s i h =
+    let g : get_or (drop i s) 0 0 ≡ get_or s i 0 = get_or-drop i s 0 0 ∙ rw add-zero in
+    (sym (len_1 _ _ _ _ (omega arith)), code_1 _ _ _ _ (omega arith) ∙ g)
+
+pub ascii_step : (s : List ℕ) (i : ℕ) → i < length s → get_or s i 0 < 0x80 → Step s i 1
+ascii_step s i h b = step s i 1 h (ascii s i b).0 (omega arith)
+
+-- a character that is not the ASCII character d, by its byte
+pub not_ascii : (s : List ℕ) (i n d : ℕ) → Step s i n → d < 0x80 → (get_or s i 0 ≡ d → ⊥) → code_at (drop i s) ≡ d → ⊥
+not_ascii s i n d t l f e =
+    let k : encode_char (code_at (drop i s)) ≡ d ∷ [] = ap encode_char e ∙ encode_char_1 d l in
+    let b : drop i s ≡ d ∷ drop (i + n) s = t.bytes ∙ ap (λ (m : List ℕ). m ++ drop (i + n) s) k in
+    f (sym (get_or-drop i s 0 0 ∙ rw add-zero) ∙ ap (λ (m : List ℕ). get_or m 0 0) b)
+
+pub stops : (s : List ℕ) → 0 ≡ seq_at s → prefix_len s ≡ 0
+unfolding encode
+stops s e = ap size (decode_stop s (sym e))
+
+pub wf_sequence : (s : List ℕ) → 0 < length s → WellFormed s → 0 < seq_at s
+wf_sequence s h w = go (seq_at s) refl
+  where
+    go : (n : ℕ) → seq_at s ≡ n → 0 < n
+    go zero e = absurd (omega (arith, stops s (sym e), ap length w))
+    go (suc n) e = omega arith
+
+pub at_end : (s : List ℕ) (i : ℕ) → i ≡ length s → prefix_len (drop i s) ≡ 0
+unfolding chars encode
+at_end s i e = rw (e, drop-length)
+
+-- the size of the character at i, by its first byte, in a well-formed rest
+module _ (s : List ℕ) (i : ℕ) (h : i < length s) (w : WellFormed (drop i s)) where
+  sized : (n : ℕ) → 0 < n → (0 < seq_at (drop i s) → seq_at (drop i s) ≡ n) → Step s i n
+  sized n p f = step s i n h (sym (f (wf_sequence (drop i s) (simp length-drop (omega arith)) w))) p
+
+  first : get_or (drop i s) 0 0 ≡ get_or s i 0
+  first = get_or-drop i s 0 0 ∙ rw add-zero
+
+  pub size_2 : 0x80 ≤ get_or s i 0 → get_or s i 0 < 0xE0 → Step s i 2
+  size_2 a b = sized 2 (omega arith) (lead_2 _ _ _ _ (omega (arith, first)) (omega (arith, first)))
+
+  pub size_3 : 0xE0 ≤ get_or s i 0 → get_or s i 0 < 0xF0 → Step s i 3
+  size_3 a b = sized 3 (omega arith) (lead_3 _ _ _ _ (omega (arith, first)) (omega (arith, first)))
+
+  pub size_4 : 0xF0 ≤ get_or s i 0 → Step s i 4
+  size_4 a = sized 4 (omega arith) (lead_4 _ _ _ _ (omega (arith, first)))
+
+-- ---- what a call that reads a sequence tells its caller, and the scan for the longest well-formed prefix
+
+pub seq_at_law : (s : List ℕ) (i r : ℕ) → i < length s → r ≡ seq_at (drop i s) → SeqAt s i r
+seq_at_law s i zero h e = record { is = e; fits = omega arith }
+seq_at_law s i (suc r) h e = record { is = e; fits = (step s i (suc r) h e (omega arith)).fits }
+
+-- the four bytes at i, as calls and a read return them
+module _ (s : List ℕ) (i b1 b2 b3 r : ℕ) (e1 : b1 ≡ get_or s (i + 1) 0) (e2 : b2 ≡ get_or s (i + 2) 0) (e3 : b3 ≡ get_or s (i + 3) 0) where
+  pub seq_at_bytes : i < length s → r ≡ seq_len (get_or s i 0) b1 b2 b3 → SeqAt s i r
+  seq_at_bytes h e = seq_at_law s i r h (e ∙ simp (e1, e2, e3, get_or-drop, add-zero))
+
+  pub code_at_bytes : r ≡ code_of (get_or s i 0) b1 b2 b3 → r ≡ code_at (drop i s)
+  code_at_bytes e = e ∙ simp (e1, e2, e3, get_or-drop, add-zero)
+
+pub record PrefixScan (s : List ℕ) (i : ℕ) : Type 0 where
+  pub fits : i ≤ length s
+  pub sum : prefix_len s ≡ i + prefix_len (drop i s)
+
+pub prefix_begin : (s : List ℕ) → PrefixScan s 0
+prefix_begin s = record { fits = omega arith; sum = omega arith }
+
+pub prefix_on : (s : List ℕ) (i n : ℕ) → PrefixScan s i → i < length s → SeqAt s i n → (n ≡ 0 → ⊥) → PrefixScan s (i + n)
+prefix_on s i n q h r z = let t : Step s i n = step s i n h r.is (omega arith) in record { fits = omega arith; sum = omega arith }
+
+pub prefix_ascii : (s : List ℕ) (i : ℕ) → PrefixScan s i → i < length s → get_or s i 0 < 0x80 → PrefixScan s (i + 1)
+prefix_ascii s i q h b = let t : Step s i 1 = ascii_step s i h b in record { fits = omega arith; sum = omega arith }
+
+pub prefix_stop : (s : List ℕ) (i n : ℕ) → PrefixScan s i → SeqAt s i n → n ≡ 0 → i ≡ prefix_len s
+prefix_stop s i n q r z = omega (arith, stops (drop i s) (sym z ∙ r.is))
+
+pub prefix_end : (s : List ℕ) (i : ℕ) → PrefixScan s i → length s ≤ i → i ≡ prefix_len s
+prefix_end s i q h = let e : i ≡ length s = omega arith in omega (arith, at_end s i e)
+
+-- ---- a run of ASCII
+
+pub run_start : (s : List ℕ) (at : ℕ) → at ≤ length s → AsciiRun s at at
+run_start s at h = record { from = le_refl at; within = h; ascii = λ j l. absurd (omega arith) }
+
+module _ {s : List ℕ} {at i : ℕ} (r : AsciiRun s at i) where
+  run_more : (n : ℕ) → i + n ≤ length s → ((j : ℕ) → j < n → get_or s (i + j) 0 < 0x80) → AsciiRun s at (i + n)
+  run_more n h a =
+      record {
+        from = omega (arith, r.from);
+        within = h;
+        ascii = λ j l. go j l (split (at + j) i);
+      }
+    where
+      go : (j : ℕ) → at + j < i + n → (at + j < i) ⊎ (i ≤ at + j) → get_or s (at + j) 0 < 0x80
+      go j l (inl h') = r.ascii j h'
+      go j l (inr h') = let e : i + (at + j - i) ≡ at + j = omega arith in rw e at (a (at + j - i) (omega arith))
+
+  pub run_one : i < length s → get_or s i 0 ≤ 127 → AsciiRun s at (i + 1)
+  run_one h b = run_more 1 (omega arith) (λ j l. let e : i + j ≡ i = omega arith in rw e (omega arith))
+
+  pub run_block : (n : ℕ) {any : Bool} → i + n ≤ length s → NoneAmong (high_at s) i n any → any ≡ false → AsciiRun s at (i + n)
+  run_block n h a e = run_more n h (λ j l. let b = ltb-false 127 (get_or s (i + j) 0) (a.none e j l) in omega arith)
+
+pub run_then_law : {s : List ℕ} {at i r : ℕ} → AsciiRun s at i → AsciiRun s i r → AsciiRun s at r
+run_then_law {s} {at} {i} {r} a b = record { from = omega (arith, a.from, b.from); within = b.within; ascii = λ j l. go j l (split (at + j) i) }
+  where
+    go : (j : ℕ) → at + j < r → (at + j < i) ⊎ (i ≤ at + j) → get_or s (at + j) 0 < 0x80
+    go j l (inl h) = a.ascii j h
+    go j l (inr h) = let e : i + (at + j - i) ≡ at + j = omega arith in rw e at (b.ascii (at + j - i) (omega arith))
+
+-- the prefix goes on past it
+prefix_past : (s : List ℕ) (i n : ℕ) → PrefixScan s i → i + n ≤ length s → ((j : ℕ) → j < n → get_or s (i + j) 0 < 0x80) → PrefixScan s (i + n)
+prefix_past s i zero q h a = rw add-zero q
+prefix_past s i (suc n) q h a =
+    let r = prefix_past s i n q (omega arith) (λ j l. a j (omega arith)) in
+    let e : i + n + 1 ≡ i + suc n = omega arith in
+    rw e at (prefix_ascii s (i + n) r (omega arith) (a n (omega arith)))
+
+pub prefix_run : (s : List ℕ) (i r : ℕ) → PrefixScan s i → AsciiRun s i r → PrefixScan s r
+prefix_run s i r q a =
+    let e : i + (r - i) ≡ r = omega (arith, a.from) in
+    rw e at (prefix_past s i (r - i) q (omega (arith, a.within)) (λ j l. a.ascii j (omega arith)))

@@ -1,0 +1,45 @@
+-- `utf8::char_count` meets its contract: the invariant is `SumScan`, whose laws are in proofs/Bytewise.antt.
+-- Assumes nothing.
+use Prim.Native.Nat.{◌-◌}
+use borrow.Author.Rules.{rules}
+use lib.ListN.{length}
+use Rattle.utf8.specs.Places.{lead_of}
+use Rattle.utf8.proofs.Bytewise.{SumScan, sum_begin, sum_turn, count_end}
+use Rattle.utf8.proofs.char_count.Statement.{statement}
+use Rattle.utf8.proofs.char_count.Tie as tie
+
+abbrev invariant-loop : tie.invariant-loop
+invariant-loop s n₀ i₀ n i = SumScan lead_of 1 s n i
+
+abbrev decreases-loop : tie.decreases-loop
+decreases-loop s n₀ i₀ n i = length s - i
+
+loop-holds : tie.Need-loop-init invariant-loop decreases-loop
+loop-holds c = sum_begin _ _ _
+
+shared-slice-read-lead : tie.Need-shared-slice-read-lead invariant-loop decreases-loop
+shared-slice-read-lead c = search rules
+
+lead-requires : tie.Need-lead-requires invariant-loop decreases-loop
+lead-requires c κs = search rules
+
+add-n : tie.Need-overflow-add-n invariant-loop decreases-loop
+add-n c = search rules
+
+add-i : tie.Need-overflow-add-i invariant-loop decreases-loop
+add-i c = search rules
+
+loop-less : tie.Need-loop-smaller invariant-loop decreases-loop
+loop-less c = search rules
+
+loop-again : tie.Need-loop-preserved invariant-loop decreases-loop
+loop-again c = search (rules, sum_turn)
+
+returns : tie.Need-returns invariant-loop decreases-loop
+returns c = search (rules, count_end)
+
+pub char-count-spec : {M : Type 1} → statement M
+char-count-spec =
+    tie.close
+    (tie.spec invariant-loop decreases-loop loop-holds shared-slice-read-lead lead-requires add-n add-i loop-less loop-again
+    returns)

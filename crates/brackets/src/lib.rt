@@ -21,7 +21,7 @@ pub const ENTRY: usize = 3;
 
 // How many brackets are open, how many of them added a level, and the number of the source line that is read. The stack
 // itself lies in scratch.
-#[derive(Drop)]
+#[derive(Clone, Copy)]
 pub struct Nesting {
     pub depth: usize,
     pub levels: usize,
@@ -29,7 +29,7 @@ pub struct Nesting {
 }
 
 // The same within a line. Its net added count is levels less from; esc tells whether the next character is escaped.
-#[derive(Drop)]
+#[derive(Clone, Copy)]
 pub struct Tally {
     pub depth: usize,
     pub levels: usize,

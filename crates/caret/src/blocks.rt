@@ -6,7 +6,7 @@ ghost use Rattle.rules.specs.Demand3.{is_kept};
 ghost use Rattle.caret.specs.Blocks.{Counts, BlockAt, Before};
 
 // Whether 16 bytes are there and are ASCII; how many of them then pass the test.
-#[derive(Drop)]
+#[derive(Clone, Copy)]
 pub struct Block {
     pub plain: bool,
     pub n: u8,

@@ -9,7 +9,7 @@ ghost use Rattle.changes.specs.Passing.{SameBytes, Behind, LastKept, Passed};
 ghost use Rattle.changes.specs.Writing.{Noted, GapPair, NotedGap, Written};
 
 // At the byte `at` of the source, `removed` bytes give way to the `put` bytes at the byte `from` of the text.
-#[derive(Drop)]
+#[derive(Clone, Copy)]
 pub struct Change {
     pub at: usize,
     pub removed: usize,

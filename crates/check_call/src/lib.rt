@@ -16,14 +16,14 @@ use options::FormatOptions;
 use rules::{OptionNumbers, Refusal, Verdict};
 
 // What a check finds: whether the text would equal the source, and how many lines were read.
-#[derive(Drop)]
+#[derive(Clone, Copy)]
 pub struct Finding {
     pub yes: bool,
     pub read: usize,
 }
 
 // What a check comes to.
-#[derive(Drop)]
+#[derive(Clone, Copy)]
 pub enum CheckOutcome {
     Found(Finding),
     Refused(Refusal),

@@ -3,7 +3,7 @@
 
 // The answer in numbers, for a host: whether the text would equal the source, 1 or 0, and how many lines were read.
 #[repr(C)]
-#[derive(Drop)]
+#[derive(Clone, Copy)]
 pub struct CheckAnswer {
     pub refusal: u64,
     pub place: u64,

@@ -7,7 +7,7 @@ ghost use Rattle.config_lines.specs.Kinds.{KindOf};
 use crate::eq_at;
 
 // Nothing: blank, a comment, or none of the kinds. A pair has the place of its first `=`.
-#[derive(Drop)]
+#[derive(Clone, Copy)]
 pub enum LineKind {
     Nothing,
     Header,

@@ -2,7 +2,7 @@
 ghost use Rattle.config_lines.specs.Whole.{WholeOf};
 
 // A value that is a whole number of at most 4,294,967,295, or is none.
-#[derive(Drop)]
+#[derive(Clone, Copy)]
 pub enum Whole {
     None,
     Is(usize),

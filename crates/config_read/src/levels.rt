@@ -10,7 +10,7 @@ ghost use Rattle.config_read.specs.Refusals.{AllAccepted};
 use rules::Resolved;
 
 // Whether a directory's text counts, and where the path relative to the directory starts.
-#[derive(Drop)]
+#[derive(Clone, Copy)]
 pub struct Level {
     pub used: bool,
     pub from: usize,
@@ -98,7 +98,7 @@ pub fn apply(p: &[u8], l: Level, text: &[u8], old: Resolved) -> Resolved
 }
 
 // The levels of four texts, the nearest first, and the one beyond them.
-#[derive(Drop)]
+#[derive(Clone, Copy)]
 pub struct Levels {
     pub first: Level,
     pub second: Level,

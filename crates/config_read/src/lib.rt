@@ -37,7 +37,7 @@ fn unset() -> Resolved
 
 // What the four nearest texts tell: the worst rank of the path and of them, and where that is 0, where the path starts
 // without its leading slash, and their levels.
-#[derive(Drop)]
+#[derive(Clone, Copy)]
 pub struct Near {
     pub rank: u64,
     pub top: usize,
@@ -45,7 +45,7 @@ pub struct Near {
 }
 
 // What the four farther texts tell: their worst rank, and where no rank is above 0, the values that they give.
-#[derive(Drop)]
+#[derive(Clone, Copy)]
 pub struct Far {
     pub rank: u64,
     pub values: Resolved,

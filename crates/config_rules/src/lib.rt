@@ -5,7 +5,7 @@ use rules::Resolved;
 
 // Between brackets, before a character: the one before it, where it may start a range; whether a `-` follows that one;
 // an escape.
-#[derive(Drop)]
+#[derive(Clone, Copy)]
 pub struct Named {
     pub low: u32,
     pub some: bool,
@@ -14,7 +14,7 @@ pub struct Named {
 }
 
 // What reading comes to.
-#[derive(Drop)]
+#[derive(Clone, Copy)]
 pub enum ConfigOutcome {
     Refused(u64),
     Given(Resolved),
@@ -23,7 +23,7 @@ pub enum ConfigOutcome {
 // The same in numbers, for a host: those that `wirescript_editorconfig` takes. Where a value is unset, the tab width or
 // off, its number is 0.
 #[repr(C)]
-#[derive(Drop)]
+#[derive(Clone, Copy)]
 pub struct ConfigAnswer {
     pub refusal: u64,
     pub place: u64,

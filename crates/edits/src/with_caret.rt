@@ -7,7 +7,7 @@ ghost use Rattle.edits.specs.CaretAnswered.{CaretAnswered};
 use rules::{OptionNumbers, Refusal};
 
 // Where the caret stands in the source: a line and a character column, both from 0.
-#[derive(Drop)]
+#[derive(Clone, Copy)]
 pub struct Caret {
     pub line: u64,
     pub column: u64,
@@ -15,7 +15,7 @@ pub struct Caret {
 
 // The answer of a formatting call, with the caret's line and column in the text.
 #[repr(C)]
-#[derive(Drop)]
+#[derive(Clone, Copy)]
 pub struct CaretAnswer {
     pub refusal: u64,
     pub place: u64,

@@ -8,7 +8,7 @@ use rules::{OptionNumbers, Refusal};
 
 // The answer of a formatting call, with the number of changes.
 #[repr(C)]
-#[derive(Drop)]
+#[derive(Clone, Copy)]
 pub struct ChangesAnswer {
     pub refusal: u64,
     pub place: u64,

@@ -90,7 +90,7 @@ pub fn trimmed_takes_else(line: &[u8]) -> bool
 
 // The facts of a line that an `else` may join: its length trimmed at the end, whether it then ends in `}`, and whether,
 // trimmed at the start, it starts with `else`.
-#[derive(Drop)]
+#[derive(Clone, Copy)]
 pub struct LineFacts {
     pub trimmed: usize,
     pub brace: bool,

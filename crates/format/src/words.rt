@@ -120,7 +120,7 @@ pub fn continues(line: &[u8], closers: usize, after_brace: bool) -> bool
 }
 
 // Which of `in `, `out `, `var ` a line starts with.
-#[derive(Drop)]
+#[derive(Clone, Copy)]
 pub enum Declaration {
     Nothing,
     In,

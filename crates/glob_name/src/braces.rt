@@ -3,7 +3,7 @@ ghost use Rattle.std.specs.Prelude.{◌≡◌, [], ◌<◌, length};
 ghost use Rattle.glob_name.specs.Braces.{right_event, left_event, marked, Happened, mark_right, mark_left};
 
 // Whether a brace or comma is lone, and how many braces are open after it.
-#[derive(Drop)]
+#[derive(Clone, Copy)]
 pub struct Event {
     pub lone: bool,
     pub depth: usize,

@@ -6,7 +6,7 @@ ghost use Rattle.glob_name.specs.Read.{Counted, rest_more, range_more, longer, E
 ghost use Rattle.glob_name.specs.Read.{slash_read, single_read, opened_read, TokenRead, RawKinds};
 
 // A token's kind, how many more characters it has, and whether a `/**/` goes on behind it.
-#[derive(Drop)]
+#[derive(Clone, Copy)]
 pub struct Read {
     pub kind: u8,
     pub more: usize,

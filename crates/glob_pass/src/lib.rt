@@ -9,7 +9,7 @@ ghost use Rattle.glob_pass.specs.Kinds.{plain_at, held};
 ghost use Rattle.glob_pass.specs.Pass.{value_at, Braced, Passed};
 
 // What is known at a place: the value at the next place, the old values here and there, and the value of a range.
-#[derive(Drop)]
+#[derive(Clone, Copy)]
 pub struct Known {
     pub next: bool,
     pub old: bool,
@@ -18,7 +18,7 @@ pub struct Known {
 }
 
 // How many braces are open, and the value at the place.
-#[derive(Drop)]
+#[derive(Clone, Copy)]
 pub struct Level {
     pub depth: usize,
     pub next: bool,

@@ -11,14 +11,14 @@ use group_open::{enters, lower, second_takes, stops};
 use group_rules::{CLOSER, OPENER};
 
 // The text's length so far, and the stack's height.
-#[derive(Drop)]
+#[derive(Clone, Copy)]
 pub struct Spot {
     pub length: usize,
     pub top: usize,
 }
 
 // The same, and the place of the byte that is next.
-#[derive(Drop)]
+#[derive(Clone, Copy)]
 pub struct Forth {
     pub at: usize,
     pub length: usize,

@@ -15,14 +15,14 @@ use group_rules::{CLOSER, OPENER};
 pub const MAX_DEPTH: usize = 64;
 
 // The place that the opened text has reached, and the stack's height.
-#[derive(Drop)]
+#[derive(Clone, Copy)]
 pub struct Spot {
     pub at: usize,
     pub top: usize,
 }
 
 // The same, and how many codes are left to read.
-#[derive(Drop)]
+#[derive(Clone, Copy)]
 pub struct Back {
     pub left: usize,
     pub at: usize,

@@ -9,7 +9,7 @@ use text::Written;
 use utf8::ByteOffset;
 
 // What later lines ask of a line: which declaration it is, and whether it ends in `}`.
-#[derive(Drop)]
+#[derive(Clone, Copy)]
 pub struct Prev {
     pub declares: Declaration,
     pub brace: bool,
@@ -26,7 +26,7 @@ pub fn prev_of(line: &[u8]) -> Prev
 // Of the open brackets it keeps how many there are and how many of them added a level, with the number of the line that
 // is read; they lie in scratch. Of the previous line it keeps what later lines ask. carry stands before ignore, since
 // the gap after the three bytes is then one byte, and is copied in a register.
-#[derive(Drop)]
+#[derive(Clone, Copy)]
 pub struct Formatter {
     pub text: Written,
     pub nesting: Nesting,

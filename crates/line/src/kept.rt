@@ -106,7 +106,7 @@ fn protected_after(ignore: Ignore, before: usize, now: usize) -> Ignore
 
 // Of a line that is kept: how many of its bytes are written, what it leaves open, the ending that the text's lines get,
 // and the unit of the scratch's regions.
-#[derive(Drop)]
+#[derive(Clone, Copy)]
 pub struct Kept {
     pub shown: usize,
     pub after: Carry,

@@ -2,7 +2,7 @@
 use rules::{LineEnding, PrintWidth, Strengths};
 
 // The print width, the ruler tab, the ending that the text's lines get, and the strengths of the operators.
-#[derive(Drop)]
+#[derive(Clone, Copy)]
 pub struct Style {
     pub width: PrintWidth,
     pub ruler: u8,
@@ -11,7 +11,7 @@ pub struct Style {
 }
 
 // What every line is formatted with: the style, and the unit of the scratch's regions, the source's length.
-#[derive(Drop)]
+#[derive(Clone, Copy)]
 pub struct Setup {
     pub style: Style,
     pub unit: usize,

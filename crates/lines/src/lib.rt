@@ -9,7 +9,7 @@ use line_ends::{line_end, without_cr};
 use step::line_step;
 
 // The record after the lines that were read, and whether these are all.
-#[derive(Drop)]
+#[derive(Clone, Copy)]
 pub struct LinesRead {
     pub st: Formatter,
     pub all: bool,

@@ -7,7 +7,7 @@ ghost use Rattle.options.specs.Endings.{Block, Counted};
 use rules::LineEnding;
 
 // The line feeds of a block, those after a carriage return among them, and the block's last byte.
-#[derive(Drop)]
+#[derive(Clone, Copy)]
 pub struct Endings {
     pub lf: u8,
     pub crlf: u8,

@@ -20,7 +20,7 @@ pub mod numbers;
 pub mod strengths;
 
 // The options of a call. One level of indentation is the first `used` bytes of `indent`; the rest are zeros.
-#[derive(Drop)]
+#[derive(Clone, Copy)]
 pub struct FormatOptions {
     pub indent: [u8; FormatOptions::MAX_INDENT],
     pub used: usize,
@@ -32,7 +32,7 @@ pub struct FormatOptions {
 }
 
 // What a setting step hands back: the changed options, or, refused, the options as they were.
-#[derive(Drop)]
+#[derive(Clone, Copy)]
 pub struct Changed {
     pub refused: bool,
     pub options: FormatOptions,

@@ -8,19 +8,19 @@ use crate::FormatOptions;
 use rules::{EndOfLine, FinalNewline, LineEnding, PrintWidth};
 
 // What a number names: a choice, or nothing.
-#[derive(Drop)]
+#[derive(Clone, Copy)]
 pub enum WidthNamed {
     Choice(PrintWidth),
     Nothing,
 }
 
-#[derive(Drop)]
+#[derive(Clone, Copy)]
 pub enum EndingNamed {
     Choice(EndOfLine),
     Nothing,
 }
 
-#[derive(Drop)]
+#[derive(Clone, Copy)]
 pub enum NewlineNamed {
     Choice(FinalNewline),
     Nothing,

@@ -30,7 +30,7 @@ use utf8::Utf16Column;
 
 // How a line is put into the text: in which style, how many leading closers it has and how many levels are left after
 // these popped, what the next line asks of it, and whether it is a marker.
-#[derive(Drop)]
+#[derive(Clone, Copy)]
 pub struct Placing {
     pub style: Style,
     pub closers: usize,
@@ -40,7 +40,7 @@ pub struct Placing {
 }
 
 // The text after the line, and what the line adds to the counts.
-#[derive(Drop)]
+#[derive(Clone, Copy)]
 pub struct Placed {
     pub text: Written,
     pub imports: usize,
@@ -48,7 +48,7 @@ pub struct Placed {
 }
 
 // How a line is laid out: whole, or broken at a width.
-#[derive(Drop)]
+#[derive(Clone, Copy)]
 pub enum Fit {
     Whole,
     Broken(usize),
@@ -56,7 +56,7 @@ pub enum Fit {
 
 // Where a line is put: the text so far, the level of the line's indent, whether an empty newest line goes first, and
 // the width that the line may be broken at.
-#[derive(Drop)]
+#[derive(Clone, Copy)]
 pub struct Slot {
     pub text: Written,
     pub level: usize,

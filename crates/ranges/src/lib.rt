@@ -13,7 +13,7 @@ use glob_name::read::number_len;
 
 // An end of a range: whether a minus stands before it, where its digits end, and how many there are without leading
 // zeros.
-#[derive(Drop)]
+#[derive(Clone, Copy)]
 pub struct End {
     pub minus: bool,
     pub end: usize,
@@ -21,7 +21,7 @@ pub struct End {
 }
 
 // A range, and how many slots it has.
-#[derive(Drop)]
+#[derive(Clone, Copy)]
 pub struct Range {
     pub first: End,
     pub second: End,
@@ -29,7 +29,7 @@ pub struct Range {
 }
 
 // Whether a number of the path is in the range, as it stands and behind a minus.
-#[derive(Drop)]
+#[derive(Clone, Copy)]
 pub struct Near {
     pub plain: bool,
     pub minus: bool,

@@ -13,7 +13,7 @@ use rules::{OptionNumbers, Strengths};
 mod list;
 
 // How far the list is read, how many sources stood there, and how many of them gave another text.
-#[derive(Drop)]
+#[derive(Clone, Copy)]
 pub struct Progress {
     pub at: usize,
     pub sources: usize,

@@ -2,7 +2,7 @@
 #![tactic(auto)]
 
 // What a character of a line is part of.
-#[derive(Drop)]
+#[derive(Clone, Copy)]
 pub enum Class {
     Code,
     Str,
@@ -12,7 +12,7 @@ pub enum Class {
 }
 
 // What is still open at the end of a line; a block comment with its depth.
-#[derive(Drop)]
+#[derive(Clone, Copy)]
 pub enum Carry {
     Code,
     Block(u32),
@@ -21,7 +21,7 @@ pub enum Carry {
 
 // Where in a line a character stands. The bools say which quote ends a string: `"` if true, else `'`.
 // Interp and Inner are inside `${..}`, at a depth of braces; Inner is a string in it.
-#[derive(Drop)]
+#[derive(Clone, Copy)]
 pub enum Mode {
     Code,
     Quoted(bool),
@@ -33,7 +33,7 @@ pub enum Mode {
 }
 
 // Characters that are read together: how many are left, their class, and the mode after them.
-#[derive(Drop)]
+#[derive(Clone, Copy)]
 pub struct Mark {
     pub more: usize,
     pub class: Class,
@@ -41,7 +41,7 @@ pub struct Mark {
 }
 
 // What spacing has just read, in code: a backslash, a comma, a space, or anything else.
-#[derive(Drop)]
+#[derive(Clone, Copy)]
 pub enum Gap {
     Nothing,
     Escape,
@@ -51,14 +51,14 @@ pub enum Gap {
 
 // What a marker protects: nothing, the next line that is not blank, or a block up to and with the first line that
 // leaves so many brackets open or fewer.
-#[derive(Drop)]
+#[derive(Clone, Copy)]
 pub enum Ignore {
     Nothing,
     NextLine,
     Block(usize),
 }
 
-#[derive(Drop)]
+#[derive(Clone, Copy)]
 pub enum LineEnding {
     Lf,
     Crlf,
@@ -71,14 +71,14 @@ impl LineEnding {
 }
 
 // The line ending of the text: kept, or one of the two.
-#[derive(Drop)]
+#[derive(Clone, Copy)]
 pub enum EndOfLine {
     Kept,
     Set(LineEnding),
 }
 
 // The print width: none, or a number of UTF-16 columns.
-#[derive(Drop)]
+#[derive(Clone, Copy)]
 pub enum PrintWidth {
     Off,
     Columns(usize),
@@ -89,7 +89,7 @@ impl PrintWidth {
 }
 
 // Whether the text ends in a line ending: if the source does, always, or never.
-#[derive(Drop)]
+#[derive(Clone, Copy)]
 pub enum FinalNewline {
     AsSource,
     Always,
@@ -98,7 +98,7 @@ pub enum FinalNewline {
 
 // The strengths of the operators, 4 bits for each, the most significant of a byte first, in the order of document 01's
 // tightness list; then four zero bits. 0 means never break there.
-#[derive(Drop)]
+#[derive(Clone, Copy)]
 pub struct Strengths {
     pub table: [u8; Strengths::LENGTH],
 }
@@ -117,7 +117,7 @@ impl Strengths {
 // Options as a host gives them in numbers, beside the bytes of its indent. width_set: 0 no print width, 1 the width
 // given. line_ending: 0 kept, 1 LF, 2 CRLF. final_newline: 0 as the source, 1 always, 2 never. ruler_tab: 0 a tab is
 // one column, else how far apart the ruler's tab stops are.
-#[derive(Drop)]
+#[derive(Clone, Copy)]
 pub struct OptionNumbers {
     pub width_set: u64,
     pub width: u64,
@@ -137,7 +137,7 @@ impl OptionNumbers {
 }
 
 // The refusals, with what their places need.
-#[derive(Drop)]
+#[derive(Clone, Copy)]
 pub enum Refusal {
     SourceTooLong,
     BadOption,
@@ -154,14 +154,14 @@ pub enum Refusal {
 }
 
 // What the tests of a call come to.
-#[derive(Drop)]
+#[derive(Clone, Copy)]
 pub enum Verdict {
     Accepted,
     Refused(Refusal),
 }
 
 // What a formatting call comes to: the text's length, imports split, blank names and open brackets; or a refusal.
-#[derive(Drop)]
+#[derive(Clone, Copy)]
 pub enum Outcome {
     Formatted(usize, usize, usize, usize),
     Refused(Refusal),
@@ -169,7 +169,7 @@ pub enum Outcome {
 
 // The same in numbers, for a host.
 #[repr(C)]
-#[derive(Drop)]
+#[derive(Clone, Copy)]
 pub struct Answer {
     pub refusal: u64,
     pub place: u64,
@@ -180,7 +180,7 @@ pub struct Answer {
 }
 
 // What an editor is told of a place.
-#[derive(Drop)]
+#[derive(Clone, Copy)]
 pub enum TextKind {
     Code,
     Str,
@@ -188,14 +188,14 @@ pub enum TextKind {
 }
 
 // What asking for a text kind comes to.
-#[derive(Drop)]
+#[derive(Clone, Copy)]
 pub enum KindOutcome {
     Found(TextKind),
     Refused(Refusal),
 }
 
 #[repr(C)]
-#[derive(Drop)]
+#[derive(Clone, Copy)]
 pub struct Kind {
     pub refusal: u64,
     pub place: u64,
@@ -203,34 +203,34 @@ pub struct Kind {
 }
 
 // The values of .editorconfig, resolved.
-#[derive(Drop)]
+#[derive(Clone, Copy)]
 pub enum IndentStyle {
     Unset,
     Tabs,
     Spaces,
 }
 
-#[derive(Drop)]
+#[derive(Clone, Copy)]
 pub enum IndentSize {
     Unset,
     UseTabWidth,
     Value(usize),
 }
 
-#[derive(Drop)]
+#[derive(Clone, Copy)]
 pub enum TabWidth {
     Unset,
     Value(usize),
 }
 
-#[derive(Drop)]
+#[derive(Clone, Copy)]
 pub enum MaxLineLen {
     Unset,
     Off,
     Value(usize),
 }
 
-#[derive(Drop)]
+#[derive(Clone, Copy)]
 pub enum ConfigEnding {
     Unset,
     Lf,
@@ -238,13 +238,13 @@ pub enum ConfigEnding {
     Cr,
 }
 
-#[derive(Drop)]
+#[derive(Clone, Copy)]
 pub enum InsertFinalNewline {
     Unset,
     Value(bool),
 }
 
-#[derive(Drop)]
+#[derive(Clone, Copy)]
 pub struct Resolved {
     pub style: IndentStyle,
     pub size: IndentSize,

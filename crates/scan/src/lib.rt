@@ -28,7 +28,7 @@ pub const BLOCK_COMMENT: u8 = 3;
 pub const PREFAB: u8 = 4;
 
 // A place in the line, and what is open there.
-#[derive(Drop)]
+#[derive(Clone, Copy)]
 struct Stop {
     at: usize,
     carry: Carry,

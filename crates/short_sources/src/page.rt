@@ -10,7 +10,7 @@ use short_texts::Place;
 const ROOM: usize = 512;
 
 // A page: how many bytes of it are filled, the place of the next source, and whether there may be one.
-#[derive(Drop)]
+#[derive(Clone, Copy)]
 pub struct Page {
     pub size: usize,
     pub next: Place,

@@ -11,14 +11,14 @@ ghost use Rattle.short_texts.specs.Steps.{Numbered, place_at, begin, given, ende
 const TEXTS: usize = 3257437;
 
 // The state: how many texts came before.
-#[derive(Drop)]
+#[derive(Clone, Copy)]
 pub struct Place {
     pub number: usize,
 }
 
 // What a step gives: a text, as the front of an array with zeros after it, and the state after it; or, with more false,
 // the end and the state as it was.
-#[derive(Drop)]
+#[derive(Clone, Copy)]
 pub struct Given {
     pub more: bool,
     pub size: usize,

@@ -17,7 +17,7 @@ use basics::{is_blank, is_closer};
 use rules::Gap;
 
 // The length of the text so far, and what its last character was.
-#[derive(Drop)]
+#[derive(Clone, Copy)]
 pub struct Respaced {
     pub len: usize,
     pub gap: Gap,

@@ -14,7 +14,7 @@ use utf8::Utf16Column;
 
 // How a line is laid out: at which level, in which width, with which ruler tab, and where it is broken the line ending
 // and the strengths of the operators.
-#[derive(Drop)]
+#[derive(Clone, Copy)]
 pub struct Layout {
     pub level: usize,
     pub max: Utf16Column,
@@ -126,7 +126,7 @@ pub fn over_wide(s: Layout, indent: &[u8], line: &[u8]) -> bool
 }
 
 // A part of a slice: where it starts and ends.
-#[derive(Drop)]
+#[derive(Clone, Copy)]
 pub struct Part {
     pub start: usize,
     pub end: usize,
@@ -147,7 +147,7 @@ pub fn trim_part(s: &[u8], a: usize, e: usize) -> Part
 }
 
 // Where a line starts, and the next place after it.
-#[derive(Drop)]
+#[derive(Clone, Copy)]
 pub struct NewLine {
     pub start: usize,
     pub next: usize,

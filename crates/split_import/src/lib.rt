@@ -25,7 +25,7 @@ use utf8::Utf16Column;
 
 // The lines that an import is split into, written: the next place, where the last line starts, and how many blank names
 // are dropped.
-#[derive(Drop)]
+#[derive(Clone, Copy)]
 pub struct ImportLines {
     pub next: usize,
     pub last: usize,
@@ -33,7 +33,7 @@ pub struct ImportLines {
 }
 
 // What splitting an import comes to; where it stays whole, nothing is written.
-#[derive(Drop)]
+#[derive(Clone, Copy)]
 pub enum ImportSplit {
     Whole,
     Split(ImportLines),
@@ -203,7 +203,7 @@ fn name_column(ruler: u8, from: Utf16Column, name: &[u8]) -> Utf16Column
 }
 
 // The lines of names so far: the place reached, the column reached on the newest of them, and whether there is one.
-#[derive(Drop)]
+#[derive(Clone, Copy)]
 pub struct Filled {
     pub at: usize,
     pub column: Utf16Column,
@@ -264,7 +264,7 @@ fn add_name(
 }
 
 // The lines of names, written: the next place, and how many pieces are blank.
-#[derive(Drop)]
+#[derive(Clone, Copy)]
 pub struct NameLines {
     pub next: usize,
     pub blanks: usize,

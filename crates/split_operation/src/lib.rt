@@ -21,14 +21,14 @@ use split::{Layout, NewLine, over_wide, trim_part, write_line};
 use utf8::Utf16Column;
 
 // The line whole, or the lines that it is broken into, written: the last of them.
-#[derive(Drop)]
+#[derive(Clone, Copy)]
 pub enum OperationSplit {
     Whole(NewLine),
     Broken(NewLine),
 }
 
 // How a line is broken: its layout, the table of its strengths as an array, and how many rounds are left.
-#[derive(Drop)]
+#[derive(Clone, Copy)]
 pub struct Breaking {
     pub level: usize,
     pub max: Utf16Column,
@@ -49,7 +49,7 @@ fn line_of(r: OperationSplit) -> NewLine
 
 // What is left of a line: the strength that it is broken at, where its second piece starts, and the line that was
 // written last.
-#[derive(Drop)]
+#[derive(Clone, Copy)]
 pub struct Rest {
     pub strength: u8,
     pub cut: Cut,

@@ -144,7 +144,7 @@ pub fn is_keyword(s: &[u8]) -> bool
 }
 
 // Where the word that ends here starts, and whether a keyword ended just before.
-#[derive(Drop)]
+#[derive(Clone, Copy)]
 pub struct Word {
     pub start: usize,
     pub found: bool,
@@ -173,7 +173,7 @@ fn word_step(line: &[u8], start: usize, i: usize, k: u8) -> Word
 }
 
 // A place before which a line is cut, or its length, and the state after the byte there.
-#[derive(Drop)]
+#[derive(Clone, Copy)]
 pub struct Cut {
     pub place: usize,
     pub after: OpState,
@@ -193,7 +193,7 @@ fn is_looser(a: u8, b: u8) -> bool
 }
 
 // The strength that a line is broken at, or 0 where it isn't, and the first operator of that strength.
-#[derive(Drop)]
+#[derive(Clone, Copy)]
 pub struct Break {
     pub strength: u8,
     pub cut: Cut,
@@ -222,7 +222,7 @@ pub fn unbroken() -> Break
 }
 
 // Where the word that ends here starts, and the depth of brackets and 1; 0 once the line is not to be broken.
-#[derive(Drop)]
+#[derive(Clone, Copy)]
 pub struct Span {
     pub start: usize,
     pub depth: usize,

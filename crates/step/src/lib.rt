@@ -30,7 +30,7 @@ use place::Placing;
 use rules::{Carry, Ignore};
 
 // A marker in the line's comment: none, one that stands alone, one with code before it.
-#[derive(Drop)]
+#[derive(Clone, Copy)]
 pub enum Marker {
     Nothing,
     Alone,
@@ -39,7 +39,7 @@ pub enum Marker {
 
 // The line that goes on: the source's own, or the respaced one, `len` bytes in scratch; where its class bytes start,
 // and what it leaves open.
-#[derive(Drop)]
+#[derive(Clone, Copy)]
 pub struct Going {
     pub own: bool,
     pub len: usize,
@@ -48,7 +48,7 @@ pub struct Going {
 }
 
 // What a line leaves open, and its marker.
-#[derive(Drop)]
+#[derive(Clone, Copy)]
 pub struct Scanned {
     pub after: Carry,
     pub marker: Marker,
@@ -56,7 +56,7 @@ pub struct Scanned {
 
 // What a line of code is formatted with: the style, the unit of the scratch's regions, whether the line is a marker,
 // and how it goes on.
-#[derive(Drop)]
+#[derive(Clone, Copy)]
 pub struct LineSetup {
     pub style: Style,
     pub unit: usize,
@@ -66,7 +66,7 @@ pub struct LineSetup {
 
 // A line that was put into the text: the record that `place` gives, its leading closers, what is open after these
 // popped, and what the next line asks of it.
-#[derive(Drop)]
+#[derive(Clone, Copy)]
 pub struct Put {
     pub st: Formatter,
     pub closers: usize,

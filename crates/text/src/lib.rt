@@ -17,7 +17,7 @@ use rules::LineEnding;
 use utf8::ByteOffset;
 
 // The newest line of the text: none, an empty one, one that can take an else, any other.
-#[derive(Drop)]
+#[derive(Clone, Copy)]
 pub enum Last {
     Nothing,
     Empty,
@@ -28,7 +28,7 @@ pub enum Last {
 // Lengths of the text: as it is (the place reached), with its newest line trimmed at its end, without its last empty
 // lines, and without its newest line if that is empty; whether no line is left then; and the length of what is settled:
 // no later line changes it.
-#[derive(Drop)]
+#[derive(Clone, Copy)]
 pub struct Written {
     pub at: ByteOffset,
     pub cut: usize,
@@ -177,7 +177,7 @@ fn full_of(long: usize, full: usize, at: usize) -> usize
 
 // How a line is added: the ending before it; whether an empty newest line goes first; the levels of its indent; its
 // length trimmed at its end, without the indent; whether it can take an else.
-#[derive(Drop)]
+#[derive(Clone, Copy)]
 pub struct Adding {
     pub ending: LineEnding,
     pub drops: bool,

@@ -18,7 +18,7 @@ use text_kind::{class_kind, in_interpolation, line_at};
 
 // What a host is told.
 #[repr(C)]
-#[derive(Drop)]
+#[derive(Clone, Copy)]
 pub struct Kinds {
     pub refusal: u64,
     pub place: u64,
@@ -27,7 +27,7 @@ pub struct Kinds {
 
 // How far a source is read: where the next line starts, how many lines stand before it, what is open there, the first
 // entry of the list that has no answer yet, and up to where the source is known to be ASCII from there.
-#[derive(Drop)]
+#[derive(Clone, Copy)]
 pub struct Progress {
     pub at: usize,
     pub lines: u64,
@@ -40,7 +40,7 @@ pub struct Progress {
 const UNTOLD: u8 = 3;
 
 // The kind at a place, or UNTOLD, and how many bytes at the line's front are known to be no `$`.
-#[derive(Drop)]
+#[derive(Clone, Copy)]
 struct Told {
     kind: u8,
     clear: usize,
@@ -280,7 +280,7 @@ fn kinds_by_class(
 }
 
 // A line's number, what is open before it, and how many of its first bytes are known to be ASCII.
-#[derive(Drop)]
+#[derive(Clone, Copy)]
 pub struct Before {
     pub number: u64,
     pub carry: Carry,

@@ -17,7 +17,7 @@ use rules::Strengths;
 
 // Before a byte: the brackets opened and closed so far, whether an operand ends here, an escape, and how many more
 // bytes belong to the token before.
-#[derive(Drop)]
+#[derive(Clone, Copy)]
 pub struct OpState {
     pub opened: usize,
     pub closed: usize,
@@ -27,7 +27,7 @@ pub struct OpState {
 }
 
 // The strength of the operator that starts at a byte, 0 for none; and the state after the byte.
-#[derive(Drop)]
+#[derive(Clone, Copy)]
 pub struct OpFound {
     pub strength: u8,
     pub after: OpState,
@@ -35,7 +35,7 @@ pub struct OpFound {
 
 // A token of code: its strength if it is an operator, else 0; whether an operand ends with it; and how many more bytes
 // it has.
-#[derive(Drop)]
+#[derive(Clone, Copy)]
 pub struct Token {
     pub strength: u8,
     pub operand: bool,
@@ -43,7 +43,7 @@ pub struct Token {
 }
 
 // The state after a byte; or a token may start at the byte, and `token` says so.
-#[derive(Drop)]
+#[derive(Clone, Copy)]
 pub struct PlainStep {
     pub token: bool,
     pub after: OpState,

@@ -10,15 +10,15 @@ ghost use Rattle.utf8.specs.Masks.{weight_of, Masked};
 ghost use Rattle.utf8.specs.Places.{TrimmedStart, TrimmedEnd, Column, units_of, lead_of};
 
 // A place in a slice: how many bytes stand before it.
-#[derive(Drop)]
+#[derive(Clone, Copy)]
 pub struct ByteOffset(pub usize);
 
 // A place in a text: how many characters stand before it.
-#[derive(Drop)]
+#[derive(Clone, Copy)]
 pub struct CharColumn(pub usize);
 
 // A length or a place in a text, in UTF-16 units.
-#[derive(Drop)]
+#[derive(Clone, Copy)]
 pub struct Utf16Column(pub usize);
 
 // The byte at i, or 0 past the end.

@@ -12,7 +12,7 @@ use rules::{
 // The values in numbers. style: 0 unset, 1 tabs, 2 spaces. size_kind: 0 unset, 1 the tab width, 2 size. tab_set: 0
 // unset, 1 tab. max_kind: 0 unset, 1 off, 2 max. ending: 0 unset, 1 LF, 2 CRLF, 3 CR. newline: 0 unset, 1 false, 2
 // true.
-#[derive(Drop)]
+#[derive(Clone, Copy)]
 pub struct ConfigNumbers {
     pub style: u64,
     pub size_kind: u64,

@@ -16,7 +16,7 @@ use rules::{OptionNumbers, Refusal, Strengths};
 // What a setting step gives: refusal 0 and the changed options, their indent's bytes in the lent output; or a refusal
 // with its place, the other numbers 0 and the output all zeros.
 #[repr(C)]
-#[derive(Drop)]
+#[derive(Clone, Copy)]
 pub struct Settings {
     pub refusal: u64,
     pub place: u64,

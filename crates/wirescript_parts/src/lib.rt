@@ -12,7 +12,7 @@ use rules::Carry;
 
 // What is open: 0 code, 1 a block comment of this depth, 2 a prefab.
 #[repr(C)]
-#[derive(Drop)]
+#[derive(Clone, Copy)]
 pub struct Open {
     pub carry: u64,
     pub depth: u64,

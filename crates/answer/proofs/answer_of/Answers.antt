@@ -1,0 +1,7 @@
+use Rattle.answer.proofs.answer_of.Goals as goal
+
+pub returns-in-Formatted : goal.returns-in-Formatted
+returns-in-Formatted c = rw c.in-Formatted.is
+
+pub returns-in-Refused : goal.returns-in-Refused
+returns-in-Refused c = rw (c.in-Refused.is, c.before.number_of_lem.ensures, c.place_of.ensures)

@@ -1,0 +1,11 @@
+-- `kept_at` meets its contract: the invariant is `Counted`, whose laws are in proofs/BlockLaws.antt.
+use Prim.Native.Nat.{◌-◌}
+use Rattle.rules.specs.Demand3.{is_kept}
+use Rattle.caret.specs.Blocks.{Counted}
+use Rattle.caret.proofs.blocks.kept_at.Given as goal
+
+abbrev pub invariant-loop-k : goal.invariant-loop-k
+invariant-loop-k l = Counted is_kept l.s l.at l.k l.high l.n
+
+abbrev pub decreases-loop-k : goal.decreases-loop-k
+decreases-loop-k l = 16 - l.k

@@ -1,0 +1,22 @@
+use Rattle.check_call.proofs.CheckLaws.{found_early, found_late}
+use Rattle.compare.proofs.WriterLaws.{keeps_start}
+use native.Mathlib.Omega.{arith}
+use Rattle.check_call.proofs.check_with.Goals as goal
+
+pub read_lines-lines-requires : goal.read_lines-lines-requires
+read_lines-lines-requires c =
+    record { passed = c.requires.passed; starts = record { none = keeps_start _ _ (omega arith) (omega (arith, c.requires.passed.limit)) } }
+
+pub end_text-n-requires : goal.end_text-n-requires
+end_text-n-requires c =
+    let d = c.read_lines-lines.ensures.done c.if-lines.true in
+    omega (arith, d.small.ordered.full, d.small.ordered.below, d.small.at)
+
+pub returns-then-lines : goal.returns-then-lines
+returns-then-lines c =
+    found_late _ _ c.args.chosen _ _ _ _ c.requires.passed c.ending_of-ending.ensures _ c.read_lines-lines.ensures c.if-lines.true _ c.has_last_ending-last.ensures _ _
+    c.end_text-n.ensures _ c.equals.ensures
+
+pub returns : goal.returns
+returns c =
+    found_early _ _ c.args.chosen _ _ _ _ c.requires.passed c.ending_of-ending.ensures _ c.read_lines-lines.ensures c.if-lines.false

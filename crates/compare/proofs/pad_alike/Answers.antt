@@ -1,0 +1,24 @@
+use borrow.Author.Rules.{rules}
+use native.Mathlib.Omega.{arith}
+use Rattle.buffer.proofs.RepeatLaws.{length_times}
+use Rattle.compare.proofs.CommonLaws.{starts_untold, starts_none, starts_times}
+use Rattle.compare.proofs.WriterLaws.{pad_some}
+use Rattle.compare.proofs.pad_alike.Goals as goal
+
+pub overflow_mul-n : goal.overflow_mul-n
+overflow_mul-n c = let a = c.args in omega (arith, length_times a.levels a.indent.now)
+
+pub returns-then-n-eq0 : goal.returns-then-n-eq0
+returns-then-n-eq0 c = search (rules, starts_none)
+
+pub returns-then-model-lt16 : goal.returns-then-model-lt16
+returns-then-model-lt16 c = search (rules, starts_untold)
+
+pub bounds-indent-0 : goal.bounds-indent-0
+bounds-indent-0 c = let a = c.args in pad_some a.indent.now a.levels c.if-n-eq0.false
+
+pub returns-then-all_are : goal.returns-then-all_are
+returns-then-all_are c = search (rules, starts_times)
+
+pub returns : goal.returns
+returns c = search (rules, starts_untold)

@@ -1,0 +1,9 @@
+use Rattle.gaps.proofs.ScanLaws.{unkept_comma, unkept_white}
+use borrow.Author.Rules.{rules}
+use Rattle.gaps.proofs.unkept_at.Goals as goal
+
+pub returns-then-s-i-eq44 : goal.returns-then-s-i-eq44
+returns-then-s-i-eq44 c = search (rules, unkept_comma)
+
+pub returns : goal.returns
+returns c = search (rules, unkept_white)

@@ -1,0 +1,19 @@
+use borrow.Author.Rules.{rules}
+use Prim.Native.Nat.{◌-◌}
+use Rattle.group_read.proofs.LoopLaws.{reads_start, reads_room, reads_next, reads_refused, reads_end}
+use Rattle.group_read.proofs.read.Goals as goal
+
+pub loop-i-init : goal.loop-i-init
+loop-i-init c = search (rules, reads_start)
+
+pub read_byte-q-requires : goal.read_byte-q-requires
+read_byte-q-requires c = search (rules, reads_room)
+
+pub returns-then-q-ne0 : goal.returns-then-q-ne0
+returns-then-q-ne0 c = search (rules, reads_refused)
+
+pub loop-i-preserved : goal.loop-i-preserved
+loop-i-preserved c = search (rules, reads_next)
+
+pub returns : goal.returns
+returns c = search (rules, reads_end)

@@ -1,0 +1,12 @@
+use borrow.Author.Tests.{lt-ltb, le-ltb}
+use Rattle.rules.specs.Basics.{choose}
+use Rattle.rules.specs.Line.{block_after}
+use Rattle.line.proofs.kept.block_after.Goals as goal
+
+pub returns-then-earlier-now : goal.returns-then-earlier-now
+unfolding block_after choose
+returns-then-earlier-now c = rw (lt-ltb _ _ c.if-earlier-now.true)
+
+pub returns : goal.returns
+unfolding block_after choose
+returns c = rw (le-ltb _ _ c.if-earlier-now.false)

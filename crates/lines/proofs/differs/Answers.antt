@@ -1,0 +1,9 @@
+use Rattle.lines.proofs.CheckLaws.{differs_told, differs_off}
+use borrow.Author.Rules.{rules}
+use Rattle.lines.proofs.differs.Goals as goal
+
+pub returns-then-checks : goal.returns-then-checks
+returns-then-checks c = search (rules, differs_told)
+
+pub returns : goal.returns
+returns c = search (rules, differs_off)

@@ -1,0 +1,9 @@
+use borrow.Author.Rules.{rules}
+use Rattle.spacing.proofs.KeptLaws.{kept_other, kept_char}
+use Rattle.spacing.proofs.kept_special.Goals as goal
+
+pub returns-then-class-i-ne0 : goal.returns-then-class-i-ne0
+returns-then-class-i-ne0 c = search (rules, kept_other)
+
+pub returns : goal.returns
+returns c = search (rules, kept_char)

@@ -1,0 +1,9 @@
+use borrow.Author.Rules.{rules}
+use Rattle.split_import.proofs.ImportLaws.{code_yes, code_no}
+use Rattle.split_import.proofs.code_is.Goals as goal
+
+pub returns-then-k-eq0 : goal.returns-then-k-eq0
+returns-then-k-eq0 c = search (rules, code_yes)
+
+pub returns : goal.returns
+returns c = search (rules, code_no)

@@ -1,0 +1,16 @@
+use borrow.Author.Rules.{rules}
+use Prim.Native.Nat.{◌-◌}
+use Rattle.split_import.proofs.NameLaws.{name_begin, name_more, name_found, name_end}
+use Rattle.split_import.proofs.name_len.Goals as goal
+
+pub loop-i-init : goal.loop-i-init
+loop-i-init c = name_begin _
+
+pub returns-then-s-i-eq44 : goal.returns-then-s-i-eq44
+returns-then-s-i-eq44 c = search (rules, name_found)
+
+pub loop-i-preserved : goal.loop-i-preserved
+loop-i-preserved c = search (rules, name_more)
+
+pub returns : goal.returns
+returns c = search (rules, name_end)

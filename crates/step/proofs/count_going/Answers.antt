@@ -1,0 +1,22 @@
+use native.Mathlib.Omega.{arith}
+use mathlib.Core.Path.{refl}
+use Rattle.step.proofs.GoingLaws.{count_room, own_length, counts_own, counts_spaced}
+use Rattle.step.proofs.count_going.Goals as goal
+
+pub scan_brackets-requires : goal.scan_brackets-requires
+scan_brackets-requires c =
+    let s1 = c.requires.line_room in
+    count_room _ _ _ _ _ _ s1.0 s1.1.0 s1.1.1.1.0 s1.1.1.1.1 (own_length _ _ _ _ s1.1.0 c.if-g.true)
+
+pub returns-then-g : goal.returns-then-g
+returns-then-g c =
+    counts_own _ _ _ _ _ _ _ _ c.requires.well_formed c.requires.goes c.requires.closers c.if-g.true c.scan_brackets.ensures
+
+pub scan_brackets_at-requires : goal.scan_brackets_at-requires
+scan_brackets_at-requires c =
+    let s1 = c.requires.line_room in
+    (count_room _ _ _ _ _ _ s1.0 s1.1.0 s1.1.1.1.0 s1.1.1.1.1 refl, omega (arith, s1.1.0.most, s1.0.short))
+
+pub returns : goal.returns
+returns c =
+    counts_spaced _ _ _ _ _ _ _ _ c.requires.well_formed c.requires.goes c.requires.closers c.if-g.false c.scan_brackets_at.ensures

@@ -1,0 +1,11 @@
+use Rattle.rules.proofs.Choose.{picks}
+use Rattle.text.proofs.kind_of.Goals as goal
+
+pub returns-then-joins : goal.returns-then-joins
+returns-then-joins c = search picks depth 20
+
+pub returns-then-long-eq0 : goal.returns-then-long-eq0
+returns-then-long-eq0 c = search picks depth 20
+
+pub returns : goal.returns
+returns c = search picks depth 20

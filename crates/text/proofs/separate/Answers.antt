@@ -1,0 +1,9 @@
+use borrow.Author.Rules.{rules}
+use Rattle.text.proofs.StepLaws.{sep_none, sep_eol}
+use Rattle.text.proofs.separate.Goals as goal
+
+pub returns-then-first : goal.returns-then-first
+returns-then-first c = search (rules, sep_none)
+
+pub returns : goal.returns
+returns c = search (rules, sep_eol)

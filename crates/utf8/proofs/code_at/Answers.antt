@@ -1,0 +1,8 @@
+-- `utf8::code_at` meets its contract: the four bytes are those that the list from i starts with.
+-- Assumes nothing.
+use Rattle.utf8.proofs.Scan.{code_at_bytes}
+use borrow.Author.Rules.{rules}
+use Rattle.utf8.proofs.code_at.Goals as goal
+
+pub returns : goal.returns
+returns c = search (rules, code_at_bytes)

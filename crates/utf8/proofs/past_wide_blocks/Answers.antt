@@ -1,0 +1,23 @@
+use Prim.Native.Nat.{◌-◌}
+use borrow.Author.Rules.{rules}
+use native.Mathlib.Omega.{arith}
+use Rattle.utf8.proofs.Scan.{run_start, run_block}
+use Rattle.utf8.proofs.past_wide_blocks.Goals as goal
+
+pub loop-i-init : goal.loop-i-init
+loop-i-init c = search (rules, run_start)
+
+pub overflow_sub-s : goal.overflow_sub-s
+overflow_sub-s c = omega arith
+
+pub has_high_wide-requires : goal.has_high_wide-requires
+has_high_wide-requires c = omega arith
+
+pub overflow_add-i : goal.overflow_add-i
+overflow_add-i c = omega arith
+
+pub loop-i-smaller : goal.loop-i-smaller
+loop-i-smaller c = omega arith
+
+pub loop-i-preserved : goal.loop-i-preserved
+loop-i-preserved c = run_block c.loop-i.invariant 64 (omega arith) c.has_high_wide.ensures c.if-has_high_wide.false

@@ -1,0 +1,20 @@
+use Prim.Native.Nat.{◌-◌}
+use borrow.Author.Rules.{rules}
+use native.Mathlib.Omega.{arith}
+use Rattle.utf8.proofs.Scan.{prefix_begin, prefix_on, prefix_run, prefix_stop, prefix_end}
+use Rattle.utf8.proofs.well_formed_prefix.Goals as goal
+
+pub loop-i-init : goal.loop-i-init
+loop-i-init c = prefix_run _ _ _ (prefix_begin _) c.past_ascii-i.ensures
+
+pub returns-then-n-eq0 : goal.returns-then-n-eq0
+returns-then-n-eq0 c = search (rules, prefix_stop)
+
+pub loop-i-smaller : goal.loop-i-smaller
+loop-i-smaller c = omega (arith, c.past_ascii-i-in-loop-i.ensures.from, c.if-n-eq0.false)
+
+pub loop-i-preserved : goal.loop-i-preserved
+loop-i-preserved c = prefix_run _ _ _ (prefix_on _ _ _ c.loop-i.invariant (omega arith) c.seq_at-n.ensures c.if-n-eq0.false) c.past_ascii-i-in-loop-i.ensures
+
+pub returns : goal.returns
+returns c = search (rules, prefix_end)

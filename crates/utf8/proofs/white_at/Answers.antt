@@ -1,0 +1,17 @@
+-- `utf8::white_at` meets its contract: each answer is a law of proofs/TrimScan.antt.
+-- Assumes nothing.
+use Rattle.utf8.proofs.TrimScan.{white_ascii, other_ascii, white_more, other_more}
+use borrow.Author.Rules.{rules}
+use Rattle.utf8.proofs.white_at.Goals as goal
+
+pub returns-then-is_white : goal.returns-then-is_white
+returns-then-is_white c = search (rules, white_ascii)
+
+pub returns-then-b-lt128 : goal.returns-then-b-lt128
+returns-then-b-lt128 c = search (rules, other_ascii)
+
+pub returns-then-is_white-2 : goal.returns-then-is_white-2
+returns-then-is_white-2 c = search (rules, white_more)
+
+pub returns : goal.returns
+returns c = search (rules, other_more)

@@ -186,7 +186,7 @@ same_several t c b bs s e r hc hb hs i =
     let N = next_high t.more t.class m c b s (bs ++ encode s) r hc hb in
     let i' : Same (rest m) s = rw N.0 at i in
     record {
-      each = rw (E, scan_cons t b (bs ++ encode s), scan_cons t c s, encode_cells_cons, e, N.0, N.1, rest_scan m bs (encode s) hs, i'.each);
+      each = rw (E, scan_cons t b (bs ++ encode s), scan_cons t c s, encode_cells_cons, e, N.0, N.1, rest_scan m bs (encode s) hs, i'.each) (ap (λ (x : Mark). cell b (ordinary m) ∷ (label x.class bs ++ encode_cells (scan (rest m) s))) (sym N.0));
       last = rw (E, final_cons t b (bs ++ encode s), final_cons t c s, N.0, N.1, rest_final m bs (encode s) hs) i'.last;
     }
 

@@ -10,7 +10,7 @@ use lib.ListN.{length, take, drop}
 use borrow.Author.Tests.{eqb-true, eq-eqb, ne_eqb}
 use Rattle.rules.specs.Basics.{choose, is, codes, at, same, one_of, starts_with, first_is, is_blank, is_opener, is_closer, is_ident}
 use Rattle.rules.specs.Operators.{operators}
-use Rattle.rules.specs.Scan.{Cell, cell, chars_of, classify, scan, inCode}
+use Rattle.rules.specs.Scan.{Cell, cell, chars_of, classify, scan, in_code}
 use Rattle.rules.specs.Scan as Scan
 use Rattle.rules.specs.declared.Class.{Class}
 use Rattle.rules.specs.declared.Mode.{Mode}
@@ -75,8 +75,8 @@ Clean : List ℕ → Type 0
 Clean [] = Unit {0}
 Clean (c ∷ cs) = Clear c cs × Clean cs
 
-in_code_law : (c : ℕ) (cs : List ℕ) → Clear c cs → inCode (c ∷ cs) ≡ Scan.one Class.Code Mode.Code
-unfolding inCode starts_with
+in_code_law : (c : ℕ) (cs : List ℕ) → Clear c cs → in_code (c ∷ cs) ≡ Scan.one Class.Code Mode.Code
+unfolding in_code starts_with
 in_code_law c cs k =
     choose_false (eqb c 92 && true) _ _ (ap (λ (b : Bool). b && true) k.slash) ∙ choose_false (eqb c 34 && true) _ _ (ap (λ (b : Bool). b && true) k.double)
     ∙ choose_false (eqb c 39 && true) _ _ (ap (λ (b : Bool). b && true) k.single) ∙ choose_false (eqb c 47 && starts_with cs (47 ∷ [])) _ _ k.line

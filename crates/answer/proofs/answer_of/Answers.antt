@@ -4,4 +4,4 @@ pub returns-in-Formatted : goal.returns-in-Formatted
 returns-in-Formatted c = rw c.in-Formatted.is
 
 pub returns-in-Refused : goal.returns-in-Refused
-returns-in-Refused c = rw (c.in-Refused.is, c.before.number_of_lem.ensures, c.place_of.ensures)
+returns-in-Refused c = rw (c.in-Refused.is, c.number_of.ensures, c.place_of.ensures)

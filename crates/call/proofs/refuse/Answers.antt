@@ -4,4 +4,4 @@ use Rattle.call.proofs.refuse.Goals as goal
 
 -- first, so that a buffer that is not cleared is refused for what it holds
 pub returns : goal.returns
-returns c = refused_call _ _ _ _ _ c.zero.ensures c.before.before.before.before.List-open.ensures
+returns c = refused_call _ _ _ _ _ c.zero.ensures c.list_open.ensures

@@ -7,4 +7,4 @@ pub returns-in-NoText : goal.returns-in-NoText
 returns-in-NoText c = rw c.in-NoText.is
 
 pub returns-in-Refused : goal.returns-in-Refused
-returns-in-Refused c = rw (c.in-Refused.is, c.before.number_of_lem.ensures, c.place_of.ensures)
+returns-in-Refused c = rw (c.in-Refused.is, c.number_of.ensures, c.place_of.ensures)

@@ -8,9 +8,8 @@ use Rattle.short_texts.proofs.text_of.Goals as goal
 pub loop-i-init : goal.loop-i-init
 loop-i-init c = search (rules, spelling_start)
 
--- NO GOAL
-div-letter : tie.Need-nonzero-div-letter invariant-loop decreases-loop
-div-letter c = search (rules, spelling_pos)
+pub nonzero_div-left : goal.nonzero_div-left
+nonzero_div-left c = search (rules, spelling_pos)
 
 pub letter-requires : goal.letter-requires
 letter-requires c = search (rules, spelling_letter)
@@ -18,9 +17,8 @@ letter-requires c = search (rules, spelling_letter)
 pub bounds-t-i : goal.bounds-t-i
 bounds-t-i c = omega arith
 
--- NO GOAL
-rem-left : tie.Need-nonzero-rem-left invariant-loop decreases-loop
-rem-left c = search (rules, spelling_pos)
+pub nonzero_rem-left : goal.nonzero_rem-left
+nonzero_rem-left c = search (rules, spelling_pos)
 
 pub loop-i-preserved : goal.loop-i-preserved
 loop-i-preserved c = search (rules, spelling_more)

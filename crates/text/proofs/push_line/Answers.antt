@@ -13,12 +13,12 @@ overflow_sub-pad c = let a = c.args in
 
 pub overflow_add-result : goal.overflow_add-result
 overflow_add-result c = let a = c.args in
-    omega (arith, kept_room (times a.how.levels a.indent.now) a.line.now c.sep_len-sep.ensures c.append_line-next.ensures c.requires.line c.Tail-of.ensures)
+    omega (arith, kept_room (times a.how.levels a.indent.now) a.line.now c.sep_len-sep.ensures c.append_line-next.ensures c.requires.line c.tail_of-kept.ensures)
 
 pub returns : goal.returns
 returns c =
     let a = c.args in
     push_done a.how.ending _ _ _ _ _ a.indent.now a.how.levels a.line.now _ _ _ _ _ _ _ _ _ _ _ _ c.requires.indent_value c.requires.line c.requires.ordered
     c.stem_at-from.ensures c.stem_first-first.ensures c.sep_len-sep.ensures c.append_line-next.ensures
-    c.before.before.before.before.before.Tail-of.ensures c.full_of.ensures c.full_of-2.ensures
-    c.before.before.Alone-of.ensures c.kind_of.ensures c.full_of-3.ensures
+    c.tail_of-kept.ensures c.full_of.ensures c.full_of-2.ensures
+    c.alone_of.ensures c.kind_of.ensures c.full_of-3.ensures

@@ -19,7 +19,7 @@ pub returns-then-output-n : goal.returns-then-output-n
 returns-then-output-n c =
     text_short _ _ c.args.chosen _ _ _ c.args.output.now c.args.opened.now c.args.scratch.now _ _ _ _ _ _ _
     c.ending_of-ending.ensures (all_done c.read_lines-read.ensures) c.has_last_ending-last.ensures c.finish_text-n.ensures
-    c.output-1.given c.scratch-1.given c.output-2-1.given c.if-output-n.true c.before.before.before.before.List-open.ensures
+    c.output-1.given c.scratch-1.given c.output-2-1.given c.if-output-n.true c.list_open.ensures
 
 pub overflow_mul-base : goal.overflow_mul-base
 overflow_mul-base c = record { fits = omega (arith, c.requires.passed.limit) }

@@ -31,7 +31,7 @@ returns-then-a-eq0 c =
     c.caret_in_text-to.ensures _ _ _ _
     c.if-to.false
     c.zero.ensures
-    c.before.before.number_of_lem.ensures
+    c.number_of.ensures
     c.place_of.ensures
     c.refused.ensures
 

@@ -33,7 +33,7 @@ returns-then-a-eq0 c =
     c.if-n-list.false
     c.zero.ensures
     c.zero-then-a-eq0.ensures
-    c.before.before.number_of_lem.ensures
+    c.number_of.ensures
     c.place_of.ensures
     c.refused.ensures
 

@@ -43,4 +43,4 @@ pub returns : goal.returns
 returns c =
     let t = trimmed_line _ _ _ c.trim_end-tail.ensures c.trim_start-start.ensures in
     raw_step _ _ _ _ _ _ _ _ _ _ _ _ _ _ _ _ _ _ c.requires.ready c.requires.well_formed t c.trim_end-tail.ensures c.scanned_part-part.ensures c.classify-after.ensures
-    c.in_block-guarded.ensures c.shown_len-shown.ensures c.before.before.before.before.Kept-line.ensures
+    c.in_block-guarded.ensures c.shown_len-shown.ensures c.kept_line.ensures

@@ -49,4 +49,4 @@ pub shape_of-buf : goal.shape_of-buf
 shape_of-buf c = c.loop-i.invariant.within.long
 
 pub returns : goal.returns
-returns c = within_end c.requires c.loop-i.invariant.within _ c.loop-i-test.false c.begin-t.ensures c.Open-after.ensures
+returns c = within_end c.requires c.loop-i.invariant.within _ c.loop-i-test.false c.begin-t.ensures c.open_after.ensures

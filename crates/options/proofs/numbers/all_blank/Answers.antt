@@ -1,8 +1,8 @@
 use borrow.Author.Rules.{rules}
 use Prim.Native.Nat.{◌-◌}
-use mathlib.Core.Logic.{⊎_elim}
 use Rattle.options.proofs.NumbersLaws.{blank_start, blank_space, blank_tab, blank_not, blank_end}
 use Rattle.options.proofs.numbers.all_blank.Goals as goal
+use Rattle.options.proofs.numbers.all_blank.Goals.{then-b-ne32+else-b-ne9, else-b-ne32}
 
 pub loop-i-init : goal.loop-i-init
 loop-i-init c = search (rules, blank_start)
@@ -11,7 +11,11 @@ pub returns-then-b-ne9 : goal.returns-then-b-ne9
 returns-then-b-ne9 c = search (rules, blank_not)
 
 pub loop-i-preserved : goal.loop-i-preserved
-loop-i-preserved c = ⊎_elim (λ w. search (rules, blank_tab)) (λ w. search (rules, blank_space)) c.if-b-ne32.branch
+loop-i-preserved c =
+    elim c.if-b-ne32.branch [
+      | then-b-ne32+else-b-ne9 w ↦ search (rules, blank_tab)
+      | else-b-ne32 w ↦ search (rules, blank_space)
+    ]
 
 pub returns : goal.returns
 returns c = search (rules, blank_end)

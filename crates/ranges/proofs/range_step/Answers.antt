@@ -15,7 +15,7 @@ pub put_flags-requires : goal.put_flags-requires
 put_flags-requires c = room_after _ _ _ c.requires.0 c.args.slots.now c.requires.1 c.requires.2 _ _ _ c.slots_next.ensures
 
 pub returns-then-c-eq45 : goal.returns-then-c-eq45
-returns-then-c-eq45 c = range_behind _ _ _ _ _ c.requires.0 c.args.slots.now _ c.requires.1 _ c.first_slot.ensures c.slots_next.ensures _ _ c.any_slot-plain.ensures _ c.opposite.ensures c.any_slot-minus.ensures _ _ c.far_at-far.ensures c.far_next-after.ensures _ c.put_flags.ensures c.if-c-eq45.taken
+returns-then-c-eq45 c = range_behind _ _ _ _ _ c.requires.0 c.args.slots.now _ c.requires.1 _ c.first_slot.ensures c.slots_next.ensures _ _ c.any_slot-plain.ensures _ c.opposite.ensures c.any_slot-minus.ensures _ _ c.far_at-far.ensures c.far_next-after.ensures _ c.put_flags.ensures c.if-c-eq45.true
 
 pub returns : goal.returns
-returns c = range_on _ _ _ _ _ c.requires.0 c.args.slots.now _ c.requires.1 _ c.first_slot.ensures c.slots_next.ensures _ _ c.any_slot-plain.ensures _ c.opposite.ensures c.any_slot-minus.ensures _ _ c.far_at-far.ensures c.far_next-after.ensures _ c.put_flags.ensures c.if-c-eq45.left
+returns c = range_on _ _ _ _ _ c.requires.0 c.args.slots.now _ c.requires.1 _ c.first_slot.ensures c.slots_next.ensures _ _ c.any_slot-plain.ensures _ c.opposite.ensures c.any_slot-minus.ensures _ _ c.far_at-far.ensures c.far_next-after.ensures _ c.put_flags.ensures c.if-c-eq45.false

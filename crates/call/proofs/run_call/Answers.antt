@@ -6,7 +6,7 @@ pub format_with-requires : goal.format_with-requires
 format_with-requires c =
     let r = c.read-table.ensures in
     let a = c.args in
-    let e = c.in-Accepted.is in record { passed = passed _ _ _ a.strengths.now a.output.now a.opened.now a.scratch.now _ _ _ r c.from_numbers-named.ensures c.test.ensures e; ruler_tab_bound = (ruler_small _ _ _ a.strengths.now a.output.now a.opened.now a.scratch.now _ _ _ r c.from_numbers-named.ensures c.test.ensures e, ) }
+    let e = c.in-Accepted.is in record { passed = passed _ _ _ a.strengths.now a.output.now a.opened.now a.scratch.now _ _ _ r c.from_numbers-named.ensures c.test.ensures e; ruler_tab_bound = ruler_small _ _ _ a.strengths.now a.output.now a.opened.now a.scratch.now _ _ _ r c.from_numbers-named.ensures c.test.ensures e }
 
 pub returns-in-Refused : goal.returns-in-Refused
 returns-in-Refused c =

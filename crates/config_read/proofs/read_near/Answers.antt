@@ -9,7 +9,7 @@ pub nearest-requires : goal.nearest-requires
 nearest-requires c = top_part _ _ c.top-top.ensures
 
 pub outward-levels-requires : goal.outward-levels-requires
-outward-levels-requires c = record { well_formed = (top_part _ _ c.top-top.ensures, c.nearest.ensures.at); all_accepted = (near_accepted _ _ _ _ _ _ _ _ c.path_rank.ensures c.worst_of.ensures c.worse-rank.ensures c.if-rank-eq0.true, ) }
+outward-levels-requires c = record { well_formed = (top_part _ _ c.top-top.ensures, c.nearest.ensures.at); all_accepted = near_accepted _ _ _ _ _ _ _ _ c.path_rank.ensures c.worst_of.ensures c.worse-rank.ensures c.if-rank-eq0.true }
 
 pub returns-then-rank-eq0 : goal.returns-then-rank-eq0
 returns-then-rank-eq0 c =

@@ -5,11 +5,11 @@ use Rattle.place.proofs.fit_of.Goals as goal
 
 pub is_short-requires : goal.is_short-requires
 is_short-requires c =
-    record { indent = record { blank = c.requires.valid_indent.blank; short = c.requires.valid_indent.short; flat = omega (arith, c.requires.level_le_max_source) }; well_formed = ((c.requires.goes_on.well, omega (arith, c.requires.goes_on.short)), ) }
+    record { indent = record { blank = c.requires.valid_indent.blank; short = c.requires.valid_indent.short; flat = omega (arith, c.requires.level_le_max_source) }; well_formed = (c.requires.goes_on.well, omega (arith, c.requires.goes_on.short)) }
 
 pub over_wide-requires : goal.over_wide-requires
 over_wide-requires c =
-    record { indent = record { blank = c.requires.valid_indent.blank; short = c.requires.valid_indent.short; flat = omega (arith, c.requires.level_le_max_source) }; well_formed = ((c.requires.goes_on.well, omega (arith, c.requires.goes_on.short)), ) }
+    record { indent = record { blank = c.requires.valid_indent.blank; short = c.requires.valid_indent.short; flat = omega (arith, c.requires.level_le_max_source) }; well_formed = (c.requires.goes_on.well, omega (arith, c.requires.goes_on.short)) }
 
 pub returns-then-is_short : goal.returns-then-is_short
 returns-then-is_short c =

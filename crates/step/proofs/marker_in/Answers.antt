@@ -11,39 +11,39 @@ returns-then-ends_outside c = search (rules, outside_none)
 pub slice_bounds-is_marker-count : goal.slice_bounds-is_marker-count
 slice_bounds-is_marker-count c =
     let s = c.requires in
-    end_within _ _ _ s.0 s.1 c.code_end-e.ensures
+    end_within _ _ _ s.well_formed s.class_value c.code_end-e.ensures
 
 pub slice_bounds-is_marker-start : goal.slice_bounds-is_marker-start
 slice_bounds-is_marker-start c =
     let s = c.requires in
-    end_within _ _ _ s.0 s.1 c.code_end-e.ensures
+    end_within _ _ _ s.well_formed s.class_value c.code_end-e.ensures
 
 pub is_marker-requires : goal.is_marker-requires
 is_marker-requires c =
     let s = c.requires in
-    comment_well _ _ _ s.0 s.1 c.code_end-e.ensures
+    comment_well _ _ _ s.well_formed s.class_value c.code_end-e.ensures
 
 pub slice_bounds-has_code-end : goal.slice_bounds-has_code-end
 slice_bounds-has_code-end c =
     let s = c.requires in
-    sym (length-take-le _ _ (end_within _ _ _ s.0 s.1 c.code_end-e.ensures))
+    sym (length-take-le _ _ (end_within _ _ _ s.well_formed s.class_value c.code_end-e.ensures))
 
 pub has_code-requires : goal.has_code-requires
 has_code-requires c =
     let s = c.requires in
-    code_well _ _ _ s.0 s.1 c.code_end-e.ensures
+    code_well _ _ _ s.well_formed s.class_value c.code_end-e.ensures
 
 pub returns-then-has_code : goal.returns-then-has_code
 returns-then-has_code c =
     let s = c.requires in
-    marker_after _ _ _ s.0 s.1 c.code_end-e.ensures _ _ c.is_marker.ensures c.if-is_marker.true c.has_code.ensures c.if-has_code.true
+    marker_after _ _ _ s.well_formed s.class_value c.code_end-e.ensures _ _ c.is_marker.ensures c.if-is_marker.true c.has_code.ensures c.if-has_code.true
 
 pub returns-then-is_marker : goal.returns-then-is_marker
 returns-then-is_marker c =
     let s = c.requires in
-    marker_alone _ _ _ s.0 s.1 c.code_end-e.ensures _ _ c.is_marker.ensures c.if-is_marker.true c.has_code.ensures c.if-has_code.false
+    marker_alone _ _ _ s.well_formed s.class_value c.code_end-e.ensures _ _ c.is_marker.ensures c.if-is_marker.true c.has_code.ensures c.if-has_code.false
 
 pub returns : goal.returns
 returns c =
     let s = c.requires in
-    marker_none _ _ _ s.0 s.1 c.code_end-e.ensures _ c.is_marker.ensures c.if-is_marker.false
+    marker_none _ _ _ s.well_formed s.class_value c.code_end-e.ensures _ c.is_marker.ensures c.if-is_marker.false

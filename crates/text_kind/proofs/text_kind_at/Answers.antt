@@ -13,7 +13,7 @@ pub classify-carry-requires : goal.classify-carry-requires
 classify-carry-requires c = seeking_room c.loop-left.invariant _ _ c.line_end-end.ensures c.if-source-end.false c.without_cr.ensures c.requires
 
 pub loop-left-preserved : goal.loop-left-preserved
-loop-left-preserved c = seeking_more c.loop-left.invariant _ _ _ _ (omega arith) c.line_end-end.ensures c.if-source-end.false c.without_cr.ensures c.classify-carry.ensures c.classify-carry.auto.1.1.0
+loop-left-preserved c = seeking_more c.loop-left.invariant _ _ _ _ (omega arith) c.line_end-end.ensures c.if-source-end.false c.without_cr.ensures c.classify-carry.ensures c.classify-carry.auto.class
 
 pub kind_in_line-requires : goal.kind_in_line-requires
 kind_in_line-requires c = seeking_line c.loop-left.invariant _ c.line_at.ensures c.requires

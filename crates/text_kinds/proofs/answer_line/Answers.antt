@@ -6,7 +6,7 @@ pub kinds_in_line-requires : goal.kinds_in_line-requires
 kinds_in_line-requires c =
     let s = c.requires in
     let r = c.kinds_by_class-next.ensures in
-    record { shallow = s.1.1.0; listed = part_listed s.0 s.1.1.1.1 r s.1.1.1.0; ahead = r.ahead s.1.1.1.1 }
+    record { shallow = s.shallow; listed = part_listed s.classes_in s.ahead r s.listed; ahead = r.ahead s.ahead }
 
 pub returns-then-is_on : goal.returns-then-is_on
 returns-then-is_on c = search (rules, line_read)

@@ -17,10 +17,10 @@ pub read_line-p-requires : goal.read_line-p-requires
 read_line-p-requires c =
     let s = c.requires in
     let i = c.loop-p.invariant in
-    record { source_fits = fits_on s.0 i.2; listed = listed_on s.1.order i.0; read = i.0; at_in_bounds = (omega arith, omega (arith, count_half c.args.places.now)) }
+    record { source_fits = fits_on s.source_fits i.2; listed = listed_on s.listed.order i.0; read = i.0; at_in_bounds = (omega arith, omega (arith, count_half c.args.places.now)) }
 
 pub returns : goal.returns
 returns c =
     let s = c.requires in
     let i = c.loop-p.invariant in
-    read_end _ _ _ _ _ _ s.0 s.1.order i.0 (as_zeroed _ _ c.loop-p.kinds c.zero.ensures i.1) (omega arith)
+    read_end _ _ _ _ _ _ s.source_fits s.listed.order i.0 (as_zeroed _ _ c.loop-p.kinds c.zero.ensures i.1) (omega arith)

@@ -8,7 +8,7 @@ pub start_of-at-requires : goal.start_of-at-requires
 start_of-at-requires c = c.requires.0.readable.well
 
 pub loop-at-init : goal.loop-at-init
-loop-at-init c = setting_start _ _ _ _ c.requires.0 c.start_of.ensures
+loop-at-init c = setting_start _ _ _ _ c.requires.0 c.start_of-at.ensures
 
 pub trimmed-line-requires : goal.trimmed-line-requires
 trimmed-line-requires c = line_well _ _ c.loop-at.invariant.reached (omega arith) _ c.line_end-end.ensures

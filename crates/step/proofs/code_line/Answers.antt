@@ -53,7 +53,7 @@ returns-then-is_kept c =
     let te = c.trim_end-tail.ensures in
     let ts = c.trim_start-start.ensures in
     λ o u. format_code false false (sym c.requires.ignore_value) (raw_code false _ c.requires.carry_value) _ o refl (some_trim _ _ _ te ts c.if-start-tail.false)
-    (code_protected c.requires.ready (trimmed_line _ _ _ te ts) c.scan_line-s.ensures _ c.is_kept.ensures c.if-is_kept.true c.kept_line.ensures o)
+    (code_protected c.requires.ready (trimmed_line _ _ _ te ts) c.scan_line-s.ensures _ c.is_kept.ensures c.if-is_kept.true c.kept_line-kept.ensures o)
 
 pub go_on-going-requires : goal.go_on-going-requires
 go_on-going-requires c =

@@ -5,8 +5,8 @@ use Rattle.step.proofs.count_going.Goals as goal
 
 pub scan_brackets-requires : goal.scan_brackets-requires
 scan_brackets-requires c =
-    let s1 = c.requires.line_room in
-    count_room _ _ _ _ _ _ s1.0 s1.1.0 s1.1.1.1.0 s1.1.1.1.1 (own_length _ _ _ _ s1.1.0 c.if-g.true)
+    let s = c.requires in
+    count_room _ _ _ _ _ _ s.line_room s.goes s.line_bound s.nested (own_length _ _ _ _ s.goes c.if-g.true)
 
 pub returns-then-g : goal.returns-then-g
 returns-then-g c =
@@ -14,8 +14,8 @@ returns-then-g c =
 
 pub scan_brackets_at-requires : goal.scan_brackets_at-requires
 scan_brackets_at-requires c =
-    let s1 = c.requires.line_room in
-    (count_room _ _ _ _ _ _ s1.0 s1.1.0 s1.1.1.1.0 s1.1.1.1.1 refl, omega (arith, s1.1.0.most, s1.0.short))
+    let s = c.requires in
+    (count_room _ _ _ _ _ _ s.line_room s.goes s.line_bound s.nested refl, omega (arith, s.goes.most, s.line_room.short))
 
 pub returns : goal.returns
 returns c =

@@ -9,7 +9,7 @@ put_going-p-requires c =
 
 pub count_going-deep-requires : goal.count_going-deep-requires
 count_going-deep-requires c =
-    let q = a.put_Going.ensures in
+    let q = c.put_going-p.ensures in
     record { well_formed = c.requires.solid_line.well; line_room = ready_room _ c.requires.ready refl; goes = c.requires.goes; closers = q.closers; line_bound = omega (arith, c.requires.ready.depth, q.left.depth); nested = q.left.nested }
 
 pub shape_of-scratch : goal.shape_of-scratch
@@ -17,4 +17,4 @@ shape_of-scratch c = c.count_going-deep.ensures.long
 
 pub returns : goal.returns
 returns c =
-    spaced_step _ _ _ _ _ _ _ _ _ _ _ _ _ _ _ _ c.requires.marks c.requires.goes d.put_Going.ensures c.count_going-deep.ensures c.ignore_of.ensures c.after_Line.ensures
+    spaced_step _ _ _ _ _ _ _ _ _ _ _ _ _ _ _ _ c.requires.marks c.requires.goes c.put_going-p.ensures c.count_going-deep.ensures c.ignore_of.ensures c.after_line.ensures

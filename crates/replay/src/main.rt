@@ -3,7 +3,7 @@
 
 ghost use Rattle.std.specs.Prelude.{◌≡◌, length};
 
-use libc::{STDIN_FILENO, STDOUT_FILENO};
+use std::io;
 
 // Room for the whole list: 1,048,576 zeros.
 fn room() -> [u8; 1048576]
@@ -12,14 +12,11 @@ fn room() -> [u8; 1048576]
     [0; 1048576]
 }
 
-fn main() {
+fn main(rt: HostRuntime) -> io::Result<()> {
     let mut list = room();
-    let mut output = io::large_buffer();
-    let mut scratch = io::large_buffer();
-    let n = io::read_full(STDIN_FILENO, &mut list);
-    let end = replay_run::replay(&list[..n], &mut output, &mut scratch);
-    io::print_decimal(STDOUT_FILENO, end.sources as u64);
-    io::write_all(STDOUT_FILENO, b" sources, ");
-    io::print_decimal(STDOUT_FILENO, end.differ as u64);
-    io::write_all(STDOUT_FILENO, b" differ\n");
+    let mut output = [0u8; 65536];
+    let mut scratch = [0u8; 65536];
+    let n = input::read_full(&mut rt.reader(), &mut list)?;
+    let end = replay_run::replay(&rt, &list[..n], &mut output, &mut scratch);
+    println!(rt; "{} sources, {} differ", end.sources, end.differ)
 }

@@ -7,7 +7,6 @@ ghost use Rattle.replay_run.specs.Replay.{agrees as agreesWith, agreed, differed
 ghost use Rattle.replay_run.specs.Replay.{from_start, replayed};
 
 use crate::list::{Case, case_at};
-use libc::STDOUT_FILENO;
 use rules::{OptionNumbers, Strengths};
 
 mod list;
@@ -33,21 +32,27 @@ impl Progress {
     }
 
     // The first ten that differ are named by their number.
-    fn differed(self, next: usize) -> Self
+    fn differed<P: Print>(self, out: &P, next: usize) -> Self
         requires { CountsFit self }
         ensures { result ≡ differed self next }
     {
         let number = self.sources + 1;
         if self.differ < 10 {
-            io::write_all(STDOUT_FILENO, b"source ");
-            io::print_decimal(STDOUT_FILENO, number as u64);
-            io::write_all(STDOUT_FILENO, b" differs\n");
+            name_source(out, number);
         }
         Progress {
             at: next,
             sources: number,
             differ: self.differ + 1,
         }
+    }
+}
+
+// Prints that a source differs. Where that can't be written, the count still tells it.
+fn name_source<P: Print>(out: &P, number: usize) {
+    match println!(out; "source {number} differs") {
+        Ok(()) => {}
+        Err(_) => {}
     }
 }
 
@@ -87,7 +92,13 @@ fn agrees(list: &[u8], c: Case, output: &mut [u8], scratch: &mut [u8]) -> bool
 }
 
 // One comment, or one case. A case that the list's end cuts off differs.
-fn step(list: &[u8], p: Progress, output: &mut [u8], scratch: &mut [u8]) -> Progress
+fn step<P: Print>(
+    out: &P,
+    list: &[u8],
+    p: Progress,
+    output: &mut [u8],
+    scratch: &mut [u8],
+) -> Progress
     requires { StepReady list.now p }
     ensures { Advanced list.now (length output.old) (length scratch.old) p result }
 {
@@ -103,16 +114,16 @@ fn step(list: &[u8], p: Progress, output: &mut [u8], scratch: &mut [u8]) -> Prog
     let c = case_at(list, at);
     let size = c.source + c.indent + c.answer;
     if list.len() - c.from <= size {
-        return p.differed(list.len());
+        return p.differed(out, list.len());
     }
     let next = c.from + size + 1;
     if agrees(list, c, output, scratch) {
         return p.agreed(next);
     }
-    p.differed(next)
+    p.differed(out, next)
 }
 
-pub fn replay(list: &[u8], output: &mut [u8], scratch: &mut [u8]) -> Progress
+pub fn replay<P: Print>(out: &P, list: &[u8], output: &mut [u8], scratch: &mut [u8]) -> Progress
     requires { length list.now ≤ 4294967296 }
     ensures { result ≡ replayed (length list.now) list.now (length output.old)
         (length scratch.old) from_start }
@@ -123,7 +134,7 @@ pub fn replay(list: &[u8], output: &mut [u8], scratch: &mut [u8]) -> Progress
         differ: 0,
     };
     while p.at < list.len() {
-        p = step(list, p, output, scratch);
+        p = step(out, list, p, output, scratch);
     }
     p
 }

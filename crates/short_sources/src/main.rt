@@ -3,24 +3,24 @@
 #![tactic(auto)]
 
 use crate::page::{fill, greatest};
-use libc::{STDIN_FILENO, STDOUT_FILENO};
+use std::io;
 
 mod page;
 
-fn main() {
+fn main(rt: HostRuntime) -> io::Result<()> {
     let mut input = [0u8; 3];
-    let n = io::read_full(STDIN_FILENO, &mut input);
+    let n = input::read_full(&mut rt.reader(), &mut input)?;
     let most = greatest(&input[..n]);
-    let mut page = io::large_buffer();
+    let mut page = [0u8; 65536];
     let mut p = short_texts::start();
     loop {
         let filled = fill(&mut page, p, most);
         let size = filled.size;
-        io::write_all(STDOUT_FILENO, &page[..size]);
+        rt.write_all(&page[..size])?;
         if filled.more {
             p = filled.next;
         } else {
-            return;
+            return Ok(());
         }
     }
 }

@@ -1,14 +1,14 @@
 // Formats standard input, up to 4,096 bytes, with the default options.
 #![tactic(auto)]
 
-use libc::{STDIN_FILENO, STDOUT_FILENO};
+use std::io;
 use wsfmt_run::{MAX_INPUT, MAX_TEXT};
 
-fn main() {
+fn main(rt: HostRuntime) -> io::Result<()> {
     // one byte more than it takes tells that the input is too long
     let mut source = [0u8; MAX_INPUT + 1];
-    let n = io::read_full(STDIN_FILENO, &mut source);
+    let n = input::read_full(&mut rt.reader(), &mut source)?;
     let mut output = [0u8; MAX_TEXT];
     let m = wsfmt_run::print(&source[..n], &mut output);
-    io::write_all(STDOUT_FILENO, &output[..m]);
+    rt.write_all(&output[..m])
 }

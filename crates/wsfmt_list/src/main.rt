@@ -3,34 +3,37 @@
 // of rust/runs print: the Rust's texts, and the refusals that 01 names.
 #![tactic(auto)]
 
-ghost use Rattle.std.specs.Prelude.{◌≤◌, ◌<◌, length};
+ghost use Rattle.std.specs.Prelude.{◌≤◌, ◌<◌, length, IfOk};
 
-use libc::{STDIN_FILENO, STDOUT_FILENO};
+use std::io;
 use wsfmt_run::MAX_TEXT;
 
 // The source that starts at `at`; gives the place after its zero byte.
-fn print_at(list: &[u8], at: usize) -> usize
+fn print_at<P: Print>(out: &P, list: &[u8], at: usize) -> io::Result<usize>
     requires { at ≤ length list.now }
-    ensures { at < result }
+    ensures { IfOk result (λ next. at < next) }
 {
-    let end = bytes::scan::find(list, at, list.len(), 0);
+    let end = match list[at..].iter().position(|b| *b == 0) {
+        Some(i) => at + i,
+        None => list.len(),
+    };
     let mut output = [0u8; MAX_TEXT];
     let n = wsfmt_run::print(&list[at..end], &mut output);
-    io::print_decimal(STDOUT_FILENO, n as u64);
-    io::write_all(STDOUT_FILENO, b"\n");
-    io::write_all(STDOUT_FILENO, &output[..n]);
-    end + 1
+    println!(out; "{n}")?;
+    out.write_all(&output[..n])?;
+    Ok(end + 1)
 }
 
-fn print_all(list: &[u8]) {
+fn print_all<P: Print>(out: &P, list: &[u8]) -> io::Result<()> {
     let mut at = 0;
     while at < list.len() {
-        at = print_at(list, at);
+        at = print_at(out, list, at)?;
     }
+    Ok(())
 }
 
-fn main() {
-    let mut list = io::large_buffer();
-    let n = io::read_full(STDIN_FILENO, &mut list);
-    print_all(&list[..n]);
+fn main(rt: HostRuntime) -> io::Result<()> {
+    let mut list = [0u8; 65536];
+    let n = input::read_full(&mut rt.reader(), &mut list)?;
+    print_all(&rt, &list[..n])
 }

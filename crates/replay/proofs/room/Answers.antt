@@ -2,11 +2,7 @@
 use Prim.Native.Nat.{ℕ}
 use mathlib.Core.Path.{sym}
 use lib.ListN.{length-replicate}
-use Rattle.replay.proofs.room.Statement.{statement}
-use Rattle.replay.proofs.room.Tie as tie
+use Rattle.replay.proofs.room.Goals as goal
 
-returns : tie.Need-returns
+pub returns : goal.returns
 returns c = sym (length-replicate {A = ℕ} 1048576 0)
-
-pub room-spec : {M : Type 1} → statement M
-room-spec = tie.close (tie.spec returns)

@@ -14,7 +14,7 @@ use Rattle.rules.specs.Basics.{choose}
 use Rattle.config_rules.specs.Numbers.{is_digit, value, in_range}
 use Rattle.config_rules.specs.Globs.{Strings, some_then}
 use Rattle.glob_name.specs.Read.{range_more}
-use Rattle.ranges.specs.Slots.{digit, order_then, valid, order_at, inside_of, near, all_digits, all, number, from, farther, minus, size, in_plain, in_minus}
+use Rattle.ranges.specs.Slots.{digit, order_then, valid, order_at, inside_of, near, all_digits, all, number, from, farther, size, in_plain, in_minus}
 use Rattle.ranges.specs.Ranges.{lows_of, EndAt, RangeOf, first_end, second_end, slot_step, slot_in, any_slot, opposite, slot_at, flag_of, first_slot, far_at, with_flags, FarNext, Moved, Kept, RangeNext}
 use Rattle.ranges.specs.declared.End.{End}
 use Rattle.ranges.specs.declared.Range.{Range}

@@ -19,7 +19,6 @@ use Rattle.utf8.proofs.Decode.{decode_encode, decode_scalars, wf_encode}
 use Rattle.rules.specs.Basics.{is, cons_if, keep}
 use Rattle.rules.specs.Demand3.{is_kept, strike, Kept}
 use Rattle.rules.specs.Options.{all_blank, valid_indent, max_indent, max_ruler}
-use Rattle.rules.specs.Assembly.{Formatted}
 use Rattle.rules.specs.Choices.{Choices, valid_options, options_of}
 use Rattle.rules.specs.Refusals.{tested, short_output}
 use Rattle.rules.specs.Call.{Call, formatted, text_of, format_scratch, format_tests, verdict_of, outcome_after, outcome_of, answer_of, filled, output_for, output_of}

@@ -3,15 +3,21 @@
 // of rust/runs print: the Rust's texts, and the refusals that 01 names.
 #![tactic(auto)]
 
-ghost use Rattle.std.specs.Prelude.{◌≤◌, ◌<◌, length, IfOk};
+ghost use Rattle.std.specs.Prelude.{◌≤◌, ◌<◌, length};
 
 use std::io;
 use wsfmt_run::MAX_TEXT;
 
-// The source that starts at `at`; gives the place after its zero byte.
-fn print_at<P: Print>(out: &P, list: &[u8], at: usize) -> io::Result<usize>
+// The length of a text, LF, and the text.
+fn put_text<P: Print>(out: &P, text: &[u8]) -> io::Result<()> {
+    println!(out; "{}", text.len())?;
+    out.write_all(text)
+}
+
+// The source that starts at `at`; gives the place after its zero byte, and whether it could be written.
+fn print_at<P: Print>(out: &P, list: &[u8], at: usize) -> (usize, io::Result<()>)
     requires { at ≤ length list.now }
-    ensures { IfOk result (λ next. at < next) }
+    ensures { at < result.0 }
 {
     let end = match list[at..].iter().position(|b| *b == 0) {
         Some(i) => at + i,
@@ -19,15 +25,15 @@ fn print_at<P: Print>(out: &P, list: &[u8], at: usize) -> io::Result<usize>
     };
     let mut output = [0u8; MAX_TEXT];
     let n = wsfmt_run::print(&list[at..end], &mut output);
-    println!(out; "{n}")?;
-    out.write_all(&output[..n])?;
-    Ok(end + 1)
+    (end + 1, put_text(out, &output[..n]))
 }
 
 fn print_all<P: Print>(out: &P, list: &[u8]) -> io::Result<()> {
     let mut at = 0;
     while at < list.len() {
-        at = print_at(out, list, at)?;
+        let (next, written) = print_at(out, list, at);
+        written?;
+        at = next;
     }
     Ok(())
 }

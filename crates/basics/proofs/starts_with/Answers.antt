@@ -1,5 +1,4 @@
 use borrow.Author.Rules.{rules}
-use Prim.Native.Nat.{◌-◌}
 use Rattle.basics.proofs.StartsLaws.{left_start, left_past, left_differ, left_more, left_end}
 use Rattle.basics.proofs.starts_with.Goals as goal
 

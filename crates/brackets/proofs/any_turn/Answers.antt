@@ -1,5 +1,4 @@
 use native.Mathlib.Omega.{arith}
-use Prim.Native.Nat.{◌-◌}
 use Rattle.utf8.proofs.Among.{among_start, among_more, among_all}
 use Rattle.brackets.proofs.any_turn.Goals as goal
 

@@ -1,5 +1,4 @@
 use borrow.Author.Rules.{rules}
-use Prim.Native.Nat.{◌-◌}
 use Rattle.brackets.proofs.StackLaws.{halves_start, halves_more, halves_all}
 use Rattle.brackets.proofs.first_short.Goals as goal
 

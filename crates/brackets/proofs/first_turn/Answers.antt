@@ -1,5 +1,4 @@
 use borrow.Author.Rules.{rules}
-use Prim.Native.Nat.{◌-◌}
 use Rattle.brackets.proofs.StackLaws.{no_turn_start, first_more, first_all}
 use Rattle.brackets.proofs.first_turn.Goals as goal
 

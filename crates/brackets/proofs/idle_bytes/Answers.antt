@@ -1,4 +1,3 @@
-use Prim.Native.Nat.{◌-◌}
 use borrow.Author.Rules.{rules}
 use Rattle.brackets.proofs.StackLaws.{idle_start, idle_one}
 use Rattle.brackets.proofs.idle_bytes.Goals as goal

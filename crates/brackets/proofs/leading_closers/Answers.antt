@@ -1,5 +1,4 @@
 use borrow.Author.Rules.{rules}
-use Prim.Native.Nat.{◌-◌}
 use Rattle.brackets.proofs.StackLaws.{closing_start, closing_more, closing_stop, closing_end}
 use Rattle.brackets.proofs.leading_closers.Goals as goal
 

@@ -1,6 +1,5 @@
 use borrow.Author.Rules.{rules}
 use Rattle.brackets.proofs.ListLaws.{listing_start, listing_more, listing_end}
-use Prim.Native.Nat.{◌-◌}
 use Rattle.brackets.proofs.list_lines.Goals as goal
 
 -- first, so that a list that is left is refused for what it holds

@@ -1,5 +1,4 @@
 use borrow.Author.Rules.{rules}
-use Prim.Native.Nat.{◌-◌}
 use Rattle.brackets.proofs.StackLaws.{scanning_start, idle_skip, scan_more, scan_room, scan_end}
 use Rattle.brackets.proofs.scan_brackets.Goals as goal
 

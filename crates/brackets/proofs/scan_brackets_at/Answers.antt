@@ -1,5 +1,4 @@
 use borrow.Author.Rules.{rules}
-use Prim.Native.Nat.{◌-◌}
 use Rattle.brackets.proofs.StackLaws.{scanning_start, scan_at_skip, scan_at_more, scan_at_room, scan_at_end}
 use Rattle.brackets.proofs.scan_brackets_at.Goals as goal
 

@@ -1,5 +1,4 @@
 use borrow.Author.Rules.{rules}
-use Prim.Native.Nat.{◌-◌}
 use Rattle.buffer.proofs.LoopLaws.{matching_start, matching_more, matching_end, matching_not}
 use Rattle.buffer.proofs.all_are.Goals as goal
 

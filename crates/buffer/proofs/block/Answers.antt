@@ -1,5 +1,4 @@
 use borrow.Author.Rules.{rules}
-use Prim.Native.Nat.{◌-◌}
 use Rattle.buffer.proofs.CopyLaws.{loading_start, loading_more, loading_end}
 use Rattle.buffer.proofs.block.Goals as goal
 

@@ -1,5 +1,4 @@
 use borrow.Author.Rules.{rules}
-use Prim.Native.Nat.{◌-◌}
 use Rattle.buffer.proofs.CopyLaws.{copying_start, copying_more, copying_end}
 use Rattle.buffer.proofs.copy_long.Goals as goal
 

@@ -1,5 +1,4 @@
 use borrow.Author.Rules.{rules}
-use Prim.Native.Nat.{◌-◌}
 use Rattle.buffer.proofs.LoopLaws.{filling_start, filling_more, filling_end}
 use Rattle.buffer.proofs.fill.Goals as goal
 

@@ -1,5 +1,4 @@
 use borrow.Author.Rules.{rules}
-use Prim.Native.Nat.{◌-◌}
 use Rattle.buffer.proofs.CopyLaws.{putting_start, putting_more, putting_end}
 use Rattle.buffer.proofs.put_block.Goals as goal
 

@@ -1,6 +1,5 @@
 use borrow.Author.Rules.{rules}
 use native.Mathlib.Omega.{arith}
-use Prim.Native.Nat.{◌-◌}
 use Rattle.buffer.proofs.RepeatLaws.{length_times}
 use Rattle.buffer.proofs.LoopLaws.{indenting_start, indenting_room, indenting_more, indenting_full, indenting_end}
 use Rattle.buffer.proofs.put_levels.Goals as goal

@@ -1,4 +1,3 @@
-use Prim.Native.Nat.{◌-◌}
 use Rattle.compare.proofs.CommonLaws.{agreeing_whole, agreeing_more, agreeing_not, agreeing_end}
 use borrow.Author.Rules.{rules}
 use Rattle.compare.proofs.agree.Goals as goal

@@ -1,4 +1,3 @@
-use Prim.Native.Nat.{◌-◌}
 use borrow.Author.Rules.{rules}
 use Rattle.compare.proofs.CommonLaws.{agreeing_start, agreeing_block}
 use Rattle.compare.proofs.agree_blocks.Goals as goal

@@ -1,5 +1,4 @@
 use borrow.Author.Rules.{rules}
-use Prim.Native.Nat.{◌-◌}
 use native.Mathlib.Omega.{arith}
 use Rattle.compare.proofs.WriterLaws.{leveling_start, leveling_none, leveling_in, leveling_room, leveling_short, leveling_more, leveling_end}
 use Rattle.compare.proofs.agree_levels.Goals as goal

@@ -1,6 +1,5 @@
 use native.Mathlib.Omega.{arith}
 use borrow.Author.Rules.{rules}
-use Prim.Native.Nat.{◌-◌}
 use Rattle.compare.proofs.CommonLaws.{agreeing_start, agreeing_block, ends_untold, last_told}
 use Rattle.compare.proofs.alike_long.Goals as goal
 

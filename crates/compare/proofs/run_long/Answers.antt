@@ -1,4 +1,3 @@
-use Prim.Native.Nat.{◌-◌}
 use borrow.Author.Rules.{rules}
 use Rattle.compare.proofs.CommonLaws.{run_untold, run_start, run_more, run_end}
 use Rattle.compare.proofs.run_long.Goals as goal

@@ -1,5 +1,4 @@
 use borrow.Author.Rules.{rules}
-use Prim.Native.Nat.{◌-◌}
 use Rattle.config_lines.proofs.PartLaws.{no_start, no_more, eq_found, eq_none}
 use Rattle.config_lines.proofs.eq_at.Goals as goal
 

@@ -1,5 +1,4 @@
 use borrow.Author.Rules.{rules}
-use Prim.Native.Nat.{◌-◌}
 use Rattle.config_lines.proofs.WordLaws.{comparing_start, comparing_other, comparing_more, comparing_end, word_longer}
 use Rattle.config_lines.proofs.is_word.Goals as goal
 

@@ -1,6 +1,5 @@
 use borrow.Author.Rules.{rules}
 use native.Mathlib.Omega.{arith}
-use Prim.Native.Nat.{◌-◌}
 use Rattle.config_text.proofs.WalkLaws.{names_start, names_found, names_more, names_end, line_well}
 use Rattle.config_text.proofs.has_long_name.Goals as goal
 

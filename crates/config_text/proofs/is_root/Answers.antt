@@ -1,6 +1,5 @@
 use borrow.Author.Rules.{rules}
 use native.Mathlib.Omega.{arith}
-use Prim.Native.Nat.{◌-◌}
 use Rattle.config_text.proofs.WalkLaws.{root_start, root_found, root_more, root_end, line_well}
 use Rattle.config_text.proofs.is_root.Goals as goal
 

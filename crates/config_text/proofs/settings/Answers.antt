@@ -1,6 +1,5 @@
 use borrow.Author.Rules.{rules}
 use native.Mathlib.Omega.{arith}
-use Prim.Native.Nat.{◌-◌}
 use Rattle.config_text.proofs.WalkLaws.{setting_start, setting_named, setting_more, setting_end, line_well}
 use Rattle.config_text.proofs.settings.Goals as goal
 

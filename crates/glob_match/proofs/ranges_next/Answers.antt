@@ -1,6 +1,5 @@
 use borrow.Author.Rules.{rules}
 use native.Mathlib.Omega.{arith}
-use Prim.Native.Nat.{◌-◌}
 use Rattle.glob_match.proofs.SlotsLaws.{ranging_start, ranging_end, ranging_other, ranging_range}
 use Rattle.glob_match.proofs.ranges_next.Goals as goal
 

@@ -1,5 +1,4 @@
 use borrow.Author.Rules.{rules}
-use Prim.Native.Nat.{◌-◌}
 use Rattle.line_ends.proofs.LineCuts.{ending_start, ending_more, ending_lf, ending_last}
 use Rattle.line_ends.proofs.last_end.Goals as goal
 

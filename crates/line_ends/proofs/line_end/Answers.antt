@@ -1,6 +1,6 @@
 use borrow.Author.Rules.{rules}
 use native.Mathlib.Omega.{arith}
-use Prim.Native.Nat.{◌-◌, ◌≤◌}
+use Prim.Native.Nat.{◌≤◌}
 use lib.Count.{count_trailing_zeros, trailing_le}
 use Rattle.utf8.proofs.Masks.{masked_within}
 use Rattle.line_ends.proofs.LineCuts.{ending_start, ending_here, ending_then, ending_line}

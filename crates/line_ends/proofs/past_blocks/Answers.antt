@@ -1,6 +1,5 @@
 use borrow.Author.Rules.{rules}
 use native.Mathlib.Omega.{arith}
-use Prim.Native.Nat.{◌-◌}
 use Rattle.line_ends.proofs.LineCuts.{ending_start, ending_then}
 use Rattle.line_ends.proofs.past_blocks.Goals as goal
 

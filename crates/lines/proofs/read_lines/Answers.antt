@@ -1,6 +1,5 @@
 use mathlib.Core.Path.{◌∙◌}
 use native.Mathlib.Omega.{arith}
-use Prim.Native.Nat.{◌-◌}
 use Rattle.lines.proofs.LoopLaws.{as_made, reached_ready, reached_well, number_fits}
 use Rattle.lines.proofs.CheckLaws.{looked_start, looked_more, looked_stop, looked_end}
 use Rattle.lines.proofs.read_lines.Goals as goal

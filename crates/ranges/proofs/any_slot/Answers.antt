@@ -1,5 +1,4 @@
 use borrow.Author.Rules.{rules}
-use Prim.Native.Nat.{◌-◌}
 use Rattle.ranges.proofs.SlotLaws.{finding_start, finding_more, finding_end}
 use Rattle.ranges.proofs.any_slot.Goals as goal
 

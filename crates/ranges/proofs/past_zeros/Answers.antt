@@ -1,5 +1,4 @@
 use borrow.Author.Rules.{rules}
-use Prim.Native.Nat.{◌-◌}
 use Rattle.ranges.proofs.EndLaws.{zeros_start, zeros_found, zeros_more, zeros_end}
 use Rattle.ranges.proofs.past_zeros.Goals as goal
 

@@ -1,5 +1,4 @@
 use native.Mathlib.Omega.{arith}
-use Prim.Native.Nat.{◌-◌}
 use Rattle.scan.proofs.CodeEnd.{checked_start, checked_other, checked_more, checked_end}
 use Rattle.scan.proofs.all_code_or_str.Goals as goal
 

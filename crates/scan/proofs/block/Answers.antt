@@ -1,5 +1,4 @@
 use native.Mathlib.Omega.{arith}
-use Prim.Native.Nat.{◌-◌}
 use Rattle.scan.proofs.StartsLaws.{told}
 use Rattle.scan.proofs.CodeLaws.{block_begins, block_opens, block_ends, block_closes, block_goes_on, block_stops}
 use Rattle.scan.proofs.block.Goals as goal

@@ -1,5 +1,4 @@
 use native.Mathlib.Omega.{arith}
-use Prim.Native.Nat.{◌-◌}
 use Rattle.scan.proofs.ClassifyLaws.{reached_start, reached_more, reached_end}
 use Rattle.scan.proofs.classify.Goals as goal
 

@@ -1,6 +1,5 @@
 use mathlib.Core.Path.{sym}
 use native.Mathlib.Omega.{arith}
-use Prim.Native.Nat.{◌-◌}
 use Rattle.scan.proofs.CodeEnd.{passed_start, passed_found, passed_more, passed_end}
 use Rattle.scan.proofs.code_end.Goals as goal
 

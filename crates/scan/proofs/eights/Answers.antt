@@ -1,5 +1,4 @@
 use native.Mathlib.Omega.{arith}
-use Prim.Native.Nat.{◌-◌}
 use Rattle.scan.proofs.ScannedLaws.{scanned_start}
 use Rattle.scan.proofs.CodeLaws.{plain_eight}
 use Rattle.scan.proofs.eights.Goals as goal

@@ -1,4 +1,3 @@
-use Prim.Native.Nat.{◌-◌}
 use native.Mathlib.Omega.{arith}
 use Rattle.scan.proofs.CodeEnd.{passed_start, passed_block, no_comment, no_comment_no}
 use Rattle.scan.proofs.has_no_comment.Goals as goal

@@ -1,5 +1,4 @@
 use native.Mathlib.Omega.{arith}
-use Prim.Native.Nat.{◌-◌}
 use Rattle.scan.proofs.StringLaws.{inner_begins, inner_escapes, inner_ends, inner_goes_on, inner_stops}
 use Rattle.scan.proofs.inner.Goals as goal
 

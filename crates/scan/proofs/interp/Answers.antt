@@ -1,5 +1,4 @@
 use native.Mathlib.Omega.{arith}
-use Prim.Native.Nat.{◌-◌}
 use Rattle.scan.proofs.StringLaws.{interp_begins, interp_escapes, interp_doubles, interp_singles, interp_opens, interp_ends, interp_closes, interp_goes_on, interp_stops}
 use lib.ListN.{length-set}
 use Rattle.scan.proofs.interp.Goals as goal

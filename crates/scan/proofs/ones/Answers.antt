@@ -1,5 +1,4 @@
 use native.Mathlib.Omega.{arith}
-use Prim.Native.Nat.{◌-◌}
 use mathlib.Core.Path.{sym, ◌∙◌}
 use Rattle.scan.proofs.ScannedLaws.{scanned_start, scanned_then}
 use Rattle.scan.proofs.CodeLaws.{plain_one}

@@ -1,5 +1,4 @@
 use native.Mathlib.Omega.{arith}
-use Prim.Native.Nat.{◌-◌}
 use mathlib.Core.List.{◌∷◌, []}
 use Rattle.scan.proofs.StartsLaws.{told, starts_reach}
 use Rattle.scan.proofs.CodeLaws.{prefab_begins, prefab_ends, prefab_goes_on, prefab_stops}

@@ -1,5 +1,4 @@
 use native.Mathlib.Omega.{arith}
-use Prim.Native.Nat.{◌-◌}
 use mathlib.Core.Bool.{not-not}
 use Rattle.utf8.proofs.Among.{among_start, among_more, among_all}
 use Rattle.scan.proofs.quiet.Goals as goal

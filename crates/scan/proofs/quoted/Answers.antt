@@ -1,5 +1,4 @@
 use native.Mathlib.Omega.{arith}
-use Prim.Native.Nat.{◌-◌}
 use Rattle.scan.proofs.StringLaws.{quoted_begins, quoted_escapes, quoted_dollars, quoted_ends, quoted_goes_on, quoted_stops}
 use Rattle.scan.proofs.quoted.Goals as goal
 

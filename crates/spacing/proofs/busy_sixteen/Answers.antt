@@ -1,5 +1,4 @@
 use borrow.Author.Rules.{rules}
-use Prim.Native.Nat.{◌-◌}
 use Rattle.utf8.proofs.Among.{among_start, among_more, among_all}
 use Rattle.spacing.proofs.busy_sixteen.Goals as goal
 

@@ -1,5 +1,4 @@
 use borrow.Author.Rules.{rules}
-use Prim.Native.Nat.{◌-◌}
 use native.Mathlib.Omega.{arith}
 use Rattle.spacing.proofs.OddLaws.{cleared_start, cleared_more, quiet_no, quiet_long}
 use Rattle.spacing.proofs.is_quiet_long.Goals as goal

@@ -1,5 +1,4 @@
 use borrow.Author.Rules.{rules}
-use Prim.Native.Nat.{◌-◌}
 use Rattle.spacing.proofs.KeptLaws.{keeping_more, keeping_end, unchanged_no}
 use Rattle.spacing.proofs.is_spaced.Goals as goal
 

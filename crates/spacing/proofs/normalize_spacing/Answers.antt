@@ -1,5 +1,4 @@
 use borrow.Author.Rules.{rules}
-use Prim.Native.Nat.{◌-◌}
 use Rattle.spacing.proofs.SpacingLaws.{reached_start, reached_plain, reached_run, reached_more, reached_end}
 use Rattle.spacing.proofs.normalize_spacing.Goals as goal
 

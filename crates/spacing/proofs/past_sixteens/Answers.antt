@@ -1,5 +1,4 @@
 use borrow.Author.Rules.{rules}
-use Prim.Native.Nat.{◌-◌}
 use native.Mathlib.Omega.{arith}
 use Rattle.spacing.proofs.SpacingLaws.{run_none, run_block}
 use Rattle.spacing.proofs.past_sixteens.Goals as goal

@@ -1,5 +1,4 @@
 use borrow.Author.Rules.{rules}
-use Prim.Native.Nat.{◌-◌}
 use Rattle.spacing.proofs.SpacingLaws.{run_more}
 use Rattle.spacing.proofs.past_spaces.Goals as goal
 

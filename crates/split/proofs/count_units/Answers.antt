@@ -1,4 +1,3 @@
-use Prim.Native.Nat.{◌-◌}
 use borrow.Author.Rules.{rules}
 use Rattle.utf8.proofs.Bytewise.{sum_turn, width_end}
 use Rattle.split.proofs.MeasureLaws.{ascii_sum}

@@ -1,6 +1,5 @@
 use borrow.Author.Rules.{rules}
 use native.Mathlib.Omega.{arith}
-use Prim.Native.Nat.{◌-◌}
 use Rattle.split.proofs.MeasureLaws.{measuring_start, measuring_fits, measuring_more, measuring_end}
 use Rattle.split.proofs.measure_tabs.Goals as goal
 

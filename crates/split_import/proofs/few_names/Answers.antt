@@ -1,5 +1,4 @@
 use borrow.Author.Rules.{rules}
-use Prim.Native.Nat.{◌-◌}
 use Rattle.split_import.proofs.NameLaws.{counting_start, piece_within, counting_blank, counting_first, counting_second, counting_end}
 use Rattle.split_import.proofs.few_names.Goals as goal
 

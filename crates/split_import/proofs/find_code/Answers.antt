@@ -1,5 +1,4 @@
 use borrow.Author.Rules.{rules}
-use Prim.Native.Nat.{◌-◌}
 use Rattle.split_import.proofs.ImportLaws.{code_begin, code_more, code_found, code_end}
 use Rattle.split_import.proofs.find_code.Goals as goal
 

@@ -1,5 +1,4 @@
 use native.Mathlib.Omega.{arith}
-use Prim.Native.Nat.{◌-◌}
 use mathlib.Core.Path.{refl}
 use Rattle.utf8.proofs.Among.{among_start, among_more, among_all}
 use Rattle.split_import.proofs.has_byte.Goals as goal

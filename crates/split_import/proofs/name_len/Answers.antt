@@ -1,5 +1,4 @@
 use borrow.Author.Rules.{rules}
-use Prim.Native.Nat.{◌-◌}
 use Rattle.split_import.proofs.NameLaws.{name_begin, name_more, name_found, name_end}
 use Rattle.split_import.proofs.name_len.Goals as goal
 

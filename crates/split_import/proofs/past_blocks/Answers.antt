@@ -1,5 +1,4 @@
 use native.Mathlib.Omega.{arith}
-use Prim.Native.Nat.{◌-◌}
 use Rattle.split_import.proofs.ImportLaws.{lacks_start, lacks_block}
 use Rattle.split_import.proofs.past_blocks.Goals as goal
 

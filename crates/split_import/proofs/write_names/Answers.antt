@@ -1,5 +1,4 @@
 use borrow.Author.Rules.{rules}
-use Prim.Native.Nat.{◌-◌}
 use Rattle.split_import.proofs.NameLaws.{filling_start, filling_part, filling_room, filling_blank, filling_name, filling_end, piece_within}
 use Rattle.split_import.proofs.write_names.Goals as goal
 

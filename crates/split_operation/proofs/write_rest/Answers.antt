@@ -1,5 +1,4 @@
 use borrow.Author.Rules.{rules}
-use Prim.Native.Nat.{◌-◌}
 use Rattle.split_operation.proofs.OperationLaws.{writing_start, writing_cut, writing_within, writing_room, writing_more, writing_end}
 use Rattle.split_operation.proofs.write_rest.Goals as goal
 

@@ -1,5 +1,4 @@
 use borrow.Author.Rules.{rules}
-use Prim.Native.Nat.{◌-◌}
 use Rattle.top_level_ops.proofs.StepLaws.{atom_begin, atom_more, atom_stop, atom_end}
 use Rattle.top_level_ops.proofs.atom_len.Goals as goal
 

@@ -1,4 +1,3 @@
-use Prim.Native.Nat.{◌-◌}
 use native.Mathlib.Omega.{arith}
 use Rattle.utf8.proofs.Masks.{masked_start, masked_more, masked_all}
 use Rattle.utf8.proofs.byte_mask.Goals as goal

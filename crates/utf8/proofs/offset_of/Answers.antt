@@ -1,4 +1,3 @@
-use Prim.Native.Nat.{◌-◌}
 use borrow.Author.Rules.{rules}
 use Rattle.utf8.proofs.Column.{column_begin, column_turn, column_past, column_end}
 use Rattle.utf8.proofs.offset_of.Goals as goal

@@ -1,4 +1,3 @@
-use Prim.Native.Nat.{◌-◌}
 use borrow.Author.Rules.{rules}
 use Rattle.utf8.proofs.Scan.{run_start, run_one}
 use Rattle.utf8.proofs.past_ascii.Goals as goal

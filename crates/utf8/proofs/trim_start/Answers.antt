@@ -1,4 +1,3 @@
-use Prim.Native.Nat.{◌-◌}
 use borrow.Author.Rules.{rules}
 use Rattle.utf8.proofs.TrimScan.{start_begin, start_turn, start_found, start_end}
 use Rattle.utf8.proofs.trim_start.Goals as goal

@@ -1,4 +1,3 @@
-use Prim.Native.Nat.{◌-◌}
 use borrow.Author.Rules.{rules}
 use native.Mathlib.Omega.{arith}
 use Rattle.utf8.proofs.Scan.{prefix_begin, prefix_on, prefix_run, prefix_stop, prefix_end}

@@ -1,4 +1,3 @@
-use Prim.Native.Nat.{◌-◌}
 use borrow.Author.Rules.{rules}
 use Rattle.utf8.proofs.Bytewise.{sum_begin, sum_turn, width_end}
 use Rattle.utf8.proofs.width.Goals as goal

@@ -1,4 +1,3 @@
-use Prim.Native.Nat.{◌-◌}
 use Rattle.wirescript_parts.proofs.LevelLaws.{counting_start, counting_flat, counting_level, counting_end}
 use borrow.Author.Rules.{rules}
 use Rattle.wirescript_parts.proofs.levels_in.Goals as goal

@@ -1,5 +1,4 @@
 use borrow.Author.Rules.{rules}
-use Prim.Native.Nat.{◌-◌}
 use Rattle.config_lines.proofs.WholeLaws.{adding_start, adding_more, whole_empty, whole_below, whole_above, whole_large, whole_end}
 use Rattle.config_lines.proofs.number.whole_of.Goals as goal
 

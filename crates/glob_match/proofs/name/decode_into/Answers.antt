@@ -1,6 +1,5 @@
 use borrow.Author.Rules.{rules}
 use native.Mathlib.Omega.{arith}
-use Prim.Native.Nat.{◌-◌}
 use Rattle.glob_match.proofs.NameLaws.{decoding_start, decoding_room, decoding_more, decoding_end}
 use Rattle.glob_match.proofs.name.decode_into.Goals as goal
 

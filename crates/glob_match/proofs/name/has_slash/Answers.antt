@@ -1,5 +1,4 @@
 use borrow.Author.Rules.{rules}
-use Prim.Native.Nat.{◌-◌}
 use Rattle.glob_match.proofs.NameLaws.{seeking_start, seeking_found, seeking_more, seeking_end}
 use Rattle.glob_match.proofs.name.has_slash.Goals as goal
 

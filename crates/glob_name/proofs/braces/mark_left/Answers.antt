@@ -1,5 +1,4 @@
 use borrow.Author.Rules.{rules}
-use Prim.Native.Nat.{◌-◌}
 use Rattle.glob_name.proofs.MarkLaws.{left_start, left_more, left_end}
 use Rattle.glob_name.proofs.braces.mark_left.Goals as goal
 

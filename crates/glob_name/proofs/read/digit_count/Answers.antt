@@ -1,5 +1,4 @@
 use borrow.Author.Rules.{rules}
-use Prim.Native.Nat.{◌-◌}
 use Rattle.glob_name.proofs.ReadLaws.{counting_start, counting_below, counting_above, counting_more, counting_end}
 use Rattle.glob_name.proofs.read.digit_count.Goals as goal
 

@@ -1,5 +1,4 @@
 use borrow.Author.Rules.{rules}
-use Prim.Native.Nat.{◌-◌}
 use Rattle.glob_name.proofs.RawLaws.{scanning_start, scanning_part, scanning_token, scanning_end}
 use Rattle.glob_name.proofs.read.raw_kinds.Goals as goal
 

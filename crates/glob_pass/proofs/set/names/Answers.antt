@@ -1,5 +1,4 @@
 use borrow.Author.Rules.{rules}
-use Prim.Native.Nat.{◌-◌}
 use Rattle.glob_pass.proofs.SetLaws.{naming_start, naming_close, naming_hit, naming_more, naming_end}
 use Rattle.glob_pass.proofs.set.names.Goals as goal
 

@@ -1,7 +1,6 @@
 use mathlib.Core.Path.{ap}
 use Rattle.rules.specs.declared.Mark.{Mark}
 use Rattle.basics.specs.Depth.{depth_of}
-use Prim.Native.Nat.{◌-◌}
 use native.Mathlib.Omega.{arith}
 use Rattle.marks.proofs.WithinLaws.{marking_start, within_pass, within_more, within_end}
 use Rattle.marks.proofs.within.classify_at.Goals as goal

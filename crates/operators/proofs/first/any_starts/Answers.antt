@@ -1,5 +1,4 @@
 use native.Mathlib.Omega.{arith}
-use Prim.Native.Nat.{◌-◌}
 use Rattle.utf8.proofs.Among.{among_start, among_more, among_all}
 use Rattle.operators.proofs.first.any_starts.Goals as goal
 

@@ -1,4 +1,3 @@
-use Prim.Native.Nat.{◌-◌}
 use borrow.Author.Rules.{rules}
 use Rattle.operators.proofs.FirstLaws.{before_one, before_found, before_end}
 use Rattle.operators.proofs.first.has_operator.Goals as goal

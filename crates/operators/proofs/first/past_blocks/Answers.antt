@@ -1,4 +1,3 @@
-use Prim.Native.Nat.{◌-◌}
 use native.Mathlib.Omega.{arith}
 use Rattle.operators.proofs.FirstLaws.{before_start, before_block}
 use Rattle.operators.proofs.first.past_blocks.Goals as goal

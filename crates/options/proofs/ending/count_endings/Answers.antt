@@ -1,5 +1,4 @@
 use borrow.Author.Rules.{rules}
-use Prim.Native.Nat.{◌-◌}
 use Rattle.options.proofs.EndingLaws.{counting_start, counting_room, counting_other, counting_lf, counting_crlf, counting_end}
 use Rattle.options.proofs.ending.count_endings.Goals as goal
 use Rattle.options.proofs.ending.count_endings.Goals.{then-b-eq10+then-before-eq13, then-b-eq10+else-before-eq13, else-b-eq10}

@@ -1,5 +1,4 @@
 use borrow.Author.Rules.{rules}
-use Prim.Native.Nat.{◌-◌}
 use Rattle.options.proofs.EndingLaws.{counted_none, counted_more, dominant_crlf, dominant_lf}
 use Rattle.options.proofs.ending.dominant_in.Goals as goal
 

@@ -1,5 +1,4 @@
 use borrow.Author.Rules.{rules}
-use Prim.Native.Nat.{◌-◌}
 use Rattle.options.proofs.NumbersLaws.{blank_start, blank_space, blank_tab, blank_not, blank_end}
 use Rattle.options.proofs.numbers.all_blank.Goals as goal
 use Rattle.options.proofs.numbers.all_blank.Goals.{then-b-ne32+else-b-ne9, else-b-ne32}

@@ -1,6 +1,5 @@
 use native.Mathlib.Omega.{arith}
 use mathlib.Core.Path.{refl}
-use Prim.Native.Nat.{◌-◌}
 use Rattle.split_operation.proofs.PassLaws.{countable, passing_start, pass_deep, pass_over, pass_plain, pass_taken, pass_left, pass_end}
 use Rattle.split_operation.proofs.IdentLaws.{passing_past}
 use Rattle.split_operation.proofs.pass.find_break.Goals as goal

@@ -1,5 +1,4 @@
 use borrow.Author.Rules.{rules}
-use Prim.Native.Nat.{◌-◌}
 use Rattle.split_operation.proofs.IdentLaws.{ident_begin, ident_more}
 use Rattle.split_operation.proofs.pass.ident_end.Goals as goal
 

@@ -1,5 +1,4 @@
 use borrow.Author.Rules.{rules}
-use Prim.Native.Nat.{◌-◌}
 use Rattle.split_operation.proofs.PassLaws.{countable, seek_start, read_token, seek_read, seek_found, seek_plain, seek_end}
 use Rattle.split_operation.proofs.IdentLaws.{seek_past}
 use Rattle.split_operation.proofs.pass.next_op.Goals as goal

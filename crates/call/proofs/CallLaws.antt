@@ -20,7 +20,7 @@ use Rattle.rules.specs.Lines.{as_str, lines_of, dominant_in, ends_in_lf}
 use Rattle.rules.specs.Options.{Options, all_blank, valid_indent, max_indent, max_ruler}
 use Rattle.rules.specs.Brackets.{open_lines}
 use Rattle.rules.specs.Line.{Formatter, start}
-use Rattle.rules.specs.Assembly.{Formatted, ending_of, drop_empty, joined, last_ending, finish, format_lines, format_with}
+use Rattle.rules.specs.Assembly.{ending_of, drop_empty, joined, last_ending, finish, format_lines, format_with}
 use Rattle.rules.specs.Refusals.{max_source, scratch_needed, refuse_if, tested, long_source, bad_option, wide_ruler, short_scratch, ill_formed, short_output, wrong_length, bits_set}
 use Rattle.rules.specs.Strengths.{table_length}
 use Rattle.rules.specs.Choices.{valid_options, options_of}

@@ -15,7 +15,6 @@ use lib.Dec.{ltb}
 use lib.ListN.{length, get_or, take, drop, length-drop}
 use lib.Seq.{take-length}
 use Rattle.utf8.specs.Unicode.{decode, WellFormed, code_at}
-use Rattle.utf8.specs.Places.{Step, Column}
 use Rattle.utf8.proofs.Scan.{ascii, ascii_step}
 use Rattle.utf8.proofs.Tests.{neither_left, neither_right}
 use Rattle.buffer.specs.Buffer.{part}

@@ -6,7 +6,7 @@
 use Prim.Native.Nat.{ℕ, zero, suc, ◌+◌, ◌-◌, ◌≤◌, ◌<◌}
 use native.Mathlib.Nat.{add-zero}
 use native.Mathlib.Omega.{arith}
-use mathlib.Core.Bool.{Bool, true, false, not, ◌||◌, true≢false}
+use mathlib.Core.Bool.{Bool, true, false, not, ◌||◌}
 use mathlib.Core.List.{List, [], ◌∷◌, ◌++◌, append_assoc, append_cancel_left}
 use mathlib.Core.Logic.{◌⊎◌, inl, inr}
 use mathlib.Core.Path.{◌≡◌, refl, sym, ap, ◌∙◌, subst}
@@ -16,16 +16,14 @@ use lib.Dec.{ltb, eqb}
 use lib.ListN.{length, get_or, drop, length-append}
 use Rattle.utf8.specs.Unicode.{encode_char, encode, size, decode, WellFormed, code_at}
 use Rattle.utf8.specs.Places.{Step}
-use Rattle.utf8.proofs.Decode.{encode_append, encode_one}
 use Rattle.utf8.proofs.Scan.{ascii, ascii_step}
 use Rattle.utf8.proofs.Tests.{by_test, neither_left, neither_right}
 use Rattle.rules.specs.Demand3.{is_kept, strike}
 use Rattle.rules.proofs.Struck.{strike_append}
 use Rattle.gaps.specs.Gaps.{gap, after, Unkept, GapByte}
-use Rattle.gaps.proofs.GapLaws.{gap_kept, gap_other, after_kept, after_other, strike_kept, strike_other, strike_unkept}
-use Rattle.changes.specs.Changes.{change_at, changes_from}
+use Rattle.gaps.proofs.GapLaws.{gap_kept, gap_other, after_kept, after_other, strike_kept, strike_unkept}
+use Rattle.changes.specs.Changes.{changes_from}
 use Rattle.changes.specs.Passing.{SameBytes, KeptByte, Behind, LastKept, Passed}
-use Rattle.changes.specs.declared.Change.{Change}
 use Rattle.changes.proofs.WalkLaws.{change_none, changes_step}
 
 -- ---- the loops over a block

@@ -22,7 +22,7 @@ use Rattle.rules.specs.declared.Refusal.{Refusal}
 use Rattle.rules.specs.declared.Verdict.{Verdict}
 use Rattle.rules.specs.declared.Strengths.{Strengths}
 use Rattle.rules.proofs.RefusalLaws.{numbered, option_good, head_passed, tail_passed}
-use Rattle.rules.proofs.CallLaws.{Accepted, text_scalars}
+use Rattle.rules.proofs.CallLaws.{text_scalars}
 use Rattle.options.specs.Held.{held_named}
 use Rattle.options.specs.declared.FormatOptions.{FormatOptions}
 use Rattle.options.specs.declared.Changed.{Changed}

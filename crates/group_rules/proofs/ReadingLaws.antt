@@ -8,7 +8,6 @@ use lib.Dec.{eqb}
 use borrow.Author.Tests.{eqb-true}
 use Rattle.utf8.specs.Unicode.{is_white}
 use Rattle.rules.specs.Basics.{is, keep, is_blank}
-use Rattle.rules.specs.Operators.{operators}
 use Rattle.rules.proofs.Choose.{choose_case}
 use Rattle.rules.proofs.Struck.{keep_append}
 use Rattle.group_rules.specs.Expression.{Token, word, sign, operator, opener, closer, Stage, due, in_name, in_number, after, in_operator, State, state, Step, next, refused, max_depth, open_step, close_step, due_step, after_step, stage_step, step, Reading, read, refused_at, ended, ending, on_step, read_from, reading_to, reading}

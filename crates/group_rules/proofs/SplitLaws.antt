@@ -20,7 +20,7 @@ use Rattle.rules.specs.Operators.{strengths}
 use Rattle.rules.specs.SplitOperation.{ends_operand, atom_len, Ops, OpStep, is_sign, one_char_step, two_char_step, code_step, fresh_step, op_step_at, op_step, OpMark, op_mark, marks_from, no_ops, top_level_ops, deeper, shallower, balance_step, is_zero, is_balanced, word_on, has_word_from, has_word, keywords, looser, loosest, break_at, split_once}
 use Rattle.rules.proofs.Computing.{computing}
 use Rattle.rules.proofs.Choose.{choose_true, choose_false, choose_case}
-use Rattle.group_rules.specs.Expression.{Token, operator, Stage, due, in_name, in_number, after, in_operator, read, reading_to}
+use Rattle.group_rules.specs.Expression.{Token, Stage, due, in_name, in_number, after, in_operator, read, reading_to}
 use Rattle.group_rules.specs.Grouping.{strength_of}
 use Rattle.group_rules.proofs.TableLaws.{or_cases, or_false, and_none, not_of, unlike, all_of, found}
 use Rattle.group_rules.specs.Split.{plain_marks, operator_marks, depth_of, marks_back, marks_of, inked, SplitsAlike}

@@ -1,5 +1,4 @@
 use borrow.Author.Rules.{rules}
-use Prim.Native.Nat.{◌-◌}
 use Rattle.caret.proofs.ScanLaws.{count_begin, count_end, kept_hit, kept_miss}
 use Rattle.caret.proofs.BlockLaws.{count_block}
 use Rattle.caret.proofs.count_kept.Goals as goal

@@ -1,5 +1,4 @@
 use borrow.Author.Rules.{rules}
-use Prim.Native.Nat.{◌-◌}
 use Rattle.caret.proofs.ScanLaws.{count_begin, lines_hit, lines_miss, lines_end}
 use Rattle.caret.proofs.BlockLaws.{count_block}
 use Rattle.caret.proofs.count_lines.Goals as goal

@@ -1,6 +1,5 @@
 use borrow.Author.Rules.{rules}
 use native.Mathlib.Omega.{arith}
-use Prim.Native.Nat.{◌-◌}
 use Rattle.caret.proofs.ScanLaws.{past_begin, start_hit, start_miss, start_found, start_missing}
 use Rattle.caret.proofs.BlockLaws.{past_block}
 use Rattle.caret.proofs.line_start.Goals as goal

@@ -1,6 +1,5 @@
 use borrow.Author.Rules.{rules}
 use native.Mathlib.Omega.{arith}
-use Prim.Native.Nat.{◌-◌}
 use Rattle.caret.proofs.ScanLaws.{past_begin, past_done, past_short, past_kept_hit, past_kept_miss}
 use Rattle.caret.proofs.BlockLaws.{past_block}
 use Rattle.caret.proofs.past_kept.Goals as goal

@@ -1,5 +1,4 @@
 use borrow.Author.Rules.{rules}
-use Prim.Native.Nat.{◌-◌}
 use Rattle.changes.proofs.PassLaws.{same_start, same_more, same_end}
 use Rattle.changes.proofs.differ_among.Goals as goal
 

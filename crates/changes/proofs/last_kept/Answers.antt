@@ -1,5 +1,4 @@
 use borrow.Author.Rules.{rules}
-use Prim.Native.Nat.{◌-◌}
 use Rattle.changes.proofs.PassLaws.{last_start, last_more}
 use Rattle.changes.proofs.last_kept.Goals as goal
 

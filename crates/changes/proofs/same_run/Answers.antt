@@ -1,5 +1,4 @@
 use borrow.Author.Rules.{rules}
-use Prim.Native.Nat.{◌-◌}
 use Rattle.changes.proofs.PassLaws.{run_begin, run_turn, run_end}
 use Rattle.changes.proofs.same_run.Goals as goal
 

@@ -1,5 +1,4 @@
 use borrow.Author.Rules.{rules}
-use Prim.Native.Nat.{◌-◌}
 use Rattle.changes.proofs.WalkLaws.{walk_source, walk_text, walk_text_fits, walk_source_on, walk_text_on}
 use Rattle.changes.proofs.WalkLaws.{walk_begin, walk_pair, walk_turn, walk_end}
 use Rattle.changes.proofs.write_changes.Goals as goal

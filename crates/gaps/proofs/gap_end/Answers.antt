@@ -1,5 +1,4 @@
 use Rattle.gaps.proofs.ScanLaws.{gap_begin, gap_turn, gap_found, gap_last}
-use Prim.Native.Nat.{◌-◌}
 use borrow.Author.Rules.{rules}
 use Rattle.gaps.proofs.gap_end.Goals as goal
 

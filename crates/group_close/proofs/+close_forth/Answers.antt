@@ -2,7 +2,7 @@ use native.Mathlib.Omega.{arith}
 use Prim.Native.Nat.{◌<◌}
 use borrow.Author.Rules.{rules}
 use Rattle.group_open.proofs.BackLaws.{entered}
-use Rattle.group_close.proofs.ForthLaws.{forthing_start, forthing_more, forthing_stop, forthing_end, appended_size}
+use Rattle.group_close.proofs.ForthLaws.{forthing_start, forthing_more, forthing_stop, forthing_end}
 use Rattle.group_close.proofs.+close_forth.Goals as goal
 
 pub loop-s-init : goal.loop-s-init

@@ -1,5 +1,4 @@
 use borrow.Author.Rules.{rules}
-use Prim.Native.Nat.{◌-◌}
 use Rattle.group_read.proofs.LoopLaws.{reads_start, reads_room, reads_next, reads_refused, reads_end}
 use Rattle.group_read.proofs.read.Goals as goal
 

@@ -1,5 +1,4 @@
 use Rattle.buffer.proofs.LoopLaws.{filling_start, filling_more, filling_end}
-use Prim.Native.Nat.{◌-◌}
 use borrow.Author.Rules.{rules}
 use Rattle.lists.proofs.zero.Goals as goal
 

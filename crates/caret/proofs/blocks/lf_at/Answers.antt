@@ -1,5 +1,4 @@
 use borrow.Author.Rules.{rules}
-use Prim.Native.Nat.{◌-◌}
 use Rattle.caret.proofs.BlockLaws.{counted_start, counted_more, block_none, block_told}
 use Rattle.caret.proofs.blocks.lf_at.Goals as goal
 

@@ -11,7 +11,8 @@ ROOT = Path(__file__).resolve().parent.parent
 def crates():
     """Each crate with those of this repository that it names, in the order of crates.txt."""
     lines = (line.split("#")[0].strip() for line in (ROOT / "crates.txt").read_text().splitlines())
-    named = {name.strip(): below.split() for name, below in (line.split(":") for line in lines if line)}
+    # behind a name may stand `staticlib`
+    named = {name.split()[0]: below.split() for name, below in (line.split(":") for line in lines if line)}
     return named
 
 
@@ -37,6 +38,13 @@ def needs(crate):
 @cache
 def sources(crate):
     return sorted((ROOT / "crates" / crate / "src").rglob("*.rt"))
+
+
+@cache
+def definitions(crate):
+    """The files of specs/ and proofs/."""
+    folder = ROOT / "crates" / crate
+    return sorted(path for part in ("specs", "proofs") for path in (folder / part).rglob("*.antt"))
 
 
 @cache

@@ -25,7 +25,7 @@ def is_missing(crate, path):
 
 
 def is_gone(path):
-    return "target" not in Path(path).parts and not (ROOT / path).exists()
+    return not {"target", "out"} & set(Path(path).parts) and not (ROOT / path).exists()
 
 
 def missing(path, files):

@@ -1,7 +1,8 @@
 /* The Wirescript formatter for C: all that libwirescript.a exports.
  *
- * `rt staticlib wirescript` in the repository's root proves the library and writes target/staticlib/libwirescript.a,
- * for x86-64 Linux. A program is linked with it and the C library: cc program.c target/staticlib/libwirescript.a
+ * `scripts/archives.py wirescript` in the repository's root proves the library and writes
+ * target/staticlib/libwirescript.a, for x86-64 Linux. A program is linked with it and the C library:
+ * cc program.c target/staticlib/libwirescript.a
  *
  * What a caller must know:
  * - A slice is a pointer and the number of its elements, bytes or 64-bit numbers, and must have as many as it says. One

@@ -10,9 +10,9 @@ shift
 rules=$scratch/crates/rules/proofs
 grep -q 'pub mod Sample' "$rules/Lib.antt" || echo 'pub mod Sample' >> "$rules/Lib.antt"
 "${CARGO_TARGET_DIR:-$here/target}/release/sample" "$@" > "$rules/Sample.antt" || exit 2
-cd "$scratch" || exit 2
-if rt dev rules > sample.log 2>&1; then
-    echo "$*: $(grep -c '^    ∷$' crates/rules/proofs/Sample.antt) agree"
+cd "$scratch/crates/rules" || exit 2
+if rt check > sample.log 2>&1; then
+    echo "$*: $(grep -c '^    ∷$' proofs/Sample.antt) agree"
 elif grep 'error:' sample.log | grep -qv 'step limit' || ! grep -q 'step limit' sample.log; then
     echo "$*: DIFFER"
     grep -o 'error: .sample[0-9]*' sample.log

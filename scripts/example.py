@@ -1,6 +1,6 @@
 #!/usr/bin/env python3
-"""Fills README's example: what the program given, by default target/bin/wsfmt, writes for the text before. With --check
-it fails where README has something else."""
+"""Fills README's example: what the program given, by default crates/wsfmt/out/wsfmt, writes for the text before. With
+--check it fails where README has something else."""
 import re
 import subprocess
 import sys
@@ -12,7 +12,7 @@ BLOCK = r"(<!-- {} -->\n```\n)(.*?)(```\n)"
 
 
 def main():
-    program = next((word for word in sys.argv[1:] if word != "--check"), ROOT / "target" / "bin" / "wsfmt")
+    program = next((word for word in sys.argv[1:] if word != "--check"), ROOT / "crates" / "wsfmt" / "out" / "wsfmt")
     page = PAGE.read_text()
     before = re.search(BLOCK.format("before"), page, re.DOTALL).group(2)
     run = subprocess.run([program], input=before.encode(), capture_output=True, check=True)

@@ -4,7 +4,7 @@ import re
 import sys
 from pathlib import Path
 
-from repository import ROOT, crates, sources
+from repository import ROOT, crates, definitions, sources
 
 CITED = re.compile(r"\b([a-z][a-z_0-9]*)((?:::\w+)+)")
 FILE = re.compile(r"\b\w+\.antt\b")
@@ -25,7 +25,7 @@ def is_missing(crate, path):
 
 
 def is_gone(path):
-    return "target" not in Path(path).parts and not (ROOT / path).exists()
+    return not {"target", "out"} & set(Path(path).parts) and not (ROOT / path).exists()
 
 
 def missing(path, files):
@@ -36,7 +36,7 @@ def missing(path, files):
     return [f"{path.relative_to(ROOT)}: {name} is not there" for name in names]
 
 
-definitions = {path.name for path in (ROOT / "crates").rglob("*.antt")} | ANY
-found = [line for path in documents() for line in missing(path, definitions)]
+known = {path.name for crate in crates() for path in definitions(crate)} | ANY
+found = [line for path in documents() for line in missing(path, known)]
 print("\n".join(found) or "what the documents cite is there")
 sys.exit(bool(found))

@@ -6,7 +6,7 @@ from dataclasses import dataclass
 from functools import cache
 from html import escape
 
-from repository import ROOT, crates, edits, functions, needs, sources, write_or_check
+from repository import ROOT, crates, definitions, edits, functions, needs, sources, write_or_check
 
 PAGE = ROOT / "docs" / "architecture.svg"
 FONT = "font-family='DejaVu Sans, Verdana, sans-serif'"
@@ -25,13 +25,13 @@ COLOURS = {
 # What the functions of a crate are proved against, the one that says most; of a crate without code, what its laws are
 # about. docs/ARCHITECTURE.md has the others.
 PROVED = {
-    "unicode": "WellFormed", "buffer": "Appended", "decimal": "DecimalPut", "lists": "Finishes",
-    "basics": "startsWith", "rules": "Kept (demand 3)", "quoted": "QuotedKept", "check_rules": "isFormatted",
-    "group_rules": "Groups", "config_rules": "readEditorConfig", "scan": "Classified", "marks": "ClassifiedAt",
-    "spacing": "Normalized", "brackets": "BracketsDone", "format": "Continues", "operators": "strengthsIn",
+    "utf8": "WellFormed", "buffer": "Appended", "decimal": "DecimalPut", "lists": "Finishes",
+    "basics": "starts_with", "rules": "Kept (demand 3)", "quoted": "QuotedKept", "check_rules": "is_formatted",
+    "group_rules": "Groups", "config_rules": "read_editor_config", "scan": "Classified", "marks": "ClassifiedAt",
+    "spacing": "Normalized", "brackets": "BracketsDone", "format": "Continues", "operators": "strengths_in",
     "top_level_ops": "OpStep", "split": "Measured", "split_import": "Given", "split_operation": "Broken",
-    "options": "withEditorConfig", "compare": "Compared", "text": "Finished", "line": "Stepped", "place": "Puts",
-    "step": "Stepped", "line_ends": "LineEnd", "lines": "AllRead", "answer": "answerOf", "call": "FormatAnswered",
+    "options": "with_editor_config", "compare": "Compared", "text": "Finished", "line": "Stepped", "place": "Puts",
+    "step": "Stepped", "line_ends": "LineEnd", "lines": "AllRead", "answer": "answer_of", "call": "FormatAnswered",
     "check_call": "CheckAnswered", "text_kind": "KindAnswered", "text_kinds": "KindsAnswered", "gaps": "GapEnd",
     "changes": "Written", "caret": "CaretMoved", "edits": "ChangesAnswered, CaretAnswered", "group_read": "CodedAs",
     "group_open": "OpenedAll", "group_close": "Appended", "group": "GroupAnswered", "glob_pass": "Passed",
@@ -47,7 +47,7 @@ def proved(crate):
     folder = ROOT / "crates" / crate
     if crate not in PROVED:
         return "a stored run" if (folder / "stdout").exists() else ""
-    text = "".join(path.read_text() for path in folder.rglob("*") if path.suffix in (".rt", ".antt"))
+    text = "".join(path.read_text() for path in [*sources(crate), *definitions(crate)])
     for name in PROVED[crate].split(" (")[0].split(", "):
         assert re.search(rf"\b{name}\b", text), f"{crate} has no {name}: picture.py says that it is proved of it"
     return f"→ {PROVED[crate]}"
@@ -59,7 +59,7 @@ def kind(crate):
     text = "".join(path.read_text() for path in sources(crate))
     if any(path.name == "main.rt" for path in sources(crate)):
         return "program"
-    if "#[no_mangle]" in text:
+    if "#[unsafe(no_mangle)]" in text:
         return "exported"
     return "code" if functions(crate) else "rules"
 
@@ -299,7 +299,7 @@ def legend(y):
     return shown
 
 
-CONTRACT = re.compile(r'^pub extern "C" fn (\w+).*?ensures \{ λ r\. ⌜ (?:r ≡ )?(\w+)', re.MULTILINE | re.DOTALL)
+CONTRACT = re.compile(r'^pub extern "C" fn (\w+).*?ensures \{ (?:result ≡ )?(\w+)', re.MULTILINE | re.DOTALL)
 
 
 def calls():

@@ -8,11 +8,22 @@ ROOT = Path(__file__).resolve().parent.parent
 
 
 @cache
-def crates():
-    """Each crate with those of this repository that it names, in the order of crates.txt."""
+def listed():
+    """The lines of crates.txt: the words before the colon, a crate's name the first, and those behind it."""
     lines = (line.split("#")[0].strip() for line in (ROOT / "crates.txt").read_text().splitlines())
-    named = {name.strip(): below.split() for name, below in (line.split(":") for line in lines if line)}
-    return named
+    return [[part.split() for part in line.split(":")] for line in lines if line]
+
+
+@cache
+def crates():
+    """Each crate with the libraries that it names, in the order of crates.txt."""
+    return {head[0]: libraries for head, libraries in listed()}
+
+
+@cache
+def statics():
+    """The crates that are built as archives."""
+    return [head[0] for head, _ in listed() if "staticlib" in head]
 
 
 def own(names):
@@ -37,6 +48,13 @@ def needs(crate):
 @cache
 def sources(crate):
     return sorted((ROOT / "crates" / crate / "src").rglob("*.rt"))
+
+
+@cache
+def definitions(crate):
+    """The files of specs/ and proofs/."""
+    folder = ROOT / "crates" / crate
+    return sorted(path for part in ("specs", "proofs") for path in (folder / part).rglob("*.antt"))
 
 
 @cache

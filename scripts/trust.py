@@ -13,12 +13,13 @@ EXPORTER = "wirescript"
 WIDTH = 112
 
 # a definition file, or a type declared in code: the crate, then the path below its specs
-SPEC = re.compile(r"Rattle·(\w+?)(?:·specs)?\.specs\.((?:\w+\.)*\w+)")
-KIT = re.compile(r"\b((?:lib|mathlib|Prim)(?:\.\w+)+)\.\{([^}]*)\}")
-KIT_AS = re.compile(r"^use ((?:lib|mathlib|Prim)(?:\.\w+)+) as (\w+)", re.MULTILINE)
-EXPORT = re.compile(r'^#\[no_mangle\]\npub extern "C" fn (\w+)(.*?)^\{', re.MULTILINE | re.DOTALL)
+SPEC = re.compile(r"Rattle\.(?!std\b)(\w+)\.specs\.((?:\w+\.)*\w+)")
+LIBRARY = r"(?:Rattle\.std|mathlib|Prim)(?:\.\w+)+"
+KIT = re.compile(rf"\b({LIBRARY})\.\{{([^}}]*)\}}")
+KIT_AS = re.compile(rf"^use ({LIBRARY}) as (\w+)", re.MULTILINE)
+EXPORT = re.compile(r'^#\[unsafe\(no_mangle\)\]\npub extern "C" fn (\w+)(.*?)^\{', re.MULTILINE | re.DOTALL)
 USE = re.compile(r"^(?:ghost )?use ([^;{]+?)(?:\.\{([^}]*)\})?;", re.MULTILINE)
-WORD = re.compile(r"[\w'·-]+")
+WORD = re.compile(r"[\w']+")
 
 
 def named(path, names):
@@ -223,8 +224,9 @@ def unsafe_blocks():
 
 
 def programs():
-    """The crates that name the C library's functions."""
-    return [f"- `{name}`" for name, needed in crates().items() if "libc" in needed]
+    """The crates that read and write: those that name the toolchain's `std::io`."""
+    texts = {name: "".join(path.read_text() for path in sources(name)) for name in crates()}
+    return [f"- `{name}`" for name, text in texts.items() if re.search(r"\bstd::io\b", text)]
 
 
 def parts():

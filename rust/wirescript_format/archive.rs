@@ -30,7 +30,7 @@ pub fn archive(folder: &Path, library: &str) -> Result<PathBuf, String> {
         return Ok(path);
     }
     Err(format!(
-        "there is no \"{}\": `rt staticlib {library}` in the repository's root writes target/staticlib/lib{library}.a; \
+        "there is no \"{}\": `scripts/archives.py {library}` in the repository's root writes target/staticlib/lib{library}.a; \
          to link one that stands elsewhere, set WIRESCRIPT_LIB to the absolute path of its folder",
         path.display()
     ))

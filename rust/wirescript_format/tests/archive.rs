@@ -56,7 +56,7 @@ fn the_archive() {
     ] {
         let what = archive(&folder, library).expect_err("refused");
         assert!(
-            what.contains(&format!("`rt staticlib {library}`")),
+            what.contains(&format!("`scripts/archives.py {library}`")),
             "{what}"
         );
         assert!(what.contains("WIRESCRIPT_LIB"), "{what}");

@@ -45,8 +45,8 @@ fn options_of(word: &str) -> Option<Chosen> {
     match word.split_once(' ') {
         None if word == "defaults" => {}
         None if word == "never" => return Some(Chosen::from(options).never()),
-        None if word == "noFinalNewline" => options.insert_final_newline = false,
-        Some(("atWidth", width)) => options.print_width = Some(width.parse().ok()?),
+        None if word == "no_final_newline" => options.insert_final_newline = false,
+        Some(("at_width", width)) => options.print_width = Some(width.parse().ok()?),
         Some(("ruled", rest)) => return ruled(rest),
         _ => return None,
     }

@@ -17,36 +17,35 @@ use wirescript_format::raw::Resolved;
 const CHUNK: usize = 25;
 const LONG_CHUNK: usize = 4;
 
-const HEAD: &str = r"use mathlib.Core.Path.{_≡_, refl}
+const HEAD: &str = r"use mathlib.Core.Path.{◌≡◌, refl}
 use mathlib.Core.Bool.{Bool, true, false}
 use Prim.Native.Nat.{ℕ}
 use Prim.Native.String.{String}
-use mathlib.Core.List.{List, [], _∷_, map}
-use Rattle·rules·specs.specs.Basics.{codes}
-use Rattle·rules·specs.specs.Options.{Options, SettingStep, defaults, indentWith}
-use Rattle·rules·specs.specs.Strengths.{builtIn}
-use Rattle·rules·specs.specs.EditorConfig.{withEditorConfig}
-use Rattle·rules·specs.specs.TextKind.{textKindAt, kindNumber}
-use Rattle·rules·specs.specs.Assembly.{Formatted, formatWith}
-use Rattle·rules·specs.specs.Call.{Call, outcomeOf, answerOf, outputOf}
-use Rattle·rules·specs.specs.TextKind.{kindOutcomeOf, kindAnswer}
-use Rattle·rules·specs.specs.declared.Answer.{Answer}
-use Rattle·rules·specs.specs.declared.Kind.{Kind}
-use Rattle·rules·specs.specs.declared.LineEnding.{LineEnding}
-use Rattle·rules·specs.specs.declared.EndOfLine.{EndOfLine}
-use Rattle·rules·specs.specs.declared.PrintWidth.{PrintWidth}
-use Rattle·rules·specs.specs.declared.FinalNewline.{FinalNewline}
-use Rattle·rules·specs.specs.declared.IndentStyle.{IndentStyle}
-use Rattle·rules·specs.specs.declared.IndentSize.{IndentSize}
-use Rattle·rules·specs.specs.declared.TabWidth.{TabWidth}
-use Rattle·rules·specs.specs.declared.MaxLineLen.{MaxLineLen}
-use Rattle·rules·specs.specs.declared.ConfigEnding.{ConfigEnding}
-use Rattle·rules·specs.specs.declared.InsertFinalNewline.{InsertFinalNewline}
-use Rattle·rules·specs.specs.declared.Resolved.{Resolved}
-use Rattle·rules·proofs.proofs.Computing.{computing}
+use mathlib.Core.List.{List, [], ◌∷◌, map}
+use Rattle.rules.specs.Basics.{codes}
+use Rattle.rules.specs.Options.{Options, SettingStep, defaults, indent_with}
+use Rattle.rules.specs.EditorConfig.{with_editor_config}
+use Rattle.rules.specs.TextKind.{text_kind_at, kind_number}
+use Rattle.rules.specs.Assembly.{Formatted, format_with}
+use Rattle.rules.specs.Call.{Call, outcome_of, answer_of, output_of}
+use Rattle.rules.specs.TextKind.{kind_outcome_of, kind_answer}
+use Rattle.rules.specs.declared.Answer.{Answer}
+use Rattle.rules.specs.declared.Kind.{Kind}
+use Rattle.rules.specs.declared.LineEnding.{LineEnding}
+use Rattle.rules.specs.declared.EndOfLine.{EndOfLine}
+use Rattle.rules.specs.declared.PrintWidth.{PrintWidth}
+use Rattle.rules.specs.declared.FinalNewline.{FinalNewline}
+use Rattle.rules.specs.declared.IndentStyle.{IndentStyle}
+use Rattle.rules.specs.declared.IndentSize.{IndentSize}
+use Rattle.rules.specs.declared.TabWidth.{TabWidth}
+use Rattle.rules.specs.declared.MaxLineLen.{MaxLineLen}
+use Rattle.rules.specs.declared.ConfigEnding.{ConfigEnding}
+use Rattle.rules.specs.declared.InsertFinalNewline.{InsertFinalNewline}
+use Rattle.rules.specs.declared.Resolved.{Resolved}
+use Rattle.rules.proofs.Computing.{computing}
 
 abbrev opts : String → PrintWidth → EndOfLine → FinalNewline → Options
-opts i w e n = record { indent = codes i; printWidth = w; endOfLine = e; insertFinalNewline = n; rulerTab = 0; strengths = defaults .strengths }
+opts i w e n = record { indent = codes i; print_width = w; end_of_line = e; insert_final_newline = n; ruler_tab = 0; strengths = defaults.strengths }
 
 ";
 
@@ -110,20 +109,20 @@ abbrev Shown : Type 0
 Shown = List ℕ × ℕ × ℕ
 
 abbrev expected : Case → Shown
-expected c = (codes (c .2), c .3, c .4)
+expected c = (codes c.2, c.3, c.4)
 
 abbrev given : Case → Shown
-given c = let r = formatWith (c .0) (codes (c .1)) in (r .text, r .importsSplit, r .blankNames)
+given c = let r = format_with c.0 (codes c.1) in (r.text, r.imports_split, r.blank_names)
 ";
 
 const KINDS: &str = "abbrev Case : Type 0
 Case = String × ℕ × List ℕ × List ℕ
 
 abbrev expected : Case → List ℕ
-expected c = c .3
+expected c = c.3
 
 abbrev given : Case → List ℕ
-given c = map (λ (k : ℕ). kindNumber (textKindAt (codes (c .0)) (c .1) k)) (c .2)
+given c = map (λ (k : ℕ). kind_number (text_kind_at (codes c.0) c.1 k)) c.2
 ";
 
 const CONFIG: &str = "abbrev Case : Type 0
@@ -133,37 +132,37 @@ abbrev res : IndentStyle → IndentSize → TabWidth → MaxLineLen → ConfigEn
 res a b c d e f = record { style = a; size = b; tab = c; max = d; ending = e; newline = f }
 
 abbrev expected : Case → SettingStep
-expected c = record { refused = c .2; options = c .3 }
+expected c = record { refused = c.2; options = c.3 }
 
 abbrev given : Case → SettingStep
-given c = withEditorConfig (c .0) (c .1)
+given c = with_editor_config c.0 c.1
 ";
 
 const INDENT: &str = "abbrev Case : Type 0
 Case = Options × Bool × ℕ × Bool × Options
 
 abbrev expected : Case → SettingStep
-expected c = record { refused = c .3; options = c .4 }
+expected c = record { refused = c.3; options = c.4 }
 
 abbrev given : Case → SettingStep
-given c = indentWith (c .0) (c .1) (c .2)
+given c = indent_with c.0 c.1 c.2
 ";
 
 const CALL: &str = "abbrev Case : Type 0
 Case = Call × Answer × List ℕ
 
-abbrev call : List ℕ → List ℕ → ℕ → ℕ → ℕ → ℕ → ℕ → ℕ → Call
-call s i ws w e n o c =
-    record { source = s; choices = record { indent = i; numbers = record { «width_set» = ws; width = w; «line_ending» = e; «final_newline» = n; «ruler_tab» = 0 }; strengths = builtIn }; output = o; opened = 0; scratch = c }
+abbrev call : List ℕ → List ℕ → ℕ → ℕ → ℕ → ℕ → ℕ → List ℕ → ℕ → ℕ → Call
+call s i ws w e n r t o c =
+    record { source = s; choices = record { indent = i; numbers = record { width_set = ws; width = w; line_ending = e; final_newline = n; ruler_tab = r }; strengths = t }; output = o; opened = 0; scratch = c }
 
 abbrev ans : ℕ → ℕ → ℕ → ℕ → ℕ → ℕ → Answer
-ans r p l i b k = record { refusal = r; place = p; length = l; «imports_split» = i; «blank_names» = b; «open_brackets» = k }
+ans r p l i b k = record { refusal = r; place = p; length = l; imports_split = i; blank_names = b; open_brackets = k }
 
 abbrev expected : Case → Answer × List ℕ
-expected c = (c .1, c .2)
+expected c = (c.1, c.2)
 
 abbrev given : Case → Answer × List ℕ
-given c = (answerOf (outcomeOf (c .0)), outputOf (c .0))
+given c = (answer_of (outcome_of c.0), output_of c.0)
 ";
 
 const KIND_CALL: &str = "abbrev Case : Type 0
@@ -173,10 +172,10 @@ abbrev ans : ℕ → ℕ → ℕ → Kind
 ans r p k = record { refusal = r; place = p; kind = k }
 
 abbrev expected : Case → Kind
-expected c = c .4
+expected c = c.4
 
 abbrev given : Case → Kind
-given c = kindAnswer (kindOutcomeOf (c .0) (c .1) (c .2) (c .3))
+given c = kind_answer (kind_outcome_of c.0 c.1 c.2 c.3)
 ";
 
 fn call_case(random: &mut Random) -> String {
@@ -188,13 +187,15 @@ fn call_case(random: &mut Random) -> String {
     output.resize(room, 0);
     let a = outcome.answer;
     format!(
-        "(call {} {} {} {} {} {} {} {}, ans {} {} {} {} {} {}, {})",
+        "(call {} {} {} {} {} {} {} {} {} {}, ans {} {} {} {} {} {}, {})",
         list(&call.source),
         list(&call.indent),
         call.width_set,
         call.width,
         call.line_ending,
         call.final_newline,
+        call.ruler_tab,
+        list(&call.strengths),
         room,
         call.scratch_length(),
         a.refusal,

@@ -10,8 +10,8 @@ CITED = re.compile(r"\b([a-z][a-z_0-9]*)((?:::\w+)+)")
 FILE = re.compile(r"\b\w+\.antt\b")
 # a path from the repository's root; what is built is not looked for
 PATH = re.compile(r"(?<![\w/.-])((?:crates|rust|c|tools|docs|scripts)/[\w./-]*\w)")
-# a stand-in for any name, and a file that the toolchain generates
-ANY = {"FN.antt", "Lts.antt"}
+# a stand-in for any name, files that the toolchain generates or has, and the older form of a proof
+ANY = {"FN.antt", "Lts.antt", "Proof.antt", "Digits.antt"}
 
 
 def documents():

@@ -1,8 +1,6 @@
 // What a host links.
 #![tactic(auto)]
 
-pub mod caret;
-pub mod changes;
 pub mod checking;
 mod config;
 pub mod editorconfig;
@@ -11,6 +9,8 @@ pub mod interface;
 pub mod kinds;
 mod number;
 pub mod settings;
+pub mod with_caret;
+pub mod with_changes;
 
 ghost use Rattle.std.specs.Prelude.{length};
 ghost use Rattle.call.specs.Ran.{call_of, numbers_of};

@@ -14,7 +14,7 @@ use Rattle.rules.specs.declared.Refusal.{Refusal}
 use Rattle.rules.specs.declared.Verdict.{Verdict}
 use Rattle.rules.specs.declared.Answer.{Answer}
 use Rattle.rules.proofs.RefusalLaws.{numbered, pass, stop, one_test}
-use Rattle.rules.proofs.CallLaws.{Accepted, accepted, Delivered, delivered}
+use Rattle.rules.proofs.CallLaws.{accepted, Delivered, delivered}
 use Rattle.edits.specs.Text.{TextAnswered}
 use Rattle.gaps.specs.Gaps.{Alike}
 

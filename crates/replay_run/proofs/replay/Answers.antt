@@ -1,6 +1,5 @@
 use borrow.Author.Rules.{rules}
 use native.Mathlib.Omega.{arith}
-use Prim.Native.Nat.{◌-◌}
 use Rattle.replay_run.proofs.RunLaws.{replaying_start, replaying_ready, replaying_more, replaying_end}
 use Rattle.replay_run.proofs.replay.Goals as goal
 

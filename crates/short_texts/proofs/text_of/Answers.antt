@@ -1,6 +1,5 @@
 use borrow.Author.Rules.{rules}
 use native.Mathlib.Omega.{arith}
-use Prim.Native.Nat.{◌-◌}
 use Rattle.short_texts.proofs.StepLaws.{spelling_start, spelling_pos, spelling_letter}
 use Rattle.short_texts.proofs.StepLaws.{spelling_more, spelling_end}
 use Rattle.short_texts.proofs.text_of.Goals as goal

@@ -1,4 +1,3 @@
-use Prim.Native.Nat.{◌-◌}
 use native.Mathlib.Omega.{arith}
 use borrow.Author.Rules.{rules}
 use Rattle.text_kinds.proofs.FillLaws.{answering_start, answering_room, answering_more, answering_end}

@@ -1,4 +1,3 @@
-use Prim.Native.Nat.{◌-◌}
 use borrow.Author.Rules.{rules}
 use Rattle.text_kinds.proofs.PlaceLaws.{ascends_start, ascends_more, ascends_not, ascends_end}
 use Rattle.text_kinds.proofs.is_ascending.Goals as goal

@@ -1,4 +1,3 @@
-use Prim.Native.Nat.{◌-◌}
 use borrow.Author.Rules.{rules}
 use Rattle.text_kinds.proofs.ClassLaws.{without_none, without_more}
 use Rattle.text_kinds.proofs.past_clear.Goals as goal

@@ -1,4 +1,3 @@
-use Prim.Native.Nat.{◌-◌}
 use mathlib.Core.Path.{refl}
 use native.Mathlib.Omega.{arith}
 use Rattle.text_kinds.proofs.ReadLaws.{read_start, fits_on, listed_on, as_zeroed, read_all, read_end}

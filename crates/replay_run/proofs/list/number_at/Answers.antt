@@ -1,5 +1,4 @@
 use borrow.Author.Rules.{rules}
-use Prim.Native.Nat.{◌-◌}
 use Rattle.replay_run.proofs.ListLaws.{reading_start, reading_low, reading_high, reading_full, reading_more, reading_end}
 use Rattle.replay_run.proofs.list.number_at.Goals as goal
 

@@ -209,10 +209,17 @@ def kit_names(files):
     return used
 
 
+def in_bytes(row):
+    """The row in lines of at most WIDTH bytes: an operator's signs take three each."""
+    padded = "".join(sign + "\0" * (len(sign.encode()) - 1) for sign in row)
+    lines = wrap(padded, WIDTH, subsequent_indent="  ", break_on_hyphens=False)
+    return [line.replace("\0", "") for line in lines]
+
+
 def listing(named_sets):
     quoted = {key: ", ".join(f"`{name}`" for name in sorted(names)) for key, names in named_sets.items()}
     rows = (f"- `{key}`: {names}" for key, names in sorted(quoted.items()))
-    return [line for row in rows for line in wrap(row, WIDTH, subsequent_indent="  ", break_on_hyphens=False)]
+    return [line for row in rows for line in in_bytes(row)]
 
 
 def unsafe_blocks():

@@ -15,11 +15,20 @@ ROOT = pathlib.Path(__file__).resolve().parent.parent
 FN = re.compile(r"^( *)(?:pub )?(?:const )?(?:extern \"C\" )?fn (\w+)", re.M)
 NONE_NAMES = {"Nothing", "Unset", "None", "Off", "Kept", "Whole", "Accepted", "Refused", "NoText"}
 NUMBER = r"(?:u8|u16|u32|u64|usize)"
+KEYWORDS = {
+    "as", "break", "continue", "else", "false", "for", "if", "in", "let", "loop", "match", "mut", "return", "true",
+    "while",
+}
 
 
 def files():
     for path in sorted(ROOT.glob("crates/*/src/**/*.rt")):
         yield path.relative_to(ROOT / "crates"), path.read_text()
+
+
+def opens(line, indent):
+    """Whether a function's body starts with this line, and not a clause of its contract."""
+    return line == indent + "{" or line.endswith(" {") and "requires" not in line and "ensures" not in line
 
 
 def functions(text):
@@ -37,9 +46,7 @@ def functions(text):
             k -= 1
         head = []
         k = i
-        while k < len(lines) and not (lines[k] == indent + "{" or lines[k].endswith(" {") and "requires" not in lines[k] and "ensures" not in lines[k]):
-            if lines[k].rstrip().endswith(";") and k > i - 1 and "{" not in "".join(lines[i:k]):
-                break
+        while k < len(lines) and not opens(lines[k], indent):
             head.append(lines[k])
             k += 1
         if k < len(lines) and lines[k] != indent + "{":
@@ -53,13 +60,16 @@ def functions(text):
 
 
 def items(text, word):
-    for found in re.finditer(r"((?:^ *#\[[^\n]*\n)*)^ *(?:pub )?" + word + r" (\w+)[^{;\n]*\{\n(.*?)^ *\}", text, re.M | re.S):
+    attributes = r"((?:^ *#\[[^\n]*\n)*)"
+    item = attributes + r"^ *(?:pub )?" + word + r" (\w+)[^{;\n]*\{\n(.*?)^ *\}"
+    for found in re.finditer(item, text, re.M | re.S):
         yield found.group(2), found.group(1), found.group(3)
 
 
 def variants(body):
     body = re.sub(r"//[^\n]*", "", body)
-    return [(v.split("(")[0].split("{")[0].strip(), "(" in v or "{" in v) for v in re.findall(r"^\s*(\w+(?:\([^)]*\)|\s*\{[^}]*\})?),", body, re.M)]
+    found = re.findall(r"^\s*(\w+(?:\([^)]*\)|\s*\{[^}]*\})?),", body, re.M)
+    return [(re.match(r"\w+", v).group(0), "(" in v or "{" in v) for v in found]
 
 
 def bare(code):
@@ -67,8 +77,7 @@ def bare(code):
     code = re.sub(r"//[^\n]*", "", code)
     code = re.sub(r"b?'(?:\\.|[^'])'|b?\"[^\"]*\"", "n", code)
     code = re.sub(r"\b(?:0x)?\d[\d_]*\w*", "n", code)
-    keep = {"if", "else", "while", "for", "in", "let", "mut", "return", "match", "true", "false", "continue", "break", "as", "loop"}
-    code = re.sub(r"\b[A-Za-z_]\w*", lambda m: m.group(0) if m.group(0) in keep else "v", code)
+    code = re.sub(r"\b[A-Za-z_]\w*", lambda m: m.group(0) if m.group(0) in KEYWORDS else "v", code)
     return re.sub(r"\s+", " ", code).strip()
 
 
@@ -113,16 +122,19 @@ def collect():
         for found in re.finditer(r"^ *(?:pub )?const (\w+): (?:u8|u64|usize) = ", text, re.M):
             add("1e", "constants that are numbers", path, found.group(1))
         for name, above, head, body in functions(text):
-            if re.search(r"-> .*\b" + NUMBER, head) and re.search(r"\b(?:0|COUNT|UNTOLD|none|None)\b", above) and re.search(r"\bor\b|\bif\b|\bwhere\b|\belse\b|\bfor\b", above):
+            numbered = re.search(r"-> .*\b" + NUMBER, head) and re.search(r"\b(?:0|COUNT|UNTOLD|none|None)\b", above)
+            if numbered and re.search(r"\b(?:or|if|where|else|for)\b", above):
                 add("1c", "functions with a number for `none`", path, name)
             for found in re.finditer(r"^ *while ", body, re.M):
                 add("3a", "`while` loops", path, name)
             if body.count("return true;") + body.count("return false;") >= 2:
                 add("4a", "chains of `return true` and `return false`", path, name)
             arms = re.findall(r"=> ([^\n]*),$", body, re.M)
-            if re.search(r"^ *match \w+ \{", body, re.M) and arms and all(re.match(r"(true|false|\d+|[\w:]+(\(\w*\))?)$", a) for a in arms) and body.strip().startswith("match"):
+            plain = arms and all(re.match(r"(true|false|\d+|[\w:]+(\(\w*\))?)$", a) for a in arms)
+            if re.match(r"\s*match \w+ \{", body) and plain:
                 add("4b", "conversions and tests by `match`", path, name)
-            if re.search(r"match ", body) and len(re.findall(r"=> [\w:]+\([^\n]*\),$", body, re.M)) >= 2 and not all(re.match(r"[\w:]*[A-Z]\w*\(", a) for a in re.findall(r"=> ([\w:]+\([^\n]*\)),$", body, re.M)):
+            calls = re.findall(r"=> ([\w:]+\([^\n]*\)),$", body, re.M)
+            if "match " in body and len(calls) >= 2 and not all(re.match(r"[\w:]*[A-Z]\w*\(", a) for a in calls):
                 add("7a", "switches on which function to run", path, name)
             shape = bare(body)
             if len(shape) > 40:
@@ -138,9 +150,11 @@ def collect():
             for path, name in places:
                 add("2a", "functions of one shape, with other names and numbers", path, name)
     longest = {k: v for k, v in rows.items() if len(v) >= 3}
-    longest = {k: v for k, v in longest.items() if not any(set(k) < set(o) and v <= longest[o] for o in longest)}
+    within = {k for k, v in longest.items() if any(set(k) < set(o) and v <= w for o, w in longest.items())}
+    longest = {k: v for k, v in longest.items() if k not in within}
     for ps, places in longest.items():
-        add("5a", "rows of three parameters or more that three functions or more take", "*", f"{', '.join(ps)} ({len(places)})")
+        row = f"{', '.join(ps)} ({len(places)})"
+        add("5a", "rows of three parameters or more that three functions or more take", "*", row)
     for clause, places in stated.items():
         if len(places) >= 3:
             add("5b", "`requires` clauses that three functions or more state", "*", f"{clause} ({len(places)})")

@@ -1,5 +1,4 @@
 -- The laws that this crate's proofs and the crates above share.
-pub mod IdentLaws
 pub mod StartsLaws
 pub mod OnlyLaws
 pub mod ClassPicks

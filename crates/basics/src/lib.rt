@@ -8,59 +8,27 @@ ghost use Rattle.rules.specs.Scan.{quote};
 pub fn is_blank(c: u8) -> bool
     ensures { result ≡ is_blank c }
 {
-    if c == b' ' {
-        return true;
-    }
-    c == b'\t'
+    matches!(c, b' ' | b'\t')
 }
 
 pub fn is_opener(c: u8) -> bool
     ensures { result ≡ is_opener c }
 {
-    if c == b'{' {
-        return true;
-    }
-    if c == b'(' {
-        return true;
-    }
-    c == b'['
+    matches!(c, b'{' | b'(' | b'[')
 }
 
 pub fn is_closer(c: u8) -> bool
     ensures { result ≡ is_closer c }
 {
-    if c == b'}' {
-        return true;
-    }
-    if c == b')' {
-        return true;
-    }
-    c == b']'
+    matches!(c, b'}' | b')' | b']')
 }
 
 // An ASCII letter, digit or underscore.
+#[tactic(auto, unfolding(rules::specs::Basics::is_ident))]
 pub fn is_ident(c: u8) -> bool
     ensures { result ≡ is_ident c }
 {
-    if c < b'0' {
-        return false;
-    }
-    if c <= b'9' {
-        return true;
-    }
-    if c < b'A' {
-        return false;
-    }
-    if c <= b'Z' {
-        return true;
-    }
-    if c == b'_' {
-        return true;
-    }
-    if c < b'a' {
-        return false;
-    }
-    c <= b'z'
+    c.is_ascii_alphanumeric() || c == b'_'
 }
 
 // The character that ends a string.
@@ -74,15 +42,5 @@ pub fn quote_of(double: bool) -> u8
 pub fn starts_with(line: &[u8], word: &[u8]) -> bool
     ensures { result ≡ starts_with line.now word.now }
 {
-    let mut k = 0;
-    while k < word.len() {
-        if line.len() <= k {
-            return false;
-        }
-        if line[k] != word[k] {
-            return false;
-        }
-        k += 1;
-    }
-    true
+    line.starts_with(word)
 }

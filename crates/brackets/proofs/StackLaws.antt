@@ -1,33 +1,33 @@
 -- Laws of the stack in scratch, and the loops over a line's brackets.
 use Prim.Native.Nat.{ℕ, zero, suc, ◌+◌, ◌-◌, ◌*◌, ◌/◌, ◌%◌, ◌≤◌, ◌<◌, min, zero-le}
 use mathlib.Core.Bool.{Bool, true, false, not, ◌||◌, true≢false}
-use mathlib.Core.List.{List, [], ◌∷◌, foldl}
+use mathlib.Core.List.{List, [], ◌∷◌, ◌++◌, foldl}
 use mathlib.Core.Path.{◌≡◌, refl, sym, ap, subst, ◌∙◌}
 use native.Mathlib.Nat.{zero-add, add-zero}
 use native.Mathlib.Numerals.{add-one}
 use native.Mathlib.Omega.{arith}
-use borrow.Author.Tests.{ne_eqb, eqb-true, le-leb, lt-leb, ltb-true, ltb-false}
+use borrow.Author.Tests.{eqb-true, le-leb, lt-leb, leb-true, leb-false, ltb-true, ltb-false}
 use lib.Dec.{eqb, leb, ltb}
-use lib.ListN.{length, get_or, drop, set, length-set, drop_of_length-le}
-use lib.Seq.{get_or-set_same, get_or-set_other, drop-cons}
-use Rattle.utf8.specs.Places.{NoneAmong}
+use lib.ListN.{length, get_or, take, drop, set, length-set, length-take, length-drop, length-append, drop_of_length-le}
+use lib.Seq.{get_or-set_same, get_or-set_other, get_or-drop, drop-cons, drop-append_seam, take-append_seam, drop-append-add, drop-drop, take-take}
+use Rattle.blocks.specs.Blocks.{NoneFrom, FirstFrom}
+use Rattle.std.specs.Int.{from_bool}
 use Rattle.buffer.specs.Buffer.{part}
 use Rattle.utf8.specs.Unicode.{within}
 use Rattle.utf8.proofs.Tests.{by_test, in_range_law}
 use Rattle.rules.specs.Basics.{choose, is_closer, leading}
 use Rattle.rules.specs.Scan.{Cell, cell, is_code}
 use Rattle.rules.specs.ClassBytes.{class_of, cells_of}
-use Rattle.rules.specs.Refusals.{max_source}
 use Rattle.rules.specs.Brackets.{Entry, Open, opened, escaped, push, pop_from, pop, bracket_step, scan_brackets, leading_closers, levels}
 use Rattle.rules.proofs.Choose.{choose_case, choose_true, choose_false}
 use Rattle.rules.proofs.CellsLaws.{drop_cells, cells_at, cells_end}
 use Rattle.basics.specs.Region.{Only}
 use Rattle.basics.specs.Closers.{Closers}
-use Rattle.brackets.specs.Stack.{entry_size, adds_of, entry_at, stacked, EntryRoom, EntryPut, Nested, Popped, Tallies, may_turn, turns_at, IdleRun, Less, Apart, TurnKey, TurnPlace, NoTurn, StackRoom, Turned, StackFits, BracketsDone, opened_by}
+use Rattle.brackets.specs.Stack.{entry_size, adds_of, entry_at, stacked, EntryRoom, EntryPut, Nested, Popped, Tallies, may_turn, turns_at, Apart, TurnKey, TurnPlace, NoTurn, StackRoom, Turned, StackFits, ScanFits, BracketsDone, opened_by}
 use Rattle.brackets.specs.declared.Nesting.{Nesting}
 use Rattle.brackets.specs.declared.Tally.{Tally}
-use Rattle.basics.proofs.OnlyLaws.{only_same, only_set, only_wider, only_then, only_at, only_past, read_now}
-use Rattle.buffer.proofs.RegionLaws.{length_part}
+use Rattle.basics.proofs.OnlyLaws.{only_same, only_set, only_wider, only_then, only_at, only_past}
+use Rattle.buffer.proofs.RegionLaws.{length_part, drop_take}
 
 -- ---- leading closers
 
@@ -74,10 +74,10 @@ stacked_below w base zero h = refl
 stacked_below {x} {y} w base (suc n) h =
     rw (entry_same x y (base + entry_size * n) (λ i l k. only_at w i (omega arith)), stacked_below w base n (omega arith))
 
-stacked_push : (buf : List ℕ) (base n level line : ℕ) (after : List ℕ) → EntryPut buf (base + entry_size * n) level line after
-    → stacked after base (n + 1) ≡ record { adds = not (eqb level 0); line = line } ∷ stacked buf base n
+stacked_push : (buf : List ℕ) (base n : ℕ) (adds : Bool) (line : ℕ) (after : List ℕ) → EntryPut buf (base + entry_size * n) adds line after
+    → stacked after base (n + 1) ≡ record { adds = adds; line = line } ∷ stacked buf base n
 unfolding stacked
-stacked_push buf base n level line after w = rw (add-one n, w.is, stacked_below w.only base n (omega arith))
+stacked_push buf base n adds line after w = rw (add-one n, w.is, stacked_below w.only base n (omega arith))
 
 stacked_top : (buf : List ℕ) (base n : ℕ) → (n ≡ 0 → ⊥) → stacked buf base n ≡ entry_at buf (base + entry_size * (n - 1)) ∷ stacked buf base (n - 1)
 unfolding stacked
@@ -132,9 +132,9 @@ levels_top buf base n h =
     ap levels (stacked_top buf base n h) ∙ levels_cons _ _
     ∙ ap (λ (b : Bool). choose b 1 0 + levels (stacked buf base (n - 1))) (adds_at buf (base + entry_size * (n - 1)))
 
-levels_push : (buf : List ℕ) (base n level line : ℕ) (after : List ℕ) → EntryPut buf (base + entry_size * n) level line after
-    → levels (stacked after base (n + 1)) ≡ choose (not (eqb level 0)) 1 0 + levels (stacked buf base n)
-levels_push buf base n level line after w = ap levels (stacked_push buf base n level line after w) ∙ levels_cons _ _
+levels_push : (buf : List ℕ) (base n : ℕ) (adds : Bool) (line : ℕ) (after : List ℕ) → EntryPut buf (base + entry_size * n) adds line after
+    → levels (stacked after base (n + 1)) ≡ choose adds 1 0 + levels (stacked buf base n)
+levels_push buf base n adds line after w = ap levels (stacked_push buf base n adds line after w) ∙ levels_cons _ _
 
 -- the loop of `pop_closers`: `end` brackets are left at its end
 pub record Popping (buf : List ℕ) (base end depth levels₁ : ℕ) : Type 0 where
@@ -168,95 +168,100 @@ unfolding entry_at
 line_read buf p a b c e f g = rw (e, f, g)
 
 -- its three bytes
-abbrev first_byte : ℕ → ℕ → ℕ
-first_byte level line = level + 2 * (line / 256 / 256)
+abbrev first_byte : Bool → ℕ → ℕ
+first_byte adds line = from_bool adds + 2 * (line / 256 / 256)
 
-abbrev with_entry : List ℕ → ℕ → ℕ → ℕ → List ℕ
-with_entry buf p level line = set (set (set buf p (first_byte level line)) (p + 1) (line % 256)) (p + 2) (line / 256 % 256)
+abbrev with_entry : List ℕ → ℕ → Bool → ℕ → List ℕ
+with_entry buf p adds line = set (set (set buf p (first_byte adds line)) (p + 1) (line % 256)) (p + 2) (line / 256 % 256)
 
-module _ (buf : List ℕ) (p level line : ℕ) (w : EntryRoom buf p level line) where
+-- the first holds both
+first_adds : (adds : Bool) (n : ℕ) → adds_of (from_bool adds + 2 * n) ≡ adds
+first_adds true n = let e : (1 + 2 * n) % 2 ≡ 1 = omega arith in rw e
+first_adds false n = let e : (0 + 2 * n) % 2 ≡ 0 = omega arith in rw e
+
+first_line : (adds : Bool) (n : ℕ) → (from_bool adds + 2 * n) / 2 ≡ n
+first_line true n = omega arith
+first_line false n = omega arith
+
+module _ (buf : List ℕ) (p : ℕ) (adds : Bool) (line : ℕ) (w : EntryRoom buf p line) where
   abbrev one : List ℕ
-  one = set buf p (first_byte level line)
+  one = set buf p (first_byte adds line)
 
   abbrev two : List ℕ
   two = set one (p + 1) (line % 256)
 
   two_long : length two ≡ length buf
-  two_long = length-set one (p + 1) (line % 256) ∙ length-set buf p (first_byte level line)
+  two_long = length-set one (p + 1) (line % 256) ∙ length-set buf p (first_byte adds line)
 
-  first_put : get_or (with_entry buf p level line) p 0 ≡ first_byte level line
+  first_put : get_or (with_entry buf p adds line) p 0 ≡ first_byte adds line
   first_put =
       get_or-set_other two (p + 2) p (line / 256 % 256) 0 (λ e. absurd (omega arith))
       ∙ get_or-set_other one (p + 1) p (line % 256) 0 (λ e. absurd (omega arith))
-      ∙ get_or-set_same buf p (first_byte level line) 0 (omega (arith, w.place))
+      ∙ get_or-set_same buf p (first_byte adds line) 0 (omega (arith, w.place))
 
-  second_put : get_or (with_entry buf p level line) (p + 1) 0 ≡ line % 256
+  second_put : get_or (with_entry buf p adds line) (p + 1) 0 ≡ line % 256
   second_put =
       get_or-set_other two (p + 2) (p + 1) (line / 256 % 256) 0 (λ e. absurd (omega arith))
-      ∙ get_or-set_same one (p + 1) (line % 256) 0 (omega (arith, w.place, length-set buf p (first_byte level line)))
+      ∙ get_or-set_same one (p + 1) (line % 256) 0 (omega (arith, w.place, length-set buf p (first_byte adds line)))
 
-  third_put : get_or (with_entry buf p level line) (p + 2) 0 ≡ line / 256 % 256
+  third_put : get_or (with_entry buf p adds line) (p + 2) 0 ≡ line / 256 % 256
   third_put = get_or-set_same two (p + 2) (line / 256 % 256) 0 (omega (arith, w.place, two_long))
 
-  pub entry_put : EntryPut buf p level line (with_entry buf p level line)
+  pub entry_put : (b : ℕ) → b ≡ first_byte adds line → EntryPut buf p adds line (set (set (set buf p b) (p + 1) (line % 256)) (p + 2) (line / 256 % 256))
   unfolding entry_at
-  entry_put =
-      let a : first_byte level line % 2 ≡ level = omega (arith, w.bit) in
-      let l : first_byte level line / 2 * 65536 + line % 256 + line / 256 % 256 * 256 ≡ line = omega (arith, w.bit) in
-      record {
-        is = rw (first_put, second_put, third_put, a, l);
+  entry_put b q =
+      let l : line / 256 / 256 * 65536 + line % 256 + line / 256 % 256 * 256 ≡ line = omega arith in
+      rw q
+      (record {
+        is = rw (first_put, second_put, third_put, first_adds adds (line / 256 / 256), first_line adds (line / 256 / 256), l);
         only =
-            only_then (only_set buf p (first_byte level line) p (p + entry_size) (omega arith) (omega arith))
+            only_then (only_set buf p (first_byte adds line) p (p + entry_size) (omega arith) (omega arith))
             (only_then (only_set one (p + 1) (line % 256) p (p + entry_size) (omega arith) (omega arith))
             (only_set two (p + 2) (line / 256 % 256) p (p + entry_size) (omega arith) (omega arith)));
-      }
+      })
 
 -- ---- one bracket
 
-pub levels_room : (buf : List ℕ) (base : ℕ) (t : Tally) → StackRoom buf base t → t.levels < length buf
-levels_room buf base t w = omega (arith, levels_most buf base t.depth, w.runs, w.place)
-
-flat_entry : (v : ℕ) → v % 2 ≡ 0 → ◌≡◌ {A = ℕ} (choose (adds_of v) 1 0) 0
+-- 1 for an entry that added a level
+pub level_bool : (b : Bool) → from_bool b ≡ choose b 1 0
 unfolding choose
-flat_entry v e = rw e
+level_bool true = refl
+level_bool false = refl
 
-level_entry : (v : ℕ) → (v % 2 ≡ 0 → ⊥) → ◌≡◌ {A = ℕ} (choose (adds_of v) 1 0) 1
-unfolding choose
-level_entry v e = rw (ne_eqb (v % 2) 0 e)
+bool_most : (b : Bool) → from_bool b ≤ 1
+bool_most true = omega arith
+bool_most false = omega arith
 
-module _ (buf : List ℕ) (base : ℕ) (t : Tally) (w : StackRoom buf base t) where
-  pub push_room : (level : ℕ) → level ≤ 1 → EntryRoom buf (base + entry_size * t.depth) level t.line
-  push_room level h = record { place = w.place; bit = h; early = w.line }
+module _ (buf : List ℕ) (t : Tally) (w : StackRoom buf t) where
+  pub levels_room : (adds : Bool) (more : ℕ) → more ≡ from_bool adds → t.nesting.levels + more ≤ length buf
+  levels_room adds more e = omega (arith, levels_most buf 0 t.nesting.depth, w.runs, w.place, bool_most adds)
 
-  pub push_flat : (after : List ℕ) → t.from < t.levels → EntryPut buf (base + entry_size * t.depth) 0 t.line after
-      → Turned push buf base t after (record { depth = t.depth + 1; levels = t.levels; from = t.from; line = t.line; esc = false })
-  unfolding push choose
-  push_flat after e p =
+  pub push_turn : (after : List ℕ) (p : ℕ) (adds : Bool) (more : ℕ) → p ≡ entry_size * t.nesting.depth → adds ≡ leb t.nesting.levels t.from → more ≡ from_bool adds → EntryPut buf p adds t.nesting.line after
+      → Turned push buf t after (record { nesting = record { depth = t.nesting.depth + 1; levels = t.nesting.levels + more; line = t.nesting.line }; from = t.from; esc = false })
+  unfolding push
+  push_turn after p adds more e f g v =
+      let q : p ≡ 0 + entry_size * t.nesting.depth = omega arith in
+      let u : EntryPut buf (0 + entry_size * t.nesting.depth) adds t.nesting.line after = rw q at v in
+      let m = level_bool adds in
       record {
         is = λ o h.
-            (let z : leb o.added o.popped ≡ false = lt-leb o.added o.popped (omega (arith, h.net)) in
-            record { stack = rw (stacked_push buf base t.depth 0 t.line after p, h.stack, z, h.line); line = h.line; net = rw z (omega (arith, h.net)); esc = refl });
-        runs = omega (arith, w.runs, levels_push buf base t.depth 0 t.line after p);
+            (let z : leb o.added o.popped ≡ adds = net_same o h ∙ sym f in
+            record { stack = rw (stacked_push buf 0 t.nesting.depth adds t.nesting.line after u, h.stack, z, h.line); line = h.line; net = rw (z, g, m) (by_adds o adds h.net); esc = refl });
+        runs = omega (arith, w.runs, levels_push buf 0 t.nesting.depth adds t.nesting.line after u, m);
         depth = omega arith;
         line = refl;
-        only = only_wider base (base + entry_size * t.depth + entry_size) p.only (omega arith) (omega arith);
+        only = only_wider 0 (entry_size * t.nesting.depth + entry_size) v.only (omega arith) (omega arith);
       }
+    where
+      net_same : (o : Open) → Tallies buf t o → leb o.added o.popped ≡ leb t.nesting.levels t.from
+      net_same o h =
+          by_test (leb t.nesting.levels t.from) (λ e. le-leb o.added o.popped (omega (arith, h.net, leb-true t.nesting.levels t.from e)) ∙ sym e)
+          (λ e. lt-leb o.added o.popped (omega (arith, h.net, leb-false t.nesting.levels t.from e)) ∙ sym e)
 
-  pub push_level : (after : List ℕ) → t.levels ≤ t.from → EntryPut buf (base + entry_size * t.depth) 1 t.line after
-      → Turned push buf base t after (record { depth = t.depth + 1; levels = t.levels + 1; from = t.from; line = t.line; esc = false })
-  unfolding push choose
-  push_level after e p =
-      record {
-        is = λ o h.
-            (let z : leb o.added o.popped ≡ true = le-leb o.added o.popped (omega (arith, h.net)) in
-            record { stack = rw (stacked_push buf base t.depth 1 t.line after p, h.stack, z, h.line); line = h.line; net = rw z (omega (arith, h.net)); esc = refl });
-        runs = omega (arith, w.runs, levels_push buf base t.depth 1 t.line after p);
-        depth = omega arith;
-        line = refl;
-        only = only_wider base (base + entry_size * t.depth + entry_size) p.only (omega arith) (omega arith);
-      }
+      by_adds : (o : Open) (a : Bool) → o.added + t.from ≡ o.popped + t.nesting.levels → o.added + choose a 1 0 + t.from ≡ o.popped + (t.nesting.levels + choose a 1 0)
+      by_adds o a e = omega arith
 
-  pub pop_none : t.depth ≡ 0 → Turned pop buf base t buf (record { depth = t.depth; levels = t.levels; from = t.from; line = t.line; esc = false })
+  pub pop_none : t.nesting.depth ≡ 0 → Turned pop buf t buf (record { nesting = t.nesting; from = t.from; esc = false })
   unfolding pop_from stacked
   pop_none e =
       record {
@@ -267,53 +272,45 @@ module _ (buf : List ℕ) (base : ℕ) (t : Tally) (w : StackRoom buf base t) wh
         only = only_same buf _ _;
       }
 
-  module _ (h : t.depth ≡ 0 → ⊥) where
-    top_level : t.levels ≡ choose (adds_of (get_or buf (base + entry_size * (t.depth - 1)) 0)) 1 0 + levels (stacked buf base (t.depth - 1))
-    top_level = w.runs ∙ levels_top buf base t.depth h
+  module _ (h : t.nesting.depth ≡ 0 → ⊥) (p l : ℕ) (a : p ≡ entry_size * (t.nesting.depth - 1)) (b : l ≡ choose (adds_of (get_or buf p 0)) 1 0) where
+    q : p ≡ 0 + entry_size * (t.nesting.depth - 1)
+    q = omega (arith, a)
 
-    popped : (left : ℕ) (o : Open) → Tallies buf base t o → t.levels ≡ choose (adds_of (get_or buf (base + entry_size * (t.depth - 1)) 0)) 1 0 + left
-        → Tallies buf base (record { depth = t.depth - 1; levels = left; from = t.from; line = t.line; esc = false }) (pop o)
+    level : l ≡ choose (adds_of (get_or buf (0 + entry_size * (t.nesting.depth - 1)) 0)) 1 0
+    level = rw q at b
+
+    top_level : t.nesting.levels ≡ l + levels (stacked buf 0 (t.nesting.depth - 1))
+    top_level = w.runs ∙ levels_top buf 0 t.nesting.depth h ∙ ap (λ (k : ℕ). k + levels (stacked buf 0 (t.nesting.depth - 1))) (sym level)
+
+    pub pop_less : l ≤ t.nesting.levels
+    pop_less = omega (arith, top_level)
+
+    popped : (left : ℕ) (o : Open) → Tallies buf t o → t.nesting.levels ≡ choose (adds_of (get_or buf (0 + entry_size * (t.nesting.depth - 1)) 0)) 1 0 + left
+        → Tallies buf (record { nesting = record { depth = t.nesting.depth - 1; levels = left; line = t.nesting.line }; from = t.from; esc = false }) (pop o)
     unfolding pop_from entry_at
     popped left o k n =
-        let s : o.stack ≡ entry_at buf (base + entry_size * (t.depth - 1)) ∷ stacked buf base (t.depth - 1) = sym k.stack ∙ stacked_top buf base t.depth h in
+        let s : o.stack ≡ entry_at buf (0 + entry_size * (t.nesting.depth - 1)) ∷ stacked buf 0 (t.nesting.depth - 1) = sym k.stack ∙ stacked_top buf 0 t.nesting.depth h in
         rw s (record { stack = refl; line = k.line; net = omega (arith, k.net, n); esc = refl })
 
-    pub pop_flat : get_or buf (base + entry_size * (t.depth - 1)) 0 % 2 ≡ 0
-        → Turned pop buf base t buf (record { depth = t.depth - 1; levels = t.levels; from = t.from; line = t.line; esc = false })
-    pop_flat e =
-        let z = flat_entry (get_or buf (base + entry_size * (t.depth - 1)) 0) e in
+    pub pop_turn : Turned pop buf t buf (record { nesting = record { depth = t.nesting.depth - 1; levels = t.nesting.levels - l; line = t.nesting.line }; from = t.from; esc = false })
+    pop_turn =
         record {
-          is = λ o k. popped t.levels o k (omega (arith, z));
-          runs = omega (arith, top_level, z);
+          is = λ o k. popped (t.nesting.levels - l) o k (omega (arith, top_level, level));
+          runs = omega (arith, top_level);
           depth = omega arith;
           line = refl;
           only = only_same buf _ _;
         }
 
-    module _ (e : get_or buf (base + entry_size * (t.depth - 1)) 0 % 2 ≡ 0 → ⊥) where
-      pub pop_less : 1 ≤ t.levels
-      pop_less = omega (arith, top_level, level_entry (get_or buf (base + entry_size * (t.depth - 1)) 0) e)
-
-      pub pop_level : Turned pop buf base t buf (record { depth = t.depth - 1; levels = t.levels - 1; from = t.from; line = t.line; esc = false })
-      pop_level =
-          let z = level_entry (get_or buf (base + entry_size * (t.depth - 1)) 0) e in
-          record {
-            is = λ o k. popped (t.levels - 1) o k (omega (arith, top_level, z));
-            runs = omega (arith, top_level, z);
-            depth = omega arith;
-            line = refl;
-            only = only_same buf _ _;
-          }
-
 -- ---- one character
 
-module _ (buf : List ℕ) (base : ℕ) (t : Tally) (r : t.levels ≡ levels (stacked buf base t.depth)) where
+module _ (buf : List ℕ) (t : Tally) (r : t.nesting.levels ≡ levels (stacked buf 0 t.nesting.depth)) where
   -- it changes nothing
-  pub turn_same : Turned (λ o. o) buf base t buf t
+  pub turn_same : Turned (λ o. o) buf t buf t
   turn_same = record { is = λ o h. h; runs = r; depth = omega arith; line = refl; only = only_same buf _ _ }
 
   -- it is escaped, or escapes the next
-  pub turn_escaped : (b : Bool) → Turned (escaped b) buf base t buf (record { depth = t.depth; levels = t.levels; from = t.from; line = t.line; esc = b })
+  pub turn_escaped : (b : Bool) → Turned (escaped b) buf t buf (record { nesting = t.nesting; from = t.from; esc = b })
   turn_escaped b =
       record {
         is = λ o h. record { stack = h.stack; line = h.line; net = h.net; esc = refl };
@@ -324,11 +321,11 @@ module _ (buf : List ℕ) (base : ℕ) (t : Tally) (r : t.levels ≡ levels (sta
       }
 
 -- what was done is what is asked
-pub turn_by : (buf : List ℕ) (base : ℕ) (t : Tally) {g f : Open → Open} {after : List ℕ} {u : Tally} → Turned g buf base t after u
-    → ((o : Open) → Tallies buf base t o → g o ≡ f o) → Turned f buf base t after u
-turn_by buf base t {after = after} {u = u} w e =
+pub turn_by : (buf : List ℕ) (t : Tally) {g f : Open → Open} {after : List ℕ} {u : Tally} → Turned g buf t after u
+    → ((o : Open) → Tallies buf t o → g o ≡ f o) → Turned f buf t after u
+turn_by buf t {after = after} {u = u} w e =
     record {
-      is = λ o h. subst (Tallies after base u) (e o h) (w.is o h);
+      is = λ o h. subst (Tallies after u) (e o h) (w.is o h);
       runs = w.runs;
       depth = w.depth;
       line = w.line;
@@ -360,48 +357,27 @@ turn_idle x o r e q =
     go : {x y : Open} (b : Bool) → y ≡ x → x ≡ choose b x y
     go {x} b e = sym (choose_case (λ (z : Open). z ≡ x) (λ q. refl) (λ q. e))
 
--- ---- a line that is one opener
-
-pub open_done : (buf after : List ℕ) (base : ℕ) (b : Nesting) (u : Tally)
-    → Turned push buf base (record { depth = b.depth; levels = b.levels; from = b.levels; line = b.line; esc = false }) after u
-    → BracketsDone buf after base b 1 (opened_by b.line (stacked buf base b.depth)) (record { depth = u.depth; levels = u.levels; line = u.line })
-unfolding push
-open_done buf after base b u v =
-    record {
-      is = (v.is (opened b.line 0 0 false (stacked buf base b.depth)) (record { stack = refl; line = refl; net = refl; esc = refl })).stack;
-      runs = v.runs;
-      most = v.depth;
-      line = v.line;
-      only = only_wider base (base + entry_size * (b.depth + 1)) v.only (omega arith) (omega arith);
-    }
-
 -- ---- the loop over a line's cells
 
--- the nesting of a tally
-abbrev pub nesting_of : Tally → Nesting
-nesting_of t = record { depth = t.depth; levels = t.levels; line = t.line }
-
-pub record Scanning (line ks : List ℕ) (n : ℕ) (buf₀ : List ℕ) (base : ℕ) (b : Nesting) (skip : ℕ) (buf : List ℕ) (t : Tally) (i : ℕ) : Type 0 where
+pub record Scanning (line ks buf₀ : List ℕ) (b : Nesting) (skip : ℕ) (buf : List ℕ) (t : Tally) (i : ℕ) : Type 0 where
   pub o : Open
-  pub now : Tallies buf base t o
-  pub same : scan_brackets b.line (drop skip (cells_of line ks)) (stacked buf₀ base b.depth) ≡ (foldl bracket_step o (cells_of (drop i line) (drop i ks))).stack
-  pub runs : t.levels ≡ levels (stacked buf base t.depth)
-  pub number : t.line ≡ b.line
-  pub high : t.depth + skip ≤ b.depth + i
+  pub now : Tallies buf t o
+  pub same : scan_brackets b.line (drop skip (cells_of line ks)) (stacked buf₀ 0 b.depth) ≡ (foldl bracket_step o (cells_of (drop i line) (drop i ks))).stack
+  pub runs : t.nesting.levels ≡ levels (stacked buf 0 t.nesting.depth)
+  pub number : t.nesting.line ≡ b.line
+  pub high : t.nesting.depth + skip ≤ b.depth + i
   pub from : skip ≤ i
-  pub upto : i ≤ skip + n
-  pub only : Only buf₀ buf base (base + entry_size * (b.depth + n))
+  pub upto : i ≤ skip + length line
+  pub only : Only buf₀ buf 0 (entry_size * (b.depth + length line))
 
-pub scanning_start : (line ks : List ℕ) (n : ℕ) (buf : List ℕ) (base : ℕ) (b : Nesting) (skip : ℕ)
-    → b.levels ≡ levels (stacked buf base b.depth)
-    → Scanning line ks n buf base b skip buf (record { depth = b.depth; levels = b.levels; from = b.levels; line = b.line; esc = false }) skip
+pub scanning_start : (line ks buf : List ℕ) (b : Nesting) (skip : ℕ) → ScanFits line ks buf b → Scanning line ks buf b skip buf (record { nesting = b; from = b.levels; esc = false }) skip
 unfolding scan_brackets
-scanning_start line ks n buf base b skip r =
+scanning_start line ks buf b skip f =
     record {
-      o = opened b.line 0 0 false (stacked buf base b.depth);
+      o = opened b.line 0 0 false (stacked buf 0 b.depth);
       now = record { stack = refl; line = refl; net = refl; esc = refl };
       same = rw (drop_cells skip line ks);
-      runs = r;
+      runs = f.runs;
       number = refl;
       high = omega arith;
       from = omega arith;
@@ -409,110 +385,161 @@ scanning_start line ks n buf base b skip r =
       only = only_same buf _ _;
     }
 
-module _ {line ks : List ℕ} {n : ℕ} {buf₀ : List ℕ} {base : ℕ} {b : Nesting} {skip : ℕ} {buf : List ℕ} {t : Tally} {i : ℕ}
-    (w : Scanning line ks n buf₀ base b skip buf t i) where
-  scanning_on : {buf' : List ℕ} {u : Tally} (c k : ℕ) → i < n → n ≡ length line → n ≡ length ks → get_or line i 0 ≡ c → get_or ks i 0 ≡ k
-      → Turned (λ o. bracket_step o (cell c (class_of k))) buf base t buf' u → Scanning line ks n buf₀ base b skip buf' u (i + 1)
-  scanning_on {buf'} {u} c k h m l p q v =
+module _ (line ks buf₀ : List ℕ) (b : Nesting) (skip : ℕ) (f : ScanFits line ks buf₀ b) where
+  module _ (buf : List ℕ) (t : Tally) (i : ℕ) (w : Scanning line ks buf₀ b skip buf t i) where
+    pub scan_more : (buf' : List ℕ) (u : Tally) → i < length line → Turned (λ o. bracket_step o (cell (get_or line i 0) (class_of (get_or ks i 0)))) buf t buf' u
+        → Scanning line ks buf₀ b skip buf' u (i + 1)
+    scan_more buf' u h v =
+        record {
+          o = bracket_step w.o (cell (get_or line i 0) (class_of (get_or ks i 0)));
+          now = v.is w.o w.now;
+          same = w.same ∙ rw (cells_at line ks i h f.classes);
+          runs = v.runs;
+          number = v.line ∙ w.number;
+          high = omega (arith, w.high, v.depth);
+          from = omega (arith, w.from);
+          upto = omega arith;
+          only = only_then w.only (only_wider 0 (entry_size * (b.depth + length line)) v.only (omega arith) (omega (arith, w.high, w.from)));
+        }
+
+    -- there is room for one more
+    pub scan_room : i < length line → StackRoom buf t
+    scan_room h = record { place = omega (arith, w.high, w.from, w.only.long, f.stack); runs = w.runs; line = omega (arith, w.number, f.line) }
+
+    pub scan_end : length line ≤ i → BracketsDone buf₀ buf 0 b (length line) (scan_brackets b.line (drop skip (cells_of line ks)) (stacked buf₀ 0 b.depth)) t.nesting
+    scan_end h =
+        let z : entry_size * (b.depth + length line) ≡ 0 + entry_size * (b.depth + length line) = omega arith in
+        record {
+          is = w.now.stack ∙ sym (w.same ∙ rw (cells_end line ks i h));
+          runs = w.runs;
+          most = omega (arith, w.high, w.upto);
+          line = w.number;
+          only = rw z at w.only;
+        }
+
+    scan_skip : (r : Bool) → i < length line → r ≡ not (t.esc || may_turn (get_or line i 0)) → r ≡ true → Scanning line ks buf₀ b skip buf t (i + 1)
+    scan_skip r h e q =
+        scan_more buf t h (turn_by buf t (turn_same buf t w.runs) (λ o k. turn_idle (cell (get_or line i 0) (class_of (get_or ks i 0))) o r (rw (← k.esc) e) q))
+
+  -- several bytes that are no bracket and no backslash
+  module _ (buf : List ℕ) (t : Tally) where
+    abbrev Here : ℕ → Type 0
+    Here i = Scanning line ks buf₀ b skip buf t i
+
+    run_skip : (i n : ℕ) → Here i → t.esc ≡ false → i + n ≤ length line → ((j : ℕ) → i ≤ j → j < i + n → may_turn (get_or line j 0) ≡ false) → Here (i + n)
+    run_skip i zero w e h a = subst Here (sym (add-zero i)) w
+    run_skip i (suc n) w e h a =
+        let k : i + n + 1 ≡ i + suc n = omega arith in
+        let idle : true ≡ not (t.esc || may_turn (get_or line (i + n) 0)) = rw (e, a (i + n) (omega arith) (omega arith)) in
+        subst Here k (scan_skip buf t (i + n) (run_skip i n w e (omega arith) (λ j l m. a j l (omega arith))) true (omega arith) idle refl)
+
+    pub idle_skip : (i : ℕ) → Here i → (r : Bool) (k : ℕ) → i < length line → r ≡ not (t.esc || may_turn (get_or line i 0)) → r ≡ true
+        → NoneFrom (turns_at line) (i + 1) (length line) k → Here k
+    idle_skip i w r k h e q idle =
+        let s : i + 1 + (k - (i + 1)) ≡ k = omega (arith, idle.from) in
+        subst Here s
+        (run_skip (i + 1) (k - (i + 1)) (scan_skip buf t i w r h e q) (neither t.esc (may_turn (get_or line i 0)) r e q).0
+        (omega (arith, idle.from, idle.within)) (λ j l m. idle.none j l (omega (arith, idle.from))))
+
+-- ---- a stack that is the end of scratch
+
+entry_from : (buf : List ℕ) (base p q : ℕ) → q ≡ base + p → entry_at (drop base buf) p ≡ entry_at buf q
+unfolding entry_at
+entry_from buf base p q e =
+    let a : base + p + 1 ≡ base + (p + 1) = omega arith in
+    let b : base + p + 2 ≡ base + (p + 2) = omega arith in
+    rw (e, a, b, get_or-drop base buf p 0, get_or-drop base buf (p + 1) 0, get_or-drop base buf (p + 2) 0)
+
+pub stacked_from : (buf : List ℕ) (base n : ℕ) → stacked (drop base buf) 0 n ≡ stacked buf base n
+unfolding stacked
+stacked_from buf base zero = refl
+stacked_from buf base (suc n) = rw (entry_from buf base (0 + entry_size * n) (base + entry_size * n) (omega arith), stacked_from buf base n)
+
+-- scratch after a change of the stack
+module _ (buf front x y : List ℕ) (base : ℕ) (fits : base ≤ length buf) (f : front ≡ take base buf) (g : x ≡ drop base buf) where
+  after_back : drop base (front ++ y) ≡ y
+  after_back =
+      let l : base ≡ length front = omega (arith, ap length f, length-take base buf) in
+      rw l (drop-append_seam front y)
+
+  only_from : (m : ℕ) → Only x y 0 (0 + m) → Only buf (front ++ y) base (base + m)
+  only_from m w =
+      let l : length front ≡ base = omega (arith, ap length f, length-take base buf) in
       record {
-        o = bracket_step w.o (cell c (class_of k));
-        now = v.is w.o w.now;
-        same = w.same ∙ rw (cells_at line ks i (omega arith) (omega arith), p, q);
-        runs = v.runs;
-        number = v.line ∙ w.number;
-        high = omega (arith, w.high, v.depth);
-        from = omega (arith, w.from);
-        upto = omega arith;
-        only = only_then w.only (only_wider base (base + entry_size * (b.depth + n)) v.only (omega arith) (omega (arith, w.high, w.from)));
+        long = omega (arith, length-append front y, w.long, ap length g, length-drop base buf);
+        front = rw (← l) (take-append_seam front y) ∙ f;
+        back =
+            (let a : drop (base + m) (front ++ y) ≡ drop m y = rw (← l) (drop-append-add front y m) in
+            let b : drop (base + m) buf ≡ drop m (drop base buf) = rw (drop-drop m base buf) in
+            let z : 0 + m ≡ m = omega arith in
+            a ∙ rw z at w.back ∙ ap (drop m) g ∙ sym b);
       }
 
-  scanning_end : length line ≤ i
-      → BracketsDone buf₀ buf base b n (scan_brackets b.line (drop skip (cells_of line ks)) (stacked buf₀ base b.depth)) (record { depth = t.depth; levels = t.levels; line = t.line })
-  scanning_end h =
+  scratch_done : (b : Nesting) (n : ℕ) (s : List Entry) (r : Nesting) → BracketsDone x y 0 b n s r → BracketsDone buf (front ++ y) base b n s r
+  scratch_done b n s r w =
+      let e : stacked (front ++ y) base r.depth ≡ stacked y 0 r.depth = sym (stacked_from (front ++ y) base r.depth) ∙ ap (λ l. stacked l 0 r.depth) after_back in
       record {
-        is = w.now.stack ∙ sym (w.same ∙ rw (cells_end line ks i h));
+        is = e ∙ w.is;
+        runs = rw e w.runs;
+        most = w.most;
+        line = w.line;
+        only = only_from (entry_size * (b.depth + n)) w.only;
+      }
+
+  -- the stack itself
+  tail_stack : (n : ℕ) → stacked x 0 n ≡ stacked buf base n
+  tail_stack n = rw g (stacked_from buf base n)
+
+  -- a line that is one opener
+  pub open_done : (b : Nesting) (u : Tally) → Turned push x (record { nesting = b; from = b.levels; esc = false }) y u
+      → BracketsDone buf (front ++ y) base b 1 (opened_by b.line (stacked buf base b.depth)) u.nesting
+  unfolding push
+  open_done b u v =
+      let e : entry_size * b.depth + entry_size ≡ 0 + entry_size * (b.depth + 1) = omega arith in
+      let s = (v.is (opened b.line 0 0 false (stacked x 0 b.depth)) (record { stack = refl; line = refl; net = refl; esc = refl })).stack in
+      scratch_done b 1 _ u.nesting
+      (record { is = s ∙ ap (opened_by b.line) (tail_stack b.depth); runs = v.runs; most = v.depth; line = v.line; only = rw e at v.only })
+
+  pub scan_done : (line ks line₀ ks₀ : List ℕ) (n skip : ℕ) (b r : Nesting) → line ≡ line₀ → ks ≡ ks₀ → length line ≡ n
+      → BracketsDone x y 0 b (length line) (scan_brackets b.line (drop skip (cells_of line ks)) (stacked x 0 b.depth)) r
+      → BracketsDone buf (front ++ y) base b n (scan_brackets b.line (drop skip (cells_of line₀ ks₀)) (stacked buf base b.depth)) r
+  scan_done line ks line₀ ks₀ n skip b r e k l w =
+      scratch_done b n _ r
+      (record {
+        is = w.is ∙ rw (e, k, tail_stack b.depth);
         runs = w.runs;
-        most = omega (arith, w.high, w.upto);
-        line = w.number;
-        only = w.only;
-      }
+        most = omega (arith, w.most);
+        line = w.line;
+        only = rw l at w.only;
+      })
 
-  -- there is room for one more
-  pub scanning_room : base + entry_size * (b.depth + n) ≤ length buf₀ → b.line ≤ max_source → i < n → StackRoom buf base t
-  scanning_room f l h = record { place = omega (arith, w.high, w.from, w.only.long); runs = w.runs; line = omega (arith, w.number) }
+module _ (buf x : List ℕ) (class n base : ℕ) (b : Nesting) (f : StackFits buf class n base b) (g : x ≡ drop base buf) where
+  tail_runs : b.levels ≡ levels (stacked x 0 b.depth)
+  tail_runs = f.runs ∙ ap levels (sym (stacked_from buf base b.depth) ∙ ap (λ l. stacked l 0 b.depth) (sym g))
 
--- a line apart from scratch
-module _ (line buf₀ : List ℕ) (class base : ℕ) (b : Nesting) (skip : ℕ) (buf : List ℕ) (t : Tally) (i : ℕ) (f : StackFits buf₀ class (length line) base b)
-    (w : Scanning line (part buf₀ class (class + length line)) (length line) buf₀ base b skip buf t i) where
-  pub scan_more : (buf' : List ℕ) (u : Tally) → i < length line
-      → Turned (λ o. bracket_step o (cell (get_or line i 0) (class_of (get_or buf (class + i) 0)))) buf base t buf' u
-      → Scanning line (part buf₀ class (class + length line)) (length line) buf₀ base b skip buf' u (i + 1)
-  scan_more buf' u h v =
-      scanning_on w _ _ h refl (sym (length_part buf₀ class (length line) (omega arith))) refl (read_now class (length line) i w.only f.classes h) v
+  tail_long : length x ≡ length buf - base
+  tail_long = ap length g ∙ length-drop base buf
 
-  pub scan_skip : (r : Bool) → i < length line → r ≡ not (t.esc || may_turn (get_or line i 0)) → r ≡ true
-      → Scanning line (part buf₀ class (class + length line)) (length line) buf₀ base b skip buf t (i + 1)
-  scan_skip r h e q =
-      scan_more buf t h (turn_by buf base t (turn_same buf base t w.runs) (λ o k. turn_idle (cell (get_or line i 0) (class_of (get_or buf (class + i) 0))) o r (rw (← k.esc) e) q))
+  pub open_room : 1 ≤ n → StackRoom x (record { nesting = b; from = b.levels; esc = false })
+  open_room h = record { place = omega (arith, tail_long, f.stack); runs = tail_runs; line = f.line }
 
-  pub scan_room : i < length line → StackRoom buf base t
-  scan_room h = scanning_room w f.stack f.line h
+  pub scan_fits : (line ks : List ℕ) → length line ≡ n → length ks ≡ n → ScanFits line ks x b
+  scan_fits line ks e k = record { classes = omega arith; stack = omega (arith, tail_long, f.stack); runs = tail_runs; line = f.line }
 
-  pub scan_end : length line ≤ i
-      → BracketsDone buf₀ buf base b (length line) (scan_brackets b.line (drop skip (cells_of line (part buf₀ class (class + length line)))) (stacked buf₀ base b.depth))
-      (record { depth = t.depth; levels = t.levels; line = t.line })
-  scan_end h = scanning_end w h
+-- what stands before the stack
+module _ (buf front : List ℕ) (base a n : ℕ) (f : front ≡ take base buf) (h : a + n ≤ base) where
+  pub front_part : part front a (a + n) ≡ part buf a (a + n)
+  front_part =
+      let e : a + n - a ≡ n = omega arith in
+      rw (f, e, drop_take a base buf) (take-take n (base - a) (drop a buf) (omega arith))
 
--- several bytes that are no bracket and no backslash
-module _ (line buf₀ : List ℕ) (class base : ℕ) (b : Nesting) (skip : ℕ) (buf : List ℕ) (t : Tally) (f : StackFits buf₀ class (length line) base b) where
-  abbrev Here : ℕ → Type 0
-  Here i = Scanning line (part buf₀ class (class + length line)) (length line) buf₀ base b skip buf t i
-
-  run_skip : (i n : ℕ) → Here i → t.esc ≡ false → i + n ≤ length line → ((j : ℕ) → j < n → may_turn (get_or line (i + j) 0) ≡ false) → Here (i + n)
-  run_skip i zero w e h a = subst Here (sym (add-zero i)) w
-  run_skip i (suc n) w e h a =
-      let k : i + n + 1 ≡ i + suc n = omega arith in
-      let idle : true ≡ not (t.esc || may_turn (get_or line (i + n) 0)) = rw (e, a n (omega arith)) in
-      subst Here k (scan_skip line buf₀ class base b skip buf t (i + n) f (run_skip i n w e (omega arith) (λ j l. a j (omega arith))) true (omega arith) idle refl)
-
-  pub idle_skip : (i : ℕ) → Here i → (r : Bool) (k : ℕ) → i < length line → r ≡ not (t.esc || may_turn (get_or line i 0)) → r ≡ true → IdleRun line (i + 1) k → Here k
-  idle_skip i w r k h e q idle =
-      let s : i + 1 + (k - (i + 1)) ≡ k = omega (arith, idle.from) in
-      subst Here s
-      (run_skip (i + 1) (k - (i + 1)) (scan_skip line buf₀ class base b skip buf t i f w r h e q) (neither t.esc (may_turn (get_or line i 0)) r e q).0
-      (omega (arith, idle.from, idle.fits)) (λ j l. idle.none j (omega (arith, idle.from))))
-
--- runs of such bytes
-pub idle_start : (s : List ℕ) (at : ℕ) → at ≤ length s → IdleRun s at at
-idle_start s at h = record { from = omega arith; fits = h; none = λ j l. absurd (omega (arith, l)) }
-
-module _ {s : List ℕ} {at i : ℕ} (w : IdleRun s at i) where
-  pub idle_more : (n : ℕ) → i + n ≤ length s → ((j : ℕ) → j < n → may_turn (get_or s (i + j) 0) ≡ false) → IdleRun s at (i + n)
-  idle_more n h a =
-      record {
-        from = omega (arith, w.from);
-        fits = h;
-        none = λ j l. by_test (ltb (at + j) i) (λ e. w.none j (ltb-true (at + j) i e)) (λ e. past j l (ltb-false (at + j) i e));
-      }
-    where
-      past : (j : ℕ) → at + j < i + n → i ≤ at + j → may_turn (get_or s (at + j) 0) ≡ false
-      past j l g = let k : i + (at + j - i) ≡ at + j = omega arith in rw k at (a (at + j - i) (omega arith))
-
-  pub idle_block : {any : Bool} → i + 16 ≤ length s → NoneAmong (turns_at s) i 16 any → any ≡ false → IdleRun s at (i + 16)
-  idle_block h a e = idle_more 16 h (a.none e)
-
-  pub idle_one : {r : Bool} → i < length s → r ≡ may_turn (get_or s i 0) → r ≡ false → IdleRun s at (i + 1)
-  idle_one h e q = idle_more 1 (omega arith) (λ j l. let z : i + j ≡ i = omega (arith, l) in rw z (sym e ∙ q))
-
-pub idle_then : (s : List ℕ) (at i r : ℕ) → IdleRun s at i → IdleRun s i r → IdleRun s at r
-idle_then s at i r w v =
-    let e : i + (r - i) ≡ r = omega (arith, v.from) in
-    rw e at (idle_more w (r - i) (omega (arith, v.from, v.fits)) (λ j l. v.none j (omega (arith, v.from))))
+  pub front_long : base ≤ length buf → length (part front a (a + n)) ≡ n
+  front_long k = length_part front a n (omega (arith, ap length f, length-take base buf))
 
 -- ---- the first of them in a block
 
-pub apart_none : (c low more d : ℕ) → Less c low d → more ≤ d → Apart c low more (d - more)
-apart_none c low more d w h = record { zero = λ l k. (let e = w.is l in omega arith) }
+pub apart_none : (c low more d : ℕ) → c < 256 → d ≡ (c + (256 - low)) % 256 → Apart c low more (d - more)
+apart_none c low more d h e = record { zero = λ l k. omega arith }
 
 -- a byte that may be one stands in one of the three ranges
 pub turn_key : (c x y z m r : ℕ) → Apart c 40 1 x → Apart c 91 2 y → Apart c 123 2 z → m ≡ min y z → r ≡ min x m → TurnKey c r
@@ -525,8 +552,8 @@ turn_key c x y z m r u v w p q =
           (λ b. (let l = in_range_law 123 125 c (rw (a, b) at e) in let k = w.zero l.0 l.1 in omega arith)));
     }
 
-pub place_turn : (c k at key r : ℕ) → TurnKey c key → key ≡ 0 → Less k at r → TurnPlace c k at r
-place_turn c k at key r w e l = record { none = λ h n. absurd (let z = l.is h in omega arith) }
+pub place_turn : (c k at key r : ℕ) → k < 256 → TurnKey c key → key ≡ 0 → r ≡ (k + (256 - at)) % 256 → TurnPlace c k at r
+place_turn c k at key r m w e l = record { none = λ h n. absurd (omega arith) }
 
 pub place_none : (c k at key : ℕ) → TurnKey c key → (key ≡ 0 → ⊥) → TurnPlace c k at 255
 place_none c k at key w n = record { none = λ h l. by_test (may_turn c) (λ e. absurd (n (w.zero e))) (λ e. e) }
@@ -575,42 +602,36 @@ halves_all line last at k m h w l =
     }
 
 pub turn_next : (line : List ℕ) (at from m n : ℕ) → (16 ≤ length line) × (at ≤ length line) → from ≡ min at (length line - 16)
-    → NoTurn (turns_at line) from 0 16 (at - from) m → n ≡ min m (16 - (at - from)) → IdleRun line at (at + n)
+    → NoTurn (turns_at line) from 0 16 (at - from) m → n ≡ min m (16 - (at - from)) → NoneFrom (turns_at line) at (length line) (at + n)
 turn_next line at from m n h e w f =
     record {
       from = omega arith;
-      fits = omega (arith, h.0, h.1);
-      none = λ j l. (let k : from + (at - from + j) ≡ at + j = omega (arith, h.0, h.1) in
-          rw k at (w.none (at - from + j) (omega arith) (omega (arith, h.0, h.1)) (omega arith) (omega (arith, h.0, h.1))));
+      within = omega (arith, h.0, h.1);
+      none = λ j k l. (let q : from + (j - from) ≡ j = omega (arith, h.0, h.1) in
+          rw q at (w.none (j - from) (omega arith) (omega (arith, h.0, h.1)) (omega arith) (omega (arith, h.0, h.1))));
     }
 
-pub short_next : (line : List ℕ) (at m n : ℕ) → at ≤ length line → NoTurn (turns_at line) 0 0 (length line) at m → n ≡ min m (length line - at) → IdleRun line at (at + n)
+pub short_next : (line : List ℕ) (at m n : ℕ) → at ≤ length line → NoTurn (turns_at line) 0 0 (length line) at m → n ≡ min m (length line - at)
+    → NoneFrom (turns_at line) at (length line) (at + n)
 short_next line at m n h w f =
     record {
       from = omega arith;
-      fits = omega arith;
-      none = λ j l. rw (zero-add (at + j)) at (w.none (at + j) (omega arith) (omega arith) (omega arith) (omega arith));
+      within = omega arith;
+      none = λ j k l. rw (zero-add j) at (w.none j (omega arith) (omega arith) k (omega arith));
     }
 
--- a line in scratch
-module _ (buf₀ : List ℕ) (at n class base : ℕ) (b : Nesting) (skip : ℕ) (buf : List ℕ) (t : Tally) (i : ℕ) (f : (StackFits buf₀ class n base b) × (at + n ≤ base))
-    (w : Scanning (part buf₀ at (at + n)) (part buf₀ class (class + n)) n buf₀ base b skip buf t i) where
-  pub scan_at_more : (buf' : List ℕ) (u : Tally) → i < n
-      → Turned (λ o. bracket_step o (cell (get_or buf (at + i) 0) (class_of (get_or buf (class + i) 0)))) buf base t buf' u
-      → Scanning (part buf₀ at (at + n)) (part buf₀ class (class + n)) n buf₀ base b skip buf' u (i + 1)
-  scan_at_more buf' u h v =
-      scanning_on w _ _ h (sym (length_part buf₀ at n (omega arith))) (sym (length_part buf₀ class n (omega arith)))
-      (read_now at n i w.only f.1 h) (read_now class n i w.only f.0.classes h) v
+-- runs of such bytes
+module _ (s : List ℕ) where
+  pub idle_none : (at : ℕ) → at ≤ length s → NoneFrom (turns_at s) at (length s) at
+  idle_none at h = record { from = omega arith; within = h; none = λ j k l. absurd (omega arith) }
 
-  pub scan_at_skip : (r : Bool) → i < n → r ≡ not (t.esc || may_turn (get_or buf (at + i) 0)) → r ≡ true
-      → Scanning (part buf₀ at (at + n)) (part buf₀ class (class + n)) n buf₀ base b skip buf t (i + 1)
-  scan_at_skip r h e q =
-      scan_at_more buf t h (turn_by buf base t (turn_same buf base t w.runs) (λ o k. turn_idle (cell (get_or buf (at + i) 0) (class_of (get_or buf (class + i) 0))) o r (rw (← k.esc) e) q))
+  pub idle_first : (at r : ℕ) → FirstFrom (turns_at s) at (length s) r → NoneFrom (turns_at s) at (length s) r
+  idle_first at r w = record { from = w.from; within = w.within; none = w.none }
 
-  pub scan_at_room : i < n → StackRoom buf base t
-  scan_at_room h = scanning_room w f.0.stack f.0.line h
-
-  pub scan_at_end : n ≤ i
-      → BracketsDone buf₀ buf base b n (scan_brackets b.line (drop skip (cells_of (part buf₀ at (at + n)) (part buf₀ class (class + n)))) (stacked buf₀ base b.depth))
-      (record { depth = t.depth; levels = t.levels; line = t.line })
-  scan_at_end h = scanning_end w (omega (arith, length_part buf₀ at n (omega arith)))
+  pub idle_then : (at i r : ℕ) → NoneFrom (turns_at s) at (length s) i → NoneFrom (turns_at s) i (length s) r → NoneFrom (turns_at s) at (length s) r
+  idle_then at i r w v =
+      record {
+        from = omega (arith, w.from, v.from);
+        within = v.within;
+        none = λ j k l. by_test (ltb j i) (λ e. w.none j k (ltb-true j i e)) (λ e. v.none j (ltb-false j i e) l);
+      }

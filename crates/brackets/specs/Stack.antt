@@ -30,15 +30,14 @@ unfoldable pub stacked : List ℕ → ℕ → ℕ → List Entry
 stacked buf base zero = []
 stacked buf base (suc n) = entry_at buf (base + entry_size * n) ∷ stacked buf base n
 
--- an entry fits at p; level is 1 or 0
-pub record EntryRoom (buf : List ℕ) (p level line : ℕ) : Type 0 where
+-- an entry fits at p
+pub record EntryRoom (buf : List ℕ) (p line : ℕ) : Type 0 where
   pub place : p + entry_size ≤ length buf
-  pub bit : level ≤ 1
   pub early : line ≤ max_source
 
 -- it was written
-pub record EntryPut (before : List ℕ) (p level line : ℕ) (after : List ℕ) : Type 0 where
-  pub is : entry_at after p ≡ record { adds = not (eqb level 0); line = line }
+pub record EntryPut (before : List ℕ) (p : ℕ) (adds : Bool) (line : ℕ) (after : List ℕ) : Type 0 where
+  pub is : entry_at after p ≡ record { adds = adds; line = line }
   pub only : Only before after p (p + entry_size)
 
 -- what stands at i in the list of the lines
@@ -64,10 +63,10 @@ pub record Popped (buf : List ℕ) (base : ℕ) (b : Nesting) (n : ℕ) (r : Nes
   pub line : r.line ≡ b.line
 
 -- the code's tally, with the stack that lies in buf, is the rules' record o within a line
-pub record Tallies (buf : List ℕ) (base : ℕ) (t : Tally) (o : Open) : Type 0 where
-  pub stack : stacked buf base t.depth ≡ o.stack
-  pub line : t.line ≡ o.line
-  pub net : o.added + t.from ≡ o.popped + t.levels
+pub record Tallies (buf : List ℕ) (t : Tally) (o : Open) : Type 0 where
+  pub stack : stacked buf 0 t.nesting.depth ≡ o.stack
+  pub line : t.nesting.line ≡ o.line
+  pub net : o.added + t.from ≡ o.popped + t.nesting.levels
   pub esc : t.esc ≡ o.esc
 
 -- the ranges that the brackets and the backslash stand in
@@ -77,17 +76,7 @@ may_turn c = within 40 41 c || within 91 93 c || within 123 125 c
 abbrev pub turns_at : List ℕ → ℕ → Bool
 turns_at s i = may_turn (get_or s i 0)
 
--- the bytes from `at` up to r are none of them
-pub record IdleRun (s : List ℕ) (at r : ℕ) : Type 0 where
-  pub from : at ≤ r
-  pub fits : r ≤ length s
-  pub none : (j : ℕ) → at + j < r → may_turn (get_or s (at + j) 0) ≡ false
-
 -- ---- the first of them in a block
-
--- a less b, where b is not greater
-pub record Less (a b r : ℕ) : Type 0 where
-  pub is : b ≤ a → b + r ≡ a
 
 -- 0 for a number c from low to low + more
 pub record Apart (c low more r : ℕ) : Type 0 where
@@ -106,18 +95,18 @@ pub record NoTurn (p : ℕ → Bool) (from a e at r : ℕ) : Type 0 where
   pub none : (j : ℕ) → a ≤ j → j < e → at ≤ j → j < at + r → p (from + j) ≡ false
 
 -- there is room for one more
-pub record StackRoom (buf : List ℕ) (base : ℕ) (t : Tally) : Type 0 where
-  pub place : base + entry_size * t.depth + entry_size ≤ length buf
-  pub runs : t.levels ≡ levels (stacked buf base t.depth)
-  pub line : t.line ≤ max_source
+pub record StackRoom (buf : List ℕ) (t : Tally) : Type 0 where
+  pub place : entry_size * t.nesting.depth + entry_size ≤ length buf
+  pub runs : t.nesting.levels ≡ levels (stacked buf 0 t.nesting.depth)
+  pub line : t.nesting.line ≤ max_source
 
 -- one character
-pub record Turned (g : Open → Open) (before : List ℕ) (base : ℕ) (t : Tally) (after : List ℕ) (u : Tally) : Type 0 where
-  pub is : (o : Open) → Tallies before base t o → Tallies after base u (g o)
-  pub runs : u.levels ≡ levels (stacked after base u.depth)
-  pub depth : u.depth ≤ t.depth + 1
-  pub line : u.line ≡ t.line
-  pub only : Only before after base (base + entry_size * t.depth + entry_size)
+pub record Turned (g : Open → Open) (before : List ℕ) (t : Tally) (after : List ℕ) (u : Tally) : Type 0 where
+  pub is : (o : Open) → Tallies before t o → Tallies after u (g o)
+  pub runs : u.nesting.levels ≡ levels (stacked after 0 u.nesting.depth)
+  pub depth : u.nesting.depth ≤ t.nesting.depth + 1
+  pub line : u.nesting.line ≡ t.nesting.line
+  pub only : Only before after 0 (entry_size * t.nesting.depth + entry_size)
 
 -- the stack after an opener that adds a level, on the line with this number
 abbrev pub opened_by : ℕ → List Entry → List Entry
@@ -128,6 +117,13 @@ pub record StackFits (buf : List ℕ) (class n base : ℕ) (b : Nesting) : Type 
   pub classes : class + n ≤ base
   pub stack : base + entry_size * (b.depth + n) ≤ length buf
   pub runs : b.levels ≡ levels (stacked buf base b.depth)
+  pub line : b.line ≤ max_source
+
+-- a line has a class byte for each byte, and the stack alone has room for as many more entries
+pub record ScanFits (bytes class buf : List ℕ) (b : Nesting) : Type 0 where
+  pub classes : length bytes ≤ length class
+  pub stack : entry_size * (b.depth + length bytes) ≤ length buf
+  pub runs : b.levels ≡ levels (stacked buf 0 b.depth)
   pub line : b.line ≤ max_source
 
 -- a line of n characters: the stack s after it

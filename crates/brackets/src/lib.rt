@@ -2,8 +2,8 @@
 // bit tells whether it added a level, its other bits and the two bytes after it are the source line of the opener.
 #![tactic(auto)]
 
-ghost use Rattle.std.specs.Prelude.{◌≡◌, not, ◌||◌, ◌+◌, ◌-◌, ◌*◌, ◌≤◌, ◌<◌, min, length, drop};
-ghost use Rattle.utf8.specs.Places.{NoneAmong};
+ghost use Rattle.std.specs.Prelude.{◌≡◌, not, ◌||◌, ◌+◌, ◌-◌, ◌*◌, ◌≤◌, length, drop};
+ghost use Rattle.blocks.specs.Blocks.{NoneFrom};
 ghost use Rattle.buffer.specs.Buffer.{part};
 ghost use Rattle.rules.specs.Basics.{choose};
 ghost use Rattle.rules.specs.Scan.{cell};
@@ -11,8 +11,8 @@ ghost use Rattle.rules.specs.ClassBytes.{class_of, cells_of};
 ghost use Rattle.rules.specs.Brackets.{push, pop, bracket_step, scan_brackets, open_lines};
 ghost use Rattle.basics.specs.Closers.{Closers};
 ghost use Rattle.brackets.specs.Stack.{adds_of, entry_at, entry_size, stacked, Nested, Popped, EntryRoom, EntryPut};
-ghost use Rattle.brackets.specs.Stack.{StackRoom, Turned, StackFits, BracketsDone, may_turn, turns_at, IdleRun};
-ghost use Rattle.brackets.specs.Stack.{Less, Apart, TurnKey, TurnPlace, NoTurn, line_at, Listed, opened_by};
+ghost use Rattle.brackets.specs.Stack.{StackRoom, Turned, StackFits, ScanFits, BracketsDone, may_turn, turns_at};
+ghost use Rattle.brackets.specs.Stack.{Apart, TurnKey, TurnPlace, NoTurn, line_at, Listed, opened_by};
 
 use basics::{is_closer, is_opener};
 
@@ -28,13 +28,11 @@ pub struct Nesting {
     pub line: usize,
 }
 
-// The same within a line. Its net added count is levels less from; esc tells whether the next character is escaped.
+// The same within a line. Its net added count is the levels less from; esc tells whether the next character is escaped.
 #[derive(Clone, Copy)]
 pub struct Tally {
-    pub depth: usize,
-    pub levels: usize,
+    pub nesting: Nesting,
     pub from: usize,
-    pub line: usize,
     pub esc: bool,
 }
 
@@ -42,35 +40,19 @@ pub struct Tally {
 pub fn leading_closers(line: &[u8]) -> usize
     ensures { Closers line.now result }
 {
-    let mut i = 0;
-    while i < line.len() {
-        if is_closer(line[i]) {
-            i += 1;
-        } else {
+    for i in 0..line.len() {
+        if !is_closer(line[i]) {
             return i;
         }
     }
-    i
-}
-
-// The depth after n closers.
-fn depth_after(depth: usize, n: usize) -> usize
-    ensures { result ≡ depth - n }
-{
-    if n < depth { depth - n } else { 0 }
+    line.len()
 }
 
 // 1 for an entry that added a level, else 0; of its first byte.
 fn level_of(first: u8) -> usize
     ensures { result ≡ choose (adds_of first) 1 0 }
 {
-    if first % 2 == 0 { 0 } else { 1 }
-}
-
-fn wide(b: u8) -> usize
-    ensures { (result ≡ b) × (result < 256) }
-{
-    b as usize
+    usize::from(first % 2 != 0)
 }
 
 // The line of the entry that stands at p.
@@ -78,18 +60,19 @@ fn read_line(scratch: &[u8], p: usize) -> usize
     requires { p + entry_size ≤ length scratch.now }
     ensures { result ≡ (entry_at scratch.now p).line }
 {
-    wide(scratch[p] / 2) * 65536 + wide(scratch[p + 1]) + wide(scratch[p + 2]) * 256
+    let upper = usize::from(scratch[p] / 2);
+    upper * 65536 + usize::from(scratch[p + 1]) + usize::from(scratch[p + 2]) * 256
 }
 
-// Writes an entry at p: level is 1 if it added one, else 0.
-fn put_entry(scratch: &mut [u8], p: usize, level: usize, line: usize)
-    requires { EntryRoom scratch.old p level line }
-    ensures { EntryPut scratch.old p level line scratch.new }
+// Writes an entry at p.
+fn put_entry(stack: &mut [u8], p: usize, adds: bool, line: usize)
+    requires { EntryRoom stack.old p line }
+    ensures { EntryPut stack.old p adds line stack.new }
 {
     let q = line / 256;
-    scratch[p] = (level + 2 * (q / 256)) as u8;
-    scratch[p + 1] = (line % 256) as u8;
-    scratch[p + 2] = (q % 256) as u8;
+    stack[p] = (usize::from(adds) + 2 * (q / 256)) as u8;
+    stack[p + 1] = (line % 256) as u8;
+    stack[p + 2] = (q % 256) as u8;
 }
 
 // The n leading closers of a line: each pops any opener, with the level that it added, and on an empty stack does
@@ -98,47 +81,29 @@ pub fn pop_closers(scratch: &[u8], base: usize, b: Nesting, n: usize) -> Nesting
     requires { Nested scratch.now base b }
     ensures { Popped scratch.now base b n result }
 {
-    let end = depth_after(b.depth, n);
-    let mut depth = b.depth;
+    let depth = b.depth.saturating_sub(n);
     let mut levels = b.levels;
-    while end < depth {
-        depth -= 1;
-        levels -= level_of(scratch[base + ENTRY * depth]);
+    for i in (depth..b.depth).rev() {
+        levels -= level_of(scratch[base + ENTRY * i]);
     }
-    Nesting {
-        depth,
-        levels,
-        line: b.line,
-    }
+    Nesting { depth, levels, ..b }
 }
 
 // An opener: it adds a level only while the net added count is at most 0.
-fn push(scratch: &mut [u8], base: usize, t: Tally) -> Tally
-    requires { StackRoom scratch.old base t }
-    ensures { Turned push scratch.old base t scratch.new result }
+fn push(stack: &mut [u8], t: Tally) -> Tally
+    requires { StackRoom stack.old t }
+    ensures { Turned push stack.old t stack.new result }
 {
-    let n = t.depth;
-    let levels = t.levels;
-    let from = t.from;
-    let line = t.line;
-    let p = base + ENTRY * n;
-    if from < levels {
-        put_entry(scratch, p, 0, line);
-        return Tally {
-            depth: n + 1,
-            levels,
-            from,
-            line,
-            esc: false,
-        };
-    }
-    put_entry(scratch, p, 1, line);
+    let adds = t.nesting.levels <= t.from;
+    put_entry(stack, ENTRY * t.nesting.depth, adds, t.nesting.line);
     Tally {
-        depth: n + 1,
-        levels: levels + 1,
-        from,
-        line,
+        nesting: Nesting {
+            depth: t.nesting.depth + 1,
+            levels: t.nesting.levels + usize::from(adds),
+            ..t.nesting
+        },
         esc: false,
+        ..t
     }
 }
 
@@ -148,55 +113,36 @@ pub fn open(scratch: &mut [u8], base: usize, b: Nesting) -> Nesting
     ensures { BracketsDone scratch.old scratch.new base b 1
         (opened_by b.line (stacked scratch.old base b.depth)) result }
 {
-    let t = Tally {
-        depth: b.depth,
-        levels: b.levels,
-        from: b.levels,
-        line: b.line,
-        esc: false,
-    };
-    let u = push(scratch, base, t);
-    Nesting {
-        depth: u.depth,
-        levels: u.levels,
-        line: u.line,
-    }
+    let (_, stack) = scratch.split_at_mut(base);
+    let t = push(
+        stack,
+        Tally {
+            nesting: b,
+            from: b.levels,
+            esc: false,
+        },
+    );
+    t.nesting
 }
 
 // A closer: it takes any opener, with the level that it added, and on an empty stack does nothing.
-fn pop(scratch: &[u8], base: usize, t: Tally) -> Tally
-    requires { StackRoom scratch.now base t }
-    ensures { Turned pop scratch.now base t scratch.now result }
+fn pop(stack: &[u8], t: Tally) -> Tally
+    requires { StackRoom stack.now t }
+    ensures { Turned pop stack.now t stack.now result }
 {
-    let n = t.depth;
-    let levels = t.levels;
-    let from = t.from;
-    let line = t.line;
-    if n == 0 {
-        return Tally {
-            depth: n,
-            levels,
-            from,
-            line,
-            esc: false,
-        };
+    if t.nesting.depth == 0 {
+        return Tally { esc: false, ..t };
     }
-    let m = n - 1;
-    if scratch[base + ENTRY * m] % 2 == 0 {
-        return Tally {
-            depth: m,
-            levels,
-            from,
-            line,
-            esc: false,
-        };
-    }
+    let depth = t.nesting.depth - 1;
+    let level = level_of(stack[ENTRY * depth]);
     Tally {
-        depth: m,
-        levels: levels - 1,
-        from,
-        line,
+        nesting: Nesting {
+            depth,
+            levels: t.nesting.levels - level,
+            ..t.nesting
+        },
         esc: false,
+        ..t
     }
 }
 
@@ -215,86 +161,32 @@ fn is_idle(c: u8, esc: bool) -> bool
     !(esc | may_turn(c))
 }
 
-// Whether one of the sixteen bytes from `at` on may be one. It makes no branch, so that they are tested at once.
-fn any_turn(line: &[u8], at: usize) -> bool
-    requires { at + 16 ≤ length line.now }
-    ensures { NoneAmong (turns_at line.now) at 16 result }
-{
-    let mut any = false;
-    let mut k: usize = 0;
-    while k < 16 {
-        any = any | may_turn(line[at + k]);
-        k += 1;
-    }
-    any
-}
-
-// Past the bytes that are none, sixteen at a time.
-fn idle_blocks(line: &[u8], at: usize) -> usize
-    requires { at ≤ length line.now }
-    ensures { IdleRun line.now at result }
-{
-    let mut i = at;
-    while line.len() - i >= 16 {
-        if any_turn(line, i) {
-            return i;
-        }
-        i += 16;
-    }
-    i
-}
-
-// Past the bytes that are none, one at a time.
-fn idle_bytes(line: &[u8], at: usize) -> usize
-    requires { at ≤ length line.now }
-    ensures { IdleRun line.now at result }
-{
-    let mut i = at;
-    while i < line.len() {
-        if may_turn(line[i]) {
-            return i;
-        }
-        i += 1;
-    }
-    i
-}
-
 // The first byte of a block that may be one is found by the least of sixteen numbers, without a branch: these functions
 // compile to a few instructions for all sixteen.
-
-fn least(a: u8, b: u8) -> u8
-    ensures { result ≡ min a b }
-{
-    if a < b { a } else { b }
-}
-
-// a less b, or, where b is greater, 256 more.
-fn less(a: u8, b: u8) -> u8
-    ensures { Less a b result }
-{
-    if b <= a { a - b } else { a + (255 - b) + 1 }
-}
 
 // 0 for c among the bytes from low on, `more` after it.
 fn apart(c: u8, low: u8, more: u8) -> u8
     ensures { Apart c low more result }
 {
-    let d = less(c, low);
-    if d < more { 0 } else { d - more }
+    c.wrapping_sub(low).saturating_sub(more)
 }
 
 // 0 for a byte that may be one.
 fn turn_key(c: u8) -> u8
     ensures { TurnKey c result }
 {
-    least(apart(c, 40, 1), least(apart(c, 91, 2), apart(c, 123, 2)))
+    apart(c, 40, 1).min(apart(c, 91, 2).min(apart(c, 123, 2)))
 }
 
 // How far from `at` on the byte c stands at place k, if it may be one; else 255.
 fn turn_place(c: u8, k: u8, at: u8) -> u8
     ensures { TurnPlace c k at result }
 {
-    if turn_key(c) == 0 { less(k, at) } else { 255 }
+    if turn_key(c) == 0 {
+        k.wrapping_sub(at)
+    } else {
+        255
+    }
 }
 
 // How far from the place `at` of the sixteen bytes from `from` on the first one that may be one stands, or more than
@@ -304,10 +196,8 @@ fn first_turn(line: &[u8], from: usize, at: u8) -> u8
     ensures { NoTurn (turns_at line.now) from 0 16 at result }
 {
     let mut m: u8 = 255;
-    let mut k: u8 = 0;
-    while k < 16 {
-        m = least(m, turn_place(line[from + k as usize], k, at));
-        k += 1;
+    for k in 0..16u8 {
+        m = m.min(turn_place(line[from + k as usize], k, at));
     }
     m
 }
@@ -318,12 +208,10 @@ fn first_short(line: &[u8], last: u8, at: u8) -> u8
     ensures { NoTurn (turns_at line.now) 0 0 (length line.now) at result }
 {
     let mut m: u8 = 255;
-    let mut k: u8 = 0;
-    while k < 8 {
+    for k in 0..8u8 {
         let i = last + k;
         let front = turn_place(line[k as usize], k, at);
-        m = least(m, least(front, turn_place(line[i as usize], i, at)));
-        k += 1;
+        m = m.min(front.min(turn_place(line[i as usize], i, at)));
     }
     m
 }
@@ -331,7 +219,7 @@ fn first_short(line: &[u8], last: u8, at: u8) -> u8
 // Up to the next byte that may be one, or past the sixteen bytes that are tested: those from `at` on, or the last ones.
 fn next_turn(line: &[u8], at: usize) -> usize
     requires { (16 ≤ length line.now) × (at ≤ length line.now) }
-    ensures { IdleRun line.now at result }
+    ensures { NoneFrom (turns_at line.now) at (length line.now) result }
 {
     let from = buffer::place(at, line.len() - 16);
     let k = at - from;
@@ -342,7 +230,7 @@ fn next_turn(line: &[u8], at: usize) -> usize
 fn next_short(line: &[u8], at: usize) -> usize
     requires in_bounds { (8 ≤ length line.now) × (length line.now ≤ 16) }
     requires at_in_bounds { at ≤ length line.now }
-    ensures { IdleRun line.now at result }
+    ensures { NoneFrom (turns_at line.now) at (length line.now) result }
 {
     let n = line.len();
     let m = first_short(line, (n - 8) as u8, at as u8) as usize;
@@ -352,44 +240,83 @@ fn next_short(line: &[u8], at: usize) -> usize
 // Past the bytes that are none.
 fn idle_to(line: &[u8], at: usize) -> usize
     requires { at ≤ length line.now }
-    ensures { IdleRun line.now at result }
+    ensures { NoneFrom (turns_at line.now) at (length line.now) result }
 {
     let n = line.len();
+    let test = |i: usize| may_turn(line[i]);
     if 16 <= n {
-        let i = idle_blocks(line, at);
+        let i = blocks::past_blocks::<16, _>(at, n, &test);
         return next_turn(line, i);
     }
     if 8 <= n {
         return next_short(line, at);
     }
-    idle_bytes(line, at)
+    blocks::first_from(at, n, &test)
 }
 
 // A byte c of class k.
-fn bracket_step(c: u8, k: u8, scratch: &mut [u8], base: usize, t: Tally) -> Tally
-    requires { StackRoom scratch.old base t }
-    ensures { Turned (λ o. bracket_step o (cell c (class_of k))) scratch.old base t
-        scratch.new result }
+fn bracket_step(c: u8, k: u8, stack: &mut [u8], t: Tally) -> Tally
+    requires { StackRoom stack.old t }
+    ensures { Turned (λ o. bracket_step o (cell c (class_of k))) stack.old t
+        stack.new result }
 {
-    let mut u = t;
     if k != 0 {
         return t;
     }
     if t.esc {
-        u.esc = false;
-        return u;
+        return Tally { esc: false, ..t };
     }
     if c == b'\\' {
-        u.esc = true;
-        return u;
+        return Tally { esc: true, ..t };
     }
     if is_opener(c) {
-        return push(scratch, base, t);
+        return push(stack, t);
     }
     if is_closer(c) {
-        return pop(scratch, base, t);
+        return pop(stack, t);
     }
     t
+}
+
+// Past the bytes that are none, if BLOCKS, else not on.
+fn past_idle<const BLOCKS: bool>(line: &[u8], at: usize) -> usize
+    requires { at ≤ length line.now }
+    ensures { NoneFrom (turns_at line.now) at (length line.now) result }
+{
+    if BLOCKS { idle_to(line, at) } else { at }
+}
+
+// The brackets of a line with its class bytes, without its first `skip` bytes. With BLOCKS bytes that change nothing
+// are passed many at once, which takes longer where most blocks have one that does.
+fn scan<const BLOCKS: bool>(
+    line: &[u8],
+    class: &[u8],
+    stack: &mut [u8],
+    b: Nesting,
+    skip: usize,
+) -> Nesting
+    requires { ScanFits line.now class.now stack.old b }
+    ensures { BracketsDone stack.old stack.new 0 b (length line.now)
+        (scan_brackets b.line (drop skip (cells_of line.now class.now))
+        (stacked stack.old 0 b.depth)) result }
+{
+    let mut t = Tally {
+        nesting: b,
+        from: b.levels,
+        esc: false,
+    };
+    let mut i = skip;
+    // kept: a range is no plainer, since the place moves past all bytes that change nothing
+    while i < line.len() {
+        let c = line[i];
+        if is_idle(c, t.esc) {
+            i = past_idle::<BLOCKS>(line, i + 1);
+            continue;
+        }
+        t = bracket_step(c, class[i], stack, t);
+        i += 1;
+    }
+    t.nesting
 }
 
 // The brackets of a line, without its first `skip` bytes, whose class bytes stand in scratch from class_at on. The
@@ -408,31 +335,12 @@ pub fn scan_brackets(
         (part scratch.old class_at (class_at + length line.now))))
         (stacked scratch.old base b.depth)) result }
 {
-    let mut t = Tally {
-        depth: b.depth,
-        levels: b.levels,
-        from: b.levels,
-        line: b.line,
-        esc: false,
-    };
-    let mut i = skip;
-    while i < line.len() {
-        let c = line[i];
-        if is_idle(c, t.esc) {
-            i = idle_to(line, i + 1);
-            continue;
-        }
-        t = bracket_step(c, scratch[class_at + i], scratch, base, t);
-        i += 1;
-    }
-    Nesting {
-        depth: t.depth,
-        levels: t.levels,
-        line: t.line,
-    }
+    let n = line.len();
+    let (front, stack) = scratch.split_at_mut(base);
+    scan::<true>(line, &front[class_at..class_at + n], stack, b, skip)
 }
 
-// The same of a line that stands in scratch itself, n bytes from line_at on.
+// The same of a line that stands in scratch itself, n bytes from line_at on: one that was respaced.
 pub fn scan_brackets_at(
     scratch: &mut [u8],
     line_at: usize,
@@ -447,28 +355,14 @@ pub fn scan_brackets_at(
         (scan_brackets b.line (drop skip (cells_of (part scratch.old line_at (line_at + n))
         (part scratch.old class_at (class_at + n)))) (stacked scratch.old base b.depth)) result }
 {
-    let mut t = Tally {
-        depth: b.depth,
-        levels: b.levels,
-        from: b.levels,
-        line: b.line,
-        esc: false,
-    };
-    let mut i = skip;
-    while i < n {
-        let c = scratch[line_at + i];
-        if is_idle(c, t.esc) {
-            i += 1;
-            continue;
-        }
-        t = bracket_step(c, scratch[class_at + i], scratch, base, t);
-        i += 1;
-    }
-    Nesting {
-        depth: t.depth,
-        levels: t.levels,
-        line: t.line,
-    }
+    let (front, stack) = scratch.split_at_mut(base);
+    scan::<false>(
+        &front[line_at..line_at + n],
+        &front[class_at..class_at + n],
+        stack,
+        b,
+        skip,
+    )
 }
 
 // The line that stands at i in the list of open brackets: the oldest first, 0 after the newest.
@@ -477,8 +371,7 @@ fn line_at(scratch: &[u8], base: usize, depth: usize, i: usize) -> u64
     ensures { result ≡ line_at scratch.now base depth i }
 {
     if i < depth {
-        let p = base + ENTRY * i;
-        return read_line(scratch, p) as u64;
+        return read_line(scratch, base + ENTRY * i) as u64;
     }
     0
 }
@@ -490,10 +383,8 @@ pub fn list_lines(scratch: &[u8], base: usize, count: usize, list: &mut [u64]) -
     ensures { Listed (open_lines (stacked scratch.now base count)) (length list.old) result
         list.new }
 {
-    let mut i = 0;
-    while i < list.len() {
+    for i in 0..list.len() {
         list[i] = line_at(scratch, base, count, i);
-        i += 1;
     }
     count
 }

@@ -1,69 +1,15 @@
 -- What the loops keep: a record for each, and the laws of its start, its turn and its end.
 use mathlib.Core.Path.{◌≡◌, refl, sym, ap, ◌∙◌}
-use mathlib.Core.Bool.{true, false}
-use mathlib.Core.List.{List, ◌++◌, append-nil}
+use mathlib.Core.List.{List, ◌++◌}
 use Prim.Native.Nat.{ℕ, suc, ◌+◌, ◌-◌, ◌*◌, ◌≤◌, ◌<◌, zero-le}
-use native.Mathlib.Nat.{le_refl, suc-mul, mul-le-mul_right}
-use native.Mathlib.Numerals.{add-one}
+use native.Mathlib.Nat.{suc-mul, mul-le-mul_right}
 use native.Mathlib.Omega.{arith}
-use lib.ListN.{length, get_or, take, drop, set, replicate, length-append, length-set, drop_of_length-le, get_or-replicate, replicate-append-replicate}
-use lib.Seq.{take-suc, take_all}
-use borrow.Author.Fill.{fill_more}
-use Rattle.buffer.specs.Buffer.{over, Wrote, AllAre}
+use lib.ListN.{length, take, drop, length-append}
+use Rattle.buffer.specs.Buffer.{over, Wrote}
 use Rattle.buffer.specs.Repeat.{times}
 use Rattle.buffer.proofs.RegionLaws.{part_from, back_from}
 use Rattle.buffer.proofs.OverLaws.{over_nil, over_full, over_next, length_over}
 use Rattle.buffer.proofs.RepeatLaws.{length_times, times_snoc, times_split}
-
--- ---- `fill`: i elements of s₀ are b
-
-pub record Filling (s₀ : List ℕ) (b : ℕ) (s : List ℕ) (i : ℕ) : Type 0 where
-  pub within : i ≤ length s₀
-  pub is : s ≡ replicate i b ++ drop i s₀
-  pub long : length s ≡ length s₀
-
-pub filling_start : (s : List ℕ) (b : ℕ) → Filling s b s 0
-filling_start s b = record { within = zero-le; is = refl; long = refl }
-
-module _ (s₀ : List ℕ) (b : ℕ) (s : List ℕ) (i : ℕ) (r : Filling s₀ b s i) where
-  pub filling_more : i < length s → Filling s₀ b (set s i b) (i + 1)
-  filling_more h =
-      record {
-        within = omega (arith, r.long);
-        is = ap (λ (l : List ℕ). set l i b) r.is ∙ fill_more i b s₀ (omega (arith, r.long));
-        long = length-set s i b ∙ r.long;
-      }
-
-  pub filling_end : length s ≤ i → s ≡ replicate (length s₀) b
-  filling_end h =
-      let e : i ≡ length s₀ = omega (arith, r.within, r.long) in
-      r.is ∙ rw (e, drop_of_length-le s₀ {i = length s₀} (le_refl (length s₀)), append-nil)
-
--- ---- `all_are`: i elements of s are b
-
-pub record Matching (s : List ℕ) (b i : ℕ) : Type 0 where
-  pub within : i ≤ length s
-  pub is : take i s ≡ replicate i b
-
-pub matching_start : (s : List ℕ) (b : ℕ) → Matching s b 0
-matching_start s b = record { within = zero-le; is = refl }
-
-module _ (s : List ℕ) (b i : ℕ) (r : Matching s b i) where
-  pub matching_more : i < length s → get_or s i 0 ≡ b → Matching s b (i + 1)
-  matching_more h e =
-      record {
-        within = omega arith;
-        is = rw (← replicate-append-replicate, add-one, take-suc s i 0 h, r.is, e);
-      }
-
-  pub matching_end : length s ≤ i → AllAre s b true
-  matching_end h =
-      let e : i ≡ length s = omega (arith, r.within) in
-      record { yes = λ _. sym (take_all i s h) ∙ r.is ∙ ap (λ (k : ℕ). replicate k b) e; no = λ n. absurd (let z : ◌≡◌ {A = ℕ} 0 1 = cc in omega arith) }
-
-  pub matching_not : i < length s → (get_or s i 0 ≡ b → ⊥) → AllAre s b false
-  matching_not h n =
-      record { yes = λ y. absurd (let z : ◌≡◌ {A = ℕ} 0 1 = cc in omega arith); no = λ _ e. n (ap (λ (l : List ℕ). get_or l i 0) e ∙ get_or-replicate (length s) i b 0 h) }
 
 -- ---- `put_levels`: the indent stands over the front i times, and at is its length so far
 

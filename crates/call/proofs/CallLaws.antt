@@ -1,8 +1,8 @@
 -- The finish, and what a call comes to, by its tests in their order.
 --     ending_kept, ending_set, last_always, last_source     the ending, and the last one
 --     text_short, text_fits                                 the text in the output
---     test_table, test_long, test_option, test_ruler, test_rest   the tests
 --     ran_refused, ran_formatted                            the outcome of a call; answered the answer
+--     text_delivered, text_taken, text_within               the text that a call gave
 use Prim.Native.Nat.{ℕ, ◌-◌, ◌≤◌, ◌<◌}
 use native.Mathlib.Omega.{arith}
 use mathlib.Core.Bool.{Bool, true, false, not, ◌&&◌}
@@ -10,39 +10,36 @@ use mathlib.Core.List.{List, [], ◌∷◌, ◌++◌}
 use mathlib.Core.Path.{◌≡◌, refl, sym, ap, ◌∙◌}
 use borrow.Author.Tests.{lt-ltb, le-ltb, leb-true, eqb-true}
 use lib.Dec.{leb, eqb}
-use lib.ListN.{length, replicate}
+use lib.ListN.{length, take, drop, replicate, length-take}
 use lib.Seq.{take-nil}
 use Rattle.utf8.specs.Unicode.{size, decode, WellFormed}
 use Rattle.utf8.proofs.Decode.{test_wf}
 use Rattle.utf8.proofs.Tests.{and_left, and_right}
 use Rattle.rules.specs.Basics.{choose}
 use Rattle.rules.specs.Lines.{as_str, lines_of, dominant_in, ends_in_lf}
-use Rattle.rules.specs.Options.{Options, all_blank, valid_indent, max_indent, max_ruler}
+use Rattle.rules.specs.Options.{Options, all_blank, valid_indent, max_indent, max_ruler, EndOfLine}
 use Rattle.rules.specs.Brackets.{open_lines}
 use Rattle.rules.specs.Line.{Formatter, start}
 use Rattle.rules.specs.Assembly.{ending_of, drop_empty, joined, last_ending, finish, format_lines, format_with}
-use Rattle.rules.specs.Refusals.{max_source, scratch_needed, refuse_if, tested, long_source, bad_option, wide_ruler, short_scratch, ill_formed, short_output, wrong_length, bits_set}
+use Rattle.std.specs.Prelude.{Some, None, Result, Ok, Err}
+use Rattle.rules.specs.Refusals.{Verdict, max_source, scratch_needed, refuse_if, tested, and_then, long_source, bad_option, wide_ruler, short_scratch, ill_formed, short_output, wrong_length, bits_set}
 use Rattle.rules.specs.Strengths.{table_length}
-use Rattle.rules.specs.Choices.{valid_options, options_of}
-use Rattle.rules.specs.Call.{Call, formatted, text_of, format_scratch, format_tests, verdict_of, outcome_after, outcome_of, answer_of, filled, listed, output_of, opened_of}
+use Rattle.rules.specs.Choices.{Choices, valid_options, options_of}
+use Rattle.rules.specs.Call.{Call, Outcome, formatted, text_of, format_scratch, format_tests, verdict_of, outcome_after, outcome_of, answer_of, filled, listed, output_of, opened_of}
 use Rattle.rules.specs.declared.LineEnding.{LineEnding}
-use Rattle.rules.specs.declared.EndOfLine.{EndOfLine}
 use Rattle.rules.specs.declared.FinalNewline.{FinalNewline}
 use Rattle.rules.specs.declared.OptionNumbers.{OptionNumbers}
 use Rattle.rules.specs.declared.Refusal.{Refusal}
-use Rattle.rules.specs.declared.Verdict.{Verdict}
-use Rattle.rules.specs.declared.Outcome.{Outcome}
+use Rattle.rules.specs.declared.Formatted.{Formatted as Counted}
 use Rattle.rules.specs.declared.Strengths.{Strengths}
 use Rattle.rules.specs.declared.Answer.{Answer}
 use Rattle.rules.proofs.StartsBytes.{on_decode}
 use Rattle.rules.proofs.LinesBytes.{dominant_encode, ends_lf_encode}
-use Rattle.rules.proofs.RefusalLaws.{test_on, test_off, pass, stop, one_test, goes_on_law, ends, head_passed, source_short}
-use Rattle.rules.proofs.CallLaws.{Admitted, admitted, indent_valid, answer_well, answer_kept}
+use Rattle.rules.proofs.RefusalLaws.{test_on, test_off, pass, stop, one_test, goes_on_law, ends, head_passed, then_passed, then_value, then_refused}
+use Rattle.rules.proofs.CallLaws.{Admitted, admitted, indent_valid, Delivered, delivered, answer_well, answer_kept}
 use Rattle.quoted.proofs.C22.{c22_call}
-use Rattle.options.specs.Held.{held_named, held}
+use Rattle.options.specs.Held.{options_in, held_named, held}
 use Rattle.options.specs.declared.FormatOptions.{FormatOptions}
-use Rattle.options.specs.declared.Changed.{Changed}
-use Rattle.options.proofs.NumbersLaws.{named_valid_is, named_options}
 use Rattle.text.specs.Text.{Finished}
 use Rattle.brackets.specs.Stack.{stacked}
 use Rattle.line.specs.Holds.{Record, Holds, ValidIndent}
@@ -50,18 +47,19 @@ use Rattle.line.specs.Scratch.{stack_at}
 use Rattle.line.specs.declared.style.Style.{Style}
 use Rattle.lines.specs.Lines.{Passed, LinesDone, AllRead}
 use Rattle.lines.specs.declared.LinesRead.{LinesRead}
-use Rattle.call.specs.Formatted.{options_with, outcome_in, Told, Fitted, RefusedCall}
+use Rattle.call.specs.Tests.{tested_options}
+use Rattle.call.specs.Formatted.{outcome_in, Told, Fitted, RefusedCall}
 use Rattle.call.specs.Ran.{call_of, Ran}
 use Rattle.call.specs.FormatAnswered.{FormatAnswered}
 
 -- ---- the ending of the lines, and whether one more follows
 
 module _ (source : List ℕ) (w : WellFormed source) where
-  pub ending_kept : (k : EndOfLine) (r : LineEnding) → k ≡ EndOfLine.Kept → r ≡ dominant_in source → r ≡ ending_of k (decode source)
+  pub ending_kept : (k : EndOfLine) (r : LineEnding) → k ≡ None → r ≡ dominant_in source → r ≡ ending_of k (decode source)
   unfolding ending_of
   ending_kept k r e h = rw e (h ∙ on_decode dominant_in dominant_in dominant_encode source w)
 
-  pub ending_set : (k : EndOfLine) (r : LineEnding) → k ≡ EndOfLine.Set r → r ≡ ending_of k (decode source)
+  pub ending_set : (k : EndOfLine) (r : LineEnding) → k ≡ Some r → r ≡ ending_of k (decode source)
   unfolding ending_of
   ending_set k r e = rw e
 
@@ -89,7 +87,7 @@ unfolding stacked open_lines listed filled
 none_told scratch {k = k} w = let e : k - 0 ≡ k = omega arith in w.listed.holds ∙ rw (take-nil k, e)
 
 pub refused_call : (why : Refusal) (scratch : List ℕ) (n k m : ℕ) {r : ℕ} {out list work : List ℕ} → out ≡ replicate n 0
-    → Told (open_lines (stacked scratch 0 0)) k m r list work → RefusedCall why n k m (Outcome.Refused why) out list work
+    → Told (open_lines (stacked scratch 0 0)) k m r list work → RefusedCall why n k m (Err why) out list work
 refused_call why scratch n k m z w = record { outcome = refl; zeros = z; none = none_told scratch w; cleared = w.cleared }
 
 -- without a comparison all lines are read
@@ -100,7 +98,7 @@ all_done w = w.done (w.all refl)
 -- out₁ is what `read_lines` leaves of the output, out₂ what `finish_text` leaves of it; list₁ and scratch₂ are what
 -- `list_open` leaves
 module _
-    (source indent : List ℕ) (chosen : FormatOptions) (ending : LineEnding) (last : Bool) (st : Record)
+    (source indent : List ℕ) (chosen : FormatOptions) (own : indent ≡ chosen.indent) (ending : LineEnding) (last : Bool) (st : Record)
     (out₀ list₀ scratch₀ out₁ scratch₁ out₂ list₁ scratch₂ : List ℕ) (n r : ℕ)
     (e : ending ≡ ending_of chosen.end_of_line (decode source))
     (l : LinesDone source indent (record { width = chosen.print_width; ruler = chosen.ruler_tab; ending = ending; strengths = chosen.strengths }) [] st out₁ scratch₁)
@@ -109,10 +107,10 @@ module _
     (eo : length out₁ ≡ length out₀) (es : length scratch₁ ≡ length scratch₀) (ef : length out₂ ≡ length out₁)
   where
     abbrev o : Options
-    o = options_with indent chosen
+    o = options_in chosen
 
     held_here : Holds [] (as_str ending) (length source) (formatted_lines o source) st out₁ scratch₁
-    held_here = l.holds o (record { indents = refl; breaks = refl; ruled = refl; strengths = refl })
+    held_here = l.holds o (record { indents = sym own; breaks = refl; ruled = refl; strengths = refl })
 
     text_is : (format_with o (decode source)).text ≡ joined (as_str ending) (drop_empty (formatted_lines o source).lines) ++ choose last (as_str ending) []
     unfolding format_with finish
@@ -136,9 +134,15 @@ module _
     long_is : size (format_with o (decode source)).text ≡ n
     long_is = ap size text_is ∙ sym (w.long (formatted_lines o source).lines held_here.text)
 
+    abbrev pub counted : ℕ → Counted
+    counted k = record { length = n; imports_split = st.imports; blank_names = st.blanks; open_brackets = k }
+
+    abbrev outcome_counted : ℕ → Outcome
+    outcome_counted k = Ok (counted k)
+
     pub text_short : length out₂ < n → Told (open_lines (stacked scratch₁ 0 0)) (length list₀) (length scratch₁) r list₁ scratch₂
-        → Fitted (format_with o (decode source)) (length out₀) (length list₀) (length scratch₀) (Outcome.Refused (Refusal.OutputShort n)) out₂ list₁ scratch₂
-    unfolding short_output refuse_if choose
+        → Fitted (format_with o (decode source)) (length out₀) (length list₀) (length scratch₀) (Err (Refusal.OutputShort n)) out₂ list₁ scratch₂
+    unfolding choose
     text_short h z =
         record {
           outcome = rw (long_is, lt-ltb (length out₀) n (omega arith));
@@ -148,94 +152,110 @@ module _
         }
 
     pub text_fits : n ≤ length out₂ → Told open_now (length list₀) (length scratch₁) r list₁ scratch₂
-        → Fitted (format_with o (decode source)) (length out₀) (length list₀) (length scratch₀) (Outcome.Formatted n st.imports st.blanks r) out₂ list₁ scratch₂
-    unfolding short_output refuse_if choose
+        → Fitted (format_with o (decode source)) (length out₀) (length list₀) (length scratch₀) (Ok (counted r)) out₂ list₁ scratch₂
+    unfolding choose
     text_fits h z =
         record {
           outcome =
               rw (long_is, le-ltb (length out₀) n (omega arith), imports_is, blanks_is, brackets_are)
-              (ap (λ (k : ℕ). Outcome.Formatted n st.imports st.blanks k) z.listed.count);
+              (ap outcome_counted z.listed.count);
           output = w.text (formatted_lines o source).lines held_here.text (omega arith) ∙ rw (eo, ← text_is);
           opened = z.listed.holds ∙ ap (listed (length list₀)) (sym brackets_are);
           cleared = z.cleared ∙ rw es;
         }
 
--- ---- the tests
-
-pub length_passed : (source : List ℕ) (v : Verdict) → v ≡ long_source source → v ≡ Verdict.Accepted → length source ≤ max_source
-length_passed source v e p = source_short source (sym e ∙ p)
-
-module _
-    (table source : List ℕ) (bad : Bool) (ruler scratch : ℕ) (u : Verdict) (eu : u ≡ tested (wrong_length table ∷ bits_set table ∷ []))
-  where
-    pub test_table : (why : Refusal) → u ≡ Verdict.Refused why → Verdict.Refused why ≡ tested (format_tests table source bad ruler scratch)
-    test_table why p = sym (ends (wrong_length table ∷ bits_set table ∷ []) _ why (sym eu ∙ p))
-
-    module _ (pu : u ≡ Verdict.Accepted) (v : Verdict) (e : v ≡ long_source source) where
-      on : tested (format_tests table source bad ruler scratch)
-          ≡ tested (long_source source ∷ bad_option bad ∷ wide_ruler ruler ∷ short_scratch (scratch_needed format_scratch source) scratch ∷ ill_formed source ∷ [])
-      on = goes_on_law (wrong_length table ∷ bits_set table ∷ []) _ (sym eu ∙ pu)
-
-      pub test_long : (why : Refusal) → v ≡ Verdict.Refused why → Verdict.Refused why ≡ tested (format_tests table source bad ruler scratch)
-      test_long why p = sym (on ∙ stop (long_source source) why _ (sym e ∙ p))
-
-      module _ (p : v ≡ Verdict.Accepted) where
-        pub test_option : bad ≡ true → Verdict.Refused Refusal.BadOption ≡ tested (format_tests table source bad ruler scratch)
-        unfolding bad_option
-        test_option q = sym (on ∙ pass (long_source source) _ (sym e ∙ p) ∙ stop (bad_option bad) _ _ (test_on bad _ q))
-
-        pub test_ruler : bad ≡ false → max_ruler < ruler → Verdict.Refused Refusal.RulerTooWide ≡ tested (format_tests table source bad ruler scratch)
-        unfolding bad_option wide_ruler
-        test_ruler q h =
-            sym (on ∙ pass (long_source source) _ (sym e ∙ p) ∙ pass (bad_option bad) _ (test_off bad _ q)
-            ∙ stop (wide_ruler ruler) _ _ (test_on _ _ (lt-ltb max_ruler ruler h)))
-
-        pub test_rest : (r : Verdict) → bad ≡ false → ruler ≤ max_ruler
-            → r ≡ tested (short_scratch (scratch_needed format_scratch source) scratch ∷ ill_formed source ∷ [])
-            → r ≡ tested (format_tests table source bad ruler scratch)
-        unfolding bad_option wide_ruler
-        test_rest r q h t =
-            t
-            ∙ sym (on ∙ pass (long_source source) _ (sym e ∙ p) ∙ pass (bad_option bad) _ (test_off bad _ q)
-            ∙ pass (wide_ruler ruler) _ (test_off _ _ (le-ltb max_ruler ruler h)))
-
 -- a table that passed has its length
-whole_table : (table : List ℕ) → wrong_length table ≡ Verdict.Accepted → length table ≡ table_length
+whole_table : (table : List ℕ) → wrong_length table ≡ Ok tt → length table ≡ table_length
 whole_table table = go (eqb (length table) table_length) refl
   where
-    go : (b : Bool) → eqb (length table) table_length ≡ b → wrong_length table ≡ Verdict.Accepted → length table ≡ table_length
+    go : (b : Bool) → eqb (length table) table_length ≡ b → wrong_length table ≡ Ok tt → length table ≡ table_length
     go true e h = eqb-true (length table) table_length e
     go false e h =
         absurd (let z : ◌≡◌ {A = ℕ} 0 1 = cc (h, sym (test_on (not (eqb (length table) table_length)) Refusal.StrengthsLength (rw e)), wrong_is) in omega arith)
       where
         wrong_is : wrong_length table ≡ refuse_if (not (eqb (length table) table_length)) Refusal.StrengthsLength
-        wrong_is = unfold wrong_length in refl
+        wrong_is = refl
+
+-- ---- the tests
+
+all_pass : {A : Type 0} (w b l r s i : Verdict) (x : Result A Refusal)
+    → and_then (tested (w ∷ b ∷ [])) (λ _. and_then l (λ _. and_then r (λ _. and_then (tested (s ∷ i ∷ [])) (λ _. x))))
+    ≡ and_then (tested (w ∷ b ∷ l ∷ Ok tt ∷ r ∷ s ∷ i ∷ [])) (λ _. x)
+all_pass (Err q) b l r s i x = refl
+all_pass (Ok _) (Err q) l r s i x = refl
+all_pass (Ok _) (Ok _) (Err q) r s i x = refl
+all_pass (Ok _) (Ok _) (Ok _) (Err q) s i x = refl
+all_pass (Ok _) (Ok _) (Ok _) (Ok _) (Err q) i x = refl
+all_pass (Ok _) (Ok _) (Ok _) (Ok _) (Ok _) (Err q) x = refl
+all_pass (Ok _) (Ok _) (Ok _) (Ok _) (Ok _) (Ok _) x = refl
+
+one_refuses : {A : Type 0} (w b l : Verdict) (why : Refusal) (ts : List Verdict) (x : A)
+    → ◌≡◌ {A = Result A Refusal} (and_then (tested (w ∷ b ∷ [])) (λ _. and_then l (λ _. Err why))) (and_then (tested (w ∷ b ∷ l ∷ Err why ∷ ts)) (λ _. Ok x))
+one_refuses (Err q) b l why ts x = refl
+one_refuses (Ok _) (Err q) l why ts x = refl
+one_refuses (Ok _) (Ok _) (Err q) why ts x = refl
+one_refuses (Ok _) (Ok _) (Ok _) why ts x = refl
+
+-- `tested_options`, of options that are refused or given
+pub chosen_tests : (table source : List ℕ) (bad : Bool) (o : FormatOptions) (scratch : ℕ)
+    → tested_options table source (choose bad (Err Refusal.BadOption) (Ok o)) scratch
+    ≡ and_then (tested (format_tests table source bad o.ruler_tab scratch)) (λ _. Ok o)
+unfolding choose
+chosen_tests table source true o scratch =
+    one_refuses (wrong_length table) (bits_set table) (long_source source) Refusal.BadOption
+    (wide_ruler o.ruler_tab ∷ short_scratch (scratch_needed format_scratch source) scratch ∷ ill_formed source ∷ [])
+    o
+chosen_tests table source false o scratch =
+    all_pass (wrong_length table) (bits_set table) (long_source source) (wide_ruler o.ruler_tab)
+    (short_scratch (scratch_needed format_scratch source) scratch)
+    (ill_formed source)
+    (Ok o)
+
+-- of the options that choices name
+pub named_tests : (table source : List ℕ) (k : Choices) (scratch : ℕ)
+    → tested_options table source (held_named k) scratch
+    ≡ and_then (tested (format_tests table source (not (valid_options k)) k.numbers.ruler_tab scratch)) (λ _. Ok (held (options_of k)))
+unfolding options_of
+named_tests table source k scratch =
+    ap (λ (r : Result FormatOptions Refusal). tested_options table source r scratch) (other_way (valid_options k))
+    ∙ chosen_tests table source (not (valid_options k)) (held (options_of k)) scratch
+  where
+    other_way : (b : Bool) → choose b (Ok (held (options_of k))) (Err Refusal.BadOption) ≡ choose (not b) (Err Refusal.BadOption) (Ok (held (options_of k)))
+    other_way true = unfold choose in refl
+    other_way false = unfold choose in refl
 
 -- ---- the outcome of a call
 
 -- t is what `from_numbers` gives, v what `test` gives
 module _
-    (source indent : List ℕ) (numbers : OptionNumbers) (table output list scratch : List ℕ) (s : Strengths) (t : Changed) (v : Verdict)
+    (source indent : List ℕ) (numbers : OptionNumbers) (table output list scratch : List ℕ) (s : Strengths) (t v : Result FormatOptions Refusal)
     (reads : length table ≡ table_length → s.table ≡ table)
     (named : t ≡ held_named (record { indent = indent; numbers = numbers; strengths = s.table }))
-    (tests : v ≡ tested (format_tests table source t.refused numbers.ruler_tab (length scratch)))
+    (tests : v ≡ tested_options table source t (length scratch))
   where
     abbrev c : Call
     c = call_of source indent numbers table (length output) (length list) (length scratch)
 
+    abbrev read_with : List ℕ → FormatOptions
+    read_with table' = held (options_of (record { indent = indent; numbers = numbers; strengths = table' }))
+
+    abbrev first_tests : List Verdict
+    first_tests = format_tests table source (not (valid_options c.choices)) numbers.ruler_tab (length scratch)
+
     -- which numbers are valid doesn't depend on the table
-    bad_is : t.refused ≡ not (valid_options c.choices)
+    test_is : and_then (tested first_tests) (λ _. Ok (read_with s.table)) ≡ v
     unfolding valid_options
-    bad_is = named_valid_is (record { indent = indent; numbers = numbers; strengths = s.table }) t named
+    test_is =
+        sym (tests ∙ ap (λ (r : Result FormatOptions Refusal). tested_options table source r (length scratch)) named
+        ∙ named_tests table source (record { indent = indent; numbers = numbers; strengths = s.table }) (length scratch))
 
-    first_tests : tested (format_tests table source (not (valid_options c.choices)) numbers.ruler_tab (length scratch)) ≡ v
-    first_tests = ap (λ (b : Bool). tested (format_tests table source b numbers.ruler_tab (length scratch))) (sym bad_is) ∙ sym tests
-
-    ran_short : (why : Refusal) → v ≡ Verdict.Refused why → outcome_of c ≡ Outcome.Refused why
+    ran_short : (why : Refusal) → v ≡ Err why → outcome_of c ≡ Err why
     unfolding outcome_of verdict_of
-    ran_short why e = rw (ends (format_tests table source (not (valid_options c.choices)) numbers.ruler_tab (length scratch)) (short_output (length (text_of c)) (length output) ∷ []) why (first_tests ∙ e))
+    ran_short why e =
+        rw (ends first_tests (short_output (length (text_of c)) (length output) ∷ []) why
+        (then_refused (tested first_tests) (read_with s.table) why (test_is ∙ e)))
 
-    pub ran_refused : (why : Refusal) (r : Outcome) (out list' work : List ℕ) → v ≡ Verdict.Refused why
+    pub ran_refused : (why : Refusal) (r : Outcome) (out list' work : List ℕ) → v ≡ Err why
         → RefusedCall why (length output) (length list) (length scratch) r out list' work → Ran c r out list' work
     unfolding output_of opened_of
     ran_refused why r out list' work e w =
@@ -246,15 +266,20 @@ module _
           scratch = w.cleared;
         }
 
-    module _ (e : v ≡ Verdict.Accepted) where
-      named_here : t ≡ held_named c.choices
-      named_here =
-          named
-          ∙ ap (λ (x : List ℕ). held_named (record { indent = indent; numbers = numbers; strengths = x }))
-          (reads (whole_table table (head_passed _ _ (first_tests ∙ e))))
+    module _ (o : FormatOptions) (e : v ≡ Ok o) where
+      all_passed : tested first_tests ≡ Ok tt
+      all_passed = then_passed (tested first_tests) (read_with s.table) o (test_is ∙ e)
+
+      table_passed : wrong_length table ≡ Ok tt
+      table_passed = head_passed (wrong_length table) (drop 1 first_tests) all_passed
+
+      pub options_held : o ≡ held (options_of c.choices)
+      options_held =
+          then_value (tested first_tests) (read_with s.table) o (test_is ∙ e)
+          ∙ ap read_with (reads (whole_table table table_passed))
 
       pub admits : Admitted source c.choices (length scratch)
-      admits = admitted source c.choices (length scratch) (first_tests ∙ e)
+      admits = admitted source c.choices (length scratch) all_passed
 
       indent_is : ValidIndent indent
       unfolding valid_indent
@@ -265,18 +290,24 @@ module _
             short = leb-true (length indent) max_indent (and_left (leb (length indent) max_indent) (all_blank indent) i);
           }
 
-      pub passed : Passed source indent scratch
-      passed =
-          record { limit = admits.reads.short; well = test_wf source admits.reads.well; indents = indent_is; room = omega (arith, admits.reads.room) }
-
-      pub options_held : t.options ≡ held (options_of c.choices)
-      options_held = named_options c.choices t named_here (bad_is ∙ rw admits.valid)
-
-      pub ruler_small : t.options.ruler_tab ≤ max_ruler
+      own_indent : o.indent ≡ indent
       unfolding options_of
-      ruler_small = rw (ap (λ (s : FormatOptions). s.ruler_tab) options_held) admits.ruler
+      own_indent = ap (λ (x : FormatOptions). x.indent) options_held
 
-      options_are : formatted c ≡ format_with (options_with indent t.options) (decode source)
+      pub passed : Passed source o.indent scratch
+      passed =
+          record {
+            limit = admits.reads.short;
+            well = test_wf source admits.reads.well;
+            indents = rw own_indent indent_is;
+            room = omega (arith, admits.reads.room);
+          }
+
+      pub ruler_small : o.ruler_tab ≤ max_ruler
+      unfolding options_of
+      ruler_small = rw (ap (λ (x : FormatOptions). x.ruler_tab) options_held) admits.ruler
+
+      options_are : formatted c ≡ format_with (options_in o) (decode source)
       unfolding formatted options_of
       options_are = rw options_held
 
@@ -284,11 +315,11 @@ module _
       unfolding outcome_of verdict_of text_of
       outcome_is =
           ap (λ (u : Verdict). outcome_after u (length (text_of c)) (formatted c))
-          (goes_on_law (format_tests table source (not (valid_options c.choices)) numbers.ruler_tab (length scratch)) (short_output (length (text_of c)) (length output) ∷ []) (first_tests ∙ e)
+          (goes_on_law first_tests (short_output (length (text_of c)) (length output) ∷ []) all_passed
           ∙ one_test (short_output (length (text_of c)) (length output)))
 
       pub ran_formatted : (r : Outcome) (out list' work : List ℕ)
-          → Fitted (format_with (options_with indent t.options) (decode source)) (length output) (length list) (length scratch) r out list' work → Ran c r out list' work
+          → Fitted (format_with (options_in o) (decode source)) (length output) (length list) (length scratch) r out list' work → Ran c r out list' work
       unfolding output_of opened_of text_of
       ran_formatted r out list' work w =
           let i : r ≡ outcome_of c = w.outcome ∙ ap (outcome_in (length output)) (sym options_are) ∙ sym outcome_is in
@@ -306,3 +337,14 @@ answered c r a out list work w e =
       kept = answer_kept c a out i w.output;
       quoted = c22_call c a out i w.output;
     }
+
+-- the text that a call gave
+module _ (c : Call) (t : Counted) (out list work : List ℕ) (w : Ran c (Ok t) out list work) where
+  pub text_delivered : Delivered c t.length t.imports_split t.blank_names
+  text_delivered = delivered c (Ok t) (sym w.outcome) refl
+
+  pub text_taken : take t.length out ≡ text_of c
+  text_taken = ap (take t.length) w.output ∙ text_delivered.bytes
+
+  pub text_within : t.length ≤ length out
+  text_within = omega (arith, text_delivered.long, ap length text_taken, length-take t.length out)

@@ -1,26 +1,11 @@
 -- What the finish gives, and a refusal.
-use Rattle.std.specs.Prelude.{ℕ, List, ◌≡◌, replicate}
+use Rattle.std.specs.Prelude.{ℕ, List, ◌≡◌, replicate, Err}
 use Rattle.utf8.specs.Unicode.{encode, size}
-use Rattle.rules.specs.Options.{Options}
 use Rattle.rules.specs.Refusals.{short_output}
 use Rattle.rules.specs.Assembly.{Formatted}
-use Rattle.rules.specs.Call.{outcome_after, output_for, opened_for}
+use Rattle.rules.specs.Call.{Outcome, outcome_after, output_for, opened_for}
 use Rattle.rules.specs.declared.Refusal.{Refusal}
-use Rattle.rules.specs.declared.Outcome.{Outcome}
-use Rattle.options.specs.declared.FormatOptions.{FormatOptions}
 use Rattle.brackets.specs.Stack.{Listed}
-
--- the options that a struct holds, with the indent as it was lent
-abbrev pub options_with : List ℕ → FormatOptions → Options
-options_with indent s =
-    record {
-      indent = indent;
-      print_width = s.print_width;
-      end_of_line = s.end_of_line;
-      insert_final_newline = s.insert_final_newline;
-      ruler_tab = s.ruler_tab;
-      strengths = s.strengths;
-    }
 
 -- what a finished text comes to in an output of n bytes
 abbrev pub outcome_in : ℕ → Formatted → Outcome
@@ -40,7 +25,7 @@ pub record Fitted (t : Formatted) (n k m : ℕ) (r : Outcome) (out list scratch 
 
 -- a refusal: all buffers are cleared
 pub record RefusedCall (why : Refusal) (n k m : ℕ) (r : Outcome) (out list scratch : List ℕ) : Type 0 where
-  pub outcome : r ≡ Outcome.Refused why
+  pub outcome : r ≡ Err why
   pub zeros : out ≡ replicate n 0
   pub none : list ≡ replicate k 0
   pub cleared : scratch ≡ replicate m 0

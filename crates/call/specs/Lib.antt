@@ -1,4 +1,5 @@
 -- What the contracts cite besides the rules.
+pub mod Tests
 pub mod Formatted
 pub mod Ran
 pub mod FormatAnswered

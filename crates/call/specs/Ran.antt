@@ -1,8 +1,7 @@
 -- A call from its arguments, and what it comes to before its answer is put into numbers.
 use Rattle.std.specs.Prelude.{ℕ, List, ◌≡◌}
-use Rattle.rules.specs.Call.{Call, outcome_of, output_of, opened_of, scratch_of}
+use Rattle.rules.specs.Call.{Call, Outcome, outcome_of, output_of, opened_of, scratch_of}
 use Rattle.rules.specs.declared.OptionNumbers.{OptionNumbers}
-use Rattle.rules.specs.declared.Outcome.{Outcome}
 
 -- the bytes lent, the numbers, and how long the output, the list of open brackets and the scratch are
 abbrev pub call_of : List ℕ → List ℕ → OptionNumbers → List ℕ → ℕ → ℕ → ℕ → Call

@@ -7,21 +7,22 @@ ghost use Rattle.rules.specs.Assembly.{ending_of, last_ending, format_with};
 ghost use Rattle.rules.specs.Brackets.{open_lines};
 ghost use Rattle.brackets.specs.Stack.{entry_size, stacked};
 ghost use Rattle.lines.specs.Lines.{Passed};
-ghost use Rattle.call.specs.Formatted.{Told, Fitted, options_with};
+ghost use Rattle.options.specs.Held.{options_in};
+ghost use Rattle.call.specs.Formatted.{Told, Fitted};
 
 use line::scratch::STACK;
 use line::style::Style;
 use options::FormatOptions;
-use rules::{EndOfLine, FinalNewline, LineEnding, Outcome, Refusal};
+use rules::{FinalNewline, Formatted, LineEnding, Refusal};
 
 // The ending that the text's lines get: set, or the one that most of the source's lines have.
-pub fn ending_of(end_of_line: EndOfLine, source: &[u8]) -> LineEnding
+pub fn ending_of(end_of_line: Option<LineEnding>, source: &[u8]) -> LineEnding
     requires { WellFormed source.now }
     ensures { result ≡ ending_of end_of_line (decode source.now) }
 {
     match end_of_line {
-        EndOfLine::Kept => options::ending::dominant_in(source),
-        EndOfLine::Set(ending) => ending,
+        None => options::ending::dominant_in(source),
+        Some(ending) => ending,
     }
 }
 
@@ -50,44 +51,42 @@ pub fn list_open(opened: &mut [u64], scratch: &mut [u8], base: usize, depth: usi
     count
 }
 
-// The source's text goes to the output, if it fits, and the list gets the open brackets. The indent is lent as the host
-// lends it; the struct's own is the same.
+// The source's text goes to the output, if it fits, and the list gets the open brackets.
 pub fn format_with(
     source: &[u8],
-    indent: &[u8],
-    chosen: FormatOptions,
+    options: FormatOptions,
     output: &mut [u8],
     opened: &mut [u64],
     scratch: &mut [u8],
-) -> Outcome
-    requires passed { Passed source.now indent.now scratch.old }
-    requires ruler_tab_bound { chosen.ruler_tab ≤ max_ruler }
-    ensures { Fitted (format_with (options_with indent.now chosen) (decode source.now))
+) -> Result<Formatted, Refusal>
+    requires passed { Passed source.now options.indent scratch.old }
+    requires ruler_tab_bound { options.ruler_tab ≤ max_ruler }
+    ensures { Fitted (format_with (options_in options) (decode source.now))
         (length output.old) (length opened.old) (length scratch.old) result
         output.new opened.new scratch.new }
 {
-    let width = chosen.print_width;
-    let end_of_line = chosen.end_of_line;
-    let newline = chosen.insert_final_newline;
-    let strengths = chosen.strengths;
-    let ending = ending_of(end_of_line, source);
+    let ending = ending_of(options.end_of_line, source);
     let style = Style {
-        width,
-        ruler: chosen.ruler_tab as u8,
+        width: options.print_width,
+        ruler: options.ruler_tab as u8,
         ending,
-        strengths,
+        strengths: options.strengths,
     };
+    let indent = options.indent.as_bytes();
     let read = lines::read_lines(source, indent, style, false, b"", output, scratch);
     let st = read.st;
-    let t = st.text;
-    let last = has_last_ending(newline, source);
-    let n = text::finish_text(output, t, ending, last);
+    let last = has_last_ending(options.insert_final_newline, source);
+    let n = text::finish_text(output, st.text, ending, last);
     if output.len() < n {
         list_open(opened, scratch, 0, 0);
-        return Outcome::Refused(Refusal::OutputShort(n));
+        return Err(Refusal::OutputShort(n));
     }
-    let nesting = st.nesting;
     let base = STACK * source.len();
-    let count = list_open(opened, scratch, base, nesting.depth);
-    Outcome::Formatted(n, st.imports, st.blanks, count)
+    let count = list_open(opened, scratch, base, st.nesting.depth);
+    Ok(Formatted {
+        length: n,
+        imports_split: st.imports,
+        blank_names: st.blanks,
+        open_brackets: count,
+    })
 }

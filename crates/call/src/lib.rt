@@ -2,14 +2,13 @@
 #![tactic(auto)]
 
 ghost use Rattle.std.specs.Prelude.{◌≡◌, length};
-ghost use Rattle.rules.specs.Refusals.{tested};
-ghost use Rattle.rules.specs.Call.{format_tests};
+ghost use Rattle.call.specs.Tests.{tested_options};
 ghost use Rattle.call.specs.Formatted.{RefusedCall};
 ghost use Rattle.call.specs.Ran.{call_of, Ran};
 ghost use Rattle.call.specs.FormatAnswered.{FormatAnswered};
 
 use options::FormatOptions;
-use rules::{Answer, OptionNumbers, Outcome, Refusal, Verdict};
+use rules::{Answer, Formatted, OptionNumbers, Refusal};
 
 pub mod assembly;
 
@@ -17,48 +16,44 @@ pub mod assembly;
 pub const FORMAT_SCRATCH: usize = 12;
 
 // The largest ruler tab.
-pub const MAX_RULER: u64 = 16;
+pub const MAX_RULER: usize = 16;
 
-// Refusals 12, 13, 1, 2, 11, 3 and 4, in this order.
+// Refusals 12, 13, 1, 2, 11, 3 and 4, in this order, of which 2 is that of the options; then the options.
 pub fn test(
     strengths: &[u8],
     source: &[u8],
-    bad_option: bool,
-    ruler_tab: u64,
+    options: Result<FormatOptions, Refusal>,
     scratch: usize,
-) -> Verdict
-    ensures { result ≡ tested (format_tests strengths.now source.now bad_option ruler_tab
-        scratch) }
+) -> Result<FormatOptions, Refusal>
+    ensures { result ≡ tested_options strengths.now source.now options scratch }
 {
-    match answer::test_strengths(strengths) {
-        Verdict::Refused(why) => Verdict::Refused(why),
-        Verdict::Accepted => match answer::test_length(source) {
-            Verdict::Refused(why) => Verdict::Refused(why),
-            Verdict::Accepted => {
-                if bad_option {
-                    return Verdict::Refused(Refusal::BadOption);
-                }
-                if MAX_RULER < ruler_tab {
-                    return Verdict::Refused(Refusal::RulerTooWide);
-                }
-                answer::test_bytes(source, FORMAT_SCRATCH, scratch)
-            }
-        },
+    answer::test_strengths(strengths)?;
+    answer::test_length(source)?;
+    let options = options?;
+    if MAX_RULER < options.ruler_tab {
+        return Err(Refusal::RulerTooWide);
     }
+    answer::test_bytes(source, FORMAT_SCRATCH, scratch)?;
+    Ok(options)
 }
 
 // All buffers are cleared.
-fn refuse(output: &mut [u8], opened: &mut [u64], scratch: &mut [u8], why: Refusal) -> Outcome
+fn refuse(
+    output: &mut [u8],
+    opened: &mut [u64],
+    scratch: &mut [u8],
+    why: Refusal,
+) -> Result<Formatted, Refusal>
     ensures { RefusedCall why (length output.old) (length opened.old)
         (length scratch.old) result output.new opened.new scratch.new }
 {
     buffer::zero(output);
     assembly::list_open(opened, scratch, 0, 0);
-    Outcome::Refused(why)
+    Err(why)
 }
 
-// The tests, then the text, which may turn out too long for the output.
-fn run_call(
+// The call: the tests, then the text, which may turn out too long for the output. Refused, all buffers hold zeros.
+pub fn format(
     source: &[u8],
     indent: &[u8],
     numbers: OptionNumbers,
@@ -66,29 +61,20 @@ fn run_call(
     output: &mut [u8],
     opened: &mut [u64],
     scratch: &mut [u8],
-) -> Outcome
+) -> Result<Formatted, Refusal>
     ensures { Ran (call_of source.now indent.now numbers strengths.now
         (length output.old) (length opened.old) (length scratch.old)) result
         output.new opened.new scratch.new }
 {
     let table = options::strengths::read(strengths);
     let named = FormatOptions::from_numbers(indent, numbers, table);
-    let chosen = named.options;
-    match test(
-        strengths,
-        source,
-        named.refused,
-        numbers.ruler_tab,
-        scratch.len(),
-    ) {
-        Verdict::Refused(why) => refuse(output, opened, scratch, why),
-        Verdict::Accepted => {
-            assembly::format_with(source, indent, chosen, output, opened, scratch)
-        },
+    match test(strengths, source, named, scratch.len()) {
+        Err(why) => refuse(output, opened, scratch, why),
+        Ok(options) => assembly::format_with(source, options, output, opened, scratch),
     }
 }
 
-// The whole call, with its answer in numbers.
+// The same, with its answer in numbers.
 pub fn format_call(
     source: &[u8],
     indent: &[u8],
@@ -102,6 +88,5 @@ pub fn format_call(
         (length output.old) (length opened.old) (length scratch.old)) result
         output.new opened.new scratch.new }
 {
-    let outcome = run_call(source, indent, numbers, strengths, output, opened, scratch);
-    answer::answer_of(outcome)
+    format(source, indent, numbers, strengths, output, opened, scratch).into()
 }

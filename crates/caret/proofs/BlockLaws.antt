@@ -1,17 +1,19 @@
 -- Sixteen bytes at a time.
 --     counted_start, counted_more, block_told   the loop over a block
---     count_block, past_block                   the scans of ScanLaws.antt, a block further
+--     count_more, past_block                    the scans of ScanLaws.antt, a block further
 --     column_last                               the column of a place, by the line that it stands in
 use Prim.Native.Nat.{ℕ, zero, suc, ◌+◌, ◌-◌, ◌≤◌, ◌<◌}
 use native.Mathlib.Nat.{add-zero}
 use native.Mathlib.Numerals.{add-one}
 use native.Mathlib.Omega.{arith}
-use mathlib.Core.Bool.{Bool, true, false, not, ◌||◌, true≢false}
+use mathlib.Core.Bool.{Bool, true, false, ◌||◌}
 use mathlib.Core.List.{List}
 use mathlib.Core.Path.{◌≡◌, refl, sym, ap, ◌∙◌, subst}
 use borrow.Author.Count.{below_more}
-use borrow.Author.Tests.{ltb-true, ltb-false, eq-eqb, ne_eqb}
+use borrow.Author.Tests.{ltb-false}
 use lib.Dec.{ltb}
+use Rattle.std.specs.Prelude.{None, Some}
+use mir.Val.{bool_byte}
 use lib.ListN.{length, get_or, take, drop, length-drop}
 use lib.Seq.{take-length}
 use Rattle.utf8.specs.Unicode.{decode, WellFormed, code_at}
@@ -19,13 +21,11 @@ use Rattle.utf8.proofs.Scan.{ascii, ascii_step}
 use Rattle.utf8.proofs.Tests.{neither_left, neither_right}
 use Rattle.buffer.specs.Buffer.{part}
 use Rattle.buffer.proofs.RegionLaws.{part_from}
-use Rattle.rules.specs.Basics.{choose, is}
-use Rattle.rules.specs.Demand3.{is_kept}
-use Rattle.rules.proofs.Choose.{choose_true, choose_false}
-use Rattle.gaps.specs.Gaps.{GapByte}
+use Rattle.rules.specs.Basics.{choose, is, count}
 use Rattle.caret.specs.Caret.{past, line_of, column_of, place_of}
-use Rattle.caret.specs.Moving.{LineStart, LineColumnOf}
-use Rattle.caret.specs.Blocks.{one, count_at, Counts, Counted, BlockAt, Before}
+use Rattle.caret.specs.declared.Past.{Past}
+use Rattle.caret.specs.Moving.{PastNth, LineColumnOf}
+use Rattle.caret.specs.Blocks.{one, count_at, AsciiTest, Counted, BlockAt}
 use Rattle.caret.proofs.ScanLaws.{CountScan, count_hit, count_miss, PastScan, past_hit, past_miss}
 use Rattle.caret.proofs.RoundTrip.{place_back}
 
@@ -39,17 +39,13 @@ one_false : one false ≡ 0
 unfolding choose
 one_false = refl
 
-pub kept_none : (b : ℕ) (r : Bool) → GapByte b r → r ≡ true → Counts is_kept b 0
-kept_none b r g e = record { few = omega arith; is = λ h. sym (choose_false (is_kept b) 1 0 (g.is h ∙ ap not e)) }
+one_of : (r : Bool) → bool_byte r ≡ one r
+one_of true = sym one_true
+one_of false = sym one_false
 
-pub kept_one : (b : ℕ) (r : Bool) → GapByte b r → r ≡ false → Counts is_kept b 1
-kept_one b r g e = record { few = omega arith; is = λ h. sym (choose_true (is_kept b) 1 0 (g.is h ∙ ap not e)) }
-
-pub lf_one : (b : ℕ) → b ≡ 10 → Counts (is "\n") b 1
-lf_one b e = record { few = omega arith; is = λ h. sym (choose_true (is "\n" b) 1 0 (eq-eqb b 10 e)) }
-
-pub lf_none : (b : ℕ) → (b ≡ 10 → ⊥) → Counts (is "\n") b 0
-lf_none b e = record { few = omega arith; is = λ h. sym (choose_false (is "\n" b) 1 0 (ne_eqb b 10 e)) }
+pub one_few : (r : Bool) → bool_byte r ≤ 1
+one_few true = omega arith
+one_few false = omega arith
 
 -- ---- the loop over a block
 
@@ -59,46 +55,35 @@ module _ (p : ℕ → Bool) (s : List ℕ) (at : ℕ) where
   counted_start =
       record { short = omega arith; few = omega arith; ascii = λ e j h. absurd (omega arith); is = λ e. refl }
 
-  pub counted_more : (k n b r : ℕ) (high : Bool) → Counted p s at k high n → k < 16 → b ≡ get_or s (at + k) 0 → Counts p b r
-      → Counted p s at (k + 1) (high || ltb 127 b) (n + r)
+  pub counted_more : (k n d : ℕ) (high r : Bool) → Counted p s at k high n → k < 16
+      → AsciiTest p (get_or s (at + k) 0) r → d ≡ bool_byte r
+      → Counted p s at (k + 1) (high || ltb 127 (get_or s (at + k) 0)) (n + d)
   unfolding count_at
-  counted_more k n b r high q h v c =
+  counted_more k n d high r q h c g =
       record {
         short = omega arith;
-        few = omega (arith, q.few, c.few);
+        few = omega (arith, q.few, one_few r);
         ascii = λ e. below_more (λ (j : ℕ). get_or s (at + j) 0 < 0x80) k (q.ascii (neither_left high (ltb 127 b) e)) (low e);
-        is = λ e. rw add-one (omega (arith, q.is (neither_left high (ltb 127 b) e), c.is (rw v (low e)), same));
+        is = λ e. rw add-one
+            (omega (arith, q.is (neither_left high (ltb 127 b) e), one_of r, ap one (c.is (low e))));
       }
     where
+      b : ℕ
+      b = get_or s (at + k) 0
+
       low : (high || ltb 127 b) ≡ false → get_or s (at + k) 0 < 0x80
-      low e = let l = ltb-false 127 b (neither_right high (ltb 127 b) e) in omega (arith, v)
+      low e = let l = ltb-false 127 b (neither_right high (ltb 127 b) e) in omega arith
 
-      same : one (p b) ≡ one (p (get_or s (at + k) 0))
-      same = ap (λ (x : ℕ). one (p x)) v
+  pub block_none : BlockAt p s at None
+  block_none = record { few = λ n e. absurd (cc); fits = λ n e. absurd (cc); counted = λ n e. absurd (cc) }
 
-  pub block_none : BlockAt p s at false 0
-  block_none =
-      record { few = omega arith; fits = λ e. absurd (true≢false (sym e)); counted = λ e. absurd (true≢false (sym e)) }
-
-  pub block_told : (k n : ℕ) (high : Bool) → at ≤ length s → 16 ≤ length s - at → Counted p s at k high n → 16 ≤ k
-      → BlockAt p s at (not high) n
-  block_told k n high a h q l =
-      let e : k ≡ 16 = omega (arith, q.short) in
+  pub block_told : (n : ℕ) → at ≤ length s → 16 ≤ length s - at → Counted p s at 16 false n → BlockAt p s at (Some n)
+  block_told n a h q =
       record {
-        few = omega (arith, q.few);
-        fits = λ t. omega arith;
-        counted = λ t. subst (λ (b : Bool). Counted p s at 16 b n) (low high t) (subst (λ (m : ℕ). Counted p s at m high n) e q);
+        few = λ m e. let y : n ≡ m = cc in subst (λ (x : ℕ). x ≤ 16) y q.few;
+        fits = λ m e. omega arith;
+        counted = λ m e. let y : n ≡ m = cc in subst (Counted p s at 16 false) y q;
       }
-    where
-      low : (b : Bool) → not b ≡ true → b ≡ false
-      low true t = absurd (true≢false (sym t))
-      low false t = refl
-
-pub before_told : (plain : Bool) (k n : ℕ) → plain ≡ true → Before plain k n (ltb k n)
-before_told plain k n e = record { is = λ t. (e, ltb-true k n t) }
-
-pub before_none : (plain : Bool) (k n : ℕ) → Before plain k n false
-before_none plain k n = record { is = λ t. absurd (true≢false (sym t)) }
 
 -- ---- the scans, a block further
 
@@ -129,11 +114,10 @@ module _ (p : ℕ → Bool) (s : List ℕ) (i : ℕ) where
   count_run n (suc k) q h a =
       count_next n (count_at p s i k) k (count_run n k q (omega arith) (λ j l. a j (omega arith))) (omega arith) (a k (omega arith))
 
-  pub count_block : (n m : ℕ) (plain : Bool) → CountScan p s n i → BlockAt p s i plain m → plain ≡ true
-      → CountScan p s (n + m) (i + 16)
-  count_block n m plain q b e =
-      let c = b.counted e in
-      rw (c.is refl) (count_run n 16 q (b.fits e) (c.ascii refl))
+  pub count_more : (n m : ℕ) → CountScan p s n i → BlockAt p s i (Some m) → CountScan p s (n + m) (i + 16)
+  count_more n m q b =
+      let c = b.counted m refl in
+      rw (c.is refl) (count_run n 16 q (b.fits m refl) (c.ascii refl))
 
   past_next : (n left c k : ℕ) → (c < left → PastScan p n s (left - c) (i + k)) → i + k < length s → get_or s (i + k) 0 < 0x80
       → c + one (p (get_or s (i + k) 0)) < left
@@ -160,12 +144,11 @@ module _ (p : ℕ → Bool) (s : List ℕ) (i : ℕ) where
       past_next n left (count_at p s i k) k (λ l. past_run n left k q l (omega arith) (λ j v. a j (omega arith))) (omega arith)
       (a k (omega arith)) f
 
-  pub past_block : (n left m : ℕ) (plain r : Bool) → PastScan p n s left i → BlockAt p s i plain m → Before plain m left r
-      → r ≡ true → PastScan p n s (left - m) (i + 16)
-  past_block n left m plain r q b v e =
-      let f = v.is e in
-      let c = b.counted f.0 in
-      rw (c.is refl) (past_run n left 16 q (omega (arith, c.is refl, f.1)) (b.fits f.0) (c.ascii refl))
+  pub past_block : (n left m : ℕ) → PastScan p n s left i → BlockAt p s i (Some m) → m < left
+      → PastScan p n s (left - m) (i + 16)
+  past_block n left m q b h =
+      let c = b.counted m refl in
+      rw (c.is refl) (past_run n left 16 q (omega (arith, c.is refl)) (b.fits m refl) (c.ascii refl))
 
 -- ---- the column of the place behind a text
 
@@ -177,15 +160,16 @@ last_line l =
     let f : past (is "\n") (line_of l) l + column_of l ≡ length l = rw (take-length l) at e in
     omega (arith, f, length-drop (past (is "\n") (line_of l) l) l)
 
-module _ (s : List ℕ) (line at missing : ℕ) (q : LineStart s line at missing) where
-  pub last_well : WellFormed (part s at (length s))
-  last_well = subst WellFormed (sym (part_from s at)) q.here.well
+module _ (s : List ℕ) (line : ℕ) (r : Past) (q : PastNth (is "\n") s line r) where
+  pub last_well : WellFormed (part s r.at (length s))
+  last_well = subst WellFormed (sym (part_from s r.at)) q.here.well
 
-  pub column_last : (n : ℕ) → line ≡ line_of (decode s) → n ≡ length (decode (part s at (length s)))
+  pub column_last : (n : ℕ) → line ≡ count (is "\n") (decode s) → n ≡ length (decode (part s r.at (length s)))
       → LineColumnOf (decode s) line n
+  unfolding line_of
   column_last n e f =
       record {
         is_line = e;
-        is_column = f ∙ ap (λ (l : List ℕ). length (decode l)) (part_from s at) ∙ ap length q.here.text
+        is_column = f ∙ ap (λ (l : List ℕ). length (decode l)) (part_from s r.at) ∙ ap length q.here.text
             ∙ ap (λ (k : ℕ). length (drop (past (is "\n") k (decode s)) (decode s))) e ∙ sym (last_line (decode s));
       }

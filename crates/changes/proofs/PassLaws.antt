@@ -12,6 +12,7 @@ use mathlib.Core.Logic.{◌⊎◌, inl, inr}
 use mathlib.Core.Path.{◌≡◌, refl, sym, ap, ◌∙◌, subst}
 use borrow.Author.Count.{below_more}
 use borrow.Author.Tests.{ltb-false, eqb-true, not-false}
+use Rattle.std.specs.Prelude.{Option, None, Some}
 use lib.Dec.{ltb, eqb}
 use lib.ListN.{length, get_or, drop, length-append}
 use Rattle.utf8.specs.Unicode.{encode_char, encode, size, decode, WellFormed, code_at}
@@ -23,7 +24,7 @@ use Rattle.rules.proofs.Struck.{strike_append}
 use Rattle.gaps.specs.Gaps.{gap, after, Unkept, GapByte}
 use Rattle.gaps.proofs.GapLaws.{gap_kept, gap_other, after_kept, after_other, strike_kept, strike_unkept}
 use Rattle.changes.specs.Changes.{changes_from}
-use Rattle.changes.specs.Passing.{SameBytes, KeptByte, Behind, LastKept, Passed}
+use Rattle.changes.specs.Passing.{SameBytes, KeptByte, Behind, LastKept, Passed, BlockPassed}
 use Rattle.changes.proofs.WalkLaws.{change_none, changes_step}
 
 -- ---- the loops over a block
@@ -268,32 +269,20 @@ module _ (s : List ℕ) (i : ℕ) (t : List ℕ) (j : ℕ) where
         same = p.same ∙ (rw (ei, ej) at q.same);
       }
 
--- ---- the loop of `same_run`
+  pub block_none : BlockPassed s i t j None
+  block_none = record { some = λ n e. absurd (cc) }
 
-pub record Run (s : List ℕ) (i : ℕ) (t : List ℕ) (j k m : ℕ) : Type 0 where
-  pub done : Passed s i t j k
-  pub next : Passed s (i + k) t (j + k) m
-  pub fits_source : i + (k + m) ≤ length s
-  pub fits_text : j + (k + m) ≤ length t
-
-module _ (s : List ℕ) (i : ℕ) (t : List ℕ) (j : ℕ) where
-  pub run_begin : (m : ℕ) → i ≤ length s → j ≤ length t → Passed s i t j m → Run s i t j 0 m
-  run_begin m h k p =
+  pub block_some : (r : ℕ) (any : Bool) → i ≤ length s → j ≤ length t → 16 ≤ length s - i → 16 ≤ length t - j
+      → SameBytes s i t j 16 any → any ≡ false → LastKept s i r → (r ≡ 0 → ⊥) → BlockPassed s i t j (Some r)
+  block_some r any h k a b q e v f =
       record {
-        done = passed_none s i t j h k;
-        next = subst (λ (x : ℕ). Passed s x t (j + 0) m) (sym (add-zero i)) (subst (λ (x : ℕ). Passed s i t x m) (sym (add-zero j)) p);
-        fits_source = omega (arith, p.fits_source);
-        fits_text = omega (arith, p.fits_text);
+        some = λ n y. let z : r ≡ n = cc in
+            subst (λ (x : ℕ). (0 < x) × Passed s i t j x) z (omega arith, passed_block r any h k a b q e v);
       }
 
-  pub run_turn : (k m n : ℕ) → Run s i t j k m → Passed s (i + (k + m)) t (j + (k + m)) n → Run s i t j (k + m) n
-  run_turn k m n r p =
-      record {
-        done = passed_on s i t j k m r.done r.next;
-        next = p;
-        fits_source = omega (arith, p.fits_source);
-        fits_text = omega (arith, p.fits_text);
-      }
+  pub run_begin : i ≤ length s → j ≤ length t → Passed s i t j 0
+  run_begin h k = passed_none s i t j h k
 
-  pub run_end : (k m : ℕ) → Run s i t j k m → Passed s i t j k
-  run_end k m r = r.done
+  pub run_turn : (k m : ℕ) (r : Option ℕ) → Passed s i t j k → BlockPassed s (i + k) t (j + k) r → r ≡ Some m
+      → Passed s i t j (k + m)
+  run_turn k m r p q e = passed_on k m p (q.some m e).1

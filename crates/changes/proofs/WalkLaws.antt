@@ -8,15 +8,16 @@ use mathlib.Core.Logic.{◌⊎◌, inl, inr}
 use mathlib.Core.Path.{◌≡◌, refl, sym, ap, ◌∙◌, subst}
 use native.Mathlib.Omega.{arith}
 use lib.Dec.{T}
-use lib.ListN.{length, take, drop, set, length-append, length-drop}
-use lib.Seq.{take_at, length-take-le, drop-length}
+use lib.ListN.{length, take, drop, length-append, length-drop}
+use lib.Seq.{take_at, length-take-le, drop-length, drop-drop}
 use Rattle.utf8.specs.Unicode.{Scalars, encode_char, encode, size, seq_at, chars, decode, code_at}
 use Rattle.utf8.specs.Places.{Step}
 use Rattle.utf8.proofs.Tests.{split, by_test}
 use Rattle.utf8.proofs.Decode.{decode_encode, decode_scalars, scalars_left}
 use Rattle.utf8.proofs.TrimScan.{first_char}
 use Rattle.buffer.specs.Buffer.{part, put}
-use Rattle.buffer.proofs.RegionLaws.{set_put, put_more, length_put}
+use Rattle.buffer.proofs.RegionLaws.{length_put}
+use borrow.Rule.Slice.PartMut.{put_mid}
 use Rattle.rules.specs.Basics.{same}
 use Rattle.rules.specs.Demand3.{strike}
 use Rattle.rules.proofs.Prefix.{same_eq, same_itself}
@@ -30,22 +31,18 @@ use Rattle.changes.specs.declared.Change.{Change}
 
 -- ---- an entry
 
-pub noted : (x : List ℕ) (n : ℕ) (c : Change) → n * 4 + 4 ≤ length x
-    → Noted x
-    (set (set (set (set x (n * 4) c.at) (n * 4 + 1) c.removed) (n * 4 + 2) c.from) (n * 4 + 3) c.put) n c
+put_part : (x l : List ℕ) (at k : ℕ) → k ≡ length l → put_mid at k x l ≡ put x at l
+unfolding put
+put_part x l at k e =
+    rw (e, drop-drop (length l) at x) (sym (append_assoc (take at x) l (drop (at + length l) x)))
+
+pub noted : (x y : List ℕ) (n k : ℕ) (c : Change) → n * 4 + 4 ≤ length x → k ≡ 4
+    → y ≡ c.at ∷ c.removed ∷ c.from ∷ c.put ∷ [] → Noted x (put_mid (n * 4) k x y) n c
 unfolding numbers
-noted x n c h =
-    let k = n * 4 in
-    let p = c.at in
-    let q = c.removed in
-    let r = c.from in
-    let s = c.put in
-    let m : set (set (set (set x k p) (k + 1) q) (k + 2) r) (k + 3) s ≡ put x k (p ∷ q ∷ r ∷ s ∷ []) =
-    ap (λ (y : List ℕ). set (set (set y (k + 1) q) (k + 2) r) (k + 3) s) (set_put x k p (omega arith))
-    ∙ ap (λ (y : List ℕ). set (set y (k + 2) r) (k + 3) s) (put_more x k (p ∷ []) q (omega arith))
-    ∙ ap (λ (y : List ℕ). set y (k + 3) s) (put_more x k (p ∷ q ∷ []) r (omega arith))
-    ∙ put_more x k (p ∷ q ∷ r ∷ []) s (omega arith) in
-    record { long = ap length m ∙ length_put x k (p ∷ q ∷ r ∷ s ∷ []) h; fits = λ l. m }
+noted x y n k c h e f =
+    let l = c.at ∷ c.removed ∷ c.from ∷ c.put ∷ [] in
+    let m : put_mid (n * 4) k x y ≡ put x (n * 4) l = rw f (put_part x l (n * 4) k e) in
+    record { long = ap length m ∙ length_put x (n * 4) l h; fits = λ q. m }
 
 pub noted_none : (x : List ℕ) (n : ℕ) (c : Change) → length x < n * 4 + 4 → Noted x x n c
 noted_none x n c h = record { long = refl; fits = λ l. absurd (omega arith) }

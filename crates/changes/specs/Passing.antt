@@ -1,5 +1,5 @@
 -- Bytes that are the same in a source and its text are passed together.
-use Rattle.std.specs.Prelude.{ℕ, ◌+◌, ◌-◌, ◌≤◌, ◌<◌, Bool, true, false, List, ◌⊎◌, ◌≡◌, length, get_or, drop}
+use Rattle.std.specs.Prelude.{ℕ, ◌+◌, ◌-◌, ◌≤◌, ◌<◌, Bool, true, false, List, ◌⊎◌, ◌≡◌, Option, Some, length, get_or, drop}
 use Rattle.utf8.specs.Unicode.{decode, WellFormed}
 use Rattle.rules.specs.Demand3.{is_kept, strike}
 use Rattle.changes.specs.Changes.{changes_from}
@@ -32,3 +32,7 @@ pub record Passed (s : List ℕ) (i : ℕ) (t : List ℕ) (j k : ℕ) : Type 0 w
   pub same : changes_from (strike (decode (drop i s))) i j (decode (drop i s)) (decode (drop j t))
       ≡ changes_from (strike (decode (drop (i + k) s))) (i + k) (j + k) (decode (drop (i + k) s))
       (decode (drop (j + k) t))
+
+-- the bytes of a block that are passed, some of them, or r is None
+pub record BlockPassed (s : List ℕ) (i : ℕ) (t : List ℕ) (j : ℕ) (r : Option ℕ) : Type 0 where
+  pub some : (n : ℕ) → r ≡ Some n → (0 < n) × Passed s i t j n

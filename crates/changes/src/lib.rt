@@ -5,7 +5,7 @@ ghost use Rattle.std.specs.Prelude.{◌+◌, ◌<◌, ◌≤◌, ◌^◌, length
 ghost use Rattle.utf8.specs.Unicode.{decode};
 ghost use Rattle.gaps.specs.Gaps.{gap, Alike};
 ghost use Rattle.changes.specs.Changes.{change_at};
-ghost use Rattle.changes.specs.Passing.{SameBytes, Behind, LastKept, Passed};
+ghost use Rattle.changes.specs.Passing.{SameBytes, Behind, LastKept, Passed, BlockPassed};
 ghost use Rattle.changes.specs.Writing.{Noted, GapPair, NotedGap, Written};
 
 // At the byte `at` of the source, `removed` bytes give way to the `put` bytes at the byte `from` of the text.
@@ -24,10 +24,12 @@ fn note(list: &mut [u64], n: usize, c: Change)
 {
     let k = n * 4;
     if k + 4 <= list.len() {
-        list[k] = c.at as u64;
-        list[k + 1] = c.removed as u64;
-        list[k + 2] = c.from as u64;
-        list[k + 3] = c.put as u64;
+        list[k..k + 4].copy_from_slice(&[
+            c.at as u64,
+            c.removed as u64,
+            c.from as u64,
+            c.put as u64,
+        ]);
     }
 }
 
@@ -38,11 +40,10 @@ fn note_gap(source: &[u8], text: &[u8], list: &mut [u64], n: usize, c: Change) -
         (gap (decode (drop c.at source.now)))
         (gap (decode (drop c.from text.now)))) result }
 {
-    let i = c.at;
-    let j = c.from;
-    let a = i + c.removed;
-    let b = j + c.put;
-    if check::same(&source[i..a], &text[j..b]) {
+    if check::same(
+        &source[c.at..c.at + c.removed],
+        &text[c.from..c.from + c.put],
+    ) {
         return n;
     }
     note(list, n, c);
@@ -57,10 +58,8 @@ fn differ_among(source: &[u8], i: usize, text: &[u8], j: usize) -> bool
     ensures { SameBytes source.now i text.now j 16 result }
 {
     let mut any = false;
-    let mut k: usize = 0;
-    while k < 16 {
-        any = any | (source[i + k] != text[j + k]) | (127 < source[i + k]);
-        k += 1;
+    for k in 0..16 {
+        any |= (source[i + k] != text[j + k]) | (127 < source[i + k]);
     }
     any
 }
@@ -69,10 +68,7 @@ fn differ_among(source: &[u8], i: usize, text: &[u8], j: usize) -> bool
 fn behind(b: u8, n: u8, k: u8) -> u8
     ensures { Behind b n k result }
 {
-    if gaps::is_gap_byte(b) {
-        return n;
-    }
-    k
+    if gaps::is_gap_byte(b) { n } else { k }
 }
 
 // How many of the 16 bytes from `at` on stand up to and with the last kept one.
@@ -80,31 +76,26 @@ fn last_kept(s: &[u8], at: usize) -> u8
     requires { at + 16 ≤ length s.now }
     ensures { LastKept s.now at result }
 {
-    let mut n: u8 = 0;
-    let mut k: u8 = 0;
-    while k < 16 {
+    let mut n = 0;
+    for k in 0..16u8 {
         n = behind(s[at + k as usize], n, k + 1);
-        k += 1;
     }
     n
 }
 
-// How many of the next 16 bytes are the same in both, up to and with a kept one; 0 where they differ.
-fn same_block(source: &[u8], i: usize, text: &[u8], j: usize) -> usize
+// How many of the next 16 bytes are the same in both, up to and with a kept one; None if they differ, or none is kept.
+fn same_block(source: &[u8], i: usize, text: &[u8], j: usize) -> Option<usize>
     requires i_in_bounds { i ≤ length source.now }
     requires j_in_bounds { j ≤ length text.now }
-    ensures { Passed source.now i text.now j result }
+    ensures { BlockPassed source.now i text.now j result }
 {
-    if source.len() - i < 16 {
-        return 0;
+    if source.len() - i < 16 || text.len() - j < 16 || differ_among(source, i, text, j) {
+        return None;
     }
-    if text.len() - j < 16 {
-        return 0;
+    match last_kept(source, i) {
+        0 => None,
+        n => Some(n as usize),
     }
-    if differ_among(source, i, text, j) {
-        return 0;
-    }
-    last_kept(source, i) as usize
 }
 
 // How many bytes are the same in both from there on, a block at a time. They end behind a kept one, so no gap is cut.
@@ -114,10 +105,9 @@ fn same_run(source: &[u8], i: usize, text: &[u8], j: usize) -> usize
     ensures { Passed source.now i text.now j result }
 {
     let mut k = 0;
-    let mut m = same_block(source, i, text, j);
-    while 0 < m {
-        k += m;
-        m = same_block(source, i + k, text, j + k);
+    // kept: a range is no plainer, since a step takes a block up to its last kept byte
+    while let Some(n) = same_block(source, i + k, text, j + k) {
+        k += n;
     }
     k
 }
@@ -132,7 +122,7 @@ pub fn write_changes(source: &[u8], text: &[u8], list: &mut [u64]) -> usize
     let mut j = 0;
     let mut a = gaps::gap_end(source, 0);
     let mut b = gaps::gap_end(text, 0);
-    while a < source.len() {
+    loop {
         n = note_gap(
             source,
             text,
@@ -145,6 +135,9 @@ pub fn write_changes(source: &[u8], text: &[u8], list: &mut [u64]) -> usize
                 put: b - j,
             },
         );
+        if source.len() <= a {
+            return n;
+        }
         let size = utf8::size_at(source, a);
         let k = same_run(source, a + size, text, b + size);
         i = a + size + k;
@@ -152,16 +145,4 @@ pub fn write_changes(source: &[u8], text: &[u8], list: &mut [u64]) -> usize
         a = gaps::gap_end(source, i);
         b = gaps::gap_end(text, j);
     }
-    note_gap(
-        source,
-        text,
-        list,
-        n,
-        Change {
-            at: i,
-            removed: a - i,
-            from: j,
-            put: b - j,
-        },
-    )
 }

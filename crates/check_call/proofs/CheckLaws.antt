@@ -2,10 +2,11 @@
 use Prim.Native.Nat.{ℕ, ◌≤◌}
 use native.Mathlib.Omega.{arith}
 use mathlib.Core.Bool.{Bool, true, false, not, ◌||◌, true≢false}
-use mathlib.Core.List.{List, [], ◌++◌}
+use mathlib.Core.List.{List, [], ◌∷◌, ◌++◌}
 use mathlib.Core.Path.{◌≡◌, refl, sym, ap, subst, ◌∙◌}
 use lib.Dec.{eqb}
-use lib.ListN.{length, replicate}
+use lib.ListN.{length, drop, replicate}
+use borrow.Author.Tests.{not-false}
 use Rattle.utf8.specs.Unicode.{Scalars, encode, decode}
 use Rattle.rules.specs.Basics.{choose, same}
 use Rattle.rules.specs.Lines.{as_str, lines_of}
@@ -14,32 +15,30 @@ use Rattle.rules.specs.Strengths.{table_length}
 use Rattle.rules.specs.Line.{start}
 use Rattle.rules.specs.Assembly.{ending_of, drop_empty, joined, last_ending, finish, format_lines, format_with}
 use Rattle.rules.specs.Choices.{Choices, valid_options, options_of}
-use Rattle.rules.specs.Refusals.{tested}
+use Rattle.std.specs.Prelude.{Result, Ok, Err}
+use Rattle.rules.specs.Refusals.{Verdict, tested, wrong_length, bits_set, long_source, bad_option, and_then}
 use Rattle.rules.specs.Call.{Call, formatted, text_of, format_tests}
 use Rattle.rules.specs.declared.LineEnding.{LineEnding}
 use Rattle.rules.specs.declared.OptionNumbers.{OptionNumbers}
 use Rattle.rules.specs.declared.Refusal.{Refusal}
-use Rattle.rules.specs.declared.Verdict.{Verdict}
 use Rattle.rules.specs.declared.Strengths.{Strengths}
-use Rattle.rules.proofs.RefusalLaws.{numbered, option_good, head_passed, tail_passed}
+use Rattle.rules.proofs.RefusalLaws.{numbered, option_good, head_passed, back_passed, then_passed, then_refused}
 use Rattle.rules.proofs.CallLaws.{text_scalars}
-use Rattle.options.specs.Held.{held_named}
+use Rattle.rules.proofs.Choose.{choose_true, choose_false}
+use Rattle.options.specs.Held.{options_in, held, held_named}
 use Rattle.options.specs.declared.FormatOptions.{FormatOptions}
-use Rattle.options.specs.declared.Changed.{Changed}
-use Rattle.options.proofs.NumbersLaws.{named_valid_is}
 use Rattle.text.specs.Text.{Ended}
 use Rattle.line.specs.Holds.{Uses}
 use Rattle.lines.specs.Lines.{Passed, whole_text, answer_at, AllRead}
 use Rattle.lines.specs.declared.LinesRead.{LinesRead}
-use Rattle.call.specs.Formatted.{options_with}
+use Rattle.call.specs.Tests.{tested_options}
 use Rattle.call.specs.Ran.{call_of}
-use Rattle.call.proofs.CallLaws.{passed, ruler_small, admits, options_held}
+use Rattle.call.proofs.CallLaws.{chosen_tests, passed, ruler_small, admits, options_held}
 use Rattle.check_rules.specs.Check.{Checked, is_formatted}
-use Rattle.check_rules.specs.declared.CheckAnswer.{CheckAnswer}
+use Rattle.check_call.specs.declared.CheckAnswer.{CheckAnswer}
 use Rattle.check_rules.proofs.CheckLaws.{yes_then, yes_if, yes_read}
 use Rattle.check_call.specs.declared.Finding.{Finding}
-use Rattle.check_call.specs.declared.CheckOutcome.{CheckOutcome}
-use Rattle.check_call.specs.CheckCall.{verdict_of, finding_of, outcome_after, outcome_of, one_if, answer_of, Compares, CheckedWith, Found}
+use Rattle.check_call.specs.CheckCall.{CheckOutcome, verdict_of, checked_options, finding_of, outcome_after, outcome_of, one_if, answer_of, Compares, CheckedWith, Found}
 use Rattle.check_call.specs.CheckAnswered.{choices_of, CheckAnswered}
 use Rattle.check_call.proofs.SameLaws.{same_chars}
 use Rattle.utf8.proofs.Tests.{neither_left}
@@ -48,18 +47,18 @@ use Rattle.utf8.proofs.Tests.{neither_left}
 
 -- r is what `read_lines` gives, cell what it leaves
 module _
-    (source indent : List ℕ) (chosen : FormatOptions) (ending : LineEnding) (r : LinesRead) (cell scratch : List ℕ)
+    (source indent : List ℕ) (chosen : FormatOptions) (own : indent ≡ chosen.indent) (ending : LineEnding) (r : LinesRead) (cell scratch : List ℕ)
     (p : Passed source indent scratch)
     (e : ending ≡ ending_of chosen.end_of_line (decode source))
   where
     abbrev o : Options
-    o = options_with indent chosen
+    o = options_in chosen
 
     module _ (work : List ℕ)
         (w : AllRead source indent (record { width = chosen.print_width; ruler = chosen.ruler_tab; ending = ending; strengths = chosen.strengths }) true source r cell work)
       where
         uses : Uses o indent (record { width = chosen.print_width; ruler = chosen.ruler_tab; ending = ending; strengths = chosen.strengths })
-        uses = record { indents = refl; breaks = refl; ruled = refl; strengths = refl }
+        uses = record { indents = sym own; breaks = refl; ruled = refl; strengths = refl }
 
         text_is : (format_with o (decode source)).text ≡ whole_text o (decode source) (as_str ending)
         unfolding format_with
@@ -97,57 +96,67 @@ module _
 
 -- ---- the tests
 
-pub option_bad : (bad : Bool) (n : ℕ) → bad ≡ true → true ≡ (bad || eqb n 0)
-option_bad bad n e = rw e
+abbrev found : Finding → CheckOutcome
+found f = Ok f
 
-pub option_kept : (bad : Bool) (n : ℕ) → bad ≡ false → eqb n 0 ≡ (bad || eqb n 0)
-option_kept bad n e = rw e
-
--- t is what `from_numbers` gives, bad what `refuses` gives, v what `test` gives
+-- t is what `options_of` gives, v what `test` gives
 module _
-    (source indent : List ℕ) (numbers : OptionNumbers) (table scratch : List ℕ) (s : Strengths) (t : Changed) (bad : Bool) (v : Verdict)
+    (source indent : List ℕ) (numbers : OptionNumbers) (table scratch : List ℕ) (s : Strengths) (t v : Result FormatOptions Refusal)
     (reads : length table ≡ table_length → s.table ≡ table)
-    (named : t ≡ held_named (record { indent = indent; numbers = numbers; strengths = s.table }))
-    (is-bad : bad ≡ (t.refused || eqb numbers.line_ending 0))
-    (tests : v ≡ tested (format_tests table source bad numbers.ruler_tab (length scratch)))
+    (named : t ≡ checked_options (choices_of indent numbers s.table))
+    (tests : v ≡ tested_options table source t (length scratch))
   where
     abbrev c : Choices
     c = choices_of indent numbers table
 
-    refused_is : t.refused ≡ not (valid_options c)
-    unfolding valid_options
-    refused_is = named_valid_is (record { indent = indent; numbers = numbers; strengths = s.table }) t named
+    abbrev named_choices : Choices
+    named_choices = choices_of indent numbers s.table
 
-    verdict_is : verdict_of c source (length scratch) ≡ v
-    unfolding verdict_of
+    abbrev bad : Bool
+    bad = not (valid_options c) || eqb numbers.line_ending 0
+
+    -- which numbers are valid doesn't depend on the table
+    verdict_is : and_then (verdict_of c source (length scratch)) (λ _. Ok (held (options_of named_choices))) ≡ v
+    unfolding verdict_of valid_options options_of
     verdict_is =
-        ap (λ (b : Bool). tested (format_tests table source b numbers.ruler_tab (length scratch)))
-        (sym (is-bad ∙ ap (λ (b : Bool). b || eqb numbers.line_ending 0) refused_is))
-        ∙ sym tests
+        sym (tests ∙ ap (λ (r : Result FormatOptions Refusal). tested_options table source r (length scratch)) named
+        ∙ chosen_tests table source bad (held (options_of named_choices)) (length scratch))
 
-    pub run_refused : (why : Refusal) → v ≡ Verdict.Refused why → Found c source (length scratch) (CheckOutcome.Refused why)
+    pub run_refused : (why : Refusal) → v ≡ Err why → Found c source (length scratch) (Err why)
     unfolding outcome_of
-    run_refused why e = record { is = rw (verdict_is ∙ e) }
+    run_refused why e = record { is = rw (then_refused (verdict_of c source (length scratch)) (held (options_of named_choices)) why (verdict_is ∙ e)) }
 
-    module _ (e : v ≡ Verdict.Accepted) where
+    module _ (o : FormatOptions) (e : v ≡ Ok o) where
+      verdict_passed : verdict_of c source (length scratch) ≡ Ok tt
+      verdict_passed = then_passed (verdict_of c source (length scratch)) (held (options_of named_choices)) o (verdict_is ∙ e)
+
       bad_not : bad ≡ false
-      bad_not = option_good bad (head_passed _ _ (tail_passed _ _ (tail_passed _ _ (tail_passed _ _ (sym tests ∙ e)))))
+      unfolding verdict_of
+      bad_not =
+          option_good bad
+          (head_passed (bad_option bad) (drop 4 (format_tests table source bad numbers.ruler_tab (length scratch)))
+          (back_passed (wrong_length table ∷ bits_set table ∷ long_source source ∷ [])
+          (drop 3 (format_tests table source bad numbers.ruler_tab (length scratch)))
+          verdict_passed))
 
-      refused_not : t.refused ≡ false
-      refused_not = neither_left t.refused (eqb numbers.line_ending 0) (sym is-bad ∙ bad_not)
+      valid : valid_options c ≡ true
+      valid = not-false (valid_options c) (neither_left (not (valid_options c)) (eqb numbers.line_ending 0) bad_not)
 
-      plain_tests : v ≡ tested (format_tests table source t.refused numbers.ruler_tab (length scratch))
-      plain_tests = tests ∙ ap (λ (b : Bool). tested (format_tests table source b numbers.ruler_tab (length scratch))) (bad_not ∙ sym refused_not)
+      named_plain : t ≡ held_named named_choices
+      unfolding valid_options
+      named_plain =
+          named ∙ choose_false bad _ _ bad_not
+          ∙ sym (choose_true (valid_options c) (Ok (held (options_of named_choices))) (Err Refusal.BadOption) valid)
 
-      pub check_passed : Passed source indent scratch
-      check_passed = passed source indent numbers table [] [] scratch s t v reads named plain_tests e
+      pub check_passed : Passed source o.indent scratch
+      check_passed = passed source indent numbers table [] [] scratch s t v reads named_plain tests o e
 
-      pub check_ruler : t.options.ruler_tab ≤ max_ruler
-      check_ruler = ruler_small source indent numbers table [] [] scratch s t v reads named plain_tests e
+      pub check_ruler : o.ruler_tab ≤ max_ruler
+      check_ruler = ruler_small source indent numbers table [] [] scratch s t v reads named_plain tests o e
 
-      options_same : options_of c ≡ options_with indent t.options
+      options_same : options_of c ≡ options_in o
       unfolding options_of
-      options_same = rw (options_held source indent numbers table [] [] scratch s t v reads named plain_tests e)
+      options_same = rw (options_held source indent numbers table [] [] scratch s t v reads named_plain tests o e)
 
       -- the text consists of scalar values: that of a call with enough room
       abbrev roomy : Call
@@ -157,26 +166,18 @@ module _
       unfolding formatted text_of
       text_whole =
           text_scalars roomy _
-          (record { admits = admits source indent numbers table [] [] scratch s t v reads named plain_tests e; fits = omega arith; outcome = refl })
+          (record { admits = admits source indent numbers table [] [] scratch s t v reads named_plain tests o e; fits = omega arith; outcome = refl })
 
-      pub run_found : (f : Finding) → CheckedWith (options_with indent t.options) source f → Found c source (length scratch) (CheckOutcome.Found f)
+      pub run_found : (f : Finding) → CheckedWith (options_in o) source f → Found c source (length scratch) (Ok f)
       unfolding outcome_of
       run_found f w =
           record {
-            is = ap CheckOutcome.Found (w.is (subst (λ (x : Options). Scalars (format_with x (decode source)).text) options_same text_whole)
+            is = ap found (w.is (subst (λ (x : Options). Scalars (format_with x (decode source)).text) options_same text_whole)
                 ∙ ap (λ (x : Options). finding_of (is_formatted x (decode source))) (sym options_same))
-                ∙ rw (verdict_is ∙ e);
+                ∙ rw verdict_passed;
           }
 
 -- ---- the answer
-
-pub one_on : (b : Bool) → b ≡ true → 1 ≡ one_if b
-unfolding choose
-one_on b e = rw e
-
-pub one_off : (b : Bool) → b ≡ false → 0 ≡ one_if b
-unfolding choose
-one_off b e = rw e
 
 one_yes : (b : Bool) → one_if b ≡ 1 → b ≡ true
 unfolding choose
@@ -203,18 +204,18 @@ answered c source room x r work w z e =
       all = λ k h. all_here k h i;
     }
   where
-    accepted : (answer_of (outcome_of c source room)).refusal ≡ 0 → outcome_of c source room ≡ CheckOutcome.Found (finding_of (found_in c source))
+    accepted : (answer_of (outcome_of c source room)).refusal ≡ 0 → outcome_of c source room ≡ Ok (finding_of (found_in c source))
     accepted k = go (verdict_of c source room) (rw_outcome) k
       where
         rw_outcome : outcome_of c source room ≡ outcome_after (verdict_of c source room) (finding_of (found_in c source))
         rw_outcome = unfold outcome_of in refl
 
         go : (v : Verdict) → outcome_of c source room ≡ outcome_after v (finding_of (found_in c source)) → (answer_of (outcome_of c source room)).refusal ≡ 0
-            → outcome_of c source room ≡ CheckOutcome.Found (finding_of (found_in c source))
-        go Verdict.Accepted q k = q
-        go (Verdict.Refused why) q k = absurd (numbered why (ap (λ (y : CheckOutcome). (answer_of y).refusal) (sym q) ∙ k))
+            → outcome_of c source room ≡ Ok (finding_of (found_in c source))
+        go (Ok _) q k = q
+        go (Err why) q k = absurd (numbered why (ap (λ (y : CheckOutcome). (answer_of y).refusal) (sym q) ∙ k))
 
-    here : r.refusal ≡ 0 → r ≡ answer_of (outcome_of c source room) → r ≡ answer_of (CheckOutcome.Found (finding_of (found_in c source)))
+    here : r.refusal ≡ 0 → r ≡ answer_of (outcome_of c source room) → r ≡ answer_of (Ok (finding_of (found_in c source)))
     here k i = i ∙ ap answer_of (accepted (ap (λ (a : CheckAnswer). a.refusal) (sym i) ∙ k))
 
     yes_here : r.refusal ≡ 0 → r.formatted ≡ 1 → r ≡ answer_of (outcome_of c source room) → (found_in c source).yes ≡ true

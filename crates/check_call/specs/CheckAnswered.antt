@@ -5,7 +5,7 @@ use Rattle.rules.specs.Lines.{lines_of}
 use Rattle.rules.specs.Choices.{Choices, options_of}
 use Rattle.rules.specs.Assembly.{format_with}
 use Rattle.rules.specs.declared.OptionNumbers.{OptionNumbers}
-use Rattle.check_rules.specs.declared.CheckAnswer.{CheckAnswer}
+use Rattle.check_call.specs.declared.CheckAnswer.{CheckAnswer}
 use Rattle.check_call.specs.CheckCall.{outcome_of, answer_of}
 
 abbrev pub choices_of : List ℕ → OptionNumbers → List ℕ → Choices

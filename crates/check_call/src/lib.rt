@@ -2,31 +2,56 @@
 // come, then the answer.
 #![tactic(auto)]
 
-ghost use Rattle.std.specs.Prelude.{◌≡◌, ◌||◌, ◌≤◌, eqb, length};
+ghost use Rattle.std.specs.Prelude.{◌≡◌, ◌≤◌, length};
 ghost use Rattle.rules.specs.Options.{max_ruler};
-ghost use Rattle.call.specs.Formatted.{options_with};
+ghost use Rattle.options.specs.Held.{options_in};
 ghost use Rattle.lines.specs.Lines.{Passed};
-ghost use Rattle.check_call.specs.CheckCall.{Compares, Found, one_if, answer_of, CheckedWith};
+ghost use Rattle.check_call.specs.CheckCall.{Compares, Found, answer_of, checked_options, CheckedWith};
 ghost use Rattle.check_call.specs.CheckAnswered.{choices_of, CheckAnswered};
 
-use check_rules::CheckAnswer;
 use compare::CELL;
 use line::style::Style;
 use options::FormatOptions;
-use rules::{OptionNumbers, Refusal, Verdict};
+use rules::{OptionNumbers, Refusal, Strengths};
 
 // What a check finds: whether the text would equal the source, and how many lines were read.
-#[derive(Clone, Copy)]
+#[derive(Clone, Copy, PartialEq, Eq, Debug)]
 pub struct Finding {
     pub yes: bool,
     pub read: usize,
 }
 
-// What a check comes to.
+// What a check comes to, in numbers for a host: whether the text would equal the source, 1 or 0, and how many lines were
+// read.
+#[repr(C)]
 #[derive(Clone, Copy)]
-pub enum CheckOutcome {
-    Found(Finding),
-    Refused(Refusal),
+pub struct CheckAnswer {
+    pub refusal: u64,
+    pub place: u64,
+    pub formatted: u64,
+    pub lines_read: u64,
+}
+
+impl From<Result<Finding, Refusal>> for CheckAnswer {
+    ghost from_gives = { λ o a. a ≡ answer_of o };
+
+    #[tactic(auto, unfolding(rules::specs::Basics::choose))]
+    fn from(outcome: Result<Finding, Refusal>) -> CheckAnswer {
+        match outcome {
+            Ok(found) => CheckAnswer {
+                refusal: 0,
+                place: 0,
+                formatted: found.yes as u64,
+                lines_read: found.read as u64,
+            },
+            Err(why) => CheckAnswer {
+                refusal: why.number(),
+                place: why.place(),
+                formatted: 0,
+                lines_read: 0,
+            },
+        }
+    }
 }
 
 // Whether a text of n bytes, compared with the source, is the source.
@@ -40,31 +65,26 @@ fn equals(source: &[u8], cell: &[u8], n: usize) -> bool
 }
 
 // The lines of the source, compared with it, and the finish.
-fn check_with(source: &[u8], indent: &[u8], chosen: FormatOptions, scratch: &mut [u8]) -> Finding
-    requires passed { Passed source.now indent.now scratch.old }
-    requires ruler_tab_bound { chosen.ruler_tab ≤ max_ruler }
-    ensures { CheckedWith (options_with indent.now chosen) source.now result }
+fn check_with(source: &[u8], options: FormatOptions, scratch: &mut [u8]) -> Finding
+    requires passed { Passed source.now options.indent scratch.old }
+    requires ruler_tab_bound { options.ruler_tab ≤ max_ruler }
+    ensures { CheckedWith (options_in options) source.now result }
 {
-    let width = chosen.print_width;
-    let end_of_line = chosen.end_of_line;
-    let newline = chosen.insert_final_newline;
-    let strengths = chosen.strengths;
-    let ending = call::assembly::ending_of(end_of_line, source);
+    let ending = call::assembly::ending_of(options.end_of_line, source);
     let style = Style {
-        width,
-        ruler: chosen.ruler_tab as u8,
+        width: options.print_width,
+        ruler: options.ruler_tab as u8,
         ending,
-        strengths,
+        strengths: options.strengths,
     };
+    let indent = options.indent.as_bytes();
     let mut cell = [0u8; CELL];
     let lines = lines::read_lines(source, indent, style, true, source, &mut cell, scratch);
     let st = lines.st;
-    let nesting = st.nesting;
-    let read = nesting.line;
+    let read = st.nesting.line;
     if lines.all {
-        let t = st.text;
-        let last = call::assembly::has_last_ending(newline, source);
-        let n = text::end_text(source, &mut cell, t, ending, last);
+        let last = call::assembly::has_last_ending(options.insert_final_newline, source);
+        let n = text::end_text(source, &mut cell, st.text, ending, last);
         return Finding {
             yes: equals(source, &cell, n),
             read,
@@ -73,42 +93,19 @@ fn check_with(source: &[u8], indent: &[u8], chosen: FormatOptions, scratch: &mut
     Finding { yes: false, read }
 }
 
-fn one_if(yes: bool) -> u64
-    ensures { result ≡ one_if yes }
+// The options that the numbers name; an ending that is kept is a bad option.
+#[tactic(auto, unfolding(rules::specs::Basics::choose))]
+fn options_of(
+    indent: &[u8],
+    numbers: OptionNumbers,
+    strengths: Strengths,
+) -> Result<FormatOptions, Refusal>
+    ensures { result ≡ checked_options (choices_of indent.entry.now numbers strengths.table) }
 {
-    if yes {
-        return 1;
+    if numbers.line_ending == 0 {
+        return Err(Refusal::BadOption);
     }
-    0
-}
-
-fn answer_of(o: CheckOutcome) -> CheckAnswer
-    ensures { result ≡ answer_of o }
-{
-    match o {
-        CheckOutcome::Found(f) => CheckAnswer {
-            refusal: 0,
-            place: 0,
-            formatted: one_if(f.yes),
-            lines_read: f.read as u64,
-        },
-        CheckOutcome::Refused(why) => CheckAnswer {
-            refusal: answer::number_of(why),
-            place: answer::place_of(why),
-            formatted: 0,
-            lines_read: 0,
-        },
-    }
-}
-
-// Whether the options are refused: they are bad, or the ending is kept.
-fn refuses(bad: bool, line_ending: u64) -> bool
-    ensures { result ≡ (bad || eqb line_ending 0) }
-{
-    if bad {
-        return true;
-    }
-    line_ending == 0
+    FormatOptions::from_numbers(indent, numbers, strengths)
 }
 
 // The tests, then the lines.
@@ -118,18 +115,14 @@ fn run_check(
     numbers: OptionNumbers,
     strengths: &[u8],
     scratch: &mut [u8],
-) -> CheckOutcome
+) -> Result<Finding, Refusal>
     ensures { Found (choices_of indent.now numbers strengths.now) source.now
         (length scratch.old) result }
 {
     let table = options::strengths::read(strengths);
-    let named = FormatOptions::from_numbers(indent, numbers, table);
-    let chosen = named.options;
-    let bad = refuses(named.refused, numbers.line_ending);
-    match call::test(strengths, source, bad, numbers.ruler_tab, scratch.len()) {
-        Verdict::Refused(why) => CheckOutcome::Refused(why),
-        Verdict::Accepted => CheckOutcome::Found(check_with(source, indent, chosen, scratch)),
-    }
+    let named = options_of(indent, numbers, table);
+    let options = call::test(strengths, source, named, scratch.len())?;
+    Ok(check_with(source, options, scratch))
 }
 
 // The whole call. The scratch is cleared.
@@ -145,5 +138,5 @@ pub fn check_call(
 {
     let outcome = run_check(source, indent, numbers, strengths, scratch);
     buffer::zero(scratch);
-    answer_of(outcome)
+    outcome.into()
 }

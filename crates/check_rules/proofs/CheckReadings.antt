@@ -1,16 +1,15 @@
 -- Readings of C-19, computed: options, source; the answer, and the lines read.
+use Rattle.std.specs.Prelude.{Some}
 use Prim.Native.Nat.{ℕ}
 use Prim.Native.String.{String}
 use mathlib.Core.Bool.{Bool, true, false}
 use mathlib.Core.List.{List, [], ◌∷◌, map}
 use mathlib.Core.Path.{◌≡◌, refl}
 use Rattle.rules.specs.Basics.{codes}
-use Rattle.rules.specs.Options.{Options}
+use Rattle.rules.specs.Options.{Options, PrintWidth}
 use Rattle.rules.specs.Strengths.{built_in}
-use Rattle.rules.specs.declared.EndOfLine.{EndOfLine}
 use Rattle.rules.specs.declared.LineEnding.{LineEnding}
 use Rattle.rules.specs.declared.FinalNewline.{FinalNewline}
-use Rattle.rules.specs.declared.PrintWidth.{PrintWidth}
 use Rattle.rules.proofs.Computing.{computing}
 use Rattle.check_rules.specs.Check.{Checked, is_formatted, check_lines, settled_lines, closed}
 
@@ -22,20 +21,20 @@ with e w n =
     record {
       indent = codes "  ";
       print_width = w;
-      end_of_line = EndOfLine.Set e;
+      end_of_line = Some e;
       insert_final_newline = n;
       ruler_tab = 0;
       strengths = record { table = built_in };
     }
 
 abbrev lf : FinalNewline → Options
-lf = with LineEnding.Lf (PrintWidth.Columns 100)
+lf = with LineEnding.Lf (Some 100)
 
 abbrev crlf : Options
-crlf = with LineEnding.Crlf (PrintWidth.Columns 100) FinalNewline.AsSource
+crlf = with LineEnding.Crlf (Some 100) FinalNewline.AsSource
 
 abbrev narrow : Options
-narrow = with LineEnding.Lf (PrintWidth.Columns 0) FinalNewline.AsSource
+narrow = with LineEnding.Lf (Some 0) FinalNewline.AsSource
 
 -- Readings 20 to 22 of C-19, and an else that still lengthens the line before it.
 abbrev cases : List Case

@@ -144,18 +144,7 @@ compared_on (a ∷ m) x x' l at c p n r some e k b q f w =
     let y : min (cell_of x') r ≡ at + n = w.is t.small (omega (arith, g, o, v)) (omega (arith, g, j)) in
     record { room = omega (arith, t.room, w.size); small = t.small; same = omega (arith, y, g, o, length-append text l) })
 
--- in the terms of `track` and of `track_levels`
-module _ (m x l : List ℕ) (at : ℕ) (some : 0 < length m) where
-  pub track_none : length x < cell_size → Compared m x x at l (at + length l)
-  track_none = compared_none m x l at (at + length l) some refl
-
-  pub track_short : (n : ℕ) → n ≡ cell_of x → n < at → Compared m x x at l (at + length l)
-  track_short n = compared_short m x l at n (at + length l) some refl
-
-  pub track_on : (x' : List ℕ) (c p n : ℕ) → c ≡ cell_of x → at ≤ c → p ≡ min at (length m) → n ≡ common (take (length m - p) (drop p m)) l
-      → CellKept x (length m) (at + n) (at + length l) x' → Compared m x x' at l (at + length l)
-  track_on x' c p n = compared_on m x x' l at c p n (at + length l) some refl
-
+-- in the terms of `track_levels`
 module _ (m x w : List ℕ) (levels at : ℕ) (some : 0 < length m) where
   long : at + levels * length w ≡ at + length (times levels w)
   long = ap (λ (n : ℕ). at + n) (sym (length_times levels w))
@@ -171,6 +160,17 @@ module _ (m x w : List ℕ) (levels at : ℕ) (some : 0 < length m) where
       → CellKept x (length m) (at + n) (at + levels * length w) x'
       → Compared m x x' at (times levels w) (at + levels * length w)
   levels_on x' c p n = compared_on m x x' (times levels w) at c p n (at + levels * length w) some long
+
+-- a line is an indent of one level
+once : (l : List ℕ) → times 1 l ≡ l
+unfolding times
+once l = append-nil l
+
+pub once_small : (l : List ℕ) (at n : ℕ) → at + length l < n → at + length (times 1 l) < n
+once_small l at n h = rw once h
+
+pub once_tracked : (m x y l : List ℕ) (at r : ℕ) → Compared m x y at (times 1 l) r → Compared m x y at l r
+once_tracked m x y l at r w = rw once at w
 
 pub compared_append : {m x y z l k : List ℕ} {at n r : ℕ} → Compared m x y at l n → Compared m y z n k r → Compared m x z at (l ++ k) r
 compared_append {m} {x} {y} {z} {l} {k} a b =

@@ -4,9 +4,8 @@
 #![tactic(auto)]
 
 ghost use Rattle.std.specs.Prelude.{◌≡◌, [], ◌++◌, ◌+◌, ◌*◌, ◌<◌, ◌≤◌, ◌^◌, min, length, drop, replicate};
-ghost use Rattle.utf8.specs.Places.{NoneAmong};
 ghost use Rattle.buffer.specs.Repeat.{times};
-ghost use Rattle.compare.specs.Common.{common, Agreeing, EndsAlike, differ_at, StartsAlike};
+ghost use Rattle.compare.specs.Common.{common, Agreeing, EndsAlike, StartsAlike};
 ghost use Rattle.compare.specs.Common.{RunOf, ending_of, cell_size, cell_of, CellPut, CellKept, Compared};
 ghost use Rattle.compare.specs.Common.{LineAlike, Tells};
 
@@ -16,34 +15,12 @@ pub const CELL: usize = 3;
 // The bytes that a short indent is written by.
 const BLOCK: usize = 32;
 
-// Whether the w bytes from `at` on differ. It makes no branch, so that a fixed number of them is tested at once.
-fn differ(model: &[u8], line: &[u8], at: usize, w: usize) -> bool
-    requires w_in_bounds { at + w ≤ length model.now }
-    requires w_in_bounds_2 { at + w ≤ length line.now }
-    ensures { NoneAmong (differ_at model.now line.now) at w result }
-{
-    let mut any = false;
-    let mut k: usize = 0;
-    while k < w {
-        any = any | (model[at + k] != line[at + k]);
-        k += 1;
-    }
-    any
-}
-
 // Past the blocks of 16 bytes that agree, of the n that both have.
 fn agree_blocks(model: &[u8], line: &[u8], n: usize) -> usize
     requires { n ≡ min (length line.now) (length model.now) }
     ensures { Agreeing model.now line.now n result }
 {
-    let mut i = 0;
-    while n - i >= 16 {
-        if differ(model, line, i, 16) {
-            return i;
-        }
-        i += 16;
-    }
-    i
+    blocks::past_blocks::<16, _>(0, n, &|i| model[i] != line[i])
 }
 
 // Whether fewer than 16 bytes agree, told by their first 8 and their last 8. It is not told of fewer than 8.
@@ -55,10 +32,7 @@ fn alike_short(model: &[u8], line: &[u8], n: usize) -> bool
     if n < 8 {
         return false;
     }
-    if differ(model, line, 0, 8) {
-        return false;
-    }
-    !differ(model, line, n - 8, 8)
+    blocks::none_before::<8, _>(n, &|i| model[i] != line[i])
 }
 
 // Whether the rest agrees too, where the first i of n bytes do: the last 16 are tested at once, and those before them
@@ -74,26 +48,19 @@ fn ends_alike(model: &[u8], line: &[u8], n: usize, i: usize) -> bool
     if n - i > 16 {
         return false;
     }
-    !differ(model, line, n - 16, 16)
+    !blocks::any_among::<16, _>(n - 16, &|i| model[i] != line[i])
 }
 
 // How many of the first bytes of line are the model's.
 fn agree(model: &[u8], line: &[u8]) -> usize
     ensures { result ≡ common model.now line.now }
 {
-    let n = buffer::place(line.len(), model.len());
+    let n = line.len().min(model.len());
     let from = agree_blocks(model, line, n);
     if ends_alike(model, line, n, from) {
         return n;
     }
-    let mut i = from;
-    while i < n {
-        if model[i] != line[i] {
-            return i;
-        }
-        i += 1;
-    }
-    n
+    blocks::first_from(from, n, &|i| model[i] != line[i])
 }
 
 // Whether the first n bytes, at most 16, are b. It makes no branch: indents differ from line to line.
@@ -111,16 +78,7 @@ fn run_long(model: &[u8], b: u8, n: usize) -> bool
     requires { (16 ≤ n) × (n ≤ length model.now) }
     ensures { RunOf model.now b n result }
 {
-    let last = n - 16;
-    let mut i = 0;
-    while i < last {
-        if run_of(&model[i..], b, 16) {
-            i += 16;
-        } else {
-            return false;
-        }
-    }
-    run_of(&model[last..], b, 16)
+    blocks::none_before::<16, _>(n, &|i| model[i] != b)
 }
 
 // Whether the model, of at least 16 bytes, starts with n times b.
@@ -167,29 +125,21 @@ fn agree_levels(model: &[u8], indent: &[u8], levels: usize) -> usize
         return 0;
     }
     let mut at = 0;
-    let mut level = 0;
-    while level < levels {
+    for _ in 0..levels {
         let k = agree(&model[at..], indent);
         if k < n {
             return at + k;
         }
         at += n;
-        level += 1;
     }
     at
-}
-
-fn wide(b: u8) -> usize
-    ensures { (result ≡ b) × (result < 256) }
-{
-    b as usize
 }
 
 fn read_cell(cell: &[u8]) -> usize
     requires { cell_size ≤ length cell.now }
     ensures { result ≡ cell_of cell.now }
 {
-    wide(cell[0]) + wide(cell[1]) * 256 + wide(cell[2]) * 65536
+    usize::from(cell[0]) + usize::from(cell[1]) * 256 + usize::from(cell[2]) * 65536
 }
 
 fn put_cell(cell: &mut [u8], n: usize)
@@ -217,56 +167,23 @@ fn keep(cell: &mut [u8], model: usize, n: usize, next: usize)
     }
 }
 
-// Whether more than 64 bytes agree: block by block, of which the last may overlap.
-fn alike_long(model: &[u8], line: &[u8], n: usize) -> bool
-    requires n_value { n ≡ min (length line.now) (length model.now) }
-    requires lt_n { 64 < n }
-    ensures { EndsAlike model.now line.now n result }
-{
-    let last = n - 64;
-    let mut i = 0;
-    while i < last {
-        if differ(model, line, i, 64) {
-            return false;
-        }
-        i += 64;
-    }
-    !differ(model, line, last, 64)
-}
-
-// Whether n bytes agree, from w up to four times w: four blocks, which may overlap.
-fn alike_four(model: &[u8], line: &[u8], n: usize, w: usize) -> bool
-    requires n_value { n ≡ min (length line.now) (length model.now) }
-    requires w_le_n { (w ≤ n) × (n ≤ 4 * w) }
-    requires w_bound { w ≤ 16 }
-    ensures { EndsAlike model.now line.now n result }
-{
-    let last = n - w;
-    let a = differ(model, line, 0, w);
-    let b = differ(model, line, buffer::place(w, last), w);
-    let c = differ(model, line, buffer::place(w + w, last), w);
-    let d = differ(model, line, last, w);
-    !((a | b) | (c | d))
-}
-
-// Whether n bytes agree.
+// Whether n bytes agree, by blocks of which some may overlap.
 fn alike(model: &[u8], line: &[u8], n: usize) -> bool
     requires { n ≡ min (length line.now) (length model.now) }
     ensures { EndsAlike model.now line.now n result }
 {
+    let differs = |i: usize| model[i] != line[i];
     if 64 < n {
-        return alike_long(model, line, n);
+        blocks::none_before::<64, _>(n, &differs)
+    } else if 16 <= n {
+        blocks::none_in_four::<16, _>(n, &differs)
+    } else if 4 <= n {
+        blocks::none_in_four::<4, _>(n, &differs)
+    } else if n == 0 {
+        true
+    } else {
+        blocks::none_in_four::<1, _>(n, &differs)
     }
-    if 16 <= n {
-        return alike_four(model, line, n, 16);
-    }
-    if 4 <= n {
-        return alike_four(model, line, n, 4);
-    }
-    if n == 0 {
-        return true;
-    }
-    alike_four(model, line, n, 1)
 }
 
 // Whether the model has the line ending of sep bytes at the place at.
@@ -281,32 +198,10 @@ fn ending_alike(model: &[u8], at: usize, sep: usize) -> bool
     if sep == 1 {
         return model[at] == b'\n';
     }
-    if model[at] == b'\r' {
-        return model[at + 1] == b'\n';
-    }
-    false
+    model[at] == b'\r' && model[at + 1] == b'\n'
 }
 
-// Compares line, where all of the text before it agrees.
-fn track(model: &[u8], cell: &mut [u8], at: usize, line: &[u8]) -> usize
-    requires line_bound { at + length line.now < 2 ^ 64 }
-    requires model_nonzero { 0 < length model.now }
-    ensures { Compared model.now cell.old cell.new at line.now result }
-{
-    let next = at + line.len();
-    if cell.len() < CELL {
-        return next;
-    }
-    if read_cell(cell) < at {
-        return next;
-    }
-    let p = buffer::place(at, model.len());
-    let n = agree(&model[p..], line);
-    keep(cell, model.len(), at + n, next);
-    next
-}
-
-// Compares the indent, levels times over, in the same way.
+// Compares the indent, levels times over, where all of the text before it agrees.
 fn track_levels(model: &[u8], cell: &mut [u8], at: usize, indent: &[u8], levels: usize) -> usize
     requires indent_bound { at + length (times levels indent.now) < 2 ^ 64 }
     requires model_nonzero { 0 < length model.now }
@@ -320,10 +215,19 @@ fn track_levels(model: &[u8], cell: &mut [u8], at: usize, indent: &[u8], levels:
     if read_cell(cell) < at {
         return next;
     }
-    let p = buffer::place(at, model.len());
+    let p = at.min(model.len());
     let n = agree_levels(&model[p..], indent, levels);
     keep(cell, model.len(), at + n, next);
     next
+}
+
+// Compares line in the same way.
+fn track(model: &[u8], cell: &mut [u8], at: usize, line: &[u8]) -> usize
+    requires line_bound { at + length line.now < 2 ^ 64 }
+    requires model_nonzero { 0 < length model.now }
+    ensures { Compared model.now cell.old cell.new at line.now result }
+{
+    track_levels(model, cell, at, line, 1)
 }
 
 // Whether all goes on as the model does: then nothing is to be kept.
@@ -345,19 +249,11 @@ fn line_alike(
     let start = at + sep;
     let from = start + levels * indent.len();
     let next = from + line.len();
-    if model.len() < next {
+    if model.len() < next || cell.len() < CELL || read_cell(cell) < next {
         return false;
     }
-    if cell.len() < CELL {
-        return false;
-    }
-    if read_cell(cell) < next {
-        return false;
-    }
-    if ending_alike(model, at, sep) {
-        if pad_alike(&model[start..], indent, levels) {
-            return alike(&model[from..], line, line.len());
-        }
+    if ending_alike(model, at, sep) && pad_alike(&model[start..], indent, levels) {
+        return alike(&model[from..], line, line.len());
     }
     false
 }
@@ -424,13 +320,9 @@ fn put_pad(out: &mut [u8], at: usize, indent: &[u8], levels: usize)
         return;
     }
     let b = indent[0];
-    if n <= BLOCK {
-        if out.len() - at >= BLOCK {
-            if buffer::all_are(indent, b) {
-                put_run(out, at, BLOCK, b);
-                return;
-            }
-        }
+    if n <= BLOCK && out.len() - at >= BLOCK && buffer::all_are(indent, b) {
+        put_run(out, at, BLOCK, b);
+        return;
     }
     buffer::append_indented(out, at, indent, levels, b"");
 }

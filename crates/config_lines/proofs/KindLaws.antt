@@ -1,8 +1,12 @@
 -- The kind of a line, told by its bytes.
---     header_short, header_ends, header_not     the tests of `is_header`
---     kind_empty, kind-comment, kind_header, kind_pair, kind_other     those of `kind_of`
+--     skip_empty, skip_first, skip_not     the tests of `is_skipped`
+--     header_short, header_first, header_last, header_is     those of `name_in`
+--     kind_skipped, kind_header, kind_pair, kind_other     those of `kind_of`
+use Rattle.std.specs.Prelude.{Some, None}
+use denote.Ref.{Bor}
 use Prim.Native.Nat.{ℕ, ◌+◌, ◌-◌, ◌≤◌, ◌<◌}
-use mathlib.Core.Bool.{Bool, true, false, ◌&&◌, ◌||◌, and-false}
+use mathlib.Core.Bool.{Bool, true, false, ◌&&◌, ◌||◌, and-false, or-true}
+use mathlib.Core.Logic.{◌⊎◌, inl, inr}
 use mathlib.Core.List.{List, [], ◌∷◌, ◌++◌}
 use mathlib.Core.Path.{◌≡◌, refl, sym, ap, ◌∙◌}
 use native.Mathlib.Omega.{arith}
@@ -15,14 +19,15 @@ use Rattle.utf8.proofs.Table.{Bytes, single, several, bytes}
 use Rattle.utf8.proofs.Tests.{and_left, and_right}
 use Rattle.utf8.proofs.Decode.{encode_nil, encode_cons, encode_one, decode_scalars, decode_encode, wf_encode}
 use Rattle.utf8.proofs.Cut.{AsciiCut, ascii_cut}
+use Rattle.buffer.proofs.RegionLaws.{part_from}
 use Rattle.rules.specs.Basics.{choose, is, is_empty, first_is, last_is}
 use Rattle.rules.proofs.Choose.{choose_case, choose_true, choose_false}
 use Rattle.rules.proofs.Leading.{last_at}
 use Rattle.rules.proofs.StartsBytes.{on_decode, encode_some, steady_is, first_encode, last_encode, empty_encode}
 use Rattle.config_rules.specs.Lines.{lower, has_eq, key, setting, is_comment, is_header, line_of}
 use Rattle.config_rules.specs.Lines.Line.{nothing, header, pair}
-use Rattle.config_lines.specs.Words.{EqAt}
-use Rattle.config_lines.specs.Kinds.{name_in, line_in, Parts, KindOf}
+use Rattle.config_lines.specs.Words.{EqAt, Trimmed}
+use Rattle.config_lines.specs.Kinds.{name_in, Named, line_in, Parts, KindOf}
 use Rattle.config_lines.specs.declared.kinds.LineKind.{LineKind}
 use Rattle.config_lines.proofs.LineBytes.{has_encode, key_encode, setting_encode}
 
@@ -33,23 +38,51 @@ unfolding first_is
 first_at p [] h = absurd (omega arith)
 first_at p (c ∷ s) h = refl
 
-pub header_short : (s : List ℕ) → length s < 2 → false ≡ is_header s
+pub header_short : (s : List ℕ) → length s < 2 → is_header s ≡ false
 unfolding is_header
-header_short s h = sym (rw (le-ltb 1 (length s) (omega arith)) (and-false (first_is (is "[") s && last_is (is "]") s)))
+header_short s h = rw (le-ltb 1 (length s) (omega arith)) (and-false (first_is (is "[") s && last_is (is "]") s))
 
-pub header_ends : (s : List ℕ) → 2 ≤ length s → get_or s 0 0 ≡ 91 → eqb (get_or s (length s - 1) 0) 93 ≡ is_header s
+pub header_first : (s : List ℕ) → 2 ≤ length s → (get_or s 0 0 ≡ 91 → ⊥) → is_header s ≡ false
+unfolding is_header
+header_first s h n = rw (first_at (is "[") s (omega arith), ne_eqb (get_or s 0 0) 91 n)
+
+header_ends : (s : List ℕ) → 2 ≤ length s → get_or s 0 0 ≡ 91 → is_header s ≡ eqb (get_or s (length s - 1) 0) 93
 unfolding is_header
 header_ends s h e =
     rw (first_at (is "[") s (omega arith), eq-eqb (get_or s 0 0) 91 e, ← last_at (is "]") s (λ z. absurd (omega (arith, z))), lt-ltb 1 (length s) (omega arith))
     (and_true (eqb (get_or s (length s - 1) 0) 93))
   where
-    and_true : (b : Bool) → b ≡ (b && true)
+    and_true : (b : Bool) → (b && true) ≡ b
     and_true true = refl
     and_true false = refl
 
-pub header_not : (s : List ℕ) → 2 ≤ length s → (get_or s 0 0 ≡ 91 → ⊥) → false ≡ is_header s
-unfolding is_header
-header_not s h n = rw (first_at (is "[") s (omega arith), ne_eqb (get_or s 0 0) 91 n)
+pub header_last : (s : List ℕ) → 2 ≤ length s → get_or s 0 0 ≡ 91 → (get_or s (length s - 1) 0 ≡ 93 → ⊥) → is_header s ≡ false
+header_last s h e n = header_ends s h e ∙ ne_eqb (get_or s (length s - 1) 0) 93 n
+
+pub header_is : (s : List ℕ) → 2 ≤ length s → get_or s 0 0 ≡ 91 → get_or s (length s - 1) 0 ≡ 93 → Named s (take (length s - 1 - 1) (drop 1 s))
+header_is s h e l =
+    let q : take (length s - 1 - 1) (drop 1 s) ≡ name_in s = ap (λ (n : ℕ). take n (drop 1 s)) (let k : length s - 1 - 1 ≡ length s - 2 = omega arith in k) in
+    record { header = header_ends s h e ∙ eq-eqb (get_or s (length s - 1) 0) 93 l; is = q }
+
+-- ---- a blank line or a comment, by bytes
+
+abbrev pub skipped : List ℕ → Bool
+skipped s = is_empty s || is_comment s
+
+pub skip_empty : (s : List ℕ) → length s < 1 → true ≡ skipped s
+skip_empty [] h = refl
+skip_empty (c ∷ s) h = absurd (omega arith)
+
+pub skip_first : (s : List ℕ) → 1 ≤ length s → (get_or s 0 0 ≡ 59) ⊎ (get_or s 0 0 ≡ 35) → true ≡ skipped s
+unfolding is_comment first_is
+skip_first [] h e = absurd (omega arith)
+skip_first (c ∷ s) h (inl e) = rw (eq-eqb c 59 e)
+skip_first (c ∷ s) h (inr e) = rw (eq-eqb c 35 e, or-true (eqb c 59))
+
+pub skip_not : (s : List ℕ) → 1 ≤ length s → (get_or s 0 0 ≡ 59 → ⊥) → (get_or s 0 0 ≡ 35 → ⊥) → false ≡ skipped s
+unfolding is_comment first_is
+skip_not [] h m n = absurd (omega arith)
+skip_not (c ∷ s) h m n = rw (ne_eqb c 59 m, ne_eqb c 35 n)
 
 -- ---- the same by characters
 
@@ -151,11 +184,14 @@ module _ (s : List ℕ) (w : WellFormed s) (i : ℕ) (q : EqAt s i) where
   setting_bytes : drop (i + 1) s ≡ encode (setting (decode s))
   setting_bytes = sym q.setting ∙ on_decode setting (λ (l : List ℕ). encode (setting l)) setting_encode s w
 
-  key_well : WellFormed (take i s)
+  pub key_well : WellFormed (take i s)
   key_well = rw key_bytes (wf_encode (key (decode s)) (key_scalars (decode s) (decode_scalars s)))
 
   setting_well : WellFormed (drop (i + 1) s)
   setting_well = rw setting_bytes (wf_encode (setting (decode s)) (setting_scalars (decode s) (decode_scalars s)))
+
+  pub value_well : WellFormed (take (length s - (i + 1)) (drop (i + 1) s))
+  value_well = rw (part_from s (i + 1)) setting_well
 
   key_text : key (decode s) ≡ decode (take i s)
   key_text = sym (ap decode key_bytes ∙ decode_encode (key (decode s)) (key_scalars (decode s) (decode_scalars s)))
@@ -178,64 +214,40 @@ module _ (s : List ℕ) (w : WellFormed s) where
   eq_same : has_eq s ≡ has_eq (decode s)
   eq_same = on_decode has_eq has_eq has_encode s w
 
-  nothing_of : (is_empty s || is_comment s) ≡ true → KindOf s LineKind.Nothing
+  skipped_same : skipped s ≡ (is_empty (decode s) || is_comment (decode s))
+  skipped_same = rw (empty_same, comment_same)
+
+  pub kind_skipped : (t : Bool) → t ≡ skipped s → t ≡ true → KindOf s None
   unfolding line_of line_in Parts
-  nothing_of e = record { is = choose_true _ _ _ (rw (← empty_same, ← comment_same) e); parts = tt }
+  kind_skipped t e y = record { is = choose_true _ _ _ (sym skipped_same ∙ sym e ∙ y); parts = tt }
 
-  pub kind_empty : length s ≡ 0 → KindOf s LineKind.Nothing
-  kind_empty e = nothing_of (rw (none_there s e))
-    where
-      none_there : (s : List ℕ) → length s ≡ 0 → is_empty s ≡ true
-      none_there [] e = refl
-      none_there (c ∷ s) e = absurd (omega arith)
+  module _ (t : Bool) (e : t ≡ skipped s) (n : t ≡ false) where
+    counts : (is_empty (decode s) || is_comment (decode s)) ≡ false
+    counts = sym skipped_same ∙ sym e ∙ n
 
-  module _ (some : length s ≡ 0 → ⊥) where
-    there : (s : List ℕ) → (length s ≡ 0 → ⊥) → is_empty s ≡ false
-    there [] n = absurd (n refl)
-    there (c ∷ s) n = refl
+    pub kind_header : (name : Bor (List ℕ)) → Named s name.now → KindOf s (Some (LineKind.Header name))
+    unfolding line_of line_in Parts
+    kind_header name h =
+        record {
+          is = choose_false _ _ _ counts ∙ choose_true _ _ _ (sym header_same ∙ h.header) ∙ ap header (header_name s w h.header ∙ ap decode (sym h.is));
+          parts = rw h.is (right_cut s w h.header).left;
+        }
 
-    few : (s : List ℕ) → (length s ≡ 0 → ⊥) → 0 < length s
-    few [] n = absurd (n refl)
-    few (c ∷ s) n = omega arith
+    module _ (h : is_header s ≡ false) where
+      no_header : line_of (decode s) ≡ choose (has_eq (decode s)) (pair (lower (trim (key (decode s)))) (lower (trim (setting (decode s))))) nothing
+      unfolding line_of
+      no_header = choose_false _ _ _ counts ∙ choose_false _ _ _ (sym header_same ∙ h)
 
-    pub kind_semicolon : get_or s 0 0 ≡ 59 → KindOf s LineKind.Nothing
-    unfolding is_comment
-    kind_semicolon e = nothing_of (rw (there s some, first_at (is ";") s (few s some), eq-eqb (get_or s 0 0) 59 e))
+      pub kind_other : has_eq s ≡ false → KindOf s None
+      unfolding line_in Parts
+      kind_other q = record { is = no_header ∙ choose_false _ _ _ (sym eq_same ∙ q); parts = tt }
 
-    pub kind_hash : get_or s 0 0 ≡ 35 → KindOf s LineKind.Nothing
-    unfolding is_comment
-    kind_hash e = nothing_of (rw (there s some, first_at (is ";") s (few s some), first_at (is "#") s (few s some), e))
-
-    module _ (a : get_or s 0 0 ≡ 59 → ⊥) (b : get_or s 0 0 ≡ 35 → ⊥) where
-      not_comment : is_comment s ≡ false
-      unfolding is_comment
-      not_comment = rw (first_at (is ";") s (few s some), first_at (is "#") s (few s some), ne_eqb (get_or s 0 0) 59 a, ne_eqb (get_or s 0 0) 35 b)
-
-      counts : (is_empty (decode s) || is_comment (decode s)) ≡ false
-      counts = rw (← empty_same, ← comment_same, there s some) not_comment
-
-      pub kind_header : (t : Bool) → t ≡ is_header s → t ≡ true → KindOf s LineKind.Header
-      unfolding line_of line_in Parts
-      kind_header t e y =
-          let h : is_header s ≡ true = sym e ∙ y in
+      pub kind_pair : (i : ℕ) → EqAt s i → (k v : Bor (List ℕ)) → Trimmed (take i s) k.now → Trimmed (take (length s - (i + 1)) (drop (i + 1) s)) v.now
+          → KindOf s (Some (LineKind.Pair k v))
+      unfolding line_in Parts
+      kind_pair i q k v a b =
+          let z : Trimmed (drop (i + 1) s) v.now = rw (part_from s (i + 1)) at b in
           record {
-            is = choose_false _ _ _ counts ∙ choose_true _ _ _ (sym header_same ∙ h) ∙ ap header (header_name s w h);
-            parts = (omega (arith, long s w h), (right_cut s w h).left);
+            is = no_header ∙ choose_true _ _ _ (sym eq_same ∙ q.has) ∙ rw (key_text s w i q, setting_text s w i q, ← a.is, ← z.is);
+            parts = (a.well, z.well);
           }
-
-      module _ (t : Bool) (e : t ≡ is_header s) (n : t ≡ false) (i : ℕ) (q : EqAt s i) where
-        no_header : line_of (decode s) ≡ choose (has_eq (decode s)) (pair (lower (trim (key (decode s)))) (lower (trim (setting (decode s))))) nothing
-        unfolding line_of
-        no_header = choose_false _ _ _ counts ∙ choose_false _ _ _ (sym header_same ∙ sym e ∙ n)
-
-        pub kind_pair : i < length s → KindOf s (LineKind.Pair i)
-        unfolding line_in Parts
-        kind_pair h =
-            record {
-              is = no_header ∙ choose_true _ _ _ (sym eq_same ∙ q.has ∙ lt-ltb i (length s) h) ∙ rw (key_text s w i q, setting_text s w i q);
-              parts = (h, key_well s w i q, setting_well s w i q);
-            }
-
-        pub kind_other : length s ≤ i → KindOf s LineKind.Nothing
-        unfolding line_in Parts
-        kind_other h = record { is = no_header ∙ choose_false _ _ _ (sym eq_same ∙ q.has ∙ le-ltb i (length s) h); parts = tt }

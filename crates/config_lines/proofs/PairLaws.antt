@@ -1,6 +1,8 @@
 -- What a pair means, by bytes and by characters.
+use Rattle.std.specs.Prelude.{Some, None}
+use Rattle.std.specs.Bool.{MatchBool}
 use Prim.Native.Nat.{ℕ, suc, ◌≤◌}
-use mathlib.Core.Bool.{false, and-false}
+use mathlib.Core.Bool.{Bool, true, false, and-false}
 use mathlib.Core.List.{List, [], ◌∷◌}
 use mathlib.Core.Path.{◌≡◌, refl, sym, ◌∙◌}
 use native.Mathlib.Omega.{arith}
@@ -15,7 +17,6 @@ use Rattle.rules.specs.Basics.{choose, codes, leading}
 use Rattle.rules.proofs.Choose.{choose_true, choose_false, choose_case}
 use Rattle.rules.proofs.StartsBytes.{Steady, on_decode, leading_encode}
 use Rattle.rules.specs.declared.IndentSize.{IndentSize}
-use Rattle.rules.specs.declared.TabWidth.{TabWidth}
 use Rattle.rules.specs.declared.MaxLineLen.{MaxLineLen}
 use Rattle.rules.specs.declared.Resolved.{Resolved}
 use Rattle.config_rules.specs.Numbers.{is_digit, digit_count, value}
@@ -79,15 +80,15 @@ module _ (v : List ℕ) (w : WellFormed v) where
 
   size_decode : size_of (lower v) ≡ size_of (lower (decode v))
   unfolding size_of
-  size_decode = rw (word_decode (codes "tab") refl v w, whole_decode IndentSize.Value IndentSize.Unset)
+  size_decode = rw (word_decode (codes "tab") refl v w, whole_decode (λ (n : ℕ). Some (IndentSize.Value n)) None)
 
   tab_decode : tab_of (lower v) ≡ tab_of (lower (decode v))
   unfolding tab_of
-  tab_decode = whole_decode TabWidth.Value TabWidth.Unset
+  tab_decode = whole_decode Some None
 
   max_decode : max_of (lower v) ≡ max_of (lower (decode v))
   unfolding max_of
-  max_decode = rw (word_decode (codes "off") refl v w, whole_decode MaxLineLen.Value MaxLineLen.Unset)
+  max_decode = rw (word_decode (codes "off") refl v w, whole_decode (λ (n : ℕ). Some (MaxLineLen.Value n)) None)
 
   ending_decode : ending_of (lower v) ≡ ending_of (lower (decode v))
   unfolding ending_of
@@ -115,3 +116,9 @@ superseded_decode r k v x y =
       ending_decode v y,
       newline_decode v y,
     )
+
+-- the value that a pair with the key has set, or the old one
+pub chosen : {A : Type 0} (b : Bool) (P : Type 0) (new old r : A) → MatchBool b P (r ≡ old) → (P → r ≡ new) → r ≡ choose b new old
+unfolding choose
+chosen true P new old r e f = f e
+chosen false P new old r e f = e

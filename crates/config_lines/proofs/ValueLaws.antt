@@ -1,4 +1,5 @@
 -- Whole numbers have no letters: lower case makes no difference to them.
+use Rattle.std.specs.Prelude.{Option, Some, None, option_map}
 use Prim.Native.Nat.{ℕ, suc, ◌+◌, ◌≤◌}
 use mathlib.Core.Bool.{Bool, true, false, and-false}
 use mathlib.Core.List.{List, [], ◌∷◌}
@@ -11,15 +12,13 @@ use Rattle.utf8.specs.Unicode.{within}
 use Rattle.utf8.proofs.Tests.{by_test, in_range_law}
 use Rattle.rules.specs.Basics.{choose, codes, same}
 use Rattle.rules.proofs.Choose.{choose_true, choose_false}
-use Rattle.rules.specs.declared.IndentSize.{IndentSize}
-use Rattle.rules.specs.declared.TabWidth.{TabWidth}
-use Rattle.rules.specs.declared.MaxLineLen.{MaxLineLen}
 use Rattle.config_rules.specs.Numbers.{is_digit, digit_count, value}
 use Rattle.config_rules.specs.Lines.{lower}
+use Rattle.rules.specs.declared.IndentSize.{IndentSize}
+use Rattle.rules.specs.declared.MaxLineLen.{MaxLineLen}
 use Rattle.config_rules.specs.Values.{is_whole, size_of, tab_of, max_of}
-use Rattle.config_lines.specs.Words.{lowered}
 use Rattle.config_lines.specs.Whole.{WholeOf}
-use Rattle.config_lines.specs.declared.number.Whole.{Whole}
+use Rattle.config_lines.specs.Words.{lowered}
 use Rattle.config_lines.proofs.WordLaws.{low_below, length_lower}
 
 digit_lower : (c : ℕ) → is_digit (lowered c) ≡ is_digit c
@@ -60,46 +59,22 @@ whole_lower f z v =
     choose_false (is_whole v) (f (value v)) z (not_whole v t)
     ∙ sym (choose_false (is_whole (lower v)) (f (value (lower v))) z (not_whole (lower v) (rw (count_lower v, length_lower v) t))))
 
--- what a whole number makes of a value
-module _ (v : List ℕ) (w : Whole) (W : WholeOf v w) where
-  none_whole : w ≡ Whole.None → is_whole v ≡ false
-  none_whole e = by_test (is_whole v) (λ t. absurd (let z : Whole.Is (value v) ≡ Whole.None = sym (W.is ∙ choose_true (is_whole v) (Whole.Is (value v)) Whole.None t) ∙ e in let y : ◌≡◌ {A = ℕ} 0 1 = cc in omega arith)) (λ t. t)
+-- ---- what a whole number makes of a value
 
-  some_whole : (n : ℕ) → w ≡ Whole.Is n → (is_whole v ≡ true) × (value v ≡ n)
-  some_whole n e =
-      by_test (is_whole v)
-      (λ t. (t, let z : Whole.Is (value v) ≡ Whole.Is n = sym (W.is ∙ choose_true (is_whole v) (Whole.Is (value v)) Whole.None t) ∙ e in cc))
-      (λ t. absurd (let z : Whole.None ≡ Whole.Is n = sym (W.is ∙ choose_false (is_whole v) (Whole.Is (value v)) Whole.None t) ∙ e in let y : ◌≡◌ {A = ℕ} 0 1 = cc in omega arith))
+module _ (v : List ℕ) (r : Option ℕ) (w : WholeOf v r) where
+  mapped : {A : Type 0} (f : ℕ → A) → option_map f r ≡ choose (is_whole (lower v)) (Some (f (value (lower v)))) None
+  unfolding choose
+  mapped f = ap (option_map f) w.is ∙ by_test (is_whole v) (λ t. rw t) (λ t. rw t) ∙ whole_lower (λ (n : ℕ). Some (f n)) None v
 
-  whole_none : {A : Type 0} (f : ℕ → A) (z : A) → w ≡ Whole.None → z ≡ choose (is_whole (lower v)) (f (value (lower v))) z
-  whole_none f z e = sym (choose_false (is_whole v) (f (value v)) z (none_whole e)) ∙ whole_lower f z v
-
-  whole_some : {A : Type 0} (f : ℕ → A) (z : A) (n : ℕ) → w ≡ Whole.Is n → f n ≡ choose (is_whole (lower v)) (f (value (lower v))) z
-  whole_some f z n e =
-      let s : (is_whole v ≡ true) × (value v ≡ n) = some_whole n e in
-      ap f (sym s.1) ∙ sym (choose_true (is_whole v) (f (value v)) z s.0) ∙ whole_lower f z v
-
-  pub tab_none : w ≡ Whole.None → TabWidth.Unset ≡ tab_of (lower v)
+  pub tab_is : r ≡ tab_of (lower v)
   unfolding tab_of
-  tab_none e = whole_none TabWidth.Value TabWidth.Unset e
-
-  pub tab_some : (n : ℕ) → w ≡ Whole.Is n → TabWidth.Value n ≡ tab_of (lower v)
-  unfolding tab_of
-  tab_some n e = whole_some TabWidth.Value TabWidth.Unset n e
+  tab_is = w.is ∙ whole_lower Some None v
 
   module _ (b : Bool) where
-    pub size_none : b ≡ same (lower v) (codes "tab") → b ≡ false → w ≡ Whole.None → IndentSize.Unset ≡ size_of (lower v)
+    pub size_is : b ≡ same (lower v) (codes "tab") → b ≡ false → option_map IndentSize.Value r ≡ size_of (lower v)
     unfolding size_of
-    size_none p q e = whole_none IndentSize.Value IndentSize.Unset e ∙ sym (choose_false _ _ _ (sym p ∙ q))
+    size_is p q = mapped IndentSize.Value ∙ sym (choose_false _ _ _ (sym p ∙ q))
 
-    pub size_some : (n : ℕ) → b ≡ same (lower v) (codes "tab") → b ≡ false → w ≡ Whole.Is n → IndentSize.Value n ≡ size_of (lower v)
-    unfolding size_of
-    size_some n p q e = whole_some IndentSize.Value IndentSize.Unset n e ∙ sym (choose_false _ _ _ (sym p ∙ q))
-
-    pub max_none : b ≡ same (lower v) (codes "off") → b ≡ false → w ≡ Whole.None → MaxLineLen.Unset ≡ max_of (lower v)
+    pub max_is : b ≡ same (lower v) (codes "off") → b ≡ false → option_map MaxLineLen.Value r ≡ max_of (lower v)
     unfolding max_of
-    max_none p q e = whole_none MaxLineLen.Value MaxLineLen.Unset e ∙ sym (choose_false _ _ _ (sym p ∙ q))
-
-    pub max_some : (n : ℕ) → b ≡ same (lower v) (codes "off") → b ≡ false → w ≡ Whole.Is n → MaxLineLen.Value n ≡ max_of (lower v)
-    unfolding max_of
-    max_some n p q e = whole_some MaxLineLen.Value MaxLineLen.Unset n e ∙ sym (choose_false _ _ _ (sym p ∙ q))
+    max_is p q = mapped MaxLineLen.Value ∙ sym (choose_false _ _ _ (sym p ∙ q))

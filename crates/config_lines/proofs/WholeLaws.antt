@@ -1,4 +1,5 @@
 -- A whole number, digit by digit.
+use Rattle.std.specs.Prelude.{Some, None}
 use Prim.Native.Nat.{ℕ, suc, ◌+◌, ◌-◌, ◌*◌, ◌≤◌, ◌<◌}
 use mathlib.Core.Bool.{true, false, ◌&&◌, and-false}
 use mathlib.Core.List.{List, [], ◌∷◌, foldl}
@@ -15,7 +16,6 @@ use Rattle.rules.proofs.Choose.{choose_true, choose_false}
 use Rattle.config_rules.specs.Numbers.{is_digit, digit_count, value}
 use Rattle.config_rules.specs.Values.{is_whole}
 use Rattle.config_lines.specs.Whole.{WholeOf}
-use Rattle.config_lines.specs.declared.number.Whole.{Whole}
 use Rattle.config_lines.proofs.ValueLaws.{not_whole}
 
 abbrev step : ℕ → ℕ → ℕ
@@ -37,7 +37,7 @@ pub adding_start : (v : List ℕ) → (length v ≡ 0 → ⊥) → Adding v 0 0
 unfolding value
 adding_start v n = record { some = n; bound = omega arith; small = omega arith; digits = omega arith; is = refl }
 
-none_is : (v : List ℕ) → is_whole v ≡ false → WholeOf v Whole.None
+none_is : (v : List ℕ) → is_whole v ≡ false → WholeOf v None
 none_is v e = record { is = sym (choose_false _ _ _ e) }
 
 count_other : (c : ℕ) (s : List ℕ) → is_digit c ≡ false → digit_count (c ∷ s) ≡ 0
@@ -60,35 +60,28 @@ all_digits_law : (v : List ℕ) → ltb 0 (length v) ≡ true → eqb (digit_cou
 unfolding is_whole
 all_digits_law v s q l = rw (s, q, l)
 
-pub whole_empty : (v : List ℕ) → length v ≡ 0 → WholeOf v Whole.None
+pub whole_empty : (v : List ℕ) → length v ≡ 0 → WholeOf v None
 unfolding is_whole
 whole_empty v e = none_is v (rw (le-ltb 0 (length v) (omega arith)))
 
 module _ (v : List ℕ) (i n : ℕ) (w : Adding v i n) where
-  not_digit : i < length v → is_digit (get_or v i 0) ≡ false → WholeOf v Whole.None
+  pub not_digit : i < length v → is_digit (get_or v i 0) ≡ false → WholeOf v None
   not_digit h t =
       let z : digit_count (drop i v) ≡ 0 = ap digit_count (drop-cons v i 0 h) ∙ count_other (get_or v i 0) (drop (suc i) v) t in
       let d : eqb (digit_count v) (length v) ≡ false = ne_eqb (digit_count v) (length v) (λ q. absurd (omega (arith, w.digits, z, q))) in
       none_is v (not_whole v d)
 
-  pub whole_below : i < length v → get_or v i 0 < 48 → WholeOf v Whole.None
-  whole_below h k = not_digit h (rw (lt-leb 48 (get_or v i 0) k))
-
-  pub whole_above : i < length v → 57 < get_or v i 0 → WholeOf v Whole.None
-  whole_above h k = not_digit h (rw (lt-leb (get_or v i 0) 57 k, and-false (leb 48 (get_or v i 0))))
-
   next : i < length v → value v ≡ foldl step (n * 10 + (get_or v i 0 - 48)) (drop (suc i) v)
   next h = w.is ∙ ap (foldl step n) (drop-cons v i 0 h)
 
-  pub whole_large : i < length v → 4_294_967_295 < n * 10 + (get_or v i 0 - 48) → WholeOf v Whole.None
+  pub whole_large : i < length v → 4_294_967_295 < n * 10 + (get_or v i 0 - 48) → WholeOf v None
   whole_large h k =
       let l : leb (value v) 4_294_967_295 ≡ false =
       lt-leb (value v) 4_294_967_295 (omega (arith, next h, fold_least (n * 10 + (get_or v i 0 - 48)) (drop (suc i) v))) in
       none_is v (too_large_law v l)
 
-  pub adding_more : i < length v → 48 ≤ get_or v i 0 → get_or v i 0 ≤ 57 → n * 10 + (get_or v i 0 - 48) ≤ 4_294_967_295 → Adding v (i + 1) (n * 10 + (get_or v i 0 - 48))
-  adding_more h a b k =
-      let t : is_digit (get_or v i 0) ≡ true = rw (le-leb 48 (get_or v i 0) a, le-leb (get_or v i 0) 57 b) in
+  pub adding_more : i < length v → is_digit (get_or v i 0) ≡ true → n * 10 + (get_or v i 0 - 48) ≤ 4_294_967_295 → Adding v (i + 1) (n * 10 + (get_or v i 0 - 48))
+  adding_more h t k =
       let z : digit_count (drop i v) ≡ suc (digit_count (drop (suc i) v)) = ap digit_count (drop-cons v i 0 h) ∙ count_digit (get_or v i 0) (drop (suc i) v) t in
       record {
         some = w.some;
@@ -98,7 +91,7 @@ module _ (v : List ℕ) (i n : ℕ) (w : Adding v i n) where
         is = rw (add-one i) (next h);
       }
 
-  pub whole_end : length v ≤ i → WholeOf v (Whole.Is n)
+  pub whole_end : length v ≤ i → WholeOf v (Some n)
   whole_end h =
       let b : i ≤ length v = w.bound in
       let d : drop i v ≡ [] = drop_of_length-le v {i = i} h in
@@ -107,4 +100,4 @@ module _ (v : List ℕ) (i n : ℕ) (w : Adding v i n) where
       let q : eqb (digit_count v) (length v) ≡ true = eq-eqb (digit_count v) (length v) (omega (arith, w.digits, z)) in
       let s : ltb 0 (length v) ≡ true = ⊎_elim (λ (x : 0 < length v). lt-ltb 0 (length v) x) (λ (x : length v ≤ 0). absurd (w.some (omega arith))) (split 0 (length v)) in
       let l : leb (value v) 4_294_967_295 ≡ true = le-leb (value v) 4_294_967_295 (omega (arith, w.small, e)) in
-      record { is = sym (choose_true (is_whole v) (Whole.Is (value v)) Whole.None (all_digits_law v s q l) ∙ ap Whole.Is e) }
+      record { is = sym (choose_true (is_whole v) (Some (value v)) None (all_digits_law v s q l) ∙ ap Some e) }

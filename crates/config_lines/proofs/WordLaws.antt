@@ -1,14 +1,16 @@
 -- A word compared without regard to case.
+use Rattle.std.specs.Char.{to_ascii_lowercase}
+use Rattle.std.specs.List.{list_all, zip}
+use mathlib.Core.Logic.{⊎_elim}
+use Rattle.utf8.proofs.Tests.{split}
 use Prim.Native.Nat.{ℕ, suc, ◌+◌, ◌≤◌, ◌<◌}
-use mathlib.Core.Bool.{true, false, ◌&&◌, and-false}
+use mathlib.Core.Bool.{Bool, false, and-false}
 use mathlib.Core.List.{List, [], ◌∷◌}
 use mathlib.Core.Path.{◌≡◌, refl, sym, ap, ◌∙◌}
-use native.Mathlib.Numerals.{add-one}
 use native.Mathlib.Omega.{arith}
-use borrow.Author.Tests.{lt-leb, le-leb, ne_eqb, eq-eqb}
+use borrow.Author.Tests.{lt-leb, le-leb, lt-ltb, le-ltb}
 use lib.Dec.{eqb, leb}
-use lib.ListN.{length, drop, get_or, drop_of_length-le}
-use lib.Seq.{drop-cons}
+use lib.ListN.{length}
 use Rattle.rules.specs.Basics.{choose, same}
 use Rattle.config_rules.specs.Lines.{lower}
 use Rattle.config_lines.specs.Words.{lowered}
@@ -40,30 +42,22 @@ length_lower (c ∷ s) = ap suc (length_lower s)
 pub word_longer : (s w : List ℕ) → (length s ≡ length w → ⊥) → false ≡ same (lower s) w
 word_longer s w n = length_differs (lower s) w (λ e. n (sym (length_lower s) ∙ e))
 
-pub record Comparing (s w : List ℕ) (i : ℕ) : Type 0 where
-  pub long : length s ≡ length w
-  pub is : same (lower s) w ≡ same (lower (drop i s)) (drop i w)
+-- std's word for the same
+std_lowered : (c : ℕ) → to_ascii_lowercase c ≡ lowered c
+std_lowered c =
+    ⊎_elim (λ h. rw (lt-ltb c 65 h) (low_below c h))
+    (λ h. rw (le-ltb c 65 h) (⊎_elim (λ k. rw (lt-ltb c 91 k) (low_letter c h (omega arith))) (λ k. rw (le-ltb c 91 k) (low_above c (omega arith))) (split c 91)))
+    (split c 65)
 
-pub comparing_start : (s w : List ℕ) → length s ≡ length w → Comparing s w 0
-comparing_start s w e = record { long = e; is = refl }
+abbrev pub same_at : ℕ × ℕ → Bool
+same_at p = eqb (to_ascii_lowercase p.0) p.1
 
-module _ (s w : List ℕ) (i : ℕ) (c : Comparing s w i) where
-  here : i < length s → same (lower (drop i s)) (drop i w) ≡ (eqb (lowered (get_or s i 0)) (get_or w i 0) && same (lower (drop (i + 1) s)) (drop (i + 1) w))
-  unfolding same lower
-  here h =
-      let l : length s ≡ length w = c.long in
-      let k : i < length w = omega arith in
-      rw (add-one i, drop-cons s i 0 h, drop-cons w i 0 k)
+all_same : (s w : List ℕ) → length s ≡ length w → list_all same_at (zip s w) ≡ same (lower s) w
+unfolding same lower
+all_same [] [] e = refl
+all_same [] (y ∷ w) e = absurd (omega arith)
+all_same (x ∷ s) [] e = absurd (omega arith)
+all_same (x ∷ s) (y ∷ w) e = rw (std_lowered x, all_same s w (omega arith))
 
-  pub comparing_other : (x : ℕ) → i < length s → x ≡ lowered (get_or s i 0) → (x ≡ get_or w i 0 → ⊥) → false ≡ same (lower s) w
-  comparing_other x h e n = sym (c.is ∙ here h ∙ rw (← e, ne_eqb x (get_or w i 0) n))
-
-  pub comparing_more : (x : ℕ) → i < length s → x ≡ lowered (get_or s i 0) → x ≡ get_or w i 0 → Comparing s w (i + 1)
-  comparing_more x h e q = record { long = c.long; is = c.is ∙ here h ∙ rw (← e, eq-eqb x (get_or w i 0) q) }
-
-  pub comparing_end : length s ≤ i → true ≡ same (lower s) w
-  unfolding same lower
-  comparing_end h =
-      let l : length s ≡ length w = c.long in
-      let k : length w ≤ i = omega arith in
-      sym (c.is ∙ rw (drop_of_length-le s {i = i} h, drop_of_length-le w {i = i} k))
+pub word_is : (s w : List ℕ) (b : Bool) → b ≡ list_all same_at (zip s w) → length s ≡ length w → b ≡ same (lower s) w
+word_is s w b p e = p ∙ all_same s w e

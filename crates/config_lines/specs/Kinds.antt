@@ -1,7 +1,7 @@
 -- The kind of a trimmed line, by bytes.
-use Rattle.std.specs.Prelude.{ℕ, ◌+◌, ◌-◌, ◌<◌, ◌≤◌, List, ◌≡◌, length, take, drop}
-use Rattle.utf8.specs.Unicode.{decode, WellFormed, trim}
-use Rattle.config_rules.specs.Lines.{Line, lower, line_of}
+use Rattle.std.specs.Prelude.{ℕ, ◌-◌, List, ◌≡◌, true, length, take, drop, Option, Some, None}
+use Rattle.utf8.specs.Unicode.{decode, WellFormed}
+use Rattle.config_rules.specs.Lines.{Line, lower, line_of, is_header}
 use Rattle.config_rules.specs.Lines.Line.{nothing, header, pair}
 use Rattle.config_lines.specs.declared.kinds.LineKind.{LineKind}
 
@@ -9,18 +9,22 @@ use Rattle.config_lines.specs.declared.kinds.LineKind.{LineKind}
 abbrev pub name_in : List ℕ → List ℕ
 name_in s = take (length s - 2) (drop 1 s)
 
+pub record Named (s name : List ℕ) : Type 0 where
+  pub header : is_header s ≡ true
+  pub is : name ≡ name_in s
+
 -- the line that is of this kind
-unfoldable pub line_in : List ℕ → LineKind → Line
-line_in s LineKind.Nothing = nothing
-line_in s LineKind.Header = header (decode (name_in s))
-line_in s (LineKind.Pair i) = pair (lower (trim (decode (take i s)))) (lower (trim (decode (drop (i + 1) s))))
+unfoldable pub line_in : Option LineKind → Line
+line_in None = nothing
+line_in (Some (LineKind.Header name)) = header (decode name.now)
+line_in (Some (LineKind.Pair k v)) = pair (lower (decode k.now)) (lower (decode v.now))
 
 -- its parts are well-formed
-unfoldable pub Parts : List ℕ → LineKind → Type 0
-Parts s LineKind.Nothing = Unit {0}
-Parts s LineKind.Header = (2 ≤ length s) × WellFormed (name_in s)
-Parts s (LineKind.Pair i) = (i < length s) × WellFormed (take i s) × WellFormed (drop (i + 1) s)
+unfoldable pub Parts : Option LineKind → Type 0
+Parts None = Unit {0}
+Parts (Some (LineKind.Header name)) = WellFormed name.now
+Parts (Some (LineKind.Pair k v)) = WellFormed k.now × WellFormed v.now
 
-pub record KindOf (s : List ℕ) (k : LineKind) : Type 0 where
-  pub is : line_of (decode s) ≡ line_in s k
-  pub parts : Parts s k
+pub record KindOf (s : List ℕ) (k : Option LineKind) : Type 0 where
+  pub is : line_of (decode s) ≡ line_in k
+  pub parts : Parts k

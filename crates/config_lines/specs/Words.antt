@@ -1,5 +1,5 @@
 -- Words, and the parts of a line by bytes.
-use Rattle.std.specs.Prelude.{ℕ, ◌+◌, ◌≤◌, List, ◌≡◌, ltb, length, take, drop}
+use Rattle.std.specs.Prelude.{ℕ, ◌+◌, ◌<◌, true, List, ◌≡◌, length, take, drop}
 use Rattle.utf8.specs.Unicode.{within, decode, WellFormed, trim}
 use Rattle.rules.specs.Basics.{choose}
 use Rattle.config_rules.specs.Lines.{has_eq, key, setting}
@@ -8,10 +8,10 @@ use Rattle.config_rules.specs.Lines.{has_eq, key, setting}
 abbrev pub lowered : ℕ → ℕ
 lowered c = choose (within 65 90 c) (c + 32) c
 
--- r is the place of the first `=` of s, or its end
+-- r is the place of the first `=` of s
 pub record EqAt (s : List ℕ) (r : ℕ) : Type 0 where
-  pub fits : r ≤ length s
-  pub has : has_eq s ≡ ltb r (length s)
+  pub fits : r < length s
+  pub has : has_eq s ≡ true
   pub key : key s ≡ take r s
   pub setting : setting s ≡ drop (r + 1) s
 

@@ -1,53 +1,50 @@
 // The kinds of lines.
-ghost use Rattle.std.specs.Prelude.{◌≡◌};
+ghost use Rattle.std.specs.Prelude.{◌≡◌, false, ◌||◌};
+ghost use Rattle.std.specs.Option.{MatchOption};
 ghost use Rattle.utf8.specs.Unicode.{WellFormed};
-ghost use Rattle.config_rules.specs.Lines.{is_header};
-ghost use Rattle.config_lines.specs.Kinds.{KindOf};
+ghost use Rattle.rules.specs.Basics.{is_empty};
+ghost use Rattle.config_rules.specs.Lines.{is_comment, is_header};
+ghost use Rattle.config_lines.specs.Kinds.{Named, KindOf};
 
-use crate::eq_at;
+use crate::{eq_at, trimmed};
 
-// Nothing: blank, a comment, or none of the kinds. A pair has the place of its first `=`.
+// A header has its name; a pair its key and its value, both trimmed.
 #[derive(Clone, Copy)]
-pub enum LineKind {
-    Nothing,
-    Header,
-    Pair(usize),
+pub enum LineKind<'a> {
+    Header(&'a [u8]),
+    Pair(&'a [u8], &'a [u8]),
 }
 
-// Whether a line starts with `[` and ends with `]`.
-fn is_header(line: &[u8]) -> bool
-    ensures { result ≡ is_header line.now }
+// Whether a line is blank or a comment.
+fn is_skipped(line: &[u8]) -> bool
+    ensures { result ≡ (is_empty line.now || is_comment line.now) }
 {
-    let n = line.len();
-    if n < 2 {
-        return false;
-    }
-    if line[0] == b'[' {
-        return line[n - 1] == b']';
-    }
-    false
+    matches!(line, [] | [b';' | b'#', ..])
 }
 
-// The kind of a trimmed line.
-pub fn kind_of(line: &[u8]) -> LineKind
+// What stands between the brackets of a header.
+fn name_in(line: &[u8]) -> Option<&[u8]>
+    ensures { MatchOption result (is_header line.now ≡ false) (λ name. Named line.now name.now) }
+{
+    match line {
+        [b'[', name @ .., b']'] => Some(name),
+        _ => None,
+    }
+}
+
+// The kind of a trimmed line, if it has one.
+pub fn kind_of(line: &[u8]) -> Option<LineKind<'_>>
     requires { WellFormed line.now }
     ensures { KindOf line.now result }
 {
-    if line.len() == 0 {
-        return LineKind::Nothing;
+    if is_skipped(line) {
+        return None;
     }
-    if line[0] == b';' {
-        return LineKind::Nothing;
+    if let Some(name) = name_in(line) {
+        return Some(LineKind::Header(name));
     }
-    if line[0] == b'#' {
-        return LineKind::Nothing;
-    }
-    if is_header(line) {
-        return LineKind::Header;
-    }
-    let i = eq_at(line);
-    if i < line.len() {
-        return LineKind::Pair(i);
-    }
-    LineKind::Nothing
+    let i = eq_at(line)?;
+    let key = trimmed(&line[..i]);
+    let value = trimmed(&line[i + 1..]);
+    Some(LineKind::Pair(key, value))
 }

@@ -1,35 +1,22 @@
 // Whole numbers.
 ghost use Rattle.config_lines.specs.Whole.{WholeOf};
 
-// A value that is a whole number of at most 4,294,967,295, or is none.
-#[derive(Clone, Copy)]
-pub enum Whole {
-    None,
-    Is(usize),
-}
-
-// The number that a value is.
-pub fn whole_of(v: &[u8]) -> Whole
+// The number that a value is, if it is a whole one of at most 4,294,967,295.
+pub fn whole_of(v: &[u8]) -> Option<usize>
     ensures { WholeOf v.now result }
 {
-    if v.len() == 0 {
-        return Whole::None;
+    if v.is_empty() {
+        return None;
     }
     let mut n: usize = 0;
-    let mut i: usize = 0;
-    while i < v.len() {
-        let c = v[i];
-        if c < b'0' {
-            return Whole::None;
+    for c in v {
+        if !c.is_ascii_digit() {
+            return None;
         }
-        if b'9' < c {
-            return Whole::None;
-        }
-        n = n * 10 + ((c - b'0') as usize);
+        n = n * 10 + (*c - b'0') as usize;
         if 4_294_967_295 < n {
-            return Whole::None;
+            return None;
         }
-        i += 1;
     }
-    Whole::Is(n)
+    Some(n)
 }

@@ -4,80 +4,72 @@ ghost use Rattle.config_rules.specs.Lines.{lower};
 ghost use Rattle.config_rules.specs.Values.{style_of, size_of, tab_of, max_of, ending_of, newline_of};
 
 use crate::is_word;
-use crate::number::{Whole, whole_of};
-use rules::{ConfigEnding, IndentSize, IndentStyle, InsertFinalNewline, MaxLineLen, TabWidth};
+use crate::number::whole_of;
+use rules::{ConfigEnding, IndentSize, IndentStyle, MaxLineLen};
 
-pub fn style_of(v: &[u8]) -> IndentStyle
+#[tactic(auto, unfolding(rules::specs::Basics::choose, config_rules::specs::Values::style_of))]
+pub fn style_of(v: &[u8]) -> Option<IndentStyle>
     ensures { result ≡ style_of (lower v.now) }
 {
     if is_word(v, b"tab") {
-        return IndentStyle::Tabs;
+        Some(IndentStyle::Tabs)
+    } else if is_word(v, b"space") {
+        Some(IndentStyle::Spaces)
+    } else {
+        None
     }
-    if is_word(v, b"space") {
-        return IndentStyle::Spaces;
-    }
-    IndentStyle::Unset
 }
 
-pub fn ending_of(v: &[u8]) -> ConfigEnding
+#[tactic(auto, unfolding(rules::specs::Basics::choose, config_rules::specs::Values::ending_of))]
+pub fn ending_of(v: &[u8]) -> Option<ConfigEnding>
     ensures { result ≡ ending_of (lower v.now) }
 {
     if is_word(v, b"lf") {
-        return ConfigEnding::Lf;
+        Some(ConfigEnding::Lf)
+    } else if is_word(v, b"crlf") {
+        Some(ConfigEnding::CrLf)
+    } else if is_word(v, b"cr") {
+        Some(ConfigEnding::Cr)
+    } else {
+        None
     }
-    if is_word(v, b"crlf") {
-        return ConfigEnding::CrLf;
-    }
-    if is_word(v, b"cr") {
-        return ConfigEnding::Cr;
-    }
-    ConfigEnding::Unset
 }
 
-pub fn newline_of(v: &[u8]) -> InsertFinalNewline
+#[tactic(auto, unfolding(rules::specs::Basics::choose, config_rules::specs::Values::newline_of))]
+pub fn newline_of(v: &[u8]) -> Option<bool>
     ensures { result ≡ newline_of (lower v.now) }
 {
     if is_word(v, b"true") {
-        return InsertFinalNewline::Value(true);
+        Some(true)
+    } else if is_word(v, b"false") {
+        Some(false)
+    } else {
+        None
     }
-    if is_word(v, b"false") {
-        return InsertFinalNewline::Value(false);
-    }
-    InsertFinalNewline::Unset
 }
 
-pub fn size_of(v: &[u8]) -> IndentSize
+#[tactic(auto, unfolding(rules::specs::Basics::choose, config_rules::specs::Values::size_of))]
+pub fn size_of(v: &[u8]) -> Option<IndentSize>
     ensures { result ≡ size_of (lower v.now) }
 {
     if is_word(v, b"tab") {
-        return IndentSize::UseTabWidth;
+        return Some(IndentSize::UseTabWidth);
     }
-    let w = whole_of(v);
-    match w {
-        Whole::None => IndentSize::Unset,
-        Whole::Is(n) => IndentSize::Value(n),
-    }
+    whole_of(v).map(IndentSize::Value)
 }
 
-pub fn tab_of(v: &[u8]) -> TabWidth
+pub fn tab_of(v: &[u8]) -> Option<usize>
     ensures { result ≡ tab_of (lower v.now) }
 {
-    let w = whole_of(v);
-    match w {
-        Whole::None => TabWidth::Unset,
-        Whole::Is(n) => TabWidth::Value(n),
-    }
+    whole_of(v)
 }
 
-pub fn max_of(v: &[u8]) -> MaxLineLen
+#[tactic(auto, unfolding(rules::specs::Basics::choose, config_rules::specs::Values::max_of))]
+pub fn max_of(v: &[u8]) -> Option<MaxLineLen>
     ensures { result ≡ max_of (lower v.now) }
 {
     if is_word(v, b"off") {
-        return MaxLineLen::Off;
+        return Some(MaxLineLen::Off);
     }
-    let w = whole_of(v);
-    match w {
-        Whole::None => MaxLineLen::Unset,
-        Whole::Is(n) => MaxLineLen::Value(n),
-    }
+    whole_of(v).map(MaxLineLen::Value)
 }

@@ -4,11 +4,12 @@ use Prim.Native.String.{String}
 use mathlib.Core.List.{List, [], ◌∷◌, ◌++◌}
 use mathlib.Core.Path.{◌≡◌, refl}
 use lib.ListN.{replicate}
+use Rattle.std.specs.Prelude.{Ok, Err}
 use Rattle.rules.specs.Basics.{codes}
 use Rattle.config_rules.specs.Values.{unset}
 use Rattle.config_rules.specs.Call.{read_editor_config, answer_of}
 use Rattle.config_rules.specs.declared.ConfigAnswer.{ConfigAnswer}
-use Rattle.config_rules.specs.declared.ConfigOutcome.{ConfigOutcome}
+use Rattle.config_rules.specs.declared.ConfigRefusal.{ConfigRefusal}
 use Rattle.config_rules.proofs.Computing.{configuring}
 
 -- these are ASCII
@@ -53,7 +54,7 @@ refused_numbers = refl
 
 -- a name's leading slash counts; keys and values have no limit
 limits :
-    (read_editor_config [] ((91 ∷ 47 ∷ replicate 1024 97 ++ (93 ∷ [])) ∷ []) ≡ ConfigOutcome.Refused 8)
-    × (read_editor_config [] ((replicate 1100 97 ++ (61 ∷ replicate 1100 98)) ∷ []) ≡ ConfigOutcome.Given unset)
+    (read_editor_config [] ((91 ∷ 47 ∷ replicate 1024 97 ++ (93 ∷ [])) ∷ []) ≡ Err ConfigRefusal.LongName)
+    × (read_editor_config [] ((replicate 1100 97 ++ (61 ∷ replicate 1100 98)) ∷ []) ≡ Ok unset)
 unfolding configuring
 limits = (refl, refl)

@@ -2,6 +2,7 @@
 --     LevelScan     the loop of `level_from`
 --     nearest_is, above-…, applied-…, top-…
 --     level_step    one level outward; relatives-decode     the paths of the levels, by characters
+use Rattle.std.specs.Prelude.{Option, None}
 use Prim.Native.Nat.{ℕ, suc, ◌+◌, ◌-◌, ◌≤◌, ◌<◌}
 use mathlib.Core.Bool.{Bool, true, false}
 use mathlib.Core.List.{List, [], ◌∷◌, ◌++◌, map, append_assoc, append-nil}
@@ -22,6 +23,10 @@ use Rattle.rules.specs.declared.Resolved.{Resolved}
 use Rattle.rules.proofs.Choose.{choose_case, choose_true, choose_false}
 use Rattle.rules.proofs.StartsBytes.{on_decode, steady_is, first_encode}
 use Rattle.config_rules.specs.Lines.{lines_of}
+use Rattle.rules.specs.declared.IndentStyle.{IndentStyle}
+use Rattle.rules.specs.declared.IndentSize.{IndentSize}
+use Rattle.rules.specs.declared.MaxLineLen.{MaxLineLen}
+use Rattle.rules.specs.declared.ConfigEnding.{ConfigEnding}
 use Rattle.config_rules.specs.Values.{unset}
 use Rattle.config_rules.specs.Sections.{root_at, settings}
 use Rattle.config_rules.specs.Texts.{below_slashes, relatives, resolved}
@@ -189,6 +194,17 @@ pub applied_unused : (p text : List ℕ) (l : Level) (old : Resolved) → l.used
 applied_unused p text l old u = record { is = sym (choose_false _ _ _ u) }
 
 -- ---- one level outward
+
+-- what is none in every field is unset
+pub unset_is : (r : Resolved)
+    → (r.style ≡ None) × ((r.size ≡ None) × ((r.tab ≡ None) × ((r.max ≡ None) × ((r.ending ≡ None) × (r.newline ≡ None)))))
+    → r ≡ unset
+unset_is r h = made r.style r.size r.tab r.max r.ending r.newline h.0 h.1.0 h.1.1.0 h.1.1.1.0 h.1.1.1.1.0 h.1.1.1.1.1
+  where
+    made : (s : Option IndentStyle) (n : Option IndentSize) (t : Option ℕ) (m : Option MaxLineLen) (e : Option ConfigEnding) (b : Option Bool)
+        → s ≡ None → n ≡ None → t ≡ None → m ≡ None → e ≡ None → b ≡ None
+        → ◌≡◌ {A = Resolved} (record { style = s; size = n; tab = t; max = m; ending = e; newline = b }) unset
+    made s n t m e b p q u v w x = rw (p, q, u, v, w, x)
 
 resolved_none : (ts : Rels) → resolved ts [] ≡ unset
 unfolding resolved

@@ -7,6 +7,8 @@ use native.Mathlib.Omega.{arith}
 use borrow.Author.Tests.{lt-ltb, le-ltb, ltb-true, ltb-false, not-false}
 use lib.Dec.{ltb}
 use lib.ListN.{length, drop}
+use Rattle.std.specs.Prelude.{Option, Some, None, Result, Ok, Err, IsErr, IsErrAnd}
+use Rattle.std.specs.Result.{result_err}
 use Rattle.utf8.specs.Unicode.{prefix_len, decode, WellFormed, well_formed}
 use Rattle.utf8.proofs.Tests.{by_test}
 use Rattle.utf8.proofs.Decode.{test_wf, test_whole, test_part, wf_whole}
@@ -18,18 +20,20 @@ use Rattle.rules.proofs.Choose.{choose_true, choose_false}
 use Rattle.config_rules.specs.Lines.{lines_of}
 use Rattle.config_rules.specs.Sections.{long_name}
 use Rattle.config_rules.specs.Texts.{below_slashes, resolved, relatives}
-use Rattle.config_rules.specs.Call.{any_of, too_long, ill_formed, has_long_name, read_editor_config}
-use Rattle.config_rules.specs.declared.ConfigOutcome.{ConfigOutcome}
+use Rattle.config_rules.specs.Call.{any_of, too_long, ill_formed, has_long_name, ConfigOutcome, read_editor_config}
+use Rattle.config_rules.specs.declared.ConfigRefusal.{ConfigRefusal}
 use Rattle.config_text.specs.Walk.{Readable}
 use Rattle.config_text.specs.Steps.{Accepted}
-use Rattle.config_read.specs.Levels.{Nearest, TopOf, Outward, OutwardFrom, Inward}
-use Rattle.config_read.specs.Refusals.{rank_of, path_rank, worst, AllAccepted}
-use Rattle.config_read.specs.Halves.{path_of, FarStart, NearRead, FarRead, AllRead}
+use Rattle.config_read.specs.Levels.{Nearest, TopOf, Outward, OutwardFrom, Inward, Resolving}
+use Rattle.config_read.specs.Refusals.{rank_number, rank_of, path_rank, worst, AllAccepted}
+use Rattle.config_read.specs.Halves.{path_of, rank_in, FarStart, NearRead, FarRead, AllRead}
 use Rattle.config_read.specs.declared.levels.Level.{Level}
 use Rattle.config_read.specs.declared.levels.Levels.{Levels}
 use Rattle.config_read.specs.declared.Near.{Near}
-use Rattle.config_read.specs.declared.Far.{Far}
 use Rattle.config_read.proofs.LevelLaws.{resolves_all, rels_decode, relatives_top}
+
+abbrev given : Resolved → ConfigOutcome
+given v = Ok v
 
 abbrev Texts : Type 0
 Texts = List (List ℕ)
@@ -202,8 +206,8 @@ all_accepted (t ∷ ts) h = (go (ranked t), all_accepted ts (omega (arith, worst
 pub record WorstOf (path : List ℕ) (ts : Texts) (r : ℕ) : Type 0 where
   pub is : r ≡ max (path_rank path) (worst ts)
 
-worst_of_all : (path : List ℕ) (xs ys : Texts) (i j r : ℕ) → i ≡ max (path_rank path) (worst xs) → j ≡ worst ys → r ≡ max i j → WorstOf path (xs ++ ys) r
-worst_of_all path xs ys i j r ei ej er = record { is = omega (arith, worst_append xs ys) }
+worst_of_all : (path : List ℕ) (xs ys : Texts) (i r : ℕ) → i ≡ max (path_rank path) (worst xs) → r ≡ max i (worst ys) → WorstOf path (xs ++ ys) r
+worst_of_all path xs ys i r ei er = record { is = omega (arith, worst_append xs ys) }
 
 data PathRanked (path : List ℕ) : Type 0 where
   bad : ill_formed path ≡ true → path_rank path ≡ 2 → PathRanked path
@@ -221,7 +225,7 @@ module _ (path : List ℕ) (ts : Texts) (r : ℕ) (w : WorstOf path ts r) where
       go (bad a e) = omega arith
       go (good a e) = omega arith
 
-  read_long : r ≡ 3 → ConfigOutcome.Refused 7 ≡ read_editor_config path ts
+  read_long : r ≡ 3 → Err ConfigRefusal.LongText ≡ read_editor_config path ts
   unfolding read_editor_config
   read_long e = sym (choose_true _ _ _ (any_long ts ∙ lt-ltb 2 (worst ts) (omega (arith, w.is, path_top))))
 
@@ -232,19 +236,19 @@ module _ (path : List ℕ) (ts : Texts) (r : ℕ) (w : WorstOf path ts r) where
       go (bad a e) = any_yes ill_formed path ts a ∙ sym (lt-ltb 1 r (omega (arith, w.is)))
       go (good a e) = any_no ill_formed path ts a ∙ any_ill ts h ∙ ap (ltb 1) (let z : worst ts ≡ r = omega (arith, w.is) in z)
 
-  read_ill : r ≡ 2 → ConfigOutcome.Refused 4 ≡ read_editor_config path ts
+  read_ill : r ≡ 2 → Err ConfigRefusal.NotUtf8 ≡ read_editor_config path ts
   unfolding read_editor_config
   read_ill e =
       sym (choose_false _ _ _ (any_long ts ∙ le-ltb 2 (worst ts) (omega (arith, w.is)))
       ∙ choose_true _ _ _ (ills (omega (arith, w.is)) ∙ lt-ltb 1 r (omega arith)))
 
-  readable_all : r ≤ 1 → read_editor_config path ts ≡ choose (any_of has_long_name ts) (ConfigOutcome.Refused 8) (ConfigOutcome.Given (resolved (map decode ts) (relatives (decode path))))
+  readable_all : r ≤ 1 → read_editor_config path ts ≡ choose (any_of has_long_name ts) (Err ConfigRefusal.LongName) (Ok (resolved (map decode ts) (relatives (decode path))))
   unfolding read_editor_config
   readable_all h =
       choose_false _ _ _ (any_long ts ∙ le-ltb 2 (worst ts) (omega (arith, w.is)))
       ∙ choose_false _ _ _ (ills (omega (arith, w.is)) ∙ le-ltb 1 r h)
 
-  read_name : r ≡ 1 → ConfigOutcome.Refused 8 ≡ read_editor_config path ts
+  read_name : r ≡ 1 → Err ConfigRefusal.LongName ≡ read_editor_config path ts
   read_name e =
       sym (readable_all (omega arith) ∙ choose_true _ _ _ (any_name ts (omega (arith, w.is)) ∙ lt-ltb 0 (worst ts) (go (path_ranked path))))
     where
@@ -253,12 +257,12 @@ module _ (path : List ℕ) (ts : Texts) (r : ℕ) (w : WorstOf path ts r) where
       go (good a p) = omega (arith, w.is)
 
   read_given : r ≡ 0 → (top : ℕ) → TopOf path top → (v : Resolved) → v ≡ resolved (map decode ts) (map decode (below_slashes (part path top (length path)) ++ (part path top (length path) ∷ [])))
-      → ConfigOutcome.Given v ≡ read_editor_config path ts
+      → Ok v ≡ read_editor_config path ts
   read_given e top t v s =
       sym (readable_all (omega arith) ∙ choose_false _ _ _ (any_name ts (omega (arith, w.is)) ∙ le-ltb 0 (worst ts) (omega (arith, w.is)))
-      ∙ ap (λ (x : Texts). ConfigOutcome.Given (resolved (map decode ts) x)) (relatives_top path top t ∙ sym (rels_decode (drop top path) t.well))
-      ∙ ap (λ (x : List ℕ). ConfigOutcome.Given (resolved (map decode ts) (map decode (below_slashes x ++ (x ∷ []))))) (sym (part_from path top))
-      ∙ ap ConfigOutcome.Given (sym s))
+      ∙ ap (λ (x : Texts). given (resolved (map decode ts) x)) (relatives_top path top t ∙ sym (rels_decode (drop top path) t.well))
+      ∙ ap (λ (x : List ℕ). given (resolved (map decode ts) (map decode (below_slashes x ++ (x ∷ []))))) (sym (part_from path top))
+      ∙ ap given (sym s))
 
 -- ---- in two halves
 
@@ -269,80 +273,130 @@ well_path path e = go (path_ranked path)
     go (bad a p) = absurd (omega arith)
     go (good a p) = test_wf path (not-false (well_formed path) a)
 
+-- what `?` hands on of a refusal, and of what was read before
+pub handed_refusal : (r : ConfigOutcome) (why : ConfigRefusal) → IsErr r × IsErrAnd r (λ e. e ≡ why) → r ≡ Err why
+handed_refusal (Ok v) why h = absurd h.1
+handed_refusal (Err w) why h = rw h.1
+
+-- the rank of what refuses, if anything does
+pub rank_some : (why : ConfigRefusal) → 0 < rank_number (Some why)
+rank_some ConfigRefusal.LongName = omega arith
+rank_some ConfigRefusal.NotUtf8 = omega arith
+rank_some ConfigRefusal.LongText = omega arith
+
 module _ (path a b c d : List ℕ) where
   abbrev near_texts : Texts
   near_texts = a ∷ b ∷ c ∷ d ∷ []
 
-  module _ (i j rank : ℕ) (ei : i ≡ path_rank path) (ej : j ≡ worst near_texts) (er : rank ≡ max i j) where
-    pub near_well : rank ≡ 0 → WellFormed path
-    near_well z = well_path path (omega arith)
-
-    pub near_accepted : rank ≡ 0 → AllAccepted near_texts
-    near_accepted z = all_accepted near_texts (omega arith)
-
-    near_rank : rank ≡ max (path_rank path) (worst near_texts)
+  module _ (i j : ℕ) (r : Option ConfigRefusal) (ei : i ≡ path_rank path) (ej : j ≡ worst near_texts) (er : rank_number r ≡ max i j) where
+    near_rank : rank_number r ≡ max (path_rank path) (worst near_texts)
     near_rank = omega arith
 
-    pub near_levels : (top : ℕ) (l : Level) (ls : Levels) → TopOf path top → Nearest (part path top (length path)) l → OutwardFrom (part path top (length path)) a b c d l ls
-        → NearRead path a b c d (record { rank = rank; top = top; levels = ls })
-    near_levels top l ls t n o =
+    module _ (e : r ≡ None) where
+      zero_rank : max (path_rank path) (worst near_texts) ≡ 0
+      zero_rank = sym near_rank ∙ ap rank_number e
+
+      pub near_well : WellFormed path
+      near_well = well_path path (omega (arith, zero_rank))
+
+      pub near_accepted : AllAccepted near_texts
+      near_accepted = all_accepted near_texts (omega (arith, zero_rank))
+
+      pub near_levels : (top : ℕ) (l : Level) (ls : Levels) → TopOf path top → Nearest (part path top (length path)) l → OutwardFrom (part path top (length path)) a b c d l ls
+          → NearRead path a b c d (Ok (record { top = top; levels = ls }))
+      near_levels top l ls t n o =
+          record {
+            rank = sym zero_rank;
+            start = λ m k. subst (FarStart path) (same m k) (record { top = t; at = o.levels.beyond.at });
+            nearest = λ m k. subst (λ (x : Near). Nearest (path_of path x) x.levels.first) (same m k) (subst (Nearest (part path top (length path))) (sym o.first) n);
+            levels = λ m k. subst (λ (x : Near). Outward (path_of path x) a b c d x.levels) (same m k) o.levels;
+          }
+        where
+          here : Near
+          here = record { top = top; levels = ls }
+
+          same : (m : Near) → ◌≡◌ {A = Result Near ConfigRefusal} (Ok here) (Ok m) → here ≡ m
+          same m k = cc
+
+    pub near_refused : (why : ConfigRefusal) → r ≡ Some why → NearRead path a b c d (Err why)
+    near_refused why e =
         record {
-          rank = near_rank;
-          start = λ z. record { top = t; at = o.levels.beyond.at };
-          nearest = λ z. subst (Nearest (part path top (length path))) (sym o.first) n;
-          levels = λ z. o.levels;
+          rank = sym (ap rank_number e) ∙ near_rank;
+          start = λ m k. absurd (no_near m k);
+          nearest = λ m k. absurd (no_near m k);
+          levels = λ m k. absurd (no_near m k);
         }
+      where
+        no_near : (m : Near) → ◌≡◌ {A = Result Near ConfigRefusal} (Err why) (Ok m) → ⊥
+        no_near m k = let z : ◌≡◌ {A = ℕ} 0 1 = cc in omega arith
 
-    pub near_refused : (top : ℕ) (ls : Levels) → (rank ≡ 0 → ⊥) → NearRead path a b c d (record { rank = rank; top = top; levels = ls })
-    near_refused top ls h =
-        record { rank = near_rank; start = λ z. absurd (h z); nearest = λ z. absurd (h z); levels = λ z. absurd (h z) }
+-- w refuses the farther texts or what was read before, r is the worse of both
+module _ (path : List ℕ) (n : Result Near ConfigRefusal) (ts : Texts) (e w r : Option ConfigRefusal) (first : e ≡ result_err n)
+    (texts : rank_number w ≡ worst ts) (m : rank_number r ≡ max (rank_number e) (rank_number w)) where
+  far_rank : rank_number r ≡ max (rank_in n) (worst ts)
+  far_rank = omega (arith, ap rank_number first)
 
-pub far_accepted : (ts : Texts) (i rank r : ℕ) → rank ≡ worst ts → r ≡ max i rank → r ≡ 0 → AllAccepted ts
-far_accepted ts i rank r e m z = all_accepted ts (omega arith)
+  pub far_refused : (why : ConfigRefusal) → r ≡ Some why → FarRead path n ts (Err why)
+  far_refused why k = record { rank = sym (ap rank_number k) ∙ far_rank; values = λ p v i j. absurd (no_values v j) }
+    where
+      no_values : (v : Resolved) → ◌≡◌ {A = ConfigOutcome} (Err why) (Ok v) → ⊥
+      no_values v j = let z : ◌≡◌ {A = ℕ} 0 1 = cc in omega arith
 
-module _ (path : List ℕ) (n : Near) (rank r : ℕ) (m : r ≡ max n.rank rank) where
-  pub far_start : (n.rank ≡ 0 → FarStart path n) → r ≡ 0 → FarStart path n
-  far_start q z = q (omega arith)
+  module _ (k : r ≡ None) where
+    zero_far : max (rank_in n) (worst ts) ≡ 0
+    zero_far = sym far_rank ∙ ap rank_number k
 
-  pub far_refused : (ts : Texts) → rank ≡ worst ts → (v : Resolved) → (r ≡ 0 → ⊥) → FarRead path n ts (record { rank = rank; values = v })
-  far_refused ts e v h = record { rank = e; values = λ y z. absurd (h (omega arith)) }
+    pub far_accepted : AllAccepted ts
+    far_accepted = all_accepted ts (omega (arith, zero_far))
 
--- the nearer texts, where all ranks are 0
-module _ (path a b c d : List ℕ) (n : Near) (q : NearRead path a b c d n) (g r : ℕ) (e : r ≡ max n.rank g) (z : r ≡ 0) where
-  near_zero : n.rank ≡ 0
-  near_zero = omega arith
+    -- what was read before was not refused
+    pub far_near : (why : ConfigRefusal) → n ≡ Err why → ⊥
+    far_near why i = omega (arith, zero_far, ap rank_in i, rank_some why)
+
+    pub far_values : (p : Near) (v : Resolved) → n ≡ Ok p → Resolving (path_of path p) p.levels.beyond ts v → FarRead path n ts (Ok v)
+    far_values p v i h = record { rank = sym zero_far; values = λ q u j l. subst (λ (x : Near). Resolving (path_of path x) x.levels.beyond ts u) (same_near q j) (subst (Resolving (path_of path p) p.levels.beyond ts) (same_values u l) h) }
+      where
+        same_near : (q : Near) → n ≡ Ok q → p ≡ q
+        same_near q j = cc
+
+        same_values : (u : Resolved) → ◌≡◌ {A = ConfigOutcome} (Ok v) (Ok u) → v ≡ u
+        same_values u l = cc
+
+-- the nearer texts, where nothing is refused
+module _ (path a b c d : List ℕ) (n : Result Near ConfigRefusal) (q : NearRead path a b c d n) (m : Near) (e : n ≡ Ok m) where
+  near_zero : max (path_rank path) (worst (a ∷ b ∷ c ∷ d ∷ [])) ≡ 0
+  near_zero = sym q.rank ∙ ap rank_in e
 
   pub all_accept : AllAccepted (a ∷ b ∷ c ∷ d ∷ [])
-  all_accept = all_accepted (a ∷ b ∷ c ∷ d ∷ []) (omega (arith, q.rank, near_zero))
+  all_accept = all_accepted (a ∷ b ∷ c ∷ d ∷ []) (omega (arith, near_zero))
 
-  pub all_top : TopOf path n.top
-  all_top = (q.start near_zero).top
+  pub all_top : TopOf path m.top
+  all_top = (q.start m e).top
 
-  pub all_outward : Outward (path_of path n) a b c d n.levels
-  all_outward = q.levels near_zero
+  pub all_outward : Outward (path_of path m) a b c d m.levels
+  all_outward = q.levels m e
 
-module _ (path a b c d : List ℕ) (n : Near) (f : Far) (q : NearRead path a b c d n) (r : ℕ) (e : r ≡ max n.rank f.rank) where
-  all_worst : (ts : Texts) → FarRead path n ts f → WorstOf path (a ∷ b ∷ c ∷ d ∷ ts) r
-  all_worst ts w = worst_of_all path (a ∷ b ∷ c ∷ d ∷ []) ts n.rank f.rank r q.rank w.rank e
+module _ (path a b c d : List ℕ) (n : Result Near ConfigRefusal) (f : ConfigOutcome) (q : NearRead path a b c d n) where
+  all_worst : (ts : Texts) → FarRead path n ts f → WorstOf path (a ∷ b ∷ c ∷ d ∷ ts) (rank_in f)
+  all_worst ts w = worst_of_all path (a ∷ b ∷ c ∷ d ∷ []) ts (rank_in n) (rank_in f) q.rank w.rank
 
-  pub all_name : r ≡ 1 → AllRead path a b c d n f (ConfigOutcome.Refused 8)
-  all_name z = record { is = λ ts w. read_name path (a ∷ b ∷ c ∷ d ∷ ts) r (all_worst ts w) z }
+  pub all_refused : (why : ConfigRefusal) → f ≡ Err why → AllRead path a b c d n f (Err why)
+  all_refused why e = record { is = λ ts w. go why ts (subst (WorstOf path (a ∷ b ∷ c ∷ d ∷ ts)) (ap rank_in e) (all_worst ts w)) }
+    where
+      go : (why : ConfigRefusal) (ts : Texts) → WorstOf path (a ∷ b ∷ c ∷ d ∷ ts) (rank_number (Some why)) → Err why ≡ read_editor_config path (a ∷ b ∷ c ∷ d ∷ ts)
+      go ConfigRefusal.LongName ts w = read_name path (a ∷ b ∷ c ∷ d ∷ ts) 1 w refl
+      go ConfigRefusal.NotUtf8 ts w = read_ill path (a ∷ b ∷ c ∷ d ∷ ts) 2 w refl
+      go ConfigRefusal.LongText ts w = read_long path (a ∷ b ∷ c ∷ d ∷ ts) 3 w refl
 
-  pub all_ill : r ≡ 2 → AllRead path a b c d n f (ConfigOutcome.Refused 4)
-  all_ill z = record { is = λ ts w. read_ill path (a ∷ b ∷ c ∷ d ∷ ts) r (all_worst ts w) z }
+  module _ (old : Resolved) (e : f ≡ Ok old) where
+    -- the nearer texts were not refused, since nothing was
+    pub all_near : (why : ConfigRefusal) → n ≡ Err why → AllRead path a b c d n f (Err why)
+    all_near why k = record { is = λ ts w. absurd (omega (arith, w.rank, ap rank_in e, ap rank_in k, rank_some why)) }
 
-  pub all_long : (r ≡ 0 → ⊥) → (r ≡ 1 → ⊥) → (r ≡ 2 → ⊥) → AllRead path a b c d n f (ConfigOutcome.Refused 7)
-  all_long x y z =
-      record {
-        is = λ ts w. read_long path (a ∷ b ∷ c ∷ d ∷ ts) r (all_worst ts w)
-            (omega (arith, (all_worst ts w).is, worst_top (a ∷ b ∷ c ∷ d ∷ ts), path_top path (a ∷ b ∷ c ∷ d ∷ ts) r (all_worst ts w)));
-      }
-
-  pub all_given : r ≡ 0 → (v : Resolved) → Inward (path_of path n) a b c d n.levels f.values v → AllRead path a b c d n f (ConfigOutcome.Given v)
-  all_given z v i =
-      let y : n.rank ≡ 0 = omega arith in
-      record {
-        is = λ ts w.
-            read_given path (a ∷ b ∷ c ∷ d ∷ ts) r (all_worst ts w) z n.top (q.start y).top v
-            (resolves_all (path_of path n) n.levels.first (a ∷ b ∷ c ∷ d ∷ ts) v (q.nearest y) (i.all ts (w.values y (omega arith))));
-      }
+    pub all_given : (m : Near) → n ≡ Ok m → (v : Resolved) → Inward (path_of path m) a b c d m.levels old v → AllRead path a b c d n f (Ok v)
+    all_given m k v i =
+        record {
+          is = λ ts w.
+              read_given path (a ∷ b ∷ c ∷ d ∷ ts) (rank_in f) (all_worst ts w) (ap rank_in e) m.top (q.start m k).top v
+              (resolves_all (path_of path m) m.levels.first (a ∷ b ∷ c ∷ d ∷ ts) v (q.nearest m k) (i.all ts (w.values m old k e)));
+        }

@@ -1,12 +1,13 @@
 -- The eight texts in two halves of four: what is known after the nearer, after the farther, and of all.
-use Rattle.std.specs.Prelude.{ℕ, max, List, [], ◌∷◌, ◌≡◌, length}
+use Rattle.std.specs.Prelude.{ℕ, max, List, [], ◌∷◌, ◌≡◌, length, Result, Ok}
+use Rattle.std.specs.Result.{result_err}
 use Rattle.buffer.specs.Buffer.{part}
-use Rattle.config_rules.specs.Call.{read_editor_config}
-use Rattle.config_rules.specs.declared.ConfigOutcome.{ConfigOutcome}
+use Rattle.rules.specs.declared.Resolved.{Resolved}
+use Rattle.config_rules.specs.Call.{ConfigOutcome, read_editor_config}
+use Rattle.config_rules.specs.declared.ConfigRefusal.{ConfigRefusal}
 use Rattle.config_read.specs.Levels.{LevelAt, Nearest, TopOf, Outward, Resolving}
-use Rattle.config_read.specs.Refusals.{path_rank, worst}
+use Rattle.config_read.specs.Refusals.{rank_number, path_rank, worst}
 use Rattle.config_read.specs.declared.Near.{Near}
-use Rattle.config_read.specs.declared.Far.{Far}
 
 -- the path without its leading slash
 abbrev pub path_of : List ℕ → Near → List ℕ
@@ -17,18 +18,21 @@ pub record FarStart (path : List ℕ) (n : Near) : Type 0 where
   pub top : TopOf path n.top
   pub at : LevelAt (path_of path n) n.levels.beyond
 
--- the nearer texts a, b, c, d: where no rank is above 0, their levels are known
-pub record NearRead (path a b c d : List ℕ) (n : Near) : Type 0 where
-  pub rank : n.rank ≡ max (path_rank path) (worst (a ∷ b ∷ c ∷ d ∷ []))
-  pub start : n.rank ≡ 0 → FarStart path n
-  pub nearest : n.rank ≡ 0 → Nearest (path_of path n) n.levels.first
-  pub levels : n.rank ≡ 0 → Outward (path_of path n) a b c d n.levels
+abbrev pub rank_in : {A : Type 0} → Result A ConfigRefusal → ℕ
+rank_in r = rank_number (result_err r)
+
+-- the nearer texts a, b, c, d: if nothing is refused, their levels are known
+pub record NearRead (path a b c d : List ℕ) (n : Result Near ConfigRefusal) : Type 0 where
+  pub rank : rank_in n ≡ max (path_rank path) (worst (a ∷ b ∷ c ∷ d ∷ []))
+  pub start : (m : Near) → n ≡ Ok m → FarStart path m
+  pub nearest : (m : Near) → n ≡ Ok m → Nearest (path_of path m) m.levels.first
+  pub levels : (m : Near) → n ≡ Ok m → Outward (path_of path m) a b c d m.levels
 
 -- the farther texts
-pub record FarRead (path : List ℕ) (n : Near) (ts : List (List ℕ)) (f : Far) : Type 0 where
-  pub rank : f.rank ≡ worst ts
-  pub values : n.rank ≡ 0 → f.rank ≡ 0 → Resolving (path_of path n) n.levels.beyond ts f.values
+pub record FarRead (path : List ℕ) (n : Result Near ConfigRefusal) (ts : List (List ℕ)) (f : ConfigOutcome) : Type 0 where
+  pub rank : rank_in f ≡ max (rank_in n) (worst ts)
+  pub values : (m : Near) (v : Resolved) → n ≡ Ok m → f ≡ Ok v → Resolving (path_of path m) m.levels.beyond ts v
 
 -- r is the outcome of all, whatever the farther texts are
-pub record AllRead (path a b c d : List ℕ) (n : Near) (f : Far) (r : ConfigOutcome) : Type 0 where
+pub record AllRead (path a b c d : List ℕ) (n : Result Near ConfigRefusal) (f r : ConfigOutcome) : Type 0 where
   pub is : (ts : List (List ℕ)) → FarRead path n ts f → r ≡ read_editor_config path (a ∷ b ∷ c ∷ d ∷ ts)

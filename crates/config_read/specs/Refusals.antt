@@ -1,10 +1,18 @@
 -- The refusals of all texts at once: the worst of each.
-use Rattle.std.specs.Prelude.{ℕ, max, List, [], ◌∷◌}
+use Rattle.std.specs.Prelude.{ℕ, max, List, [], ◌∷◌, Option, Some, None}
 use Rattle.rules.specs.Basics.{choose}
 use Rattle.config_rules.specs.Call.{too_long, ill_formed, has_long_name}
+use Rattle.config_rules.specs.declared.ConfigRefusal.{ConfigRefusal}
 use Rattle.config_text.specs.Steps.{Accepted}
 
 -- 3 for refusal 7, 2 for 4, 1 for 8, 0 for none: the one that comes first is the largest
+abbrev pub rank_number : Option ConfigRefusal → ℕ
+rank_number None = 0
+rank_number (Some ConfigRefusal.LongName) = 1
+rank_number (Some ConfigRefusal.NotUtf8) = 2
+rank_number (Some ConfigRefusal.LongText) = 3
+
+-- the rank of what refuses a text
 unfoldable pub rank_of : List ℕ → ℕ
 rank_of t = choose (too_long t) 3 (choose (ill_formed t) 2 (choose (has_long_name t) 1 0))
 

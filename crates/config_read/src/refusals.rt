@@ -1,45 +1,45 @@
-// Refusals 7, 4 and 8 as ranks: the one that comes first over all texts is the largest.
+// Refusals 7, 4 and 8 over all texts.
 ghost use Rattle.std.specs.Prelude.{◌≡◌, [], ◌∷◌, max};
-ghost use Rattle.config_read.specs.Refusals.{rank_of, path_rank, worst};
+ghost use Rattle.config_read.specs.Refusals.{rank_number, rank_of, path_rank, worst};
+
+use config_rules::ConfigRefusal;
 
 // The bytes that a text may have.
 const MAX_TEXT: usize = 65536;
 
-pub fn worse(a: u64, b: u64) -> u64
-    ensures { result ≡ max a b }
+// The one that is told, if there is any.
+pub fn worse(a: Option<ConfigRefusal>, b: Option<ConfigRefusal>) -> Option<ConfigRefusal>
+    ensures { rank_number result ≡ max (rank_number a) (rank_number b) }
 {
-    if a < b {
-        return b;
-    }
-    a
+    a.max(b)
 }
 
-fn rank(text: &[u8]) -> u64
-    ensures { result ≡ rank_of text.now }
+fn of_text(text: &[u8]) -> Option<ConfigRefusal>
+    ensures { rank_number result ≡ rank_of text.now }
 {
     if MAX_TEXT < text.len() {
-        return 3;
+        return Some(ConfigRefusal::LongText);
     }
     if utf8::well_formed_prefix(text) != text.len() {
-        return 2;
+        return Some(ConfigRefusal::NotUtf8);
     }
     if config_text::has_long_name(text) {
-        return 1;
+        return Some(ConfigRefusal::LongName);
     }
-    0
+    None
 }
 
-pub fn path_rank(path: &[u8]) -> u64
-    ensures { result ≡ path_rank path.now }
+pub fn of_path(path: &[u8]) -> Option<ConfigRefusal>
+    ensures { rank_number result ≡ path_rank path.now }
 {
     if utf8::well_formed_prefix(path) != path.len() {
-        return 2;
+        return Some(ConfigRefusal::NotUtf8);
     }
-    0
+    None
 }
 
-pub fn worst_of(a: &[u8], b: &[u8], c: &[u8], d: &[u8]) -> u64
-    ensures { result ≡ worst (a.now ∷ b.now ∷ c.now ∷ d.now ∷ []) }
+pub fn worst_of(a: &[u8], b: &[u8], c: &[u8], d: &[u8]) -> Option<ConfigRefusal>
+    ensures { rank_number result ≡ worst (a.now ∷ b.now ∷ c.now ∷ d.now ∷ []) }
 {
-    worse(worse(rank(a), rank(b)), worse(rank(c), rank(d)))
+    worse(worse(of_text(a), of_text(b)), worse(of_text(c), of_text(d)))
 }

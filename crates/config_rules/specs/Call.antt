@@ -1,14 +1,13 @@
 -- The whole call, on bytes, and its answer in numbers.
-use Rattle.std.specs.Prelude.{ℕ, Bool, false, not, ◌||◌, List, [], ◌∷◌, map, ltb, length}
+use Rattle.std.specs.Prelude.{ℕ, Bool, false, not, ◌||◌, List, [], ◌∷◌, map, ltb, length, Option, Some, None, Result, Ok, Err}
 use Rattle.utf8.specs.Unicode.{decode, well_formed}
 use Rattle.rules.specs.Basics.{choose}
 use Rattle.rules.specs.declared.IndentStyle.{IndentStyle}
 use Rattle.rules.specs.declared.IndentSize.{IndentSize}
-use Rattle.rules.specs.declared.TabWidth.{TabWidth}
 use Rattle.rules.specs.declared.MaxLineLen.{MaxLineLen}
 use Rattle.rules.specs.declared.ConfigEnding.{ConfigEnding}
-use Rattle.rules.specs.declared.InsertFinalNewline.{InsertFinalNewline}
-use Rattle.config_rules.specs.declared.ConfigOutcome.{ConfigOutcome}
+use Rattle.rules.specs.declared.Resolved.{Resolved}
+use Rattle.config_rules.specs.declared.ConfigRefusal.{ConfigRefusal}
 use Rattle.config_rules.specs.declared.ConfigAnswer.{ConfigAnswer}
 use Rattle.config_rules.specs.Lines.{lines_of}
 use Rattle.config_rules.specs.Sections.{long_name}
@@ -27,64 +26,73 @@ ill_formed t = not (well_formed t)
 abbrev pub has_long_name : List ℕ → Bool
 has_long_name t = long_name (lines_of (decode t))
 
+-- what reading comes to: the values, or a refusal
+abbrev pub ConfigOutcome : Type 0
+ConfigOutcome = Result Resolved ConfigRefusal
+
 -- refusals 7, 4, 8, each over all eight texts (4 over the path too), before any matching
 unfoldable pub read_editor_config : List ℕ → List (List ℕ) → ConfigOutcome
 read_editor_config path texts =
-    choose (any_of too_long texts) (ConfigOutcome.Refused 7)
-    (choose (any_of ill_formed (path ∷ texts)) (ConfigOutcome.Refused 4)
-    (choose (any_of has_long_name texts) (ConfigOutcome.Refused 8)
-    (ConfigOutcome.Given (resolved (map decode texts) (relatives (decode path))))))
+    choose (any_of too_long texts) (Err ConfigRefusal.LongText)
+    (choose (any_of ill_formed (path ∷ texts)) (Err ConfigRefusal.NotUtf8)
+    (choose (any_of has_long_name texts) (Err ConfigRefusal.LongName)
+    (Ok (resolved (map decode texts) (relatives (decode path))))))
 
 -- ---- the numbers that the EditorConfig step takes; 0 is unset
 
-unfoldable pub style_number : IndentStyle → ℕ
-style_number IndentStyle.Unset = 0
-style_number IndentStyle.Tabs = 1
-style_number IndentStyle.Spaces = 2
+abbrev pub style_number : Option IndentStyle → ℕ
+style_number None = 0
+style_number (Some IndentStyle.Tabs) = 1
+style_number (Some IndentStyle.Spaces) = 2
 
-unfoldable pub size_kind : IndentSize → ℕ
-size_kind IndentSize.Unset = 0
-size_kind IndentSize.UseTabWidth = 1
-size_kind (IndentSize.Value n) = 2
+abbrev pub size_kind : Option IndentSize → ℕ
+size_kind None = 0
+size_kind (Some IndentSize.UseTabWidth) = 1
+size_kind (Some (IndentSize.Value n)) = 2
 
-unfoldable pub size_number : IndentSize → ℕ
-size_number IndentSize.Unset = 0
-size_number IndentSize.UseTabWidth = 0
-size_number (IndentSize.Value n) = n
+abbrev pub size_number : Option IndentSize → ℕ
+size_number None = 0
+size_number (Some IndentSize.UseTabWidth) = 0
+size_number (Some (IndentSize.Value n)) = n
 
-unfoldable pub tab_set : TabWidth → ℕ
-tab_set TabWidth.Unset = 0
-tab_set (TabWidth.Value n) = 1
+abbrev pub tab_set : Option ℕ → ℕ
+tab_set None = 0
+tab_set (Some n) = 1
 
-unfoldable pub tab_number : TabWidth → ℕ
-tab_number TabWidth.Unset = 0
-tab_number (TabWidth.Value n) = n
+abbrev pub tab_number : Option ℕ → ℕ
+tab_number None = 0
+tab_number (Some n) = n
 
-unfoldable pub max_kind : MaxLineLen → ℕ
-max_kind MaxLineLen.Unset = 0
-max_kind MaxLineLen.Off = 1
-max_kind (MaxLineLen.Value n) = 2
+abbrev pub max_kind : Option MaxLineLen → ℕ
+max_kind None = 0
+max_kind (Some MaxLineLen.Off) = 1
+max_kind (Some (MaxLineLen.Value n)) = 2
 
-unfoldable pub max_number : MaxLineLen → ℕ
-max_number MaxLineLen.Unset = 0
-max_number MaxLineLen.Off = 0
-max_number (MaxLineLen.Value n) = n
+abbrev pub max_number : Option MaxLineLen → ℕ
+max_number None = 0
+max_number (Some MaxLineLen.Off) = 0
+max_number (Some (MaxLineLen.Value n)) = n
 
-unfoldable pub ending_number : ConfigEnding → ℕ
-ending_number ConfigEnding.Unset = 0
-ending_number ConfigEnding.Lf = 1
-ending_number ConfigEnding.CrLf = 2
-ending_number ConfigEnding.Cr = 3
+abbrev pub ending_number : Option ConfigEnding → ℕ
+ending_number None = 0
+ending_number (Some ConfigEnding.Lf) = 1
+ending_number (Some ConfigEnding.CrLf) = 2
+ending_number (Some ConfigEnding.Cr) = 3
 
-unfoldable pub newline_number : InsertFinalNewline → ℕ
-newline_number InsertFinalNewline.Unset = 0
-newline_number (InsertFinalNewline.Value b) = choose b 2 1
+abbrev pub newline_number : Option Bool → ℕ
+newline_number None = 0
+newline_number (Some b) = choose b 2 1
+
+abbrev pub refusal_number : ConfigRefusal → ℕ
+refusal_number ConfigRefusal.LongName = 8
+refusal_number ConfigRefusal.NotUtf8 = 4
+refusal_number ConfigRefusal.LongText = 7
 
 -- a refused call gives its number, other fields 0
-unfoldable pub answer_of : ConfigOutcome → ConfigAnswer
-answer_of (ConfigOutcome.Refused n) =
+abbrev pub answer_of : ConfigOutcome → ConfigAnswer
+answer_of (Err r) =
     record {
-      refusal = n;
+      refusal = refusal_number r;
       place = 0;
       style = 0;
       size_kind = 0;
@@ -96,7 +104,7 @@ answer_of (ConfigOutcome.Refused n) =
       ending = 0;
       newline = 0;
     }
-answer_of (ConfigOutcome.Given r) =
+answer_of (Ok r) =
     record {
       refusal = 0;
       place = 0;

@@ -1,47 +1,45 @@
 -- What the values of the keys mean, in lower case. A value that is not allowed counts as unset.
-use Rattle.std.specs.Prelude.{ℕ, Bool, true, false, ◌&&◌, List, eqb, leb, ltb, length}
+use Rattle.std.specs.Prelude.{ℕ, Bool, true, false, ◌&&◌, List, eqb, leb, ltb, length, Option, Some, None}
 use Rattle.rules.specs.Basics.{choose, codes, same}
 use Rattle.rules.specs.declared.IndentStyle.{IndentStyle}
 use Rattle.rules.specs.declared.IndentSize.{IndentSize}
-use Rattle.rules.specs.declared.TabWidth.{TabWidth}
 use Rattle.rules.specs.declared.MaxLineLen.{MaxLineLen}
 use Rattle.rules.specs.declared.ConfigEnding.{ConfigEnding}
-use Rattle.rules.specs.declared.InsertFinalNewline.{InsertFinalNewline}
 use Rattle.rules.specs.declared.Resolved.{Resolved}
 use Rattle.config_rules.specs.Numbers.{digit_count, value}
 
 unfoldable pub is_whole : List ℕ → Bool
 is_whole v = ltb 0 (length v) && eqb (digit_count v) (length v) && leb (value v) 4_294_967_295
 
-unfoldable pub style_of : List ℕ → IndentStyle
+unfoldable pub style_of : List ℕ → Option IndentStyle
 style_of v =
-    choose (same v (codes "tab")) IndentStyle.Tabs
-    (choose (same v (codes "space")) IndentStyle.Spaces IndentStyle.Unset)
+    choose (same v (codes "tab")) (Some IndentStyle.Tabs)
+    (choose (same v (codes "space")) (Some IndentStyle.Spaces) None)
 
-unfoldable pub size_of : List ℕ → IndentSize
+unfoldable pub size_of : List ℕ → Option IndentSize
 size_of v =
-    choose (same v (codes "tab")) IndentSize.UseTabWidth
-    (choose (is_whole v) (IndentSize.Value (value v)) IndentSize.Unset)
+    choose (same v (codes "tab")) (Some IndentSize.UseTabWidth)
+    (choose (is_whole v) (Some (IndentSize.Value (value v))) None)
 
-unfoldable pub tab_of : List ℕ → TabWidth
-tab_of v = choose (is_whole v) (TabWidth.Value (value v)) TabWidth.Unset
+unfoldable pub tab_of : List ℕ → Option ℕ
+tab_of v = choose (is_whole v) (Some (value v)) None
 
-unfoldable pub max_of : List ℕ → MaxLineLen
+unfoldable pub max_of : List ℕ → Option MaxLineLen
 max_of v =
-    choose (same v (codes "off")) MaxLineLen.Off (choose (is_whole v) (MaxLineLen.Value (value v)) MaxLineLen.Unset)
+    choose (same v (codes "off")) (Some MaxLineLen.Off) (choose (is_whole v) (Some (MaxLineLen.Value (value v))) None)
 
-unfoldable pub ending_of : List ℕ → ConfigEnding
+unfoldable pub ending_of : List ℕ → Option ConfigEnding
 ending_of v =
-    choose (same v (codes "lf")) ConfigEnding.Lf
-    (choose (same v (codes "crlf")) ConfigEnding.CrLf
-    (choose (same v (codes "cr")) ConfigEnding.Cr
-    ConfigEnding.Unset))
+    choose (same v (codes "lf")) (Some ConfigEnding.Lf)
+    (choose (same v (codes "crlf")) (Some ConfigEnding.CrLf)
+    (choose (same v (codes "cr")) (Some ConfigEnding.Cr)
+    None))
 
-unfoldable pub newline_of : List ℕ → InsertFinalNewline
+unfoldable pub newline_of : List ℕ → Option Bool
 newline_of v =
-    choose (same v (codes "true")) (InsertFinalNewline.Value true)
-    (choose (same v (codes "false")) (InsertFinalNewline.Value false)
-    InsertFinalNewline.Unset)
+    choose (same v (codes "true")) (Some true)
+    (choose (same v (codes "false")) (Some false)
+    None)
 
 -- a pair supersedes the value of its key, and of no other
 unfoldable pub superseded : Resolved → List ℕ → List ℕ → Resolved
@@ -58,10 +56,10 @@ superseded r k v =
 abbrev pub unset : Resolved
 unset =
     record {
-      style = IndentStyle.Unset;
-      size = IndentSize.Unset;
-      tab = TabWidth.Unset;
-      max = MaxLineLen.Unset;
-      ending = ConfigEnding.Unset;
-      newline = InsertFinalNewline.Unset;
+      style = None;
+      size = None;
+      tab = None;
+      max = None;
+      ending = None;
+      newline = None;
     }

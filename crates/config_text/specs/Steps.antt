@@ -1,5 +1,5 @@
 -- What one line does to what is known so far.
-use Rattle.std.specs.Prelude.{ℕ, Bool, true, false, List, [], ◌∷◌, ◌≡◌}
+use Rattle.std.specs.Prelude.{ℕ, Bool, true, false, List, [], ◌∷◌, ◌≡◌, Option, Some, None}
 use Rattle.utf8.specs.Unicode.{decode, WellFormed}
 use Rattle.rules.specs.Basics.{choose, codes, same}
 use Rattle.rules.specs.declared.Resolved.{Resolved}
@@ -12,10 +12,10 @@ use Rattle.config_lines.specs.Kinds.{line_in, Parts}
 use Rattle.config_lines.specs.declared.kinds.LineKind.{LineKind}
 use Rattle.config_text.specs.Walk.{Readable}
 
-unfoldable pub starts_section : LineKind → Bool
-starts_section LineKind.Nothing = false
-starts_section LineKind.Header = true
-starts_section (LineKind.Pair i) = false
+abbrev pub starts_section : Option LineKind → Bool
+starts_section None = false
+starts_section (Some (LineKind.Header name)) = true
+starts_section (Some (LineKind.Pair k v)) = false
 
 unfoldable pub root_after : Bool → Line → Bool
 root_after root nothing = root
@@ -34,10 +34,10 @@ values_after applies r (header name) = r
 values_after applies r (pair k v) = choose applies (superseded r k v) r
 
 -- a line whose name, if it is a header, is not too long, and a path
-pub record Named (line : List ℕ) (kind : LineKind) (rel : List ℕ) : Type 0 where
-  pub parts : Parts line kind
+pub record Named (line : Option LineKind) (rel : List ℕ) : Type 0 where
+  pub parts : Parts line
   pub well : WellFormed rel
-  pub short : long_name (line_in line kind ∷ []) ≡ false
+  pub short : long_name (line_in line ∷ []) ≡ false
 
 -- a text that is not refused
 pub record Accepted (text : List ℕ) : Type 0 where

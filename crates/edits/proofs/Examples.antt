@@ -8,7 +8,7 @@ use Rattle.rules.specs.Strengths.{built_in}
 use Rattle.rules.specs.Choices.{default_numbers}
 use Rattle.rules.specs.Call.{Call, format_call}
 use Rattle.rules.specs.declared.Refusal.{Refusal}
-use Rattle.rules.specs.declared.Verdict.{Verdict}
+use Rattle.std.specs.Prelude.{Ok, Err}
 use Rattle.caret.proofs.Examples as caretExamples
 use Rattle.changes.proofs.Examples as changesExamples
 use Rattle.edits.specs.CaretCall.{caret_verdict, caret_in, caret_answer}
@@ -47,11 +47,11 @@ before_a : moved 0 ≡ (0, 0)
 unfolding opened moved
 before_a = refl
 
-past_the_line : caret_verdict spaced 0 7 ≡ Verdict.Refused Refusal.NoPlace
+past_the_line : caret_verdict spaced 0 7 ≡ Err Refusal.NoPlace
 unfolding opened
 past_the_line = refl
 
-past_the_last : caret_verdict spaced 1 0 ≡ Verdict.Refused Refusal.NoPlace
+past_the_last : caret_verdict spaced 1 0 ≡ Err Refusal.NoPlace
 unfolding opened
 past_the_last = refl
 
@@ -60,6 +60,6 @@ listed : list_left (changes_verdict spaced 13) 13
 unfolding opened
 listed = refl
 
-short_by_one : changes_verdict spaced 11 ≡ Verdict.Refused (Refusal.ListShort 3)
+short_by_one : changes_verdict spaced 11 ≡ Err (Refusal.ListShort 3)
 unfolding opened
 short_by_one = refl

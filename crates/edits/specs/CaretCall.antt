@@ -1,11 +1,12 @@
 -- A formatting call with a caret, which stands at a line and a column of the source.
-use Rattle.std.specs.Prelude.{ℕ, List, [], ◌∷◌}
+use Rattle.std.specs.Prelude.{ℕ, List, [], ◌∷◌, Result, Ok, Err}
 use Rattle.utf8.specs.Unicode.{decode}
-use Rattle.rules.specs.Refusals.{number_of, place_of, tested, no_place}
+use Rattle.rules.specs.Refusals.{Verdict, number_of, place_of, tested, no_place}
 use Rattle.rules.specs.Call.{Call, formatted, verdict_of}
-use Rattle.rules.specs.declared.Verdict.{Verdict}
 use Rattle.rules.specs.declared.Answer.{Answer}
 use Rattle.caret.specs.Caret.{is_place, moved_to, line_of, column_of}
+use Rattle.rules.specs.declared.Refusal.{Refusal}
+use Rattle.edits.specs.declared.with_caret.WithCaret.{WithCaret}
 use Rattle.edits.specs.declared.with_caret.CaretAnswer.{CaretAnswer}
 
 -- what refuses a formatting call, then 6
@@ -21,9 +22,23 @@ abbrev pub refused_caret : ℕ → ℕ → CaretAnswer
 refused_caret number place =
     record { refusal = number; place = place; length = 0; imports_split = 0; blank_names = 0; line = 0; column = 0 }
 
+-- what a call with a caret comes to, in numbers
+abbrev pub caret_told : Result WithCaret Refusal → CaretAnswer
+caret_told (Ok m) =
+    record {
+      refusal = 0;
+      place = 0;
+      length = m.text.length;
+      imports_split = m.text.imports_split;
+      blank_names = m.text.blank_names;
+      line = m.to.line;
+      column = m.to.column;
+    }
+caret_told (Err r) = refused_caret (number_of r) (place_of r)
+
 -- the answer of the formatting call, with the line and the column of the place behind l
 abbrev pub caret_answer : Verdict → Answer → List ℕ → CaretAnswer
-caret_answer Verdict.Accepted a l =
+caret_answer (Ok _) a l =
     record {
       refusal = 0;
       place = 0;
@@ -33,4 +48,4 @@ caret_answer Verdict.Accepted a l =
       line = line_of l;
       column = column_of l;
     }
-caret_answer (Verdict.Refused r) a l = refused_caret (number_of r) (place_of r)
+caret_answer (Err r) a l = refused_caret (number_of r) (place_of r)

@@ -1,12 +1,13 @@
 -- A formatting call with a list for the changes from the source to the text.
-use Rattle.std.specs.Prelude.{ℕ, ◌/◌, List, [], ◌∷◌, length, replicate}
+use Rattle.std.specs.Prelude.{ℕ, ◌/◌, List, [], ◌∷◌, length, replicate, Result, Ok, Err}
 use Rattle.utf8.specs.Unicode.{decode}
-use Rattle.rules.specs.Refusals.{number_of, place_of, tested, short_list}
+use Rattle.rules.specs.Refusals.{Verdict, number_of, place_of, tested, short_list}
 use Rattle.rules.specs.Call.{Call, formatted, verdict_of, filled}
-use Rattle.rules.specs.declared.Verdict.{Verdict}
 use Rattle.rules.specs.declared.Answer.{Answer}
 use Rattle.changes.specs.Changes.{changes, numbers}
 use Rattle.changes.specs.declared.Change.{Change}
+use Rattle.rules.specs.declared.Refusal.{Refusal}
+use Rattle.edits.specs.declared.with_changes.WithChanges.{WithChanges}
 use Rattle.edits.specs.declared.with_changes.ChangesAnswer.{ChangesAnswer}
 
 -- the changes from a call's source to its text
@@ -22,9 +23,22 @@ abbrev pub refused_changes : ℕ → ℕ → ChangesAnswer
 refused_changes number place =
     record { refusal = number; place = place; length = 0; imports_split = 0; blank_names = 0; changes = 0 }
 
+-- what a call with a list for changes comes to, in numbers
+abbrev pub changes_told : Result WithChanges Refusal → ChangesAnswer
+changes_told (Ok m) =
+    record {
+      refusal = 0;
+      place = 0;
+      length = m.text.length;
+      imports_split = m.text.imports_split;
+      blank_names = m.text.blank_names;
+      changes = m.changes;
+    }
+changes_told (Err r) = refused_changes (number_of r) (place_of r)
+
 -- the answer of the formatting call, with the number of changes
 abbrev pub changes_answer : Verdict → Answer → List Change → ChangesAnswer
-changes_answer Verdict.Accepted a cs =
+changes_answer (Ok _) a cs =
     record {
       refusal = 0;
       place = 0;
@@ -33,9 +47,9 @@ changes_answer Verdict.Accepted a cs =
       blank_names = a.blank_names;
       changes = length cs;
     }
-changes_answer (Verdict.Refused r) a cs = refused_changes (number_of r) (place_of r)
+changes_answer (Err r) a cs = refused_changes (number_of r) (place_of r)
 
 -- the changes in the list, then zeros; refused, all zeros
 abbrev pub list_left : Verdict → ℕ → List Change → List ℕ
-list_left Verdict.Accepted room cs = filled room (numbers cs)
-list_left (Verdict.Refused r) room cs = replicate room 0
+list_left (Ok _) room cs = filled room (numbers cs)
+list_left (Err r) room cs = replicate room 0

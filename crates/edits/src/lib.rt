@@ -3,9 +3,9 @@
 
 ghost use Rattle.std.specs.Prelude.{length};
 ghost use Rattle.call.specs.Ran.{call_of};
-ghost use Rattle.edits.specs.Text.{TextAnswered};
+ghost use Rattle.edits.specs.Text.{TextRan};
 
-use rules::{Answer, OptionNumbers};
+use rules::{Formatted, OptionNumbers, Refusal};
 
 pub mod with_caret;
 pub mod with_changes;
@@ -18,13 +18,13 @@ pub fn format_text(
     strengths: &[u8],
     output: &mut [u8],
     scratch: &mut [u8],
-) -> Answer
-    ensures { TextAnswered (call_of source.now indent.now numbers strengths.now
+) -> Result<Formatted, Refusal>
+    ensures { TextRan (call_of source.now indent.now numbers strengths.now
         (length output.old) 0
         (length scratch.old)) result output.new scratch.new }
 {
     let mut opened = [0u64; 0];
-    call::format_call(
+    call::format(
         source,
         indent,
         numbers,

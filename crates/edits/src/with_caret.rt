@@ -1,16 +1,24 @@
 // A formatting call that moves a caret too.
 ghost use Rattle.std.specs.Prelude.{length, ◌≡◌};
 ghost use Rattle.call.specs.Ran.{call_of};
-ghost use Rattle.edits.specs.CaretCall.{refused_caret};
+ghost use Rattle.edits.specs.CaretCall.{caret_told};
 ghost use Rattle.edits.specs.CaretAnswered.{CaretAnswered};
 
-use rules::{OptionNumbers, Refusal};
+use caret::LineColumn;
+use rules::{Formatted, OptionNumbers, Refusal};
 
 // Where the caret stands in the source: a line and a character column, both from 0.
 #[derive(Clone, Copy)]
 pub struct Caret {
     pub line: u64,
     pub column: u64,
+}
+
+// What a call gives beside the text in its output: the text's length and counts, and where the caret goes in it.
+#[derive(Clone, Copy)]
+pub struct WithCaret {
+    pub text: Formatted,
+    pub to: LineColumn,
 }
 
 // The answer of a formatting call, with the caret's line and column in the text.
@@ -26,21 +34,59 @@ pub struct CaretAnswer {
     pub column: u64,
 }
 
-fn refused(refusal: u64, place: u64) -> CaretAnswer
-    ensures { result ≡ refused_caret refusal place }
-{
-    CaretAnswer {
-        refusal,
-        place,
-        length: 0,
-        imports_split: 0,
-        blank_names: 0,
-        line: 0,
-        column: 0,
+impl From<Result<WithCaret, Refusal>> for CaretAnswer {
+    ghost from_gives = { λ o a. a ≡ caret_told o };
+
+    fn from(outcome: Result<WithCaret, Refusal>) -> CaretAnswer {
+        match outcome {
+            Ok(moved) => CaretAnswer {
+                refusal: 0,
+                place: 0,
+                length: moved.text.length as u64,
+                imports_split: moved.text.imports_split as u64,
+                blank_names: moved.text.blank_names as u64,
+                line: moved.to.line as u64,
+                column: moved.to.column as u64,
+            },
+            Err(why) => CaretAnswer {
+                refusal: why.number(),
+                place: why.place(),
+                length: 0,
+                imports_split: 0,
+                blank_names: 0,
+                line: 0,
+                column: 0,
+            },
+        }
     }
 }
 
 // The text, and where the caret that stands at a line and a column of the source goes in it.
+fn move_caret(
+    source: &[u8],
+    indent: &[u8],
+    numbers: OptionNumbers,
+    strengths: &[u8],
+    at: Caret,
+    output: &mut [u8],
+    scratch: &mut [u8],
+) -> Result<WithCaret, Refusal>
+    ensures { CaretAnswered (call_of source.now indent.now numbers strengths.now
+        (length output.old) 0
+        (length scratch.old)) at.line at.column (caret_told result) output.new scratch.new }
+{
+    let text = crate::format_text(source, indent, numbers, strengths, output, scratch)?;
+    let taken = &output[..text.length];
+    match caret::caret_in_text(source, taken, at.line as usize, at.column as usize) {
+        Some(to) => Ok(WithCaret { text, to }),
+        None => {
+            buffer::zero(output);
+            Err(Refusal::NoPlace)
+        },
+    }
+}
+
+// The same, with its answer in numbers.
 pub fn format_caret(
     source: &[u8],
     indent: &[u8],
@@ -54,26 +100,5 @@ pub fn format_caret(
         (length output.old) 0
         (length scratch.old)) at.line at.column result output.new scratch.new }
 {
-    let a = crate::format_text(source, indent, numbers, strengths, output, scratch);
-    if a.refusal == 0 {
-        let n = a.length as usize;
-        let to = caret::caret_in_text(source, &output[..n], at.line as usize, at.column as usize);
-        if to.found {
-            return CaretAnswer {
-                refusal: 0,
-                place: 0,
-                length: a.length,
-                imports_split: a.imports_split,
-                blank_names: a.blank_names,
-                line: to.line as u64,
-                column: to.column as u64,
-            };
-        }
-        buffer::zero(output);
-        return refused(
-            answer::number_of(Refusal::NoPlace),
-            answer::place_of(Refusal::NoPlace),
-        );
-    }
-    refused(a.refusal, a.place)
+    move_caret(source, indent, numbers, strengths, at, output, scratch).into()
 }

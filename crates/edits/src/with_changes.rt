@@ -1,10 +1,18 @@
 // A formatting call that gives the changes from the source to the text too.
 ghost use Rattle.std.specs.Prelude.{length, ◌≡◌};
 ghost use Rattle.call.specs.Ran.{call_of};
-ghost use Rattle.edits.specs.ChangesCall.{refused_changes};
+ghost use Rattle.edits.specs.ChangesCall.{changes_told};
 ghost use Rattle.edits.specs.ChangesAnswered.{ChangesAnswered};
 
-use rules::{OptionNumbers, Refusal};
+use rules::{Formatted, OptionNumbers, Refusal};
+
+// What a call gives beside the text in its output and the changes in its list: the text's length and counts, and how
+// many changes there are.
+#[derive(Clone, Copy)]
+pub struct WithChanges {
+    pub text: Formatted,
+    pub changes: usize,
+}
 
 // The answer of a formatting call, with the number of changes.
 #[repr(C)]
@@ -18,20 +26,66 @@ pub struct ChangesAnswer {
     pub changes: u64,
 }
 
-fn refused(refusal: u64, place: u64) -> ChangesAnswer
-    ensures { result ≡ refused_changes refusal place }
-{
-    ChangesAnswer {
-        refusal,
-        place,
-        length: 0,
-        imports_split: 0,
-        blank_names: 0,
-        changes: 0,
+impl From<Result<WithChanges, Refusal>> for ChangesAnswer {
+    ghost from_gives = { λ o a. a ≡ changes_told o };
+
+    fn from(outcome: Result<WithChanges, Refusal>) -> ChangesAnswer {
+        match outcome {
+            Ok(listed) => ChangesAnswer {
+                refusal: 0,
+                place: 0,
+                length: listed.text.length as u64,
+                imports_split: listed.text.imports_split as u64,
+                blank_names: listed.text.blank_names as u64,
+                changes: listed.changes as u64,
+            },
+            Err(why) => ChangesAnswer {
+                refusal: why.number(),
+                place: why.place(),
+                length: 0,
+                imports_split: 0,
+                blank_names: 0,
+                changes: 0,
+            },
+        }
     }
 }
 
-// The text, and in the list, four numbers to each, the changes that turn the source into it.
+// The text, and in the list, four numbers to each, the changes that turn the source into it. Refused, the list is
+// cleared.
+fn list_changes(
+    source: &[u8],
+    indent: &[u8],
+    numbers: OptionNumbers,
+    strengths: &[u8],
+    output: &mut [u8],
+    list: &mut [u64],
+    scratch: &mut [u8],
+) -> Result<WithChanges, Refusal>
+    ensures { ChangesAnswered (call_of source.now indent.now numbers
+        strengths.now (length output.old) 0
+        (length scratch.old)) (length list.old) (changes_told result) output.new list.new
+        scratch.new }
+{
+    match crate::format_text(source, indent, numbers, strengths, output, scratch) {
+        Err(why) => {
+            lists::zero(list);
+            Err(why)
+        },
+        Ok(text) => {
+            let n = changes::write_changes(source, &output[..text.length], list);
+            if list.len() / 4 < n {
+                buffer::zero(output);
+                lists::zero(list);
+                return Err(Refusal::ListShort(n));
+            }
+            lists::finish(list, n * 4);
+            Ok(WithChanges { text, changes: n })
+        },
+    }
+}
+
+// The same, with its answer in numbers.
 pub fn format_changes(
     source: &[u8],
     indent: &[u8],
@@ -46,28 +100,5 @@ pub fn format_changes(
         (length scratch.old)) (length list.old) result output.new list.new
         scratch.new }
 {
-    let a = crate::format_text(source, indent, numbers, strengths, output, scratch);
-    if a.refusal == 0 {
-        let length = a.length as usize;
-        let n = changes::write_changes(source, &output[..length], list);
-        if n <= list.len() / 4 {
-            lists::finish(list, n * 4);
-            return ChangesAnswer {
-                refusal: 0,
-                place: 0,
-                length: a.length,
-                imports_split: a.imports_split,
-                blank_names: a.blank_names,
-                changes: n as u64,
-            };
-        }
-        buffer::zero(output);
-        lists::zero(list);
-        return refused(
-            answer::number_of(Refusal::ListShort(n)),
-            answer::place_of(Refusal::ListShort(n)),
-        );
-    }
-    lists::zero(list);
-    refused(a.refusal, a.place)
+    list_changes(source, indent, numbers, strengths, output, list, scratch).into()
 }

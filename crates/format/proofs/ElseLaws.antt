@@ -4,7 +4,7 @@ use mathlib.Core.Bool.{Bool, true, false, not, and-true}
 use mathlib.Core.List.{List, [], ◌∷◌}
 use mathlib.Core.Path.{◌≡◌, refl, sym, ap, ◌∙◌}
 use native.Mathlib.Omega.{arith}
-use lib.Dec.{eqb}
+use borrow.Author.Tests.{eq-eqb, ne_eqb}
 use lib.ListN.{length, get_or, take, drop}
 use lib.Seq.{length-take-le}
 use Rattle.utf8.specs.Unicode.{chars, decode, trim_start, trim_end, WellFormed, first_is_white}
@@ -30,11 +30,14 @@ unfolding last_is
 last_none p [] h = refl
 last_none p (x ∷ s) h = absurd (omega arith)
 
-pub brace_none : (s : List ℕ) → length s ≡ 0 → false ≡ last_is (is "}") s
-brace_none s h = last_none (is "}") s h
+pub brace_short : (s : List ℕ) → length s < 1 → false ≡ last_is (is "}") s
+brace_short s h = last_none (is "}") s (omega arith)
 
-pub brace_at_law : (s : List ℕ) → (length s ≡ 0 → ⊥) → eqb (get_or s (length s - 1) 0) 125 ≡ last_is (is "}") s
-brace_at_law s h = last_at (is "}") s h
+pub brace_last : (s : List ℕ) → 1 ≤ length s → get_or s (length s - 1) 0 ≡ 125 → true ≡ last_is (is "}") s
+brace_last s h e = sym (eq-eqb _ _ e) ∙ last_at (is "}") s (λ z. absurd (omega arith))
+
+pub brace_other : (s : List ℕ) → 1 ≤ length s → (get_or s (length s - 1) 0 ≡ 125 → ⊥) → false ≡ last_is (is "}") s
+brace_other s h n = sym (ne_eqb _ _ n) ∙ last_at (is "}") s (λ z. absurd (omega arith))
 
 -- ---- `if`
 
@@ -51,11 +54,8 @@ module _ (s : List ℕ) where
   unfolding if_word
   if_next r e q h = then_next s (codes "if") (λ c. not (is_ident c)) true (sym e ∙ q) h
 
-  pub if_longer : (r i : Bool) → r ≡ starts_with s (codes "if") → r ≡ true → 2 < length s → i ≡ is_ident (get_or s 2 0) → i ≡ true → false ≡ if_word s
-  if_longer r i e q h f g = ap not (sym g ∙ f) ∙ if_next r e q h
-
-  pub if_word_law : (r i : Bool) → r ≡ starts_with s (codes "if") → r ≡ true → 2 < length s → i ≡ is_ident (get_or s 2 0) → i ≡ false → true ≡ if_word s
-  if_word_law r i e q h f g = ap not (sym g ∙ f) ∙ if_next r e q h
+  pub if_after : (r i : Bool) → r ≡ starts_with s (codes "if") → r ≡ true → 2 < length s → i ≡ is_ident (get_or s 2 0) → not i ≡ if_word s
+  if_after r i e q h f = ap not f ∙ if_next r e q h
 
 module _ (s : List ℕ) where
   pub no_white : (r : Bool) → r ≡ first_is_white (decode s) → r ≡ false → false ≡ starts_if (decode s)
@@ -93,13 +93,9 @@ module _ (s : List ℕ) (w : WellFormed s) (r : Bool) (e : r ≡ first_is (white
   unfolding plain_rest
   plain_no h q = rw (brace_as (decode s), ← e, q, decode_some s w h)
 
-  pub plain_if : (i : Bool) → r ≡ true → i ≡ starts_if (decode s) → i ≡ true → false ≡ plain_rest (decode s)
+  pub plain_yes : (i : Bool) → r ≡ true → i ≡ starts_if (decode s) → not i ≡ plain_rest (decode s)
   unfolding plain_rest
-  plain_if i q f g = rw (brace_as (decode s), ← e, q, ← f, g)
-
-  pub plain_yes : (i : Bool) → r ≡ true → i ≡ starts_if (decode s) → i ≡ false → true ≡ plain_rest (decode s)
-  unfolding plain_rest
-  plain_yes i q f g = rw (brace_as (decode s), ← e, q, ← f, g)
+  plain_yes i q f = rw (brace_as (decode s), ← e, q, ← f)
 
 module _ (s : List ℕ) (w : WellFormed s) (r : Bool) (e : r ≡ starts_with s (codes "else")) where
   on_else : starts_with (decode s) (codes "else") ≡ r

@@ -1,11 +1,12 @@
 -- The marker, and code before it, found on bytes.
-use Prim.Native.Nat.{ℕ, suc, ◌-◌, ◌≤◌, ◌<◌}
+use Prim.Native.Nat.{ℕ, ◌-◌, ◌≤◌, ◌<◌}
 use mathlib.Core.Bool.{Bool, true, false, not, ◌&&◌, and-true, false≢true}
 use mathlib.Core.List.{List, [], ◌∷◌}
-use mathlib.Core.Path.{◌≡◌, refl, sym, ap, ◌∙◌}
+use mathlib.Core.Path.{◌≡◌, refl, sym, ◌∙◌}
 use native.Mathlib.Omega.{arith}
 use lib.Dec.{eqb, ltb}
 use lib.ListN.{length, take, drop, length-drop, drop_of_length-le}
+use lib.Pointwise.{pointwise}
 use borrow.Author.Tests.{ltb-true, ltb-false, eqb-true}
 use Rattle.utf8.specs.Unicode.{chars, decode, WellFormed, is_white, trim, trim_start}
 use Rattle.utf8.specs.Places.{TrimmedStart, TrimmedEnd}
@@ -20,26 +21,12 @@ use Rattle.format.proofs.ElseLaws.{decode_some}
 
 -- ---- the whole text
 
-same_starts : (a b : List ℕ) → length a ≡ length b → starts_with a b ≡ same a b
-unfolding starts_with same
-same_starts [] [] h = refl
-same_starts [] (y ∷ b) h = absurd (omega arith)
-same_starts (x ∷ a) [] h = absurd (omega arith)
-same_starts (x ∷ a) (y ∷ b) h = rw (same_starts a b (omega arith))
-
-pub same_by : (a b : List ℕ) (r : Bool) → length a ≡ length b → r ≡ starts_with a b → r ≡ same a b
-same_by a b r h e = e ∙ same_starts a b h
-
-pub same_no : (a b : List ℕ) → (length a ≡ length b → ⊥) → false ≡ same a b
+pub same_pointwise : (a b : List ℕ) → pointwise eqb a b ≡ same a b
 unfolding same
-same_no [] [] h = absurd (h refl)
-same_no [] (y ∷ b) h = refl
-same_no (x ∷ a) [] h = refl
-same_no (x ∷ a) (y ∷ b) h = go (eqb x y) (same_no a b (λ e. h (ap suc e)))
-  where
-    go : (t : Bool) → false ≡ same a b → false ≡ (t && same a b)
-    go true e = e
-    go false e = refl
+same_pointwise [] [] = refl
+same_pointwise [] (y ∷ b) = refl
+same_pointwise (x ∷ a) [] = refl
+same_pointwise (x ∷ a) (y ∷ b) = rw (same_pointwise a b)
 
 -- ---- the marker
 
@@ -47,11 +34,11 @@ module _ (s : List ℕ) (a : ℕ) (t : TrimmedStart s a) where
   pub trimmed_well : WellFormed (take (length s - a) (drop a s))
   trimmed_well = rw part_from t.well
 
-  pub marker_word : (e : ℕ) (b : Bool) → TrimmedEnd (take (length s - a) (drop a s)) e → b ≡ same (take e (take (length s - a) (drop a s))) (codes "fmt-ignore")
+  pub marker_word : (e : ℕ) (b : Bool) → TrimmedEnd (take (length s - a) (drop a s)) e → b ≡ pointwise eqb (take e (take (length s - a) (drop a s))) (codes "fmt-ignore")
       → b ≡ same (trim (decode s)) (codes "fmt-ignore")
   unfolding trim
   marker_word e b u p =
-      p ∙ on_decode (λ l. same l (codes "fmt-ignore")) (λ l. same l (codes "fmt-ignore")) (λ l. same_encode l (codes "fmt-ignore") refl) (take e (take (length s - a) (drop a s))) u.well
+      p ∙ same_pointwise (take e (take (length s - a) (drop a s))) (codes "fmt-ignore") ∙ on_decode (λ l. same l (codes "fmt-ignore")) (λ l. same l (codes "fmt-ignore")) (λ l. same_encode l (codes "fmt-ignore") refl) (take e (take (length s - a) (drop a s))) u.well
       ∙ rw (u.text, part_from, t.text)
 
 -- after two slashes and no third

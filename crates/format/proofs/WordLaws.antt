@@ -2,6 +2,7 @@
 use Prim.Native.Nat.{ℕ, ◌-◌, ◌≤◌, ◌<◌}
 use mathlib.Core.Bool.{Bool, true, false, not, ◌&&◌, ◌||◌, and-false, or-false, or-true, or_assoc, false≢true}
 use mathlib.Core.List.{List, [], ◌∷◌}
+use Rattle.std.specs.Prelude.{Option, Some, None}
 use mathlib.Core.Path.{◌≡◌, refl, sym, ◌∙◌}
 use native.Mathlib.Omega.{arith}
 use borrow.Author.Tests.{eq-eqb, ne_eqb, eqb-true, eqb-false, ltb-true}
@@ -233,17 +234,17 @@ unfolding starts_with
 first_apart [] v w x y d h = refl
 first_apart (c ∷ cs) v w x y d h = rw (eqb-true c x (and_left (eqb c x) (starts_with cs v) h), d)
 
-record Declares (l : List ℕ) (i o v : Bool) (d : Declaration) : Type 0 where
+record Declares (l : List ℕ) (i o v : Bool) (d : Option Declaration) : Type 0 where
   in_word_law : at l "in " ≡ i
   out_word : at l "out " ≡ o
   var_word : at l "var " ≡ v
   is_word : declaration_of l ≡ d
 
 data Word (l : List ℕ) : Type 0 where
-  no_word : Declares l false false false Declaration.Nothing → Word l
-  an_in : Declares l true false false Declaration.In → Word l
-  an_out : Declares l false true false Declaration.Out → Word l
-  a_var : Declares l false false true Declaration.Var → Word l
+  no_word : Declares l false false false None → Word l
+  an_in : Declares l true false false (Some Declaration.In) → Word l
+  an_out : Declares l false true false (Some Declaration.Out) → Word l
+  a_var : Declares l false false true (Some Declaration.Var) → Word l
 
 word : (l : List ℕ) → Word l
 unfolding declaration_of choose
@@ -261,7 +262,7 @@ pub same_declaration_by : (a b : List ℕ) → same_declaration a b ≡ same_of 
 unfolding same_declaration
 same_declaration_by a b = go (word a) (word b)
   where
-    both : {i o v j p w : Bool} {d e : Declaration} → Declares a i o v d → Declares b j p w e → (i && j || o && p || v && w) ≡ same_of d e
+    both : {i o v j p w : Bool} {d e : Option Declaration} → Declares a i o v d → Declares b j p w e → (i && j || o && p || v && w) ≡ same_of d e
         → same_declaration a b ≡ same_of (declaration_of a) (declaration_of b)
     both x y q = rw (x.is_word, y.is_word, x.in_word_law, x.out_word, x.var_word, y.in_word_law, y.out_word, y.var_word) q
 

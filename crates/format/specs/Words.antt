@@ -1,5 +1,5 @@
 -- What a line starts with, as the code finds it.
-use Rattle.std.specs.Prelude.{ℕ, Bool, true, false, ◌||◌, List, ◌≡◌, eqb, drop}
+use Rattle.std.specs.Prelude.{ℕ, Bool, true, false, ◌||◌, List, ◌≡◌, eqb, drop, Option, Some, None}
 use Rattle.utf8.specs.Unicode.{decode, is_white}
 use Rattle.rules.specs.Basics.{choose, is, at, first_is, last_is}
 use Rattle.rules.specs.Words.{white_or_paren}
@@ -19,25 +19,25 @@ pub record Continues (line : List ℕ) (e r : Bool) : Type 0 where
   pub is : (prev : List ℕ) → last_is (is "}") prev ≡ e → r ≡ continues prev (decode line)
 
 -- which of `in `, `out `, `var ` a line starts with
-unfoldable pub declaration_of : List ℕ → Declaration
+unfoldable pub declaration_of : List ℕ → Option Declaration
 declaration_of line =
-    choose (at line "in ") Declaration.In
-    (choose (at line "out ") Declaration.Out
-    (choose (at line "var ") Declaration.Var
-    Declaration.Nothing))
+    choose (at line "in ") (Some Declaration.In)
+    (choose (at line "out ") (Some Declaration.Out)
+    (choose (at line "var ") (Some Declaration.Var)
+    None))
 
 -- both are the same, and not nothing
-abbrev pub same_of : Declaration → Declaration → Bool
-same_of Declaration.Nothing b = false
-same_of Declaration.In Declaration.Nothing = false
-same_of Declaration.In Declaration.In = true
-same_of Declaration.In Declaration.Out = false
-same_of Declaration.In Declaration.Var = false
-same_of Declaration.Out Declaration.Nothing = false
-same_of Declaration.Out Declaration.In = false
-same_of Declaration.Out Declaration.Out = true
-same_of Declaration.Out Declaration.Var = false
-same_of Declaration.Var Declaration.Nothing = false
-same_of Declaration.Var Declaration.In = false
-same_of Declaration.Var Declaration.Out = false
-same_of Declaration.Var Declaration.Var = true
+abbrev pub same_of : Option Declaration → Option Declaration → Bool
+same_of None b = false
+same_of (Some Declaration.In) None = false
+same_of (Some Declaration.In) (Some Declaration.In) = true
+same_of (Some Declaration.In) (Some Declaration.Out) = false
+same_of (Some Declaration.In) (Some Declaration.Var) = false
+same_of (Some Declaration.Out) None = false
+same_of (Some Declaration.Out) (Some Declaration.In) = false
+same_of (Some Declaration.Out) (Some Declaration.Out) = true
+same_of (Some Declaration.Out) (Some Declaration.Var) = false
+same_of (Some Declaration.Var) None = false
+same_of (Some Declaration.Var) (Some Declaration.In) = false
+same_of (Some Declaration.Var) (Some Declaration.Out) = false
+same_of (Some Declaration.Var) (Some Declaration.Var) = true

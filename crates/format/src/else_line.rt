@@ -12,16 +12,7 @@ use basics::{is_ident, starts_with};
 fn starts_with_if(text: &[u8]) -> bool
     ensures { result ≡ if_word text.now }
 {
-    if starts_with(text, b"if") {
-        if text.len() <= 2 {
-            return true;
-        }
-        if is_ident(text[2]) {
-            return false;
-        }
-        return true;
-    }
-    false
+    starts_with(text, b"if") && (text.len() <= 2 || !is_ident(text[2]))
 }
 
 // White space and the word `if` follow an `else`.
@@ -29,11 +20,7 @@ fn starts_if(rest: &[u8]) -> bool
     requires { WellFormed rest.now }
     ensures { result ≡ starts_if (decode rest.now) }
 {
-    if utf8::first_is_white(rest) {
-        let a = utf8::trim_start(rest);
-        return starts_with_if(&rest[a..]);
-    }
-    false
+    utf8::first_is_white(rest) && starts_with_if(&rest[utf8::trim_start(rest)..])
 }
 
 // What follows makes an `else` a plain one.
@@ -41,16 +28,7 @@ fn is_plain_rest(rest: &[u8]) -> bool
     requires { WellFormed rest.now }
     ensures { result ≡ plain_rest (decode rest.now) }
 {
-    if rest.len() == 0 {
-        return true;
-    }
-    if starts_white_or(rest, b'{') {
-        if starts_if(rest) {
-            return false;
-        }
-        return true;
-    }
-    false
+    rest.is_empty() || (starts_white_or(rest, b'{') && !starts_if(rest))
 }
 
 // `else`, but not `else if`.
@@ -58,21 +36,14 @@ pub fn is_plain_else(line: &[u8]) -> bool
     requires { WellFormed line.now }
     ensures { result ≡ is_plain_else (decode line.now) }
 {
-    if starts_with(line, b"else") {
-        return is_plain_rest(&line[4..]);
-    }
-    false
+    starts_with(line, b"else") && is_plain_rest(&line[4..])
 }
 
 // Whether the last byte is `}`.
 pub fn ends_in_brace(line: &[u8]) -> bool
     ensures { result ≡ last_is (is "}") line.now }
 {
-    let n = line.len();
-    if n == 0 {
-        return false;
-    }
-    line[n - 1] == b'}'
+    matches!(line, [.., b'}'])
 }
 
 // Whether an `else` can be joined to a line that is trimmed at its end. Most lines do not end in `}`.
@@ -81,11 +52,7 @@ pub fn trimmed_takes_else(line: &[u8]) -> bool
     requires line_value { trim_end (decode line.now) ≡ decode line.now }
     ensures { result ≡ joinable (decode line.now) }
 {
-    if ends_in_brace(line) {
-        let a = utf8::trim_start(line);
-        return !starts_with(&line[a..], b"else");
-    }
-    false
+    ends_in_brace(line) && !starts_with(&line[utf8::trim_start(line)..], b"else")
 }
 
 // The facts of a line that an `else` may join: its length trimmed at the end, whether it then ends in `}`, and whether,
@@ -101,13 +68,10 @@ pub fn line_facts(line: &[u8]) -> LineFacts
     requires { WellFormed line.now }
     ensures { Facts line.now result }
 {
-    let e = utf8::trim_end(line);
-    let brace = ends_in_brace(&line[..e]);
-    let a = utf8::trim_start(line);
-    let else_first = starts_with(&line[a..], b"else");
+    let trimmed = utf8::trim_end(line);
     LineFacts {
-        trimmed: e,
-        brace,
-        else_first,
+        trimmed,
+        brace: ends_in_brace(&line[..trimmed]),
+        else_first: starts_with(&line[utf8::trim_start(line)..], b"else"),
     }
 }

@@ -6,24 +6,13 @@ ghost use Rattle.rules.specs.Words.{is_marker_text};
 
 use basics::starts_with;
 
-fn is_same(a: &[u8], b: &[u8]) -> bool
-    ensures { result ≡ same a.now b.now }
-{
-    if a.len() == b.len() {
-        return starts_with(a, b);
-    }
-    false
-}
-
 // Trimmed, the text is the marker's word.
 fn is_marker_word(text: &[u8]) -> bool
     requires { WellFormed text.now }
     ensures { result ≡ same (trim (decode text.now)) (codes "fmt-ignore") }
 {
-    let a = utf8::trim_start(text);
-    let t = &text[a..];
-    let e = utf8::trim_end(t);
-    is_same(&t[..e], b"fmt-ignore")
+    let t = &text[utf8::trim_start(text)..];
+    t[..utf8::trim_end(t)] == b"fmt-ignore"[..]
 }
 
 // Of a line's `//` comment, or of nothing where it has none. A third slash would be part of the word, so `///` is no
@@ -32,10 +21,7 @@ pub fn is_marker(comment: &[u8]) -> bool
     requires { WellFormed comment.now }
     ensures { result ≡ is_marker_text (decode comment.now) }
 {
-    if starts_with(comment, b"//") {
-        return is_marker_word(&comment[2..]);
-    }
-    false
+    starts_with(comment, b"//") && is_marker_word(&comment[2..])
 }
 
 // Anything but white space stands before the comment.
@@ -43,6 +29,5 @@ pub fn has_code(code: &[u8]) -> bool
     requires { WellFormed code.now }
     ensures { result ≡ not (is_empty (trim_start (decode code.now))) }
 {
-    let a = utf8::trim_start(code);
-    a < code.len()
+    utf8::trim_start(code) < code.len()
 }

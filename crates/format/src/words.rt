@@ -14,14 +14,8 @@ use operators::{is_one, is_two};
 pub fn starts_with_word(line: &[u8], word: &[u8]) -> bool
     ensures { result ≡ starts_with_word line.now word.now }
 {
-    if starts_with(line, word) {
-        let n = word.len();
-        if line.len() <= n {
-            return true;
-        }
-        return is_blank(line[n]);
-    }
-    false
+    let n = word.len();
+    starts_with(line, word) && (line.len() <= n || is_blank(line[n]))
 }
 
 // Whether white space or the byte c comes first.
@@ -29,13 +23,7 @@ pub fn starts_white_or(rest: &[u8], c: u8) -> bool
     requires { WellFormed rest.now × (c < 0x80) }
     ensures { result ≡ first_is (white_or c) (decode rest.now) }
 {
-    if rest.len() == 0 {
-        return false;
-    }
-    if rest[0] == c {
-        return true;
-    }
-    utf8::first_is_white(rest)
+    !rest.is_empty() && (rest[0] == c || utf8::first_is_white(rest))
 }
 
 // The line starts with an operator of one byte, before white space or `(`.
@@ -43,10 +31,7 @@ fn starts_with_operator(line: &[u8]) -> bool
     requires { WellFormed line.now × (1 < length line.now) }
     ensures { result ≡ (one_of operators (get_or line.now 0 0 ∷ []) && follows line.now 1) }
 {
-    if is_one(line[0]) {
-        return starts_white_or(&line[1..], b'(');
-    }
-    false
+    is_one(line[0]) && starts_white_or(&line[1..], b'(')
 }
 
 // The same of two bytes.
@@ -55,10 +40,7 @@ fn starts_with_operator_pair(line: &[u8]) -> bool
     ensures { result ≡ (one_of operators (get_or line.now 0 0 ∷ get_or line.now 1 0 ∷ []) && follows
         line.now 2) }
 {
-    if is_two(line[0], line[1]) {
-        return starts_white_or(&line[2..], b'(');
-    }
-    false
+    is_two(line[0], line[1]) && starts_white_or(&line[2..], b'(')
 }
 
 // One of the 21 binary operators before white space or `(`.
@@ -66,36 +48,21 @@ pub fn starts_with_binary_op(line: &[u8]) -> bool
     requires { WellFormed line.now }
     ensures { result ≡ starts_with_binary_op (decode line.now) }
 {
-    if line.len() <= 1 {
-        return false;
-    }
-    if starts_with_operator(line) {
-        return true;
-    }
-    starts_with_operator_pair(line)
+    1 < line.len() && (starts_with_operator(line) || starts_with_operator_pair(line))
 }
 
 // `.` but not `...`.
 fn starts_with_dot(line: &[u8]) -> bool
     ensures { result ≡ (at line.now "." && not (at line.now "...")) }
 {
-    if starts_with(line, b".") {
-        if starts_with(line, b"...") {
-            return false;
-        }
-        return true;
-    }
-    false
+    starts_with(line, b".") && !starts_with(line, b"...")
 }
 
 // `else` after a line that does not end in `}`.
 fn continues_with_else(line: &[u8], after_brace: bool) -> bool
     ensures { result ≡ (starts_with_word line.now (codes "else") && not after_brace) }
 {
-    if after_brace {
-        return false;
-    }
-    starts_with_word(line, b"else")
+    !after_brace && starts_with_word(line, b"else")
 }
 
 // Whether the line continues the one before, which ends in `}` if after_brace says so. The line has this many leading
@@ -104,68 +71,38 @@ pub fn continues(line: &[u8], closers: usize, after_brace: bool) -> bool
     requires { WellFormed line.now × Closers line.now closers }
     ensures { Continues line.now after_brace result }
 {
-    if closers != 0 {
-        return false;
-    }
-    if starts_with_word(line, b"then") {
-        return true;
-    }
-    if continues_with_else(line, after_brace) {
-        return true;
-    }
-    if starts_with_binary_op(line) {
-        return true;
-    }
-    starts_with_dot(line)
+    closers == 0
+        && (starts_with_word(line, b"then")
+            || continues_with_else(line, after_brace)
+            || starts_with_binary_op(line)
+            || starts_with_dot(line))
 }
 
-// Which of `in `, `out `, `var ` a line starts with.
-#[derive(Clone, Copy)]
+// What a line that starts with `in `, `out ` or `var ` declares.
+#[derive(Clone, Copy, PartialEq, Eq)]
 pub enum Declaration {
-    Nothing,
     In,
     Out,
     Var,
 }
 
-pub fn declaration_of(line: &[u8]) -> Declaration
+pub fn declaration_of(line: &[u8]) -> Option<Declaration>
     ensures { result ≡ declaration_of line.now }
 {
     if starts_with(line, b"in ") {
-        return Declaration::In;
+        Some(Declaration::In)
+    } else if starts_with(line, b"out ") {
+        Some(Declaration::Out)
+    } else if starts_with(line, b"var ") {
+        Some(Declaration::Var)
+    } else {
+        None
     }
-    if starts_with(line, b"out ") {
-        return Declaration::Out;
-    }
-    if starts_with(line, b"var ") {
-        return Declaration::Var;
-    }
-    Declaration::Nothing
 }
 
 // Whether two lines declare the same.
-pub fn same_declaration(a: Declaration, b: Declaration) -> bool
+pub fn same_declaration(a: Option<Declaration>, b: Option<Declaration>) -> bool
     ensures { result ≡ same_of a b }
 {
-    match a {
-        Declaration::Nothing => false,
-        Declaration::In => match b {
-            Declaration::Nothing => false,
-            Declaration::In => true,
-            Declaration::Out => false,
-            Declaration::Var => false,
-        },
-        Declaration::Out => match b {
-            Declaration::Nothing => false,
-            Declaration::In => false,
-            Declaration::Out => true,
-            Declaration::Var => false,
-        },
-        Declaration::Var => match b {
-            Declaration::Nothing => false,
-            Declaration::In => false,
-            Declaration::Out => false,
-            Declaration::Var => true,
-        },
-    }
+    a.is_some() && a == b
 }

@@ -2,14 +2,15 @@
 --     gap_byte                     an ASCII byte that is not kept
 --     unkept_comma, unkept_white   what `unkept_at` gives, for a comma and for another character
 --     GapScan                      the loop of `gap_end`
-use Prim.Native.Nat.{ℕ, zero, suc, ◌+◌, ◌-◌, ◌<◌, ◌≤◌}
+use Prim.Native.Nat.{ℕ, ◌+◌, ◌-◌, ◌<◌, ◌≤◌}
 use mathlib.Core.Bool.{Bool, true, false, not, ◌&&◌, ◌||◌, or-false}
 use mathlib.Core.List.{List, [], ◌∷◌, ◌++◌, append_assoc}
-use mathlib.Core.Path.{◌≡◌, refl, sym, ap, ◌∙◌}
+use mathlib.Core.Path.{◌≡◌, refl, sym, ap, ◌∙◌, subst}
+use Rattle.std.specs.Prelude.{Option, None, Some, is_some}
 use native.Mathlib.Nat.{le_refl}
 use native.Mathlib.Omega.{arith}
-use borrow.Author.Tests.{ne_eqb, eq-eqb, lt-ltb}
-use lib.Dec.{ltb, leb, eqb}
+use borrow.Author.Tests.{ne_eqb}
+use lib.Dec.{leb, eqb}
 use lib.ListN.{length, get_or, take, drop}
 use lib.Seq.{take_at, drop-length}
 use Rattle.utf8.specs.Unicode.{encode_char, encode, chars, decode, WellFormed, seq_at, code_at, is_white}
@@ -34,10 +35,6 @@ other_kept : (c : ℕ) (w : Bool) → is_white c ≡ w → (c ≡ 44 → ⊥) �
 other_kept c true e h = ap (λ (t : Bool). not t && not (is "," c)) e
 other_kept c false e h = ap (λ (t : Bool). not t && not (is "," c)) e ∙ ap not (ne_eqb c 44 h)
 
-not_some : (n : ℕ) → not (ltb 0 n) ≡ eqb n 0
-not_some zero = refl
-not_some (suc n) = ap not (lt-ltb 0 (suc n) (omega arith)) ∙ sym (ne_eqb (suc n) 0 (λ e. omega arith))
-
 pub gap_byte : (b : ℕ) → GapByte b (eqb b 44 || eqb b 32 || (leb 9 b && leb b 13))
 gap_byte b = record { is = λ h. ap (λ (t : Bool). not t && not (eqb b 44)) (white h) ∙ flip (eqb b 44) (eqb b 32) (leb 9 b && leb b 13) }
   where
@@ -54,23 +51,21 @@ gap_byte b = record { is = λ h. ap (λ (t : Bool). not t && not (eqb b 44)) (wh
     flip false false true = refl
     flip false false false = refl
 
-pub unkept_comma : (s : List ℕ) (i : ℕ) → i < length s → get_or s i 0 ≡ 44 → UnkeptAt s i 1
+some_step : (s : List ℕ) (i m : ℕ) → Step s i m → (n : ℕ) → Some m ≡ Some n → Step s i n
+some_step s i m t n e = let k : m ≡ n = cc in subst (Step s i) k t
+
+pub unkept_comma : (s : List ℕ) (i : ℕ) → i < length s → get_or s i 0 ≡ 44 → UnkeptAt s i (Some 1)
 unkept_comma s i h e =
     record {
-      fits = omega arith;
       is = comma_unkept _ ((ascii s i (omega arith)).1 ∙ e);
-      step = λ p. ascii_step s i h (omega arith);
+      step = some_step s i 1 (ascii_step s i h (omega arith));
     }
 
-pub unkept_white : (s : List ℕ) (i n : ℕ) → i < length s → WellFormed (drop i s) → (get_or s i 0 ≡ 44 → ⊥)
-    → WhiteAt s i n → UnkeptAt s i n
-unkept_white s i n h w f v =
+pub unkept_white : (s : List ℕ) (i : ℕ) (r : Option ℕ) → i < length s → WellFormed (drop i s)
+    → (get_or s i 0 ≡ 44 → ⊥) → WhiteAt s i r → UnkeptAt s i r
+unkept_white s i r h w f v =
     let t : Step s i (seq_at (drop i s)) = first_char s i h w in
-    record {
-      fits = v.fits;
-      is = other_kept _ (ltb 0 n) v.is (not_ascii s i _ 44 t (omega arith) f) ∙ not_some n;
-      step = v.step;
-    }
+    record { is = other_kept _ (is_some r) v.is (not_ascii s i _ 44 t (omega arith) f); step = v.step }
 
 -- ---- a gap's end
 
@@ -112,10 +107,11 @@ gap_begin s i w =
       unkept = tt;
     }
 
-pub gap_turn : (s : List ℕ) (i a n : ℕ) → GapScan s i a → UnkeptAt s a n → (n ≡ 0 → ⊥) → GapScan s i (a + n)
-gap_turn s i a n q v z =
+pub gap_turn : (s : List ℕ) (i a n : ℕ) (r : Option ℕ) → GapScan s i a → UnkeptAt s a r → r ≡ Some n
+    → GapScan s i (a + n)
+gap_turn s i a n r q v z =
     let c = code_at (drop a s) in
-    let t : Step s a n = v.step (omega arith) in
+    let t : Step s a n = v.step n z in
     record {
       from = omega (arith, q.from);
       fits = t.fits;
@@ -125,7 +121,7 @@ gap_turn s i a n q v z =
           ∙ rw (q.bytes, part_char s a n t, encode_append q.passed (c ∷ []));
       chars = q.chars ∙ ap (λ (l : List ℕ). q.passed ++ l) t.chars
           ∙ sym (append_assoc q.passed (c ∷ []) (decode (drop (a + n) s)));
-      unkept = unkept_snoc q.passed c q.unkept (v.is ∙ ne_eqb n 0 z);
+      unkept = unkept_snoc q.passed c q.unkept (v.is ∙ ap (λ (o : Option ℕ). not (is_some o)) z);
     }
 
 gap_done : (s : List ℕ) (i a : ℕ) → GapScan s i a → gap (decode (drop a s)) ≡ []
@@ -142,9 +138,9 @@ gap_done s i a q e h =
       stop = h;
     }
 
-pub gap_found : (s : List ℕ) (i a n : ℕ) → GapScan s i a → a < length s → UnkeptAt s a n → n ≡ 0 → GapEnd s i a
-gap_found s i a n q h v z =
-    let k : is_kept (code_at (drop a s)) ≡ true = v.is ∙ eq-eqb n 0 z in
+pub gap_found : (s : List ℕ) (i a : ℕ) → GapScan s i a → a < length s → UnkeptAt s a None → GapEnd s i a
+gap_found s i a q h v =
+    let k : is_kept (code_at (drop a s)) ≡ true = v.is in
     gap_done s i a q (ap gap (first_char s a h q.well).chars ∙ gap_kept _ _ k) (λ l. k)
 
 pub gap_last : (s : List ℕ) (i a : ℕ) → GapScan s i a → length s ≤ a → GapEnd s i a

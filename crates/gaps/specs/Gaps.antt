@@ -1,5 +1,5 @@
 -- The gaps between the characters that are kept: a source and its text differ in gaps alone.
-use Rattle.std.specs.Prelude.{ℕ, ◌+◌, ◌≤◌, ◌<◌, ◌^◌, Bool, true, false, not, List, [], ◌∷◌, ◌++◌, ◌≡◌, eqb, length, drop}
+use Rattle.std.specs.Prelude.{ℕ, ◌≤◌, ◌<◌, ◌^◌, Bool, true, false, not, List, [], ◌∷◌, ◌++◌, ◌≡◌, Option, Some, is_some, length, drop}
 use Rattle.utf8.specs.Unicode.{encode, decode, WellFormed, code_at}
 use Rattle.utf8.specs.Places.{Step}
 use Rattle.buffer.specs.Buffer.{part}
@@ -38,11 +38,10 @@ pub record From (s : List ℕ) (i : ℕ) : Type 0 where
   pub fits : i ≤ length s
   pub well : WellFormed (drop i s)
 
--- the character at i is not kept and takes r bytes, or it is kept and r is 0
-pub record UnkeptAt (s : List ℕ) (i r : ℕ) : Type 0 where
-  pub fits : i + r ≤ length s
-  pub is : is_kept (code_at (drop i s)) ≡ eqb r 0
-  pub step : 0 < r → Step s i r
+-- the character at i is not kept and takes so many bytes, or it is kept and r is None
+pub record UnkeptAt (s : List ℕ) (i : ℕ) (r : Option ℕ) : Type 0 where
+  pub is : is_kept (code_at (drop i s)) ≡ not (is_some r)
+  pub step : (n : ℕ) → r ≡ Some n → Step s i n
 
 -- the gap that starts at i ends at a
 pub record GapEnd (s : List ℕ) (i a : ℕ) : Type 0 where

@@ -12,15 +12,16 @@ pub fn is_gap_byte(b: u8) -> bool
     (b == b',') | (b == b' ') | ((9 <= b) & (b <= 13))
 }
 
-// How many bytes the character at i takes if it is not kept, else 0.
-pub fn unkept_at(s: &[u8], i: usize) -> usize
+// How many bytes the character at i takes, if it is not kept.
+pub fn unkept_at(s: &[u8], i: usize) -> Option<usize>
     requires { (i < length s.now) × WellFormed (drop i s.now) }
     ensures { UnkeptAt s.now i result }
 {
     if s[i] == b',' {
-        return 1;
+        Some(1)
+    } else {
+        utf8::white_at(s, i)
     }
-    utf8::white_at(s, i)
 }
 
 // Where the gap ends that starts at i: the place of the first kept character from i on, or the end.
@@ -29,11 +30,11 @@ pub fn gap_end(s: &[u8], i: usize) -> usize
     ensures { GapEnd s.now i result }
 {
     let mut a = i;
+    // kept: a range is no plainer, since a step takes the bytes of a character
     while a < s.len() {
-        let n = unkept_at(s, a);
-        if n == 0 {
+        let Some(n) = unkept_at(s, a) else {
             return a;
-        }
+        };
         a += n;
     }
     a

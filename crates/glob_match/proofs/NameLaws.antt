@@ -5,20 +5,21 @@ use mathlib.Core.List.{List, [], ◌∷◌, ◌++◌, append_assoc, append-nil}
 use mathlib.Core.Path.{◌≡◌, refl, sym, ap, ◌∙◌}
 use native.Mathlib.Numerals.{add-one}
 use native.Mathlib.Omega.{arith}
-use borrow.Author.Tests.{eqb-true}
-use lib.Dec.{eqb}
-use lib.ListN.{length, drop, take, get_or, set, length-set, length-take, length-append, replicate, length-replicate, drop_of_length-le, get_or-eq_default}
-use lib.Seq.{take-suc-set, drop-cons, get_or-drop}
+use borrow.Author.Tests.{eq-eqb, ne_eqb}
+use lib.ListN.{length, drop, take, get_or, set, length-set, length-take, length-append, replicate, length-replicate, drop_of_length-le}
+use lib.Seq.{take-suc-set}
 use Rattle.utf8.specs.Unicode.{decode, WellFormed, code_at, chars}
 use Rattle.utf8.specs.Places.{Step}
 use Rattle.utf8.proofs.Tests.{by_test}
 use Rattle.rules.specs.Basics.{choose, is, first_is}
-use Rattle.rules.proofs.Choose.{choose_case}
 use Rattle.rules.proofs.StartsBytes.{on_decode, first_encode, steady_is}
-use Rattle.config_rules.specs.Name.{Item, Token, tokens_of}
+use Rattle.config_rules.specs.Name.{tokens_of}
 use Rattle.config_rules.specs.Name.Token.{item}
 use Rattle.config_rules.specs.Globs.{rooted, is_slash, has_slash, anchored, matches}
-use Rattle.glob_pass.specs.Kinds.{range_in, plain_at, brace_of, held_at, held}
+use Rattle.glob_pass.specs.Kinds.{range_in, plain_at, brace_of, held_at, held, kind_at}
+use Rattle.glob_pass.specs.declared.kinds.Brace.{Brace}
+use Rattle.glob_pass.specs.declared.kinds.ItemKind.{ItemKind}
+use Rattle.glob_pass.specs.declared.kinds.Kind.{Kind}
 use Rattle.glob_pass.proofs.TokenLaws.{length_held, held_at_law}
 use Rattle.glob_name.specs.Read.{Spaced}
 use Rattle.glob_match.specs.Match.{Decoded, first_place, matches_at, NameMatches}
@@ -29,19 +30,26 @@ module _ (s : List ℕ) (w : WellFormed s) where
   first_decode : first_is (is "/") s ≡ first_is (is "/") (decode s)
   first_decode = on_decode (first_is (is "/")) (first_is (is "/")) (first_encode (is "/") false (steady_is "/" refl)) s w
 
-  pub slash_none : length s ≡ 0 → false ≡ first_is (is "/") (decode s)
+  pub slash_none : length s < 1 → false ≡ first_is (is "/") (decode s)
   slash_none z = none s z ∙ first_decode
     where
-      none : (s : List ℕ) → length s ≡ 0 → false ≡ first_is (is "/") s
+      none : (s : List ℕ) → length s < 1 → false ≡ first_is (is "/") s
       none [] z = unfold first_is in refl
       none (c ∷ s) z = absurd (omega arith)
 
-  pub slash_first : (length s ≡ 0 → ⊥) → eqb (get_or s 0 0) 47 ≡ first_is (is "/") (decode s)
-  slash_first z = some s z ∙ first_decode
+  pub slash_first : 1 ≤ length s → get_or s 0 0 ≡ 47 → true ≡ first_is (is "/") (decode s)
+  slash_first h e = some s h e ∙ first_decode
     where
-      some : (s : List ℕ) → (length s ≡ 0 → ⊥) → eqb (get_or s 0 0) 47 ≡ first_is (is "/") s
-      some [] z = absurd (z refl)
-      some (c ∷ s) z = unfold first_is in refl
+      some : (s : List ℕ) → 1 ≤ length s → get_or s 0 0 ≡ 47 → true ≡ first_is (is "/") s
+      some [] h e = absurd (omega arith)
+      some (c ∷ s) h e = unfold first_is in sym (eq-eqb c 47 e)
+
+  pub slash_not : 1 ≤ length s → (get_or s 0 0 ≡ 47 → ⊥) → false ≡ first_is (is "/") (decode s)
+  slash_not h n = other s h n ∙ first_decode
+    where
+      other : (s : List ℕ) → 1 ≤ length s → (get_or s 0 0 ≡ 47 → ⊥) → false ≡ first_is (is "/") s
+      other [] h n = absurd (omega arith)
+      other (c ∷ s) h n = unfold first_is in sym (ne_eqb c 47 n)
 
 -- ---- the characters
 
@@ -102,58 +110,51 @@ module _ (name : List ℕ) (k : ℕ) (old : List ℕ) (i n : ℕ) (new : List �
 
 -- ---- slashes
 
-brace_no : (k : ℕ) → is_slash (brace_of k) ≡ false
-unfolding brace_of is_slash
-brace_no k = choose_case (λ (t : Token). is_slash t ≡ false) (λ e. refl) (λ e. choose_case (λ (t : Token). is_slash t ≡ false) (λ e. refl) (λ e. refl))
+pub slash_brace : (k : Kind) (b : Brace) (s : List ℕ) → k ≡ Kind.Brace b → false ≡ is_slash (held_at k s)
+unfolding held_at
+slash_brace k b s e = rw e (brace_no b)
+  where
+    brace_no : (b : Brace) → false ≡ is_slash (brace_of b)
+    brace_no Brace.Closes = unfold brace_of in unfold is_slash in refl
+    brace_no Brace.Comma = unfold brace_of in unfold is_slash in refl
+    brace_no Brace.Opens = unfold brace_of in unfold is_slash in refl
 
-module _ (k : ℕ) (cs : List ℕ) (i : ℕ) where
-  pub slash_same : i < length cs → k ≡ 0 → eqb (get_or cs i 0) 47 ≡ is_slash (held_at k (drop i cs))
-  unfolding held_at plain_at choose is_slash
-  slash_same h e = rw (e, drop-cons cs i 0)
+item_no : (k : ItemKind) (s : List ℕ) → (k ≡ ItemKind.Plain → ⊥) → (k ≡ ItemKind.Escape → ⊥) → (k ≡ ItemKind.Ahead → ⊥) → false ≡ is_slash (item (plain_at k s))
+unfolding plain_at is_slash range_in
+item_no ItemKind.Plain s x y z = absurd (x refl)
+item_no ItemKind.Covered s x y z = refl
+item_no ItemKind.One s x y z = refl
+item_no ItemKind.Star s x y z = refl
+item_no ItemKind.Stars s x y z = refl
+item_no ItemKind.Set s x y z = refl
+item_no ItemKind.Range s x y z = refl
+item_no ItemKind.Escape s x y z = absurd (y refl)
+item_no ItemKind.Ahead s x y z = absurd (z refl)
+item_no (ItemKind.Lone Brace.Closes) s x y z = refl
+item_no (ItemKind.Lone Brace.Comma) s x y z = refl
+item_no (ItemKind.Lone Brace.Opens) s x y z = refl
 
-  pub slash_past : k ≡ 10 → length cs ≤ i + 1 → false ≡ is_slash (held_at k (drop i cs))
-  unfolding held_at plain_at choose is_slash
-  slash_past e h = let z : get_or (drop i cs) 1 0 ≡ 0 = get_or-drop i cs 1 0 ∙ get_or-eq_default cs 0 h in rw (e, z)
+pub slash_item : (k : Kind) (j : ItemKind) (s : List ℕ) → k ≡ Kind.Item j → (j ≡ ItemKind.Plain → ⊥) → (j ≡ ItemKind.Escape → ⊥) → (j ≡ ItemKind.Ahead → ⊥)
+    → false ≡ is_slash (held_at k s)
+unfolding held_at
+slash_item k j s e x y z = rw e (item_no j s x y z)
 
-  pub slash_escaped : k ≡ 10 → eqb (get_or cs (i + 1) 0) 47 ≡ is_slash (held_at k (drop i cs))
-  unfolding held_at plain_at choose is_slash
-  slash_escaped e = rw (e, get_or-drop i cs 1 0)
-
-  pub slash_other : (k ≡ 0 → ⊥) → (k ≡ 10 → ⊥) → eqb k 11 ≡ is_slash (held_at k (drop i cs))
-  unfolding held_at plain_at is_slash range_in
-  slash_other x y =
-      by_test (eqb k 11)
-      (λ t. let z : k ≡ 11 = eqb-true k 11 t in rw z (unfold choose in refl))
-      (λ t. t
-      ∙ (sym (choose_case (λ (u : Token). is_slash u ≡ false) (λ e. brace_no k)
-      (λ e. choose_case (λ (j : Item). is_slash (item j) ≡ false) (λ f. absurd (x (eqb-true k 0 f)))
-      (λ f. choose_case (λ (j : Item). is_slash (item j) ≡ false) (λ f. refl)
-      (λ f. choose_case (λ (j : Item). is_slash (item j) ≡ false) (λ f. refl)
-      (λ f. choose_case (λ (j : Item). is_slash (item j) ≡ false) (λ f. refl)
-      (λ f. choose_case (λ (j : Item). is_slash (item j) ≡ false) (λ f. refl)
-      (λ f. choose_case (λ (j : Item). is_slash (item j) ≡ false) (λ f. refl)
-      (λ f. choose_case (λ (j : Item). is_slash (item j) ≡ false) (λ f. refl)
-      (λ f. choose_case (λ (j : Item). is_slash (item j) ≡ false) (λ f. absurd (y (eqb-true k 10 f)))
-      (λ f. choose_case (λ (j : Item). is_slash (item j) ≡ false) (λ f. absurd (true≢false (sym f ∙ t)))
-      (λ f. choose_case (λ (j : Item). is_slash (item j) ≡ false) (λ f. refl)
-      (λ f. choose_case (λ (j : Item). is_slash (item j) ≡ false) (λ f. refl) (λ f. refl)))))))))))))))
-
-pub record Seeking (ks cs : List ℕ) (i : ℕ) : Type 0 where
+pub record Seeking (ks : List Kind) (cs : List ℕ) (i : ℕ) : Type 0 where
   pub same : length ks ≡ length cs
   pub is : has_slash (drop 1 (held ks cs)) ≡ has_slash (drop i (held ks cs))
 
-pub seeking_start : (ks cs : List ℕ) → length ks ≡ length cs → Seeking ks cs 1
+pub seeking_start : (ks : List Kind) (cs : List ℕ) → length ks ≡ length cs → Seeking ks cs 1
 seeking_start ks cs e = record { same = e; is = refl }
 
-module _ (ks cs : List ℕ) (i : ℕ) (w : Seeking ks cs i) where
-  seek_here : i < length ks → has_slash (drop i (held ks cs)) ≡ (is_slash (held_at (get_or ks i 0) (drop i cs)) || has_slash (drop (i + 1) (held ks cs)))
+module _ (ks : List Kind) (cs : List ℕ) (i : ℕ) (w : Seeking ks cs i) where
+  seek_here : i < length ks → has_slash (drop i (held ks cs)) ≡ (is_slash (held_at (kind_at ks i) (drop i cs)) || has_slash (drop (i + 1) (held ks cs)))
   unfolding has_slash
-  seek_here h = rw (add-one i) (ap has_slash (held_at_law ks cs i w.same h))
+  seek_here h = rw (add-one i) (ap has_slash (held_at_law ks cs i (Kind.Item ItemKind.Plain) w.same h))
 
-  pub seeking_found : (b : Bool) → i < length ks → b ≡ is_slash (held_at (get_or ks i 0) (drop i cs)) → b ≡ true → true ≡ has_slash (drop 1 (held ks cs))
+  pub seeking_found : (b : Bool) → i < length ks → b ≡ is_slash (held_at (kind_at ks i) (drop i cs)) → b ≡ true → true ≡ has_slash (drop 1 (held ks cs))
   seeking_found b h e t = sym (w.is ∙ seek_here h ∙ rw (← e, t))
 
-  pub seeking_more : (b : Bool) → i < length ks → b ≡ is_slash (held_at (get_or ks i 0) (drop i cs)) → b ≡ false → Seeking ks cs (i + 1)
+  pub seeking_more : (b : Bool) → i < length ks → b ≡ is_slash (held_at (kind_at ks i) (drop i cs)) → b ≡ false → Seeking ks cs (i + 1)
   seeking_more b h e t = record { same = w.same; is = w.is ∙ seek_here h ∙ rw (← e, t) }
 
   pub seeking_end : length ks ≤ i → false ≡ has_slash (drop 1 (held ks cs))
@@ -182,7 +183,7 @@ rooted_is name old new k n b e f d h =
     first_one [] h = absurd (omega arith)
     first_one (x ∷ old) h = refl
 
-pub glob_is : (name path cs ks : List ℕ) (b own r : Bool) → cs ≡ rooted name → b ≡ first_is (is "/") name → held ks cs ≡ tokens_of cs
+pub glob_is : (name path cs : List ℕ) (ks : List Kind) (b own r : Bool) → cs ≡ rooted name → b ≡ first_is (is "/") name → held ks cs ≡ tokens_of cs
     → own ≡ has_slash (drop 1 (held ks cs)) → r ≡ matches_at (held ks cs) (not (b || own)) (47 ∷ path) → r ≡ matches name path
 unfolding matches_at matches anchored
 glob_is name path cs ks b own r e f g h q =
@@ -191,7 +192,7 @@ glob_is name path cs ks b own r e f g h q =
     (λ t. rw t (unfold choose in refl))
     (λ t. rw t (unfold choose in refl)))
 
-pub name_is : (path cs ks : List ℕ) (b own r : Bool) → (length ks ≡ length cs) × (held ks cs ≡ tokens_of cs) × Spaced cs ks
+pub name_is : (path cs : List ℕ) (ks : List Kind) (b own r : Bool) → (length ks ≡ length cs) × (held ks cs ≡ tokens_of cs) × Spaced cs ks
     → own ≡ has_slash (drop 1 (held ks cs)) → r ≡ matches_at (held ks cs) (not (b || own)) (47 ∷ path) → NameMatches cs b path r
 name_is path cs ks b own r w h q = record { is = λ name e f. glob_is name path cs ks b own r e f w.1 h q }
 
@@ -211,17 +212,17 @@ decoded_room name old new k n b e f h d =
     some [] q = absurd (true≢false (sym q ∙ (unfold first_is in refl)))
     some (c ∷ l) q = omega arith
 
-take_long : (n : ℕ) (l : List ℕ) → n ≤ length l → n ≡ length (take n l)
+take_long : {A : Type 0} (n : ℕ) (l : List A) → n ≤ length l → n ≡ length (take n l)
 take_long n l h = sym (simp length-take (omega arith))
 
 pub slices : (name new : List ℕ) (k n : ℕ) (b : Bool) → b ≡ first_is (is "/") (decode name) → (k ≡ first_place b) × (k ≤ 1) → length (decode name) ≤ 1024
     → Decoded name k (set (replicate 1025 0) 0 47) new n
-    → (n ≡ length (take n new)) × (n ≡ length (take {A = ℕ} n (replicate 1025 0))) × (n < 1026) × (0 < n)
+    → (n ≡ length (take n new)) × (n ≡ length (take {A = Kind} n (replicate 1025 (Kind.Item ItemKind.Plain)))) × (n < 1026) × (0 < n)
 slices name new k n b e f h d =
     let r : (n ≤ 1025) × (0 < n) = decoded_room name (replicate 1025 0) new k n b e f h d in
     let z : length {A = ℕ} (replicate 1025 0) ≡ 1025 = length-replicate {A = ℕ} 1025 0 in
     let l : length new ≡ length {A = ℕ} (replicate 1025 0) = d.long ∙ length-set {A = ℕ} (replicate 1025 0) 0 47 in
-    (take_long n new (omega (arith, r.0)), take_long n (replicate 1025 0) (omega (arith, r.0)), omega (arith, r.0), r.1)
+    (take_long n new (omega (arith, r.0)), take_long n (replicate 1025 (Kind.Item ItemKind.Plain)) (let y : length {A = Kind} (replicate 1025 (Kind.Item ItemKind.Plain)) ≡ 1025 = length-replicate {A = Kind} 1025 (Kind.Item ItemKind.Plain) in omega (arith, r.0)), omega (arith, r.0), r.1)
 
 pub rooted_are : (name new : List ℕ) (k n : ℕ) (b : Bool) → b ≡ first_is (is "/") (decode name) → (k ≡ first_place b) × (k ≤ 1)
     → Decoded name k (set (replicate 1025 0) 0 47) new n → take n new ≡ rooted (decode name)

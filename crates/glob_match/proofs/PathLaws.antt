@@ -11,6 +11,7 @@ use Rattle.utf8.specs.Places.{Back}
 use Rattle.rules.specs.Basics.{choose}
 use Rattle.config_rules.specs.Globs.{suffix}
 use Rattle.glob_pass.specs.Kinds.{held}
+use Rattle.glob_pass.specs.declared.kinds.Kind.{Kind}
 use Rattle.glob_pass.specs.Pass.{here_at, before, Values, Passed}
 use Rattle.glob_pass.proofs.TokenLaws.{length_held}
 use Rattle.glob_match.specs.Match.{SlotsAt, RangesNext, matches_at}
@@ -22,7 +23,7 @@ none_yet (suc n) zero = refl
 none_yet (suc n) (suc j) = none_yet n j
 
 -- what is known after s is read
-pub record ReadAt (ks cs : List ℕ) (s : List ℕ) (v : List Bool) (found : Bool) (l : List ℕ) (h : List Bool) : Type 0 where
+pub record ReadAt (ks : List Kind) (cs : List ℕ) (s : List ℕ) (v : List Bool) (found : Bool) (l : List ℕ) (h : List Bool) : Type 0 where
   pub same : length ks ≡ length cs
   pub room : length cs < length v
   pub slots : length cs ≤ length l
@@ -31,7 +32,7 @@ pub record ReadAt (ks cs : List ℕ) (s : List ℕ) (v : List Bool) (found : Boo
   pub kept : SlotsAt ks cs s l
   pub any : found ≡ suffix (here_at (held ks cs) 0) s
 
-pub read_none : (ks cs : List ℕ) (n m : ℕ) (new : List Bool) → length ks ≡ length cs → length cs ≤ n → length cs < m
+pub read_none : (ks : List Kind) (cs : List ℕ) (n m : ℕ) (new : List Bool) → length ks ≡ length cs → length cs ≤ n → length cs < m
     → Passed (held ks cs) 0 true (replicate m false) (replicate m false) new
     → ReadAt ks cs [] new (get_or new 0 false) (replicate n 0) (replicate m false)
 unfolding before suffix
@@ -50,7 +51,7 @@ read_none ks cs n m new e a b p =
     }
 
 -- one character more
-pub read_more : (ks cs : List ℕ) (s : List ℕ) (v : List Bool) (found : Bool) (l : List ℕ) (h : List Bool) → ReadAt ks cs s v found l h
+pub read_more : (ks : List Kind) (cs : List ℕ) (s : List ℕ) (v : List Bool) (found : Bool) (l : List ℕ) (h : List Bool) → ReadAt ks cs s v found l h
     → (c : ℕ) (l' : List ℕ) (h' : List Bool) → RangesNext ks cs v c l l' h h' → (new : List Bool) → Passed (held ks cs) c false h' v new
     → ReadAt ks cs (c ∷ s) new (found || get_or new 0 false) l' h'
 unfolding before suffix
@@ -71,14 +72,14 @@ read_more ks cs s v found l h w c l' h' R new p =
 
 -- ---- the path
 
-pub record Reading (ks cs path : List ℕ) (e : ℕ) (v : List Bool) (found : Bool) (l : List ℕ) (h : List Bool) : Type 0 where
+pub record Reading (ks : List Kind) (cs path : List ℕ) (e : ℕ) (v : List Bool) (found : Bool) (l : List ℕ) (h : List Bool) : Type 0 where
   pub bound : e ≤ length path
   pub well : WellFormed (take e path)
   pub text : List ℕ
   pub all : decode path ≡ decode (take e path) ++ text
   pub at : ReadAt ks cs text v found l h
 
-pub reading_start : (ks cs path : List ℕ) (n m : ℕ) (new : List Bool) → WellFormed path → length ks ≡ length cs → length cs ≤ n → length cs < m
+pub reading_start : (ks : List Kind) (cs path : List ℕ) (n m : ℕ) (new : List Bool) → WellFormed path → length ks ≡ length cs → length cs ≤ n → length cs < m
     → Passed (held ks cs) 0 true (replicate m false) (replicate m false) new
     → Reading ks cs path (length path) new (get_or new 0 false) (replicate n 0) (replicate m false)
 reading_start ks cs path n m new w e a b p =
@@ -90,7 +91,7 @@ reading_start ks cs path n m new w e a b p =
       at = read_none ks cs n m new e a b p;
     }
 
-module _ (ks cs path : List ℕ) (e : ℕ) (v : List Bool) (found : Bool) (l : List ℕ) (h : List Bool) (w : Reading ks cs path e v found l h) where
+module _ (ks : List Kind) (cs path : List ℕ) (e : ℕ) (v : List Bool) (found : Bool) (l : List ℕ) (h : List Bool) (w : Reading ks cs path e v found l h) where
   pub reading_more : (n c : ℕ) → Back path e n → c ≡ code_at (drop (e - n) path) → (l' : List ℕ) (h' : List Bool) → RangesNext ks cs v c l l' h h'
       → (new : List Bool) → Passed (held ks cs) c false h' v new → Reading ks cs path (e - n) new (found || get_or new 0 false) l' h'
   reading_more n c b q l' h' R new p =

@@ -6,58 +6,82 @@ use mathlib.Core.Logic.{⊎_elim}
 use mathlib.Core.Path.{◌≡◌, refl, sym, ap, ◌∙◌}
 use native.Mathlib.Numerals.{add-one}
 use native.Mathlib.Omega.{arith}
-use borrow.Author.Tests.{eqb-true, eqb-false}
 use lib.Dec.{eqb}
 use lib.ListN.{length, drop, get_or, set, length-set, drop_of_length-le, replicate}
 use lib.Seq.{get_or-set_same, get_or-set_other, drop-drop}
 use Rattle.utf8.proofs.Tests.{split, by_test}
 use Rattle.rules.specs.Basics.{choose, first_is}
-use Rattle.rules.proofs.Choose.{choose_case}
 use Rattle.config_rules.specs.Numbers.{in_range, is_number, number_len, sign, digit_count}
 use Rattle.config_rules.specs.Name.{Item, Token}
 use Rattle.config_rules.specs.Name.Item.{part, same, one, run, ahead, range}
 use Rattle.config_rules.specs.Name.Token.{item}
 use Rattle.config_rules.specs.Globs.{Strings, some_then}
-use Rattle.glob_pass.specs.Kinds.{range_in, plain_at, brace_of, held_at, held}
+use Rattle.glob_pass.specs.Kinds.{range_in, plain_at, brace_of, held_at, held, kind_at}
+use Rattle.glob_pass.specs.declared.kinds.Brace.{Brace}
+use Rattle.glob_pass.specs.declared.kinds.ItemKind.{ItemKind}
+use Rattle.glob_pass.specs.declared.kinds.Kind.{Kind}
 use Rattle.glob_pass.specs.Pass.{here_at, Values, Hits}
 use Rattle.glob_pass.proofs.TokenLaws.{length_held, held_at_law}
 use Rattle.glob_name.specs.Read.{range_more, Spaced}
 use Rattle.ranges.specs.Slots.{valid, from}
 use Rattle.ranges.specs.Ranges.{first_end, second_end, range_for, slot_at, Kept, RangeNext}
 use Rattle.ranges.proofs.EndLaws.{range_room}
-use Rattle.glob_match.specs.Match.{SlotsAt, RangesNext}
+use Rattle.glob_match.specs.Match.{is_range, SlotsAt, RangesNext}
 
 -- ---- a range is held by kind 9 alone
 
 -- the ends of an item that is a range, none for the others
-abbrev is_range : Item → Bool
-is_range part = false
-is_range (same c) = false
-is_range (one p) = false
-is_range (run p) = false
-is_range ahead = false
-is_range (range m n) = true
+abbrev spans : Item → Bool
+spans part = false
+spans (same c) = false
+spans (one p) = false
+spans (run p) = false
+spans ahead = false
+spans (range m n) = true
 
 abbrev is_range_token : Token → Bool
-is_range_token (item i) = is_range i
+is_range_token (item i) = spans i
 is_range_token Token.opens = false
 is_range_token Token.comma = false
 is_range_token Token.closes = false
 
-brace_no : (k : ℕ) → is_range_token (brace_of k) ≡ false
-unfolding brace_of
-brace_no k = choose_case (λ (t : Token). is_range_token t ≡ false) (λ e. refl) (λ e. choose_case (λ (t : Token). is_range_token t ≡ false) (λ e. refl) (λ e. refl))
+abbrev plain_kind : Kind
+plain_kind = Kind.Item ItemKind.Plain
 
-plain_no : (k : ℕ) (s : List ℕ) → (k ≡ 9 → ⊥) → is_range (plain_at k s) ≡ false
-unfolding plain_at
-plain_no k s n =
-    choose_case (λ (i : Item). is_range i ≡ false) (λ e. refl) (λ e. choose_case (λ (i : Item). is_range i ≡ false) (λ e. refl) (λ e. choose_case (λ (i : Item). is_range i ≡ false) (λ e. refl) (λ e. choose_case (λ (i : Item). is_range i ≡ false) (λ e. refl) (λ e. choose_case (λ (i : Item). is_range i ≡ false) (λ e. refl)
-    (λ e. choose_case (λ (i : Item). is_range i ≡ false) (λ e. refl) (λ e. choose_case (λ (i : Item). is_range i ≡ false) (λ e. absurd (n (eqb-true k 9 e))) (λ e. choose_case (λ (i : Item). is_range i ≡ false) (λ e. refl) (λ e. choose_case (λ (i : Item). is_range i ≡ false) (λ e. refl)
-    (λ e. choose_case (λ (i : Item). is_range i ≡ false) (λ e. refl) (λ e. choose_case (λ (i : Item). is_range i ≡ false) (λ e. refl) (λ e. refl)))))))))))
+abbrev pub range_kind : Kind
+range_kind = Kind.Item ItemKind.Range
 
-held_no : (k : ℕ) (s : List ℕ) → (k ≡ 9 → ⊥) → is_range_token (held_at k s) ≡ false
-unfolding held_at
-held_no k s n = choose_case (λ (t : Token). is_range_token t ≡ false) (λ e. brace_no k) (λ e. plain_no k s n)
+covered_range : Kind.Item ItemKind.Covered ≡ range_kind → ⊥
+covered_range e = cc
+
+held_no : (k : Kind) (s : List ℕ) → is_range k ≡ false → is_range_token (held_at k s) ≡ false
+unfolding held_at brace_of plain_at
+held_no (Kind.Brace Brace.Closes) s e = refl
+held_no (Kind.Brace Brace.Comma) s e = refl
+held_no (Kind.Brace Brace.Opens) s e = refl
+held_no (Kind.Item ItemKind.Plain) s e = refl
+held_no (Kind.Item ItemKind.Covered) s e = refl
+held_no (Kind.Item ItemKind.One) s e = refl
+held_no (Kind.Item ItemKind.Star) s e = refl
+held_no (Kind.Item ItemKind.Stars) s e = refl
+held_no (Kind.Item ItemKind.Set) s e = refl
+held_no (Kind.Item ItemKind.Range) s e = absurd (true≢false e)
+held_no (Kind.Item ItemKind.Escape) s e = refl
+held_no (Kind.Item ItemKind.Ahead) s e = refl
+held_no (Kind.Item (ItemKind.Lone b)) s e = refl
+
+pub range_only : (k : Kind) → is_range k ≡ true → k ≡ range_kind
+range_only (Kind.Brace b) e = absurd (true≢false (sym e))
+range_only (Kind.Item ItemKind.Plain) e = absurd (true≢false (sym e))
+range_only (Kind.Item ItemKind.Covered) e = absurd (true≢false (sym e))
+range_only (Kind.Item ItemKind.One) e = absurd (true≢false (sym e))
+range_only (Kind.Item ItemKind.Star) e = absurd (true≢false (sym e))
+range_only (Kind.Item ItemKind.Stars) e = absurd (true≢false (sym e))
+range_only (Kind.Item ItemKind.Set) e = absurd (true≢false (sym e))
+range_only (Kind.Item ItemKind.Range) e = refl
+range_only (Kind.Item ItemKind.Escape) e = absurd (true≢false (sym e))
+range_only (Kind.Item ItemKind.Ahead) e = absurd (true≢false (sym e))
+range_only (Kind.Item (ItemKind.Lone b)) e = absurd (true≢false (sym e))
 
 range_ends : (cs : List ℕ) (j : ℕ) → range_in (drop 1 (drop j cs)) ≡ range (first_end cs j) (second_end cs j)
 unfolding range_in
@@ -66,31 +90,31 @@ range_ends cs j =
     let z : j + 1 + (x + 2) ≡ j + 1 + x + 2 = omega arith in
     rw (drop-drop 1 j cs, drop-drop (x + 2) (j + 1) cs, z)
 
-held_nine : (s : List ℕ) (k : ℕ) → k ≡ 9 → held_at k s ≡ item (range_in (drop 1 s))
-unfolding held_at plain_at choose
+held_nine : (s : List ℕ) (k : Kind) → k ≡ range_kind → held_at k s ≡ item (range_in (drop 1 s))
+unfolding held_at plain_at
 held_nine s k e = rw e
 
-record Nine (ks cs : List ℕ) (j : ℕ) (m n : List ℕ) (r : List Token) : Type 0 where
+record Nine (ks : List Kind) (cs : List ℕ) (j : ℕ) (m n : List ℕ) (r : List Token) : Type 0 where
   inside : j < length ks
-  kind : get_or ks j 0 ≡ 9
+  kind : kind_at ks j ≡ range_kind
   first : m ≡ first_end cs j
   second : n ≡ second_end cs j
   rest : r ≡ drop (j + 1) (held ks cs)
 
-nine : (ks cs : List ℕ) (j : ℕ) (m n : List ℕ) (r : List Token) → length ks ≡ length cs → drop j (held ks cs) ≡ item (range m n) ∷ r → Nine ks cs j m n r
+nine : (ks : List Kind) (cs : List ℕ) (j : ℕ) (m n : List ℕ) (r : List Token) → length ks ≡ length cs → drop j (held ks cs) ≡ item (range m n) ∷ r → Nine ks cs j m n r
 nine ks cs j m n r e d =
     let i : j < length ks =
     ⊎_elim (λ (h : j < length ks). h)
     (λ (h : length ks ≤ j).
     absurd (let z : 0 ≡ suc (length r) = ap length (sym (drop_of_length-le (held ks cs) {i = j} (rw (length_held ks cs e) h)) ∙ d) in omega arith)) (split j (length ks)) in
-    let a : held_at (get_or ks j 0) (drop j cs) ∷ drop (suc j) (held ks cs) ≡ item (range m n) ∷ r = sym (held_at_law ks cs j e i) ∙ d in
-    let t : held_at (get_or ks j 0) (drop j cs) ≡ item (range m n) = cc in
+    let a : held_at (kind_at ks j) (drop j cs) ∷ drop (suc j) (held ks cs) ≡ item (range m n) ∷ r = sym (held_at_law ks cs j plain_kind e i) ∙ d in
+    let t : held_at (kind_at ks j) (drop j cs) ≡ item (range m n) = cc in
     let q : drop (suc j) (held ks cs) ≡ r = cc in
-    let k : get_or ks j 0 ≡ 9 =
-    by_test (eqb (get_or ks j 0) 9) (λ u. eqb-true (get_or ks j 0) 9 u)
-    (λ u. absurd (true≢false (sym (ap is_range_token t) ∙ held_no (get_or ks j 0) (drop j cs) (eqb-false (get_or ks j 0) 9 u)))) in
+    let k : kind_at ks j ≡ range_kind =
+    by_test (is_range (kind_at ks j)) (λ u. range_only (kind_at ks j) u)
+    (λ u. absurd (true≢false (sym (ap is_range_token t) ∙ held_no (kind_at ks j) (drop j cs) u))) in
     let f : item (range (first_end cs j) (second_end cs j)) ≡ item (range m n) =
-    sym (held_nine (drop j cs) (get_or ks j 0) k ∙ ap item (range_ends cs j)) ∙ t in
+    sym (held_nine (drop j cs) (kind_at ks j) k ∙ ap item (range_ends cs j)) ∙ t in
     let g : m ≡ first_end cs j = cc in
     let h : n ≡ second_end cs j = cc in
     record { inside = i; kind = k; first = g; second = h; rest = rw (add-one j) (sym q) }
@@ -109,20 +133,20 @@ kept_frame cs j k s l l' h f w =
     }
 
 -- two ranges stand apart
-apart : (cs ks : List ℕ) → Spaced cs ks → (i j : ℕ) → i < j → j < length ks → get_or ks i 0 ≡ 9 → get_or ks j 0 ≡ 9 → i + range_more cs (i + 1) < j
+apart : (cs : List ℕ) (ks : List Kind) → Spaced cs ks → (i j : ℕ) → i < j → j < length ks → kind_at ks i ≡ range_kind → kind_at ks j ≡ range_kind → i + range_more cs (i + 1) < j
 apart cs ks w i j h b x y =
     ⊎_elim (λ (t : i + range_more cs (i + 1) < j). t)
-    (λ (t : j ≤ i + range_more cs (i + 1)). absurd (let z : get_or ks j 0 ≡ 4 = w.parts i x j h t b in omega arith)) (split (i + range_more cs (i + 1)) j)
+    (λ (t : j ≤ i + range_more cs (i + 1)). absurd (covered_range (sym (w.parts i x j h t b) ∙ y))) (split (i + range_more cs (i + 1)) j)
 
 -- ---- the loop
 
-pub record RangingAt (ks cs : List ℕ) (c p : ℕ) (s l : List ℕ) (h : List Bool) : Type 0 where
-  pub done : (j : ℕ) → j < p → j < length ks → get_or ks j 0 ≡ 9
+pub record RangingAt (ks : List Kind) (cs : List ℕ) (c p : ℕ) (s l : List ℕ) (h : List Bool) : Type 0 where
+  pub done : (j : ℕ) → j < p → j < length ks → kind_at ks j ≡ range_kind
       → (get_or h j false ≡ some_then (in_range (first_end cs j) (second_end cs j)) (here_at (held ks cs) (j + 1)) (c ∷ s))
       × Kept cs j (range_for cs j) (here_at (held ks cs) (j + 1)) (c ∷ s) l
-  pub left : (j : ℕ) → p ≤ j → j < length ks → get_or ks j 0 ≡ 9 → Kept cs j (range_for cs j) (here_at (held ks cs) (j + 1)) s l
+  pub left : (j : ℕ) → p ≤ j → j < length ks → kind_at ks j ≡ range_kind → Kept cs j (range_for cs j) (here_at (held ks cs) (j + 1)) s l
 
-pub record Ranging (ks cs : List ℕ) (v : List Bool) (c : ℕ) (l₀ : List ℕ) (h₀ : List Bool) (p : ℕ) (l : List ℕ) (h : List Bool) : Type 0 where
+pub record Ranging (ks : List Kind) (cs : List ℕ) (v : List Bool) (c : ℕ) (l₀ : List ℕ) (h₀ : List Bool) (p : ℕ) (l : List ℕ) (h : List Bool) : Type 0 where
   pub same : length ks ≡ length cs
   pub apart : Spaced cs ks
   pub long : length l ≡ length l₀
@@ -131,7 +155,7 @@ pub record Ranging (ks cs : List ℕ) (v : List Bool) (c : ℕ) (l₀ : List ℕ
   pub hits : length cs < length h₀
   pub at : (s : List ℕ) → Values (held ks cs) s v → SlotsAt ks cs s l₀ → RangingAt ks cs c p s l h
 
-pub ranging_start : (ks cs : List ℕ) (v : List Bool) (c : ℕ) (l : List ℕ) (h : List Bool) → length ks ≡ length cs → Spaced cs ks → length cs ≤ length l
+pub ranging_start : (ks : List Kind) (cs : List ℕ) (v : List Bool) (c : ℕ) (l : List ℕ) (h : List Bool) → length ks ≡ length cs → Spaced cs ks → length cs ≤ length l
     → length cs < length h → Ranging ks cs v c l h 0 l h
 ranging_start ks cs v c l h e a b d =
     record {
@@ -144,7 +168,7 @@ ranging_start ks cs v c l h e a b d =
       at = λ s U S. record { done = λ j x. absurd (omega arith); left = λ j x y z. S.at j y z };
     }
 
-module _ (ks cs : List ℕ) (v : List Bool) (c : ℕ) (l₀ : List ℕ) (h₀ : List Bool) (p : ℕ) (l : List ℕ) (h : List Bool) (w : Ranging ks cs v c l₀ h₀ p l h) where
+module _ (ks : List Kind) (cs : List ℕ) (v : List Bool) (c : ℕ) (l₀ : List ℕ) (h₀ : List Bool) (p : ℕ) (l : List ℕ) (h : List Bool) (w : Ranging ks cs v c l₀ h₀ p l h) where
   pub ranging_end : length ks ≤ p → RangesNext ks cs v c l₀ l h₀ h
   ranging_end z =
       record {
@@ -160,7 +184,7 @@ module _ (ks cs : List ℕ) (v : List Bool) (c : ℕ) (l₀ : List ℕ) (h₀ : 
         );
       }
 
-  pub ranging_other : p < length ks → (get_or ks p 0 ≡ 9 → ⊥) → Ranging ks cs v c l₀ h₀ (p + 1) l h
+  pub ranging_other : p < length ks → is_range (kind_at ks p) ≡ false → Ranging ks cs v c l₀ h₀ (p + 1) l h
   ranging_other b n =
       record {
         same = w.same;
@@ -173,24 +197,27 @@ module _ (ks cs : List ℕ) (v : List Bool) (c : ℕ) (l₀ : List ℕ) (h₀ : 
             record {
               done = λ j x y z.
                   ⊎_elim (λ (t : j < p). (w.at s U S).done j t y z)
-                  (λ (t : p ≤ j). absurd (let q : j ≡ p = omega arith in n (ap (λ (i : ℕ). get_or ks i 0) (sym q) ∙ z))) (split j p);
+                  (λ (t : p ≤ j). absurd (let q : j ≡ p = omega arith in true≢false (sym (ap is_range (ap (λ (i : ℕ). kind_at ks i) (sym q) ∙ z)) ∙ n))) (split j p);
               left = λ j x y z. (w.at s U S).left j (omega arith) y z;
             };
       }
 
-  module _ (b : p < length ks) (k : get_or ks p 0 ≡ 9) (l' : List ℕ) (hit : Bool) (N : RangeNext cs p (get_or v (p + 1) false) c l l' hit) where
+  module _ (b : p < length ks) (f : is_range (kind_at ks p) ≡ true) (l' : List ℕ) (hit : Bool) (N : RangeNext cs p (get_or v (p + 1) false) c l l' hit) where
+    k : kind_at ks p ≡ range_kind
+    k = range_only (kind_at ks p) f
+
     now_at : (s : List ℕ) → Values (held ks cs) s v → SlotsAt ks cs s l₀
         → (hit ≡ some_then (in_range (first_end cs p) (second_end cs p)) (here_at (held ks cs) (p + 1)) (c ∷ s))
         × Kept cs p (range_for cs p) (here_at (held ks cs) (p + 1)) (c ∷ s) l'
     now_at s U S =
         N.is (here_at (held ks cs) (p + 1)) s (U.at (p + 1) (rw (length_held ks cs w.same) (omega arith))) ((w.at s U S).left p (omega arith) b k)
 
-    before_kept : (j : ℕ) → j < p → j < length ks → get_or ks j 0 ≡ 9 → (K : Strings) (s : List ℕ) → Kept cs j (range_for cs j) K s l → Kept cs j (range_for cs j) K s l'
+    before_kept : (j : ℕ) → j < p → j < length ks → kind_at ks j ≡ range_kind → (K : Strings) (s : List ℕ) → Kept cs j (range_for cs j) K s l → Kept cs j (range_for cs j) K s l'
     before_kept j t y z K s q =
         let a : j + range_more cs (j + 1) < p = apart cs ks w.apart j p t b z k in
         kept_frame cs j K s l l' (w.apart.some j z) (λ i x u. (N.kept i).0 (omega arith)) q
 
-    after_kept : (j : ℕ) → p < j → j < length ks → get_or ks j 0 ≡ 9 → (K : Strings) (s : List ℕ) → Kept cs j (range_for cs j) K s l → Kept cs j (range_for cs j) K s l'
+    after_kept : (j : ℕ) → p < j → j < length ks → kind_at ks j ≡ range_kind → (K : Strings) (s : List ℕ) → Kept cs j (range_for cs j) K s l → Kept cs j (range_for cs j) K s l'
     after_kept j t y z K s q =
         let a : p + range_more cs (p + 1) < j = apart cs ks w.apart p j t y k z in
         kept_frame cs j K s l l' (w.apart.some j z) (λ i x u. (N.kept i).1 (omega arith)) q
@@ -252,7 +279,7 @@ zeros zero i = refl
 zeros (suc n) zero = refl
 zeros (suc n) (suc i) = zeros n i
 
-pub slots_start : (ks cs : List ℕ) (n : ℕ) → SlotsAt ks cs [] (replicate n 0)
+pub slots_start : (ks : List Kind) (cs : List ℕ) (n : ℕ) → SlotsAt ks cs [] (replicate n 0)
 slots_start ks cs n = record { at = λ j a b. none_kept cs j _ (replicate n 0) (zeros n) }
 
 pub hits_start : (ts : List Token) (h : List Bool) → ((j : ℕ) → get_or h j false ≡ false) → Hits ts [] h

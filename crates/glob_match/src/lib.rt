@@ -8,15 +8,22 @@ ghost use Rattle.utf8.specs.Unicode.{WellFormed, decode};
 ghost use Rattle.config_rules.specs.Globs.{matches};
 ghost use Rattle.glob_pass.specs.Kinds.{held};
 ghost use Rattle.glob_name.specs.Read.{Spaced};
-ghost use Rattle.glob_match.specs.Match.{RangesNext, matches_at, first_place, NameMatches};
+ghost use Rattle.glob_match.specs.Match.{is_range, RangesNext, matches_at, first_place, NameMatches};
 
+use glob_pass::kinds::{ItemKind, Kind};
 use glob_pass::pass;
 use ranges::range_next;
 use utf8::{code_at, size_before};
 
+fn is_range(k: Kind) -> bool
+    ensures { result ≡ is_range k }
+{
+    matches!(k, Kind::Item(ItemKind::Range))
+}
+
 // What the ranges of a name say of one character more, from the values without it.
 fn ranges_next(
-    kinds: &[u8],
+    kinds: &[Kind],
     chars: &[u32],
     slots: &mut [u8; 1026],
     hits: &mut [bool; 1026],
@@ -29,20 +36,16 @@ fn ranges_next(
     ensures { RangesNext kinds.now chars.now v.now c slots.old
         slots.new hits.old hits.new }
 {
-    let mut p: usize = 0;
-    while p < kinds.len() {
-        if kinds[p] == 9 {
+    for p in 0..kinds.len() {
+        if is_range(kinds[p]) {
             hits[p] = range_next(chars, slots, p, v[p + 1], c);
-            p += 1;
-            continue;
         }
-        p += 1;
     }
 }
 
 // Whether a name matches the path with a `/` before it, or, where `levels` says so, what follows from some place of it
 // on.
-fn matches_at(kinds: &[u8], chars: &[u32], path: &[u8], levels: bool) -> bool
+fn matches_at(kinds: &[Kind], chars: &[u32], path: &[u8], levels: bool) -> bool
     requires { (length kinds.now ≡ length chars.now) × (length chars.now < 1026) × Spaced chars.now
         kinds.now × WellFormed path.now }
     ensures { result ≡ matches_at (held kinds.now chars.now) levels
@@ -54,6 +57,7 @@ fn matches_at(kinds: &[u8], chars: &[u32], path: &[u8], levels: bool) -> bool
     pass(kinds, chars, 0, true, &hits, &mut v);
     let mut found = v[0];
     let mut e = path.len();
+    // kept: the new form is no plainer: characters take one to four bytes, and an own iterator from the end is longer
     while 0 < e {
         e -= size_before(path, e);
         let c = code_at(path, e);
@@ -70,7 +74,7 @@ fn matches_at(kinds: &[u8], chars: &[u32], path: &[u8], levels: bool) -> bool
 }
 
 // The same of a name whose characters are given, with a slash before them; `slash` says whether it has that one itself.
-fn matches_name(chars: &[u32], kinds: &mut [u8], slash: bool, path: &[u8]) -> bool
+fn matches_name(chars: &[u32], kinds: &mut [Kind], slash: bool, path: &[u8]) -> bool
     requires { (length kinds.old ≡ length chars.now) × (length chars.now < 1026) × (0 < length chars.now) ×
         WellFormed path.now }
     ensures { NameMatches chars.now slash (decode path.now) result }
@@ -86,7 +90,7 @@ pub fn glob_matches(name: &[u8], path: &[u8]) -> bool
     ensures { result ≡ matches (decode name.now) (decode path.now) }
 {
     let mut chars: [u32; 1025] = [0; 1025];
-    let mut kinds: [u8; 1025] = [0; 1025];
+    let mut kinds: [Kind; 1025] = [Kind::Item(ItemKind::Plain); 1025];
     chars[0] = 47;
     let slash = name::starts_with_slash(name);
     let k = first_place(slash);
@@ -95,11 +99,9 @@ pub fn glob_matches(name: &[u8], path: &[u8]) -> bool
 }
 
 // Where the characters of a name start: behind the slash that is put before it, unless it has one.
+#[tactic(auto, unfolding(rules::specs::Basics::choose, crate::specs::Match::first_place))]
 fn first_place(slash: bool) -> usize
     ensures { (result ≡ first_place slash) × (result ≤ 1) }
 {
-    if slash {
-        return 0;
-    }
-    1
+    if slash { 0 } else { 1 }
 }

@@ -6,6 +6,7 @@ ghost use Rattle.config_rules.specs.Globs.{is_slash, has_slash};
 ghost use Rattle.glob_pass.specs.Kinds.{held_at, held};
 ghost use Rattle.glob_match.specs.Match.{Decoded};
 
+use glob_pass::kinds::{ItemKind, Kind};
 use utf8::{code_at, size_at};
 
 // Whether a name starts with a slash.
@@ -13,10 +14,7 @@ pub fn starts_with_slash(name: &[u8]) -> bool
     requires { WellFormed name.now }
     ensures { result ≡ first_is (is "/") (decode name.now) }
 {
-    if name.len() == 0 {
-        return false;
-    }
-    name[0] == b'/'
+    matches!(name, [b'/', ..])
 }
 
 // The characters of a name, from the place k on.
@@ -26,6 +24,7 @@ pub fn decode_into(name: &[u8], chars: &mut [u32; 1025], k: usize) -> usize
 {
     let mut n = k;
     let mut i = 0;
+    // kept: the new form is no plainer: characters take one to four bytes, and an own iterator over them is longer
     while i < name.len() {
         let m = size_at(name, i);
         chars[n] = code_at(name, i);
@@ -36,33 +35,31 @@ pub fn decode_into(name: &[u8], chars: &mut [u32; 1025], k: usize) -> usize
 }
 
 // Whether the token at i is a slash.
-fn slash_at(k: u8, chars: &[u32], i: usize) -> bool
+#[tactic(auto, unfolding(glob_pass::specs::Kinds::held_at, glob_pass::specs::Kinds::plain_at, config_rules::specs::Globs::is_slash))]
+fn slash_at(k: Kind, chars: &[u32], i: usize) -> bool
     requires { i < length chars.now }
     ensures { result ≡ is_slash (held_at k (drop i chars.now)) }
 {
-    if k == 0 {
-        return chars[i] == 47;
+    let Kind::Item(item) = k else {
+        return false;
+    };
+    match item {
+        ItemKind::Plain => chars[i] == 47,
+        ItemKind::Escape => i + 1 < chars.len() && chars[i + 1] == 47,
+        ItemKind::Ahead => true,
+        _ => false,
     }
-    if k == 10 {
-        if chars.len() <= i + 1 {
-            return false;
-        }
-        return chars[i + 1] == 47;
-    }
-    k == 11
 }
 
 // Whether one of the tokens behind the first is a slash.
-pub fn has_slash(kinds: &[u8], chars: &[u32]) -> bool
+pub fn has_slash(kinds: &[Kind], chars: &[u32]) -> bool
     requires { (length kinds.now ≡ length chars.now) × (0 < length chars.now) }
     ensures { result ≡ has_slash (drop 1 (held kinds.now chars.now)) }
 {
-    let mut i: usize = 1;
-    while i < kinds.len() {
+    for i in 1..kinds.len() {
         if slash_at(kinds[i], chars, i) {
             return true;
         }
-        i += 1;
     }
     false
 }

@@ -1,6 +1,6 @@
 -- The loop over the characters of a name.
 use Prim.Native.Nat.{ℕ, zero, suc, ◌+◌, ◌-◌, ◌≤◌, ◌<◌}
-use mathlib.Core.Bool.{Bool, false}
+use mathlib.Core.Bool.{Bool, true, false}
 use mathlib.Core.List.{List, [], ◌∷◌, ◌++◌, append_assoc, append-nil}
 use mathlib.Core.Logic.{◌⊎◌, inl, inr, ⊎_elim}
 use mathlib.Core.Path.{◌≡◌, refl, sym, ap, ◌∙◌}
@@ -11,30 +11,47 @@ use lib.Seq.{drop-cons, take-suc-set, get_or-set_same, get_or-set_other, take-le
 use Rattle.utf8.proofs.Tests.{split}
 use Rattle.rules.specs.Basics.{choose}
 use Rattle.config_rules.specs.Name.{Token, Reading, tokens}
-use Rattle.glob_pass.specs.Kinds.{plain_at, held_at, held}
+use Rattle.glob_pass.specs.Kinds.{plain_at, held_at, held, kind_at}
+use Rattle.glob_pass.specs.declared.kinds.ItemKind.{ItemKind}
+use Rattle.glob_pass.specs.declared.kinds.Kind.{Kind}
 use Rattle.glob_name.specs.declared.read.Read.{Read}
-use Rattle.glob_name.specs.Read.{range_more, TokenRead, RawKinds}
+use Rattle.glob_name.specs.Read.{range_more, is_raw, TokenRead, RawKinds}
 
-held_snoc : (l : List ℕ) (k : ℕ) (cs : List ℕ) → length l < length cs → held (l ++ (k ∷ [])) cs ≡ held l cs ++ (held_at k (drop (length l) cs) ∷ [])
+abbrev plain_kind : Kind
+plain_kind = Kind.Item ItemKind.Plain
+
+abbrev covered_kind : Kind
+covered_kind = Kind.Item ItemKind.Covered
+
+abbrev range_kind : Kind
+range_kind = Kind.Item ItemKind.Range
+
+plain_range : plain_kind ≡ range_kind → ⊥
+plain_range e = cc
+
+covered_range : covered_kind ≡ range_kind → ⊥
+covered_range e = cc
+
+held_snoc : (l : List Kind) (k : Kind) (cs : List ℕ) → length l < length cs → held (l ++ (k ∷ [])) cs ≡ held l cs ++ (held_at k (drop (length l) cs) ∷ [])
 unfolding held
 held_snoc l k [] h = absurd (omega arith)
 held_snoc [] k (c ∷ cs) h = refl
 held_snoc (x ∷ l) k (c ∷ cs) h = ap (λ (r : List Token). held_at x (c ∷ cs) ∷ r) (held_snoc l k cs (omega arith))
 
-pub record Scanning (cs : List ℕ) (i more : ℕ) (deep : Bool) (kinds : List ℕ) : Type 0 where
+pub record Scanning (cs : List ℕ) (i more : ℕ) (deep : Bool) (kinds : List Kind) : Type 0 where
   pub place : i ≤ length cs
   pub long : length kinds ≡ length cs
-  pub raw : (j : ℕ) → j < i → get_or kinds j 0 < 12
-  pub some : (j : ℕ) → j < i → get_or kinds j 0 ≡ 9 → 0 < range_more cs (j + 1)
-  pub parts : (j : ℕ) → j < i → get_or kinds j 0 ≡ 9 → (q : ℕ) → j < q → q ≤ j + range_more cs (j + 1) → q < i → get_or kinds q 0 ≡ 4
-  pub covered : (j : ℕ) → j < i → get_or kinds j 0 ≡ 9 → j + range_more cs (j + 1) < i + more
+  pub raw : (j : ℕ) → j < i → is_raw (kind_at kinds j) ≡ true
+  pub some : (j : ℕ) → j < i → kind_at kinds j ≡ range_kind → 0 < range_more cs (j + 1)
+  pub parts : (j : ℕ) → j < i → kind_at kinds j ≡ range_kind → (q : ℕ) → j < q → q ≤ j + range_more cs (j + 1) → q < i → kind_at kinds q ≡ covered_kind
+  pub covered : (j : ℕ) → j < i → kind_at kinds j ≡ range_kind → j + range_more cs (j + 1) < i + more
   pub is : held (take i kinds) cs ++ tokens more deep (drop i cs) ≡ tokens 0 false cs
 
-pub scanning_start : (cs kinds : List ℕ) → length kinds ≡ length cs → Scanning cs 0 0 false kinds
+pub scanning_start : (cs : List ℕ) (kinds : List Kind) → length kinds ≡ length cs → Scanning cs 0 0 false kinds
 unfolding held
 scanning_start cs kinds e = record { place = omega arith; long = e; raw = λ j h. absurd (omega arith); some = λ j h. absurd (omega arith); parts = λ j h. absurd (omega arith); covered = λ j h. absurd (omega arith); is = refl }
 
-module _ (cs : List ℕ) (i more : ℕ) (deep : Bool) (kinds : List ℕ) (w : Scanning cs i more deep kinds) where
+module _ (cs : List ℕ) (i more : ℕ) (deep : Bool) (kinds : List Kind) (w : Scanning cs i more deep kinds) where
   pub scanning_end : length cs ≤ i → RawKinds cs kinds
   unfolding tokens
   scanning_end h =
@@ -42,14 +59,14 @@ module _ (cs : List ℕ) (i more : ℕ) (deep : Bool) (kinds : List ℕ) (w : Sc
       let p : i ≤ length cs = w.place in
       let e : i ≡ length kinds = omega arith in
       let n : drop i cs ≡ [] = drop_of_length-le cs {i = i} h in
-      let nine : (j : ℕ) → get_or kinds j 0 ≡ 9 → j < i =
-      λ j x. ⊎_elim (λ (a : j < i). a) (λ (a : i ≤ j). let z : get_or kinds j 0 ≡ 0 = get_or-eq_default kinds 0 (omega arith) in absurd (omega arith)) (split j i) in
+      let nine : (j : ℕ) → kind_at kinds j ≡ range_kind → j < i =
+      λ j x. ⊎_elim (λ (a : j < i). a) (λ (a : i ≤ j). let z : kind_at kinds j ≡ plain_kind = get_or-eq_default kinds plain_kind (omega arith) in absurd (plain_range (sym z ∙ x))) (split j i) in
       record {
         long = w.long;
         raw = record {
           at = λ j.
               ⊎_elim (λ (a : j < length kinds). w.raw j (omega arith))
-              (λ (a : length kinds ≤ j). let z : get_or kinds j 0 ≡ 0 = get_or-eq_default kinds 0 a in omega arith) (split j (length kinds));
+              (λ (a : length kinds ≤ j). let z : kind_at kinds j ≡ plain_kind = get_or-eq_default kinds plain_kind a in ap is_raw z) (split j (length kinds));
         };
         spaced =
             record {
@@ -58,11 +75,11 @@ module _ (cs : List ℕ) (i more : ℕ) (deep : Bool) (kinds : List ℕ) (w : Sc
             };
         is =
             sym (append-nil (held kinds cs))
-            ∙ ap (λ (k : List ℕ). held k cs ++ []) (sym (take-length kinds) ∙ ap (λ (j : ℕ). take j kinds) (sym e))
+            ∙ ap (λ (k : List Kind). held k cs ++ []) (sym (take-length kinds) ∙ ap (λ (j : ℕ). take j kinds) (sym e))
             ∙ sym (ap (λ (k : List ℕ). held (take i kinds) cs ++ tokens more deep k) n) ∙ w.is;
       }
 
-  scanning_on : i < length cs → (k m : ℕ) (d : Bool) → k < 12 → (k ≡ 9 → (m ≡ range_more cs (i + 1)) × (0 < m)) → i + more ≤ i + 1 + m → (more ≤ 0) ⊎ (k ≡ 4)
+  scanning_on : i < length cs → (k : Kind) (m : ℕ) (d : Bool) → is_raw k ≡ true → (k ≡ range_kind → (m ≡ range_more cs (i + 1)) × (0 < m)) → i + more ≤ i + 1 + m → (more ≤ 0) ⊎ (k ≡ covered_kind)
       → held_at k (drop i cs) ∷ tokens m d (drop (suc i) cs) ≡ tokens more deep (drop i cs) → Scanning cs (i + 1) m d (set kinds i k)
   scanning_on h k m d r sp mo pt e =
       let l : length kinds ≡ length cs = w.long in
@@ -71,32 +88,32 @@ module _ (cs : List ℕ) (i more : ℕ) (deep : Bool) (kinds : List ℕ) (w : Sc
         place = omega arith;
         long = length-set kinds i k ∙ w.long;
         raw = λ j a.
-            ⊎_elim (λ (b : j < i). rw (get_or-set_other kinds i j k 0 (λ q. absurd (omega arith))) (w.raw j b))
-            (λ (b : i ≤ j). let z : j ≡ i = omega arith in rw (z, get_or-set_same kinds i k 0 (omega arith)) r) (split j i);
+            ⊎_elim (λ (b : j < i). rw (get_or-set_other kinds i j k plain_kind (λ q. absurd (omega arith))) (w.raw j b))
+            (λ (b : i ≤ j). let z : j ≡ i = omega arith in rw (z, get_or-set_same kinds i k plain_kind (omega arith)) r) (split j i);
         some = λ j a x.
-            ⊎_elim (λ (b : j < i). w.some j b (sym (get_or-set_other kinds i j k 0 (λ q. absurd (omega arith))) ∙ x))
+            ⊎_elim (λ (b : j < i). w.some j b (sym (get_or-set_other kinds i j k plain_kind (λ q. absurd (omega arith))) ∙ x))
             (λ (b : i ≤ j).
             let z : j ≡ i = omega arith in
-            let y : k ≡ 9 = sym (get_or-set_same kinds i k 0 (omega arith)) ∙ ap (λ (n : ℕ). get_or (set kinds i k) n 0) (sym z) ∙ x in
+            let y : k ≡ range_kind = sym (get_or-set_same kinds i k plain_kind (omega arith)) ∙ ap (λ (n : ℕ). kind_at (set kinds i k) n) (sym z) ∙ x in
             rw z (omega (arith, (sp y).0, (sp y).1))) (split j i);
         parts = λ j a x q b u v.
             ⊎_elim
             (λ (t : j < i).
-            let x' : get_or kinds j 0 ≡ 9 = sym (get_or-set_other kinds i j k 0 (λ n. absurd (omega arith))) ∙ x in
+            let x' : kind_at kinds j ≡ range_kind = sym (get_or-set_other kinds i j k plain_kind (λ n. absurd (omega arith))) ∙ x in
             let cv : j + range_more cs (j + 1) < i + more = w.covered j t x' in
-            ⊎_elim (λ (y : q < i). get_or-set_other kinds i q k 0 (λ n. absurd (omega arith)) ∙ w.parts j t x' q b u y)
+            ⊎_elim (λ (y : q < i). get_or-set_other kinds i q k plain_kind (λ n. absurd (omega arith)) ∙ w.parts j t x' q b u y)
             (λ (y : i ≤ q).
             let z : q ≡ i = omega arith in
-            ⊎_elim (λ (n : more ≤ 0). absurd (omega arith)) (λ (n : k ≡ 4). rw (z, get_or-set_same kinds i k 0 (omega arith)) n) pt) (split q i))
+            ⊎_elim (λ (n : more ≤ 0). absurd (omega arith)) (λ (n : k ≡ covered_kind). rw (z, get_or-set_same kinds i k plain_kind (omega arith)) n) pt) (split q i))
             (λ (t : i ≤ j). absurd (omega arith)) (split j i);
         covered = λ j a x.
             ⊎_elim
             (λ (t : j < i).
-            let x' : get_or kinds j 0 ≡ 9 = sym (get_or-set_other kinds i j k 0 (λ n. absurd (omega arith))) ∙ x in
+            let x' : kind_at kinds j ≡ range_kind = sym (get_or-set_other kinds i j k plain_kind (λ n. absurd (omega arith))) ∙ x in
             let cv : j + range_more cs (j + 1) < i + more = w.covered j t x' in omega arith)
             (λ (t : i ≤ j).
             let z : j ≡ i = omega arith in
-            let y : k ≡ 9 = sym (get_or-set_same kinds i k 0 (omega arith)) ∙ ap (λ (n : ℕ). get_or (set kinds i k) n 0) (sym z) ∙ x in
+            let y : k ≡ range_kind = sym (get_or-set_same kinds i k plain_kind (omega arith)) ∙ ap (λ (n : ℕ). kind_at (set kinds i k) n) (sym z) ∙ x in
             rw z (omega (arith, (sp y).0))) (split j i);
         is =
             rw (add-one i, take-suc-set kinds i k (omega arith))
@@ -106,10 +123,10 @@ module _ (cs : List ℕ) (i more : ℕ) (deep : Bool) (kinds : List ℕ) (w : Sc
             ∙ ap (λ (x : List Token). held (take i kinds) cs ++ x) e ∙ w.is);
       }
 
-  pub scanning_part : i < length cs → 0 < more → Scanning cs (i + 1) (more - 1) deep (set kinds i 4)
-  scanning_part h a = scanning_on h 4 (more - 1) deep (omega arith) (λ q. absurd (omega arith)) (omega arith) (inr refl) (part_is more a)
+  pub scanning_part : i < length cs → 0 < more → Scanning cs (i + 1) (more - 1) deep (set kinds i covered_kind)
+  scanning_part h a = scanning_on h covered_kind (more - 1) deep refl (λ q. absurd (covered_range q)) (omega arith) (inr refl) (part_is more a)
     where
-      part_is : (n : ℕ) → 0 < n → held_at 4 (drop i cs) ∷ tokens (n - 1) deep (drop (suc i) cs) ≡ tokens n deep (drop i cs)
+      part_is : (n : ℕ) → 0 < n → held_at covered_kind (drop i cs) ∷ tokens (n - 1) deep (drop (suc i) cs) ≡ tokens n deep (drop i cs)
       part_is zero b = absurd (omega arith)
       part_is (suc n) b =
           unfold tokens in unfold held_at in unfold plain_at in unfold choose in

@@ -1,6 +1,6 @@
 -- What is read at a character.
 use Prim.Native.Nat.{ℕ, zero, suc, ◌+◌, ◌-◌, ◌≤◌, ◌<◌}
-use mathlib.Core.Bool.{Bool, true, false, not, ◌&&◌, ◌||◌, and-false, and-true, true≢false}
+use mathlib.Core.Bool.{Bool, true, false, not, ◌&&◌, ◌||◌, and-false, and-true, and_assoc, true≢false}
 use mathlib.Core.List.{List, [], ◌∷◌}
 use mathlib.Core.Option.{Option, none, some}
 use mathlib.Core.Path.{◌≡◌, refl, sym, ap, ◌∙◌}
@@ -11,15 +11,18 @@ use borrow.Author.Tests.{ne_eqb, lt-ltb, le-ltb, le-leb, lt-leb, eqb-true, eqb-f
 use lib.Dec.{eqb, ltb, leb}
 use lib.ListN.{length, drop, get_or, set, length-set, drop_of_length-le}
 use lib.Seq.{drop-cons, drop-drop, drop-length, get_or-set_same, get_or-set_other}
-use Rattle.utf8.proofs.Tests.{by_test, split, neither_left, neither_right}
+use Rattle.utf8.proofs.Tests.{by_test, split, neither_left, neither_right, and_right}
 use Rattle.rules.specs.Basics.{choose, is, at, first_is, starts_with}
 use Rattle.rules.proofs.Choose.{choose_true, choose_false}
 use Rattle.config_rules.specs.Numbers.{is_digit, digit_count, sign, number_len}
 use Rattle.config_rules.specs.Name.{reading, cons_to, to_bracket, bracket_at, escape_at, range_at, brace_at, star_at, slash_at, reading_at}
 use Rattle.config_rules.specs.Name.Token.{item, opens}
 use Rattle.glob_pass.specs.Kinds.{up_to, range_in, plain_at, brace_of, held_at}
+use Rattle.glob_pass.specs.declared.kinds.Brace.{Brace}
+use Rattle.glob_pass.specs.declared.kinds.ItemKind.{ItemKind}
+use Rattle.glob_pass.specs.declared.kinds.Kind.{Kind}
 use Rattle.glob_name.specs.declared.read.Read.{Read}
-use Rattle.glob_name.specs.Read.{Counted, rest_more, range_more, set_more, longer, Ends, plain_read, star_read, slash_read, single_read, opened_read, as_reading, Good, TokenRead}
+use Rattle.glob_name.specs.Read.{Counted, rest_more, range_more, set_more, longer, Ends, plain_read, star_read, slash_read, single_read, opened_read, as_reading, is_raw, Good, TokenRead}
 
 -- ---- one character
 
@@ -132,25 +135,26 @@ module _ (cs : List ℕ) (from m : ℕ) (e : Counted cs from (number_len (drop f
   unfolding range_more choose
   range_none z = rw (← e.is, z)
 
-  module _ (z : m ≡ 0 → ⊥) (b : Bool) (f : b ≡ first_is (λ (d : ℕ). eqb d 46) (drop (from + m) cs)) where
-    pub range_first : b ≡ false → 0 ≡ range_more cs from
+  module _ (z : m ≡ 0 → ⊥) (b d : Bool) (f : b ≡ first_is (λ (d : ℕ). eqb d 46) (drop (from + m) cs)) (g : d ≡ first_is (λ (d : ℕ). eqb d 46) (drop (from + m + 1) cs)) where
+    dots : range_more cs from ≡ choose (b && d) (rest_more cs from m) 0
     unfolding range_more choose
-    range_first t = rw (← e.is, ne_eqb m 0 z, ← f, t)
+    dots = rw (← e.is, ne_eqb m 0 z, ← f, ← g) (go b)
+      where
+        go : (b : Bool) → choose b (choose d (rest_more cs from m) 0) 0 ≡ choose (b && d) (rest_more cs from m) 0
+        go true = refl
+        go false = refl
 
-    module _ (t : b ≡ true) (d : Bool) (g : d ≡ first_is (λ (d : ℕ). eqb d 46) (drop (from + m + 1) cs)) where
-      pub range_second : d ≡ false → 0 ≡ range_more cs from
-      unfolding range_more choose
-      range_second u = rw (← e.is, ne_eqb m 0 z, ← f, t, ← g, u)
+    pub range_other : (b && d) ≡ false → 0 ≡ range_more cs from
+    range_other t = sym (dots ∙ choose_false _ _ _ t)
 
-      pub range_both : d ≡ true → (r : ℕ) → r ≡ rest_more cs from m → r ≡ range_more cs from
-      unfolding range_more choose
-      range_both u r k = rw (← e.is, ne_eqb m 0 z, ← f, t, ← g, u) k
+    pub range_both : (b && d) ≡ true → (r : ℕ) → r ≡ rest_more cs from m → r ≡ range_more cs from
+    range_both t r k = k ∙ sym (dots ∙ choose_true _ _ _ t)
 
 -- two dots are there, so the place behind them is
-pub dots_inside : (cs : List ℕ) (from m : ℕ) (d : Bool) → d ≡ first_is (λ (d : ℕ). eqb d 46) (drop (from + m + 1) cs) → d ≡ true → from + m + 2 ≤ length cs
-dots_inside cs from m d e t =
+pub dots_inside : (cs : List ℕ) (from m : ℕ) (b d : Bool) → d ≡ first_is (λ (d : ℕ). eqb d 46) (drop (from + m + 1) cs) → (b && d) ≡ true → from + m + 2 ≤ length cs
+dots_inside cs from m b d e t =
     ⊎_elim (λ (h : from + m + 1 < length cs). omega arith)
-    (λ (h : length cs ≤ from + m + 1). absurd (true≢false (sym t ∙ e ∙ sym (first_past cs (from + m + 1) 46 h))))
+    (λ (h : length cs ≤ from + m + 1). absurd (true≢false (sym (and_right b d t) ∙ e ∙ sym (first_past cs (from + m + 1) 46 h))))
     (split (from + m + 1) (length cs))
 
 two_at : (s : List ℕ) (a b : ℕ) → starts_with s (a ∷ b ∷ []) ≡ (first_is (λ (d : ℕ). eqb d a) s && first_is (λ (d : ℕ). eqb d b) (drop 1 s))
@@ -172,15 +176,9 @@ module _ (cs : List ℕ) (i : ℕ) (b : Bool) (e : b ≡ first_is (λ (d : ℕ).
   stars_are : at (drop i cs) "**/" ≡ (b && (first_is (λ (d : ℕ). eqb d 42) (drop (i + 1) cs) && first_is (λ (d : ℕ). eqb d 47) (drop (i + 2) cs)))
   stars_are = three_at (drop i cs) 42 42 47 ∙ rw (e, drop-drop 1 i cs, drop-drop 2 i cs)
 
-  pub stars_first : b ≡ false → false ≡ at (drop i cs) "**/"
-  stars_first t = sym (stars_are ∙ rw t)
-
-  module _ (t : b ≡ true) (d : Bool) (f : d ≡ first_is (λ (d : ℕ). eqb d 42) (drop (i + 1) cs)) where
-    pub stars_second : d ≡ false → false ≡ at (drop i cs) "**/"
-    stars_second u = sym (stars_are ∙ rw (t, ← f, u))
-
-    pub stars_third : d ≡ true → (r : Bool) → r ≡ first_is (λ (d : ℕ). eqb d 47) (drop (i + 2) cs) → r ≡ at (drop i cs) "**/"
-    stars_third u r g = g ∙ sym (stars_are ∙ rw (t, ← f, u))
+  pub stars_is : (d f : Bool) → d ≡ first_is (λ (d : ℕ). eqb d 42) (drop (i + 1) cs) → f ≡ first_is (λ (d : ℕ). eqb d 47) (drop (i + 2) cs)
+      → ((b && d) && f) ≡ at (drop i cs) "**/"
+  stars_is d f p q = and_assoc b d f ∙ sym (stars_are ∙ rw (← p, ← q))
 
 chosen : {A : Type 0} (f : ℕ → A) (z : A) (m n : ℕ) (p q r : Bool)
     → choose (ltb 0 m && (p && q) && ltb 0 n && r) (f (m + n + 3)) z
@@ -342,22 +340,22 @@ upto_is esc (c ∷ s) l e =
     ∙ upto_cons c (up_to (not esc && is "\\" c) s) l (to_bracket (not esc && is "\\" c) s) (λ k. upto_is (not esc && is "\\" c) s k) (sym (choose_false _ _ _ t) ∙ e))
 
 bracket_read : (s : List ℕ) (o : Option (List ℕ)) → to_bracket false s ≡ o
-    → as_reading (choose (eqb (bracket_at o).more 0) (plain_read 0 0) (plain_read 8 (bracket_at o).more)) (91 ∷ s) ≡ bracket_at o
+    → as_reading (choose (eqb (bracket_at o).more 0) (plain_read (Kind.Item ItemKind.Plain) 0) (plain_read (Kind.Item ItemKind.Set) (bracket_at o).more)) (91 ∷ s) ≡ bracket_at o
 unfolding bracket_at choose held_at plain_at
 bracket_read s none e = refl
 bracket_read s (some l) e = rw (ne_eqb (suc (length l)) 0 (λ q. absurd (omega arith)), upto_is false s l e)
 
 module _ (cs : List ℕ) (i c end m : ℕ) (x : c ≡ 92 → ⊥) (y : c ≡ 91 → ⊥) (e : m ≡ range_more cs (i + 1)) (r : Read) where
-  pub opened_brace : m ≡ 0 → r ≡ plain_read 3 0 → r ≡ opened_read cs i c end
+  pub opened_brace : m ≡ 0 → r ≡ plain_read (Kind.Brace Brace.Opens) 0 → r ≡ opened_read cs i c end
   unfolding opened_read choose
   opened_brace z f = rw (ne_eqb c 92 x, ne_eqb c 91 y, ← e, z) f
 
-  pub opened_range : (m ≡ 0 → ⊥) → r ≡ plain_read 9 m → r ≡ opened_read cs i c end
+  pub opened_range : (m ≡ 0 → ⊥) → r ≡ plain_read (Kind.Item ItemKind.Range) m → r ≡ opened_read cs i c end
   unfolding opened_read choose
   opened_range z f = rw (ne_eqb c 92 x, ne_eqb c 91 y, ← e, ne_eqb m 0 z) f
 
 -- the kind is one that is read
-good_kind : (x : ℕ) (r : Read) → r.kind < 12 → (r.kind ≡ 9 → ⊥) → Good x r
+good_kind : (x : ℕ) (r : Read) → is_raw r.kind ≡ true → (r.kind ≡ Kind.Item ItemKind.Range → ⊥) → Good x r
 good_kind x r h n = record { raw = h; spans = λ e. absurd (n e) }
 
 good_choose : (x : ℕ) (b : Bool) (r t : Read) → Good x r → Good x t → Good x (choose b r t)
@@ -365,12 +363,12 @@ unfolding choose
 good_choose x true r t g h = g
 good_choose x false r t g h = h
 
-good_range : (x : ℕ) → Good x (choose (eqb x 0) (plain_read 3 0) (plain_read 9 x))
+good_range : (x : ℕ) → Good x (choose (eqb x 0) (plain_read (Kind.Brace Brace.Opens) 0) (plain_read (Kind.Item ItemKind.Range) x))
 unfolding choose
 good_range x =
     by_test (eqb x 0)
-    (λ t. rw t (good_kind x (plain_read 3 0) (omega arith) (λ e. absurd (omega arith))))
-    (λ t. rw t (record { raw = omega arith; spans = λ e. (refl, ⊎_elim (λ (h : 0 < x). h) (λ (h : x ≤ 0). absurd (eqb-false x 0 t (omega arith))) (split 0 x)) }))
+    (λ t. rw t (good_kind x (plain_read (Kind.Brace Brace.Opens) 0) refl (λ e. cc)))
+    (λ t. rw t (record { raw = refl; spans = λ e. (refl, ⊎_elim (λ (h : 0 < x). h) (λ (h : x ≤ 0). absurd (eqb-false x 0 t (omega arith))) (split 0 x)) }))
 
 module _ (cs : List ℕ) (i : ℕ) (deep : Bool) (h : i < length cs) where
   abbrev c : ℕ
@@ -379,7 +377,7 @@ module _ (cs : List ℕ) (i : ℕ) (deep : Bool) (h : i < length cs) where
   abbrev s : List ℕ
   s = drop (i + 1) cs
 
-  escape_token : c ≡ 92 → as_reading (choose (ltb (i + 1) (length cs)) (plain_read 10 1) (plain_read 0 0)) (92 ∷ s) ≡ escape_at s
+  escape_token : c ≡ 92 → as_reading (choose (ltb (i + 1) (length cs)) (plain_read (Kind.Item ItemKind.Escape) 1) (plain_read (Kind.Item ItemKind.Plain) 0)) (92 ∷ s) ≡ escape_at s
   unfolding choose held_at plain_at
   escape_token e =
       ⊎_elim
@@ -387,7 +385,7 @@ module _ (cs : List ℕ) (i : ℕ) (deep : Bool) (h : i < length cs) where
       (λ (l : length cs ≤ i + 1). rw (le-ltb (i + 1) (length cs) l, drop_of_length-le cs {i = i + 1}) (unfold escape_at in refl))
       (split (i + 1) (length cs))
 
-  brace_token : as_reading (choose (eqb (range_more cs (i + 1)) 0) (plain_read 3 0) (plain_read 9 (range_more cs (i + 1)))) (123 ∷ s) ≡ brace_at s
+  brace_token : as_reading (choose (eqb (range_more cs (i + 1)) 0) (plain_read (Kind.Brace Brace.Opens) 0) (plain_read (Kind.Item ItemKind.Range) (range_more cs (i + 1)))) (123 ∷ s) ≡ brace_at s
   unfolding choose held_at plain_at brace_of
   brace_token =
       by_test (eqb (range_more cs (i + 1)) 0) (λ t. rw t (sym (brace_is cs (i + 1) ∙ rw t))) (λ t. rw t (sym (brace_is cs (i + 1) ∙ rw t)))
@@ -400,12 +398,12 @@ module _ (cs : List ℕ) (i : ℕ) (deep : Bool) (h : i < length cs) where
       go (inl q) =
           record {
             is = rw (f, q) (unfold opened_read in unfold reading_at in unfold choose in escape_token q);
-            good = rw (f, q) (unfold opened_read in unfold choose in good_choose _ (ltb (i + 1) (length cs)) (plain_read 10 1) (plain_read 0 0) (good_kind _ _ (omega arith) (λ e. absurd (omega arith))) (good_kind _ _ (omega arith) (λ e. absurd (omega arith))));
+            good = rw (f, q) (unfold opened_read in unfold choose in good_choose _ (ltb (i + 1) (length cs)) (plain_read (Kind.Item ItemKind.Escape) 1) (plain_read (Kind.Item ItemKind.Plain) 0) (good_kind _ _ refl (λ e. cc)) (good_kind _ _ refl (λ e. cc)));
           }
       go (inr (inl q)) =
           record {
             is = rw (f, q, e) (unfold opened_read in unfold reading_at in unfold choose in unfold set_more in bracket_read s (to_bracket false s) refl);
-            good = rw (f, q) (unfold opened_read in unfold choose in good_choose _ (eqb end 0) (plain_read 0 0) (plain_read 8 end) (good_kind _ _ (omega arith) (λ e. absurd (omega arith))) (good_kind _ _ (omega arith) (λ e. absurd (omega arith))));
+            good = rw (f, q) (unfold opened_read in unfold choose in good_choose _ (eqb end 0) (plain_read (Kind.Item ItemKind.Plain) 0) (plain_read (Kind.Item ItemKind.Set) end) (good_kind _ _ refl (λ e. cc)) (good_kind _ _ refl (λ e. cc)));
           }
       go (inr (inr q)) =
           record {
@@ -421,18 +419,18 @@ module _ (cs : List ℕ) (i : ℕ) (deep : Bool) (h : i < length cs) where
   unfolding reading_at star_read star_at choose held_at plain_at
   token_star r e f =
       by_test (first_is (is "*") s)
-      (λ t. record { is = rw (f, e, t); good = rw (f, t) (good_kind _ _ (omega arith) (λ e. absurd (omega arith))) })
-      (λ t. record { is = rw (f, e, t); good = rw (f, t) (good_kind _ _ (omega arith) (λ e. absurd (omega arith))) })
+      (λ t. record { is = rw (f, e, t); good = rw (f, t) (good_kind _ _ refl (λ e. cc)) })
+      (λ t. record { is = rw (f, e, t); good = rw (f, t) (good_kind _ _ refl (λ e. cc)) })
 
   pub token_slash : (r : Read) → c ≡ 47 → r ≡ slash_read deep s → TokenRead cs i deep r
   unfolding reading_at slash_read slash_at choose held_at plain_at
   token_slash r e f =
       by_test deep
-      (λ t. record { is = rw (f, e, t); good = rw (f, t) (good_kind _ _ (omega arith) (λ e. absurd (omega arith))) })
+      (λ t. record { is = rw (f, e, t); good = rw (f, t) (good_kind _ _ refl (λ e. cc)) })
       (λ t.
       by_test (at s "**/")
-      (λ u. record { is = rw (f, e, t, u); good = rw (f, t, u) (good_kind _ _ (omega arith) (λ e. absurd (omega arith))) })
-      (λ u. record { is = rw (f, e, t, u); good = rw (f, t, u) (good_kind _ _ (omega arith) (λ e. absurd (omega arith))) }))
+      (λ u. record { is = rw (f, e, t, u); good = rw (f, t, u) (good_kind _ _ refl (λ e. cc)) })
+      (λ u. record { is = rw (f, e, t, u); good = rw (f, t, u) (good_kind _ _ refl (λ e. cc)) }))
 
   pub token_single : (r : Read) → ((eqb c 92 || eqb c 91) || eqb c 123) ≡ false → (c ≡ 42 → ⊥) → (c ≡ 47 → ⊥) → r ≡ single_read c → TokenRead cs i deep r
   unfolding reading_at single_read choose held_at plain_at brace_of
@@ -442,11 +440,11 @@ module _ (cs : List ℕ) (i : ℕ) (deep : Bool) (h : i < length cs) where
       let n2 : eqb c 91 ≡ false = neither_right (eqb c 92) _ a in
       let n3 : eqb c 123 ≡ false = neither_right (eqb c 92 || eqb c 91) _ t in
       by_test (eqb c 63)
-      (λ u. record { is = rw (f, n1, n2, n3, ne_eqb c 42 x, ne_eqb c 47 y, u); good = rw (f, u) (good_kind _ _ (omega arith) (λ e. absurd (omega arith))) })
+      (λ u. record { is = rw (f, n1, n2, n3, ne_eqb c 42 x, ne_eqb c 47 y, u); good = rw (f, u) (good_kind _ _ refl (λ e. cc)) })
       (λ u.
       by_test (eqb c 44)
-      (λ v. record { is = rw (f, n1, n2, n3, ne_eqb c 42 x, ne_eqb c 47 y, u, v); good = rw (f, u, v) (good_kind _ _ (omega arith) (λ e. absurd (omega arith))) })
+      (λ v. record { is = rw (f, n1, n2, n3, ne_eqb c 42 x, ne_eqb c 47 y, u, v); good = rw (f, u, v) (good_kind _ _ refl (λ e. cc)) })
       (λ v.
       by_test (eqb c 125)
-      (λ w. record { is = rw (f, n1, n2, n3, ne_eqb c 42 x, ne_eqb c 47 y, u, v, w); good = rw (f, u, v, w) (good_kind _ _ (omega arith) (λ e. absurd (omega arith))) })
-      (λ w. record { is = rw (f, n1, n2, n3, ne_eqb c 42 x, ne_eqb c 47 y, u, v, w); good = rw (f, u, v, w) (good_kind _ _ (omega arith) (λ e. absurd (omega arith))) })))
+      (λ w. record { is = rw (f, n1, n2, n3, ne_eqb c 42 x, ne_eqb c 47 y, u, v, w); good = rw (f, u, v, w) (good_kind _ _ refl (λ e. cc)) })
+      (λ w. record { is = rw (f, n1, n2, n3, ne_eqb c 42 x, ne_eqb c 47 y, u, v, w); good = rw (f, u, v, w) (good_kind _ _ refl (λ e. cc)) })))

@@ -1,39 +1,66 @@
 -- Kinds of which the braces and commas that stand for themselves are marked.
-use Rattle.std.specs.Prelude.{ℕ, zero, suc, ◌+◌, ◌≤◌, Bool, false, not, List, [], ◌∷◌, ◌≡◌, eqb, leb, length, get_or}
+use Rattle.std.specs.Prelude.{ℕ, zero, suc, ◌+◌, ◌≤◌, Bool, false, not, List, [], ◌∷◌, ◌≡◌, length, get_or, Option, Some, None}
 use Rattle.rules.specs.Basics.{choose, is_empty}
 use Rattle.config_rules.specs.Name.{with_comma, outer, innermost}
-use Rattle.glob_name.specs.declared.braces.Event.{Event}
+use Rattle.glob_pass.specs.declared.kinds.Brace.{Brace}
+use Rattle.glob_pass.specs.declared.kinds.ItemKind.{ItemKind}
+use Rattle.glob_pass.specs.declared.kinds.Kind.{Kind}
+use Rattle.glob_name.specs.declared.braces.Open.{Open}
 
-unfoldable pub right_event : ℕ → ℕ
-right_event k = choose (leb k 3) k 0
+abbrev pub mirrored : Brace → Brace
+mirrored Brace.Closes = Brace.Opens
+mirrored Brace.Comma = Brace.Comma
+mirrored Brace.Opens = Brace.Closes
 
-unfoldable pub left_event : ℕ → ℕ
-left_event k =
-    choose (eqb k 1) 3
-    (choose (eqb k 3) 1
-    (choose (eqb k 12) 1
-    (choose (eqb k 2) 2
-    (choose (eqb k 13) 2 0))))
+abbrev pub right_event : Kind → Option Brace
+right_event (Kind.Brace b) = Some (mirrored b)
+right_event (Kind.Item k) = None
 
-unfoldable pub marked : ℕ → Bool → ℕ
-marked k lone = choose lone (choose (eqb k 1) 14 (choose (eqb k 2) 13 (choose (eqb k 3) 12 k))) k
+abbrev pub lone_brace : ItemKind → Option Brace
+lone_brace ItemKind.Plain = None
+lone_brace ItemKind.Covered = None
+lone_brace ItemKind.One = None
+lone_brace ItemKind.Star = None
+lone_brace ItemKind.Stars = None
+lone_brace ItemKind.Set = None
+lone_brace ItemKind.Range = None
+lone_brace ItemKind.Escape = None
+lone_brace ItemKind.Ahead = None
+lone_brace (ItemKind.Lone b) = Some b
+
+abbrev pub left_event : Kind → Option Brace
+left_event (Kind.Brace b) = Some b
+left_event (Kind.Item k) = lone_brace k
+
+abbrev pub lone_of : Kind → Kind
+lone_of (Kind.Brace b) = Kind.Item (ItemKind.Lone b)
+lone_of (Kind.Item k) = Kind.Item k
+
+unfoldable pub marked : Kind → Bool → Kind
+marked k lone = choose lone (lone_of k) k
 
 -- the braces that are open after an event, the innermost first, and whether what happens is lone
-unfoldable pub stack_after : ℕ → List Bool → List Bool
-stack_after e bs = choose (eqb e 1) (false ∷ bs) (choose (eqb e 2) (with_comma bs) (choose (eqb e 3) (outer bs) bs))
+unfoldable pub stack_after : Option Brace → List Bool → List Bool
+stack_after None bs = bs
+stack_after (Some Brace.Opens) bs = false ∷ bs
+stack_after (Some Brace.Comma) bs = with_comma bs
+stack_after (Some Brace.Closes) bs = outer bs
 
-unfoldable pub is_lone : ℕ → List Bool → Bool
-is_lone e bs = choose (eqb e 1) false (choose (eqb e 2) (is_empty bs) (choose (eqb e 3) (not (innermost bs)) false))
+unfoldable pub is_lone : Option Brace → List Bool → Bool
+is_lone None bs = false
+is_lone (Some Brace.Opens) bs = false
+is_lone (Some Brace.Comma) bs = is_empty bs
+is_lone (Some Brace.Closes) bs = not (innermost bs)
 
-unfoldable pub open_right : List ℕ → List Bool
+unfoldable pub open_right : List Kind → List Bool
 open_right [] = []
 open_right (k ∷ ks) = stack_after (right_event k) (open_right ks)
 
-unfoldable pub mark_right : List ℕ → List ℕ
+unfoldable pub mark_right : List Kind → List Kind
 mark_right [] = []
 mark_right (k ∷ ks) = marked k (is_lone (right_event k) (open_right ks)) ∷ mark_right ks
 
-unfoldable pub mark_left : List Bool → List ℕ → List ℕ
+unfoldable pub mark_left : List Bool → List Kind → List Kind
 mark_left bs [] = []
 mark_left bs (k ∷ ks) = marked k (is_lone (left_event k) bs) ∷ mark_left (stack_after (left_event k) bs) ks
 
@@ -42,8 +69,11 @@ unfoldable pub flagged : List Bool → ℕ → List Bool
 flagged f zero = []
 flagged f (suc n) = get_or f n false ∷ flagged f n
 
-pub record Happened (e : ℕ) (f : List Bool) (depth : ℕ) (f' : List Bool) (r : Event) : Type 0 where
-  pub lone : r.lone ≡ is_lone e (flagged f depth)
-  pub stack : flagged f' r.depth ≡ stack_after e (flagged f depth)
-  pub deep : r.depth ≤ depth + 1
-  pub long : length f' ≡ length f
+abbrev pub open_braces : Open → List Bool
+open_braces o = flagged o.commas o.depth
+
+pub record Happened (e : Option Brace) (o o' : Open) (r : Bool) : Type 0 where
+  pub lone : r ≡ is_lone e (open_braces o)
+  pub stack : open_braces o' ≡ stack_after e (open_braces o)
+  pub deep : o'.depth ≤ o.depth + 1
+  pub long : length o'.commas ≡ length o.commas

@@ -3,7 +3,10 @@ use Rattle.std.specs.Prelude.{ℕ, zero, suc, ◌+◌, ◌≤◌, ◌<◌, Bool,
 use Rattle.rules.specs.Basics.{choose, is, at, first_is}
 use Rattle.config_rules.specs.Numbers.{number_len}
 use Rattle.config_rules.specs.Name.{Reading, to_bracket, bracket_at, reading_at, tokens}
-use Rattle.glob_pass.specs.Kinds.{held_at, held}
+use Rattle.glob_pass.specs.Kinds.{held_at, held, kind_at}
+use Rattle.glob_pass.specs.declared.kinds.Brace.{Brace}
+use Rattle.glob_pass.specs.declared.kinds.ItemKind.{ItemKind}
+use Rattle.glob_pass.specs.declared.kinds.Kind.{Kind}
 use Rattle.glob_name.specs.declared.read.Read.{Read}
 
 -- n characters from `from` on, as many as x says
@@ -39,51 +42,68 @@ pub record Ends (chars ends : List ℕ) : Type 0 where
 
 -- ---- what is read at a character
 
-abbrev pub plain_read : ℕ → ℕ → Read
+abbrev pub plain_read : Kind → ℕ → Read
 plain_read k n = record { kind = k; more = n; deep = false }
 
 unfoldable pub star_read : Bool → List ℕ → Read
-star_read deep s = choose (first_is (is "*") s) (record { kind = 7; more = 1; deep = deep }) (plain_read 6 0)
+star_read deep s = choose (first_is (is "*") s) (record { kind = Kind.Item ItemKind.Stars; more = 1; deep = deep }) (plain_read (Kind.Item ItemKind.Star) 0)
 
 unfoldable pub slash_read : Bool → List ℕ → Read
 slash_read deep s =
-    choose deep (plain_read 0 0) (choose (at s "**/") (record { kind = 11; more = 0; deep = true }) (plain_read 0 0))
+    choose deep (plain_read (Kind.Item ItemKind.Plain) 0) (choose (at s "**/") (record { kind = Kind.Item ItemKind.Ahead; more = 0; deep = true }) (plain_read (Kind.Item ItemKind.Plain) 0))
 
 unfoldable pub single_read : ℕ → Read
 single_read c =
-    choose (is "?" c) (plain_read 5 0)
-    (choose (is "," c) (plain_read 2 0) (choose (is "}" c) (plain_read 1 0) (plain_read 0 0)))
+    choose (is "?" c) (plain_read (Kind.Item ItemKind.One) 0)
+    (choose (is "," c) (plain_read (Kind.Brace Brace.Comma) 0) (choose (is "}" c) (plain_read (Kind.Brace Brace.Closes) 0) (plain_read (Kind.Item ItemKind.Plain) 0)))
 
 unfoldable pub opened_read : List ℕ → ℕ → ℕ → ℕ → Read
 opened_read cs i c end =
-    choose (is "\\" c) (choose (ltb (i + 1) (length cs)) (plain_read 10 1) (plain_read 0 0))
-    (choose (is "[" c) (choose (eqb end 0) (plain_read 0 0) (plain_read 8 end))
-    (choose (eqb (range_more cs (i + 1)) 0) (plain_read 3 0) (plain_read 9 (range_more cs (i + 1)))))
+    choose (is "\\" c) (choose (ltb (i + 1) (length cs)) (plain_read (Kind.Item ItemKind.Escape) 1) (plain_read (Kind.Item ItemKind.Plain) 0))
+    (choose (is "[" c) (choose (eqb end 0) (plain_read (Kind.Item ItemKind.Plain) 0) (plain_read (Kind.Item ItemKind.Set) end))
+    (choose (eqb (range_more cs (i + 1)) 0) (plain_read (Kind.Brace Brace.Opens) 0) (plain_read (Kind.Item ItemKind.Range) (range_more cs (i + 1)))))
 
 -- the same as the definitions read it, s from the character on
 abbrev pub as_reading : Read → List ℕ → Reading
 as_reading r s = record { token = held_at r.kind s; more = r.more; deep = r.deep }
 
+-- the kinds that are read: no brace or comma is taken for itself yet
+abbrev pub is_raw : Kind → Bool
+is_raw (Kind.Brace b) = true
+is_raw (Kind.Item k) = not_lone k
+  where
+    not_lone : ItemKind → Bool
+    not_lone ItemKind.Plain = true
+    not_lone ItemKind.Covered = true
+    not_lone ItemKind.One = true
+    not_lone ItemKind.Star = true
+    not_lone ItemKind.Stars = true
+    not_lone ItemKind.Set = true
+    not_lone ItemKind.Range = true
+    not_lone ItemKind.Escape = true
+    not_lone ItemKind.Ahead = true
+    not_lone (ItemKind.Lone b) = false
+
 -- the kind is one that is read; a range has x characters more
 pub record Good (x : ℕ) (r : Read) : Type 0 where
-  pub raw : r.kind < 12
-  pub spans : r.kind ≡ 9 → (r.more ≡ x) × (0 < r.more)
+  pub raw : is_raw r.kind ≡ true
+  pub spans : r.kind ≡ Kind.Item ItemKind.Range → (r.more ≡ x) × (0 < r.more)
 
 pub record TokenRead (cs : List ℕ) (i : ℕ) (deep : Bool) (r : Read) : Type 0 where
   pub is : as_reading r (get_or cs i 0 ∷ drop (i + 1) cs) ≡ reading_at deep (get_or cs i 0) (drop (i + 1) cs)
   pub good : Good (range_more cs (i + 1)) r
 
 -- every kind is one of those that are read
-pub record Raw (ks : List ℕ) : Type 0 where
-  pub at : (j : ℕ) → get_or ks j 0 < 12
+pub record Raw (ks : List Kind) : Type 0 where
+  pub at : (j : ℕ) → is_raw (kind_at ks j) ≡ true
 
 -- where a range stands, its characters follow as parts
-pub record Spaced (cs ks : List ℕ) : Type 0 where
-  pub some : (j : ℕ) → get_or ks j 0 ≡ 9 → 0 < range_more cs (j + 1)
-  pub parts : (j : ℕ) → get_or ks j 0 ≡ 9 → (q : ℕ) → j < q → q ≤ j + range_more cs (j + 1) → q < length ks
-      → get_or ks q 0 ≡ 4
+pub record Spaced (cs : List ℕ) (ks : List Kind) : Type 0 where
+  pub some : (j : ℕ) → kind_at ks j ≡ Kind.Item ItemKind.Range → 0 < range_more cs (j + 1)
+  pub parts : (j : ℕ) → kind_at ks j ≡ Kind.Item ItemKind.Range → (q : ℕ) → j < q → q ≤ j + range_more cs (j + 1) → q < length ks
+      → kind_at ks q ≡ Kind.Item ItemKind.Covered
 
-pub record RawKinds (cs ks : List ℕ) : Type 0 where
+pub record RawKinds (cs : List ℕ) (ks : List Kind) : Type 0 where
   pub long : length ks ≡ length cs
   pub raw : Raw ks
   pub spaced : Spaced cs ks

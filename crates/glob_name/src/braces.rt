@@ -1,127 +1,119 @@
-// Braces and commas that stand for themselves, found with a stack of flags from each side.
+// Braces and commas that stand for themselves, found with the open braces on each side.
 ghost use Rattle.std.specs.Prelude.{◌≡◌, [], ◌<◌, length};
-ghost use Rattle.glob_name.specs.Braces.{right_event, left_event, marked, Happened, mark_right, mark_left};
+ghost use Rattle.glob_name.specs.Braces.{mirrored, right_event, left_event, marked, Happened, mark_right, mark_left};
 
-// Whether a brace or comma is lone, and how many braces are open after it.
+use glob_pass::kinds::{Brace, ItemKind, Kind};
+
+// The braces that are open on one side of a place: the first `depth` of `commas` say of each, the innermost last,
+// whether it has a comma there.
 #[derive(Clone, Copy)]
-pub struct Event {
-    pub lone: bool,
+pub struct Open {
+    pub commas: [bool; 1026],
     pub depth: usize,
 }
 
-// What a kind does to the braces that are open to its right: 1 one more, 2 a comma, 3 one less, 0 nothing.
-fn right_event(k: u8) -> u8
+// What a brace is to those who read from the right.
+fn mirrored(b: Brace) -> Brace
+    ensures { result ≡ mirrored b }
+{
+    match b {
+        Brace::Closes => Brace::Opens,
+        Brace::Comma => Brace::Comma,
+        Brace::Opens => Brace::Closes,
+    }
+}
+
+// What a kind does to the braces that are open to its right.
+fn right_event(k: Kind) -> Option<Brace>
     ensures { result ≡ right_event k }
 {
-    if k <= 3 {
-        return k;
+    match k {
+        Kind::Brace(b) => Some(mirrored(b)),
+        Kind::Item(_) => None,
     }
-    0
 }
 
 // The same to its left.
-fn left_event(k: u8) -> u8
+fn left_event(k: Kind) -> Option<Brace>
     ensures { result ≡ left_event k }
 {
-    if k == 1 {
-        return 3;
+    match k {
+        Kind::Brace(b) => Some(b),
+        Kind::Item(ItemKind::Lone(b)) => Some(b),
+        Kind::Item(_) => None,
     }
-    if k == 3 {
-        return 1;
-    }
-    if k == 12 {
-        return 1;
-    }
-    if k == 2 {
-        return 2;
-    }
-    if k == 13 {
-        return 2;
-    }
-    0
 }
 
 // A kind that stands for itself where it is lone.
-fn marked(k: u8, lone: bool) -> u8
+#[tactic(auto, unfolding(rules::specs::Basics::choose, crate::specs::Braces::marked))]
+fn marked(k: Kind, lone: bool) -> Kind
     ensures { result ≡ marked k lone }
 {
-    if lone {
-        if k == 1 {
-            return 14;
-        }
-        if k == 2 {
-            return 13;
-        }
-        if k == 3 {
-            return 12;
-        }
-        return k;
+    match k {
+        Kind::Brace(b) if lone => Kind::Item(ItemKind::Lone(b)),
+        _ => k,
     }
-    k
 }
 
-// An event. A flag says of an open brace whether it has a comma.
-fn happen(e: u8, flags: &mut [bool; 1026], depth: usize) -> Event
-    requires { (depth < length flags.old) × (depth < 1026) }
-    ensures { Happened e flags.old depth flags.new result }
-{
-    if e == 1 {
-        flags[depth] = false;
-        return Event {
-            lone: false,
-            depth: depth + 1,
-        };
-    }
-    if e == 2 {
-        if depth == 0 {
-            return Event { lone: true, depth };
+impl Open {
+    // No brace.
+    fn none() -> Open
+        ensures { (result.depth ≡ 0) × (length result.commas ≡ 1026) }
+    {
+        Open {
+            commas: [false; 1026],
+            depth: 0,
         }
-        flags[depth - 1] = true;
-        return Event { lone: false, depth };
     }
-    if e == 3 {
-        if depth == 0 {
-            return Event { lone: true, depth };
-        }
-        let has = flags[depth - 1];
-        return Event {
-            lone: !has,
-            depth: depth - 1,
+
+    // An event, and whether its brace or comma is lone.
+    fn happen(&mut self, e: Option<Brace>) -> bool
+        requires { (self.old.depth < length self.old.commas) × (self.old.depth < 1026) }
+        ensures { Happened e self.old self.new result }
+    {
+        let Some(brace) = e else {
+            return false;
         };
+        if let Brace::Opens = brace {
+            self.commas[self.depth] = false;
+            self.depth += 1;
+            return false;
+        }
+        if self.depth == 0 {
+            return true;
+        }
+        if let Brace::Comma = brace {
+            self.commas[self.depth - 1] = true;
+            return false;
+        }
+        self.depth -= 1;
+        !self.commas[self.depth]
     }
-    Event { lone: false, depth }
 }
 
 // From the right: opening braces and commas.
-pub fn mark_right(kinds: &mut [u8])
+// kept: the new form is no plainer: one function for both sides takes the order of the places and the event as closures
+pub fn mark_right(kinds: &mut [Kind])
     requires { length kinds.old < 1026 }
     ensures { kinds.new ≡ mark_right kinds.old }
 {
-    let mut flags: [bool; 1026] = [false; 1026];
-    let mut depth: usize = 0;
-    let mut p = kinds.len();
-    while 0 < p {
-        p -= 1;
+    let mut open = Open::none();
+    for p in (0..kinds.len()).rev() {
         let k = kinds[p];
-        let event = happen(right_event(k), &mut flags, depth);
-        kinds[p] = marked(k, event.lone);
-        depth = event.depth;
+        let lone = open.happen(right_event(k));
+        kinds[p] = marked(k, lone);
     }
 }
 
 // From the left: closing braces and commas.
-pub fn mark_left(kinds: &mut [u8])
+pub fn mark_left(kinds: &mut [Kind])
     requires { length kinds.old < 1026 }
     ensures { kinds.new ≡ mark_left [] kinds.old }
 {
-    let mut flags: [bool; 1026] = [false; 1026];
-    let mut depth: usize = 0;
-    let mut i: usize = 0;
-    while i < kinds.len() {
+    let mut open = Open::none();
+    for i in 0..kinds.len() {
         let k = kinds[i];
-        let event = happen(left_event(k), &mut flags, depth);
-        kinds[i] = marked(k, event.lone);
-        depth = event.depth;
-        i += 1;
+        let lone = open.happen(left_event(k));
+        kinds[i] = marked(k, lone);
     }
 }

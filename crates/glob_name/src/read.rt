@@ -5,10 +5,12 @@ ghost use Rattle.config_rules.specs.Numbers.{digit_count, number_len};
 ghost use Rattle.glob_name.specs.Read.{Counted, rest_more, range_more, longer, Ends, plain_read, star_read};
 ghost use Rattle.glob_name.specs.Read.{slash_read, single_read, opened_read, TokenRead, RawKinds};
 
+use glob_pass::kinds::{Brace, ItemKind, Kind};
+
 // A token's kind, how many more characters it has, and whether a `/**/` goes on behind it.
 #[derive(Clone, Copy)]
 pub struct Read {
-    pub kind: u8,
+    pub kind: Kind,
     pub more: usize,
     pub deep: bool,
 }
@@ -17,10 +19,7 @@ pub struct Read {
 fn char_is(chars: &[u32], i: usize, c: u32) -> bool
     ensures { result ≡ first_is (λ (d : ℕ). eqb d c) (drop i chars.now) }
 {
-    if i < chars.len() {
-        return chars[i] == c;
-    }
-    false
+    i < chars.len() && chars[i] == c
 }
 
 // How many digits stand at `from`.
@@ -81,11 +80,8 @@ fn range_more(chars: &[u32], from: usize) -> usize
     if m == 0 {
         return 0;
     }
-    if char_is(chars, from + m, 46) {
-        if char_is(chars, from + m + 1, 46) {
-            return range_rest(chars, from, m);
-        }
-        return 0;
+    if char_is(chars, from + m, 46) & char_is(chars, from + m + 1, 46) {
+        return range_rest(chars, from, m);
     }
     0
 }
@@ -106,12 +102,10 @@ fn set_ends(chars: &[u32], ends: &mut [usize; 1026])
     requires { (length chars.now < 1026) × (length chars.now < length ends.old) }
     ensures { Ends chars.now ends.new }
 {
-    let mut i = chars.len();
     let mut plain: usize = 0;
     let mut escaped: usize = 0;
-    ends[i] = 0;
-    while 0 < i {
-        i -= 1;
+    ends[chars.len()] = 0;
+    for i in (0..chars.len()).rev() {
         let c = chars[i];
         let before = plain;
         if c == 93 {
@@ -137,16 +131,10 @@ fn stars_at(chars: &[u32], i: usize) -> bool
     requires { i < 1026 }
     ensures { result ≡ at (drop i chars.now) "**/" }
 {
-    if char_is(chars, i, 42) {
-        if char_is(chars, i + 1, 42) {
-            return char_is(chars, i + 2, 47);
-        }
-        return false;
-    }
-    false
+    char_is(chars, i, 42) & char_is(chars, i + 1, 42) & char_is(chars, i + 2, 47)
 }
 
-fn plain_read(kind: u8, more: usize) -> Read
+fn plain_read(kind: Kind, more: usize) -> Read
     ensures { result ≡ plain_read kind more }
 {
     Read {
@@ -157,51 +145,50 @@ fn plain_read(kind: u8, more: usize) -> Read
 }
 
 // A star at i, or a slash.
+#[tactic(auto, unfolding(rules::specs::Basics::choose, crate::specs::Read::star_read))]
 fn star_read(chars: &[u32], i: usize, deep: bool) -> Read
     requires { i < 1026 }
     ensures { result ≡ star_read deep (drop (i + 1) chars.now) }
 {
     if char_is(chars, i + 1, 42) {
         return Read {
-            kind: 7,
+            kind: Kind::Item(ItemKind::Stars),
             more: 1,
             deep,
         };
     }
-    plain_read(6, 0)
+    plain_read(Kind::Item(ItemKind::Star), 0)
 }
 
+#[tactic(auto, unfolding(rules::specs::Basics::choose, crate::specs::Read::slash_read))]
 fn slash_read(chars: &[u32], i: usize, deep: bool) -> Read
     requires { i < 1025 }
     ensures { result ≡ slash_read deep (drop (i + 1) chars.now) }
 {
     if deep {
-        return plain_read(0, 0);
+        return plain_read(Kind::Item(ItemKind::Plain), 0);
     }
     if stars_at(chars, i + 1) {
         return Read {
-            kind: 11,
+            kind: Kind::Item(ItemKind::Ahead),
             more: 0,
             deep: true,
         };
     }
-    plain_read(0, 0)
+    plain_read(Kind::Item(ItemKind::Plain), 0)
 }
 
 // A token of one character.
+#[tactic(auto, unfolding(rules::specs::Basics::choose, crate::specs::Read::single_read))]
 fn single_read(c: u32) -> Read
     ensures { result ≡ single_read c }
 {
-    if c == 63 {
-        return plain_read(5, 0);
+    match c {
+        63 => plain_read(Kind::Item(ItemKind::One), 0),
+        44 => plain_read(Kind::Brace(Brace::Comma), 0),
+        125 => plain_read(Kind::Brace(Brace::Closes), 0),
+        _ => plain_read(Kind::Item(ItemKind::Plain), 0),
     }
-    if c == 44 {
-        return plain_read(2, 0);
-    }
-    if c == 125 {
-        return plain_read(1, 0);
-    }
-    plain_read(0, 0)
 }
 
 // A token whose first character is a backslash or an opening bracket or brace.
@@ -211,21 +198,21 @@ fn opened_read(chars: &[u32], i: usize, c: u32, end: usize) -> Read
 {
     if c == 92 {
         if i + 1 < chars.len() {
-            return plain_read(10, 1);
+            return plain_read(Kind::Item(ItemKind::Escape), 1);
         }
-        return plain_read(0, 0);
+        return plain_read(Kind::Item(ItemKind::Plain), 0);
     }
     if c == 91 {
         if end == 0 {
-            return plain_read(0, 0);
+            return plain_read(Kind::Item(ItemKind::Plain), 0);
         }
-        return plain_read(8, end);
+        return plain_read(Kind::Item(ItemKind::Set), end);
     }
     let more = range_more(chars, i + 1);
     if more == 0 {
-        return plain_read(3, 0);
+        return plain_read(Kind::Brace(Brace::Opens), 0);
     }
-    plain_read(9, more)
+    plain_read(Kind::Item(ItemKind::Range), more)
 }
 
 // The token at i, which nothing escapes.
@@ -247,26 +234,23 @@ fn read_at(chars: &[u32], ends: &[usize; 1026], i: usize, deep: bool) -> Read
 }
 
 // The kinds of a name, before any brace is taken for itself.
-pub fn raw_kinds(chars: &[u32], kinds: &mut [u8])
+pub fn raw_kinds(chars: &[u32], kinds: &mut [Kind])
     requires { (length kinds.old ≡ length chars.now) × (length chars.now < 1026) }
     ensures { RawKinds chars.now kinds.new }
 {
     let mut ends: [usize; 1026] = [0; 1026];
     set_ends(chars, &mut ends);
-    let mut i: usize = 0;
     let mut more: usize = 0;
     let mut deep = false;
-    while i < chars.len() {
+    for i in 0..chars.len() {
         if 0 < more {
-            kinds[i] = 4;
+            kinds[i] = Kind::Item(ItemKind::Covered);
             more -= 1;
-            i += 1;
             continue;
         }
         let r = read_at(chars, &ends, i, deep);
         kinds[i] = r.kind;
         more = r.more;
         deep = r.deep;
-        i += 1;
     }
 }

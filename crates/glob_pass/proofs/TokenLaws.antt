@@ -12,6 +12,7 @@ use Rattle.config_rules.specs.Name.{Item}
 use Rattle.config_rules.specs.Name.Item.{part, same, one, run, ahead, range}
 use Rattle.config_rules.specs.Globs.{Strings, one_then, run_then, some_then, ahead_then, item_then}
 use Rattle.glob_pass.specs.declared.Known.{Known}
+use Rattle.glob_pass.specs.declared.kinds.Kind.{Kind}
 use Rattle.glob_pass.specs.Kinds.{held_at, held}
 use Rattle.glob_pass.specs.Pass.{before, value_at, Heads}
 
@@ -47,16 +48,16 @@ item_first (range m n) k s c hit h e = sym (e m n refl)
 
 -- ---- the tokens held
 
-pub length_held : (ks cs : List ℕ) → length ks ≡ length cs → length (held ks cs) ≡ length ks
+pub length_held : (ks : List Kind) (cs : List ℕ) → length ks ≡ length cs → length (held ks cs) ≡ length ks
 unfolding held
 length_held [] cs e = refl
 length_held (k ∷ ks) [] e = absurd (omega arith)
 length_held (k ∷ ks) (c ∷ cs) e = ap suc (length_held ks cs (omega arith))
 
-pub held_at_law : (ks cs : List ℕ) (q : ℕ) → length ks ≡ length cs → q < length ks
-    → drop q (held ks cs) ≡ held_at (get_or ks q 0) (drop q cs) ∷ drop (suc q) (held ks cs)
+pub held_at_law : (ks : List Kind) (cs : List ℕ) (q : ℕ) (d : Kind) → length ks ≡ length cs → q < length ks
+    → drop q (held ks cs) ≡ held_at (get_or ks q d) (drop q cs) ∷ drop (suc q) (held ks cs)
 unfolding held
-held_at_law [] cs q e h = absurd (omega arith)
-held_at_law (k ∷ ks) [] q e h = absurd (omega arith)
-held_at_law (k ∷ ks) (c ∷ cs) zero e h = refl
-held_at_law (k ∷ ks) (c ∷ cs) (suc q) e h = held_at_law ks cs q (omega arith) (omega arith)
+held_at_law [] cs q d e h = absurd (omega arith)
+held_at_law (k ∷ ks) [] q d e h = absurd (omega arith)
+held_at_law (k ∷ ks) (c ∷ cs) zero d e h = refl
+held_at_law (k ∷ ks) (c ∷ cs) (suc q) d e h = held_at_law ks cs q d (omega arith) (omega arith)

@@ -7,7 +7,9 @@ use Rattle.config_rules.specs.Name.Item.{part, same, one, run, ahead, range}
 use Rattle.config_rules.specs.Name.Token.{item}
 use Rattle.config_rules.specs.Globs.{Strings, Around, Place, some_then, place_at, place_of}
 use Rattle.glob_pass.specs.declared.Known.{Known}
-use Rattle.glob_pass.specs.declared.Level.{Level}
+use Rattle.glob_pass.specs.declared.Side.{Side}
+use Rattle.glob_pass.specs.declared.Braces.{Braces}
+use Rattle.glob_pass.specs.declared.kinds.Brace.{Brace}
 use Rattle.glob_pass.specs.Kinds.{brace_of}
 
 -- what the name from a place on says of s
@@ -35,29 +37,26 @@ Heads c (d ∷ s) = c ≡ d
 
 -- ---- the stack of open braces at s, the innermost first
 
-pub record Sides : Type 0 where
-  pub others : Bool
-  pub after : Bool
+abbrev pub stacked : List Side → ℕ → List Side
+stacked l zero = []
+stacked l (suc n) = get_or l n (record { others = false; after = false }) ∷ stacked l n
 
-unfoldable pub stacked : List Bool → List Bool → ℕ → List Sides
-stacked o a zero = []
-stacked o a (suc n) = record { others = get_or o n false; after = get_or a n false } ∷ stacked o a n
+abbrev pub open_braces : Braces → List Side
+open_braces b = stacked b.sides b.depth
 
-unfoldable pub seen : List ℕ → List Around → List Sides
+unfoldable pub seen : List ℕ → List Around → List Side
 seen s [] = []
 seen s (b ∷ bs) = record { others = b.others s; after = b.after s } ∷ seen s bs
 
-pub record Turn (p : Place) (s : List ℕ) (next : Bool) (stack : List Sides) : Type 0 where
+pub record Turn (p : Place) (s : List ℕ) (next : Bool) (stack : List Side) : Type 0 where
   pub here : next ≡ p.here s
   pub around : stack ≡ seen s p.around
 
--- before a brace or a comma: its place's value and stack
-pub record Braced (k : ℕ) (o a : List Bool) (depth : ℕ) (next : Bool) (o' a' : List Bool) (r : Level) : Type 0 where
-  pub deep : r.depth ≤ depth + 1
-  pub befores : length o' ≡ length o
-  pub afters : length a' ≡ length a
-  pub turn : (p : Place) (s : List ℕ) → Turn p s next (stacked o a depth)
-      → Turn (place_at (brace_of k) p) s r.next (stacked o' a' r.depth)
+-- before a brace or a comma: its place's value and the open braces
+pub record Braced (k : Brace) (b : Braces) (next : Bool) (b' : Braces) (r : Bool) : Type 0 where
+  pub deep : b'.depth ≤ b.depth + 1
+  pub room : length b'.sides ≡ length b.sides
+  pub turn : (p : Place) (s : List ℕ) → Turn p s next (open_braces b) → Turn (place_at (brace_of k) p) s r (open_braces b')
 
 -- ---- v holds the value of each place of the name at s; the values without the first character; the values of the
 -- ranges

@@ -2,11 +2,14 @@
 // from its end.
 #![tactic(auto)]
 
+pub mod kinds;
 pub mod set;
 
-ghost use Rattle.std.specs.Prelude.{◌≡◌, false, ◌&&◌, ◌<◌, ltb, length, drop};
+ghost use Rattle.std.specs.Prelude.{◌≡◌, ◌+◌, ◌<◌, length, drop, get_or};
 ghost use Rattle.glob_pass.specs.Kinds.{plain_at, held};
 ghost use Rattle.glob_pass.specs.Pass.{value_at, Braced, Passed};
+
+use kinds::{Brace, ItemKind, Kind};
 
 // What is known at a place: the value at the next place, the old values here and there, and the value of a range.
 #[derive(Clone, Copy)]
@@ -17,108 +20,79 @@ pub struct Known {
     pub hit: bool,
 }
 
-// How many braces are open, and the value at the place.
+// Of an open brace: whether one of its alternatives to the right matches, and what follows it.
 #[derive(Clone, Copy)]
-pub struct Level {
-    pub depth: usize,
-    pub next: bool,
+pub struct Side {
+    pub others: bool,
+    pub after: bool,
 }
 
-// The value at p of the kinds that are rare.
-fn rare_value(k: u8, chars: &[u32], p: usize, c: u32, known: Known) -> bool
-    requires { (p < length chars.now) × (8 < k) }
-    ensures { result ≡ value_at (plain_at k (drop p chars.now)) c known }
-{
-    if k == 9 {
-        return known.hit;
-    }
-    if k == 10 {
-        if chars.len() <= p + 1 {
-            return (0 == c) & known.prior;
+// The open braces, the first `depth` of `sides`, the innermost last.
+#[derive(Clone, Copy)]
+pub struct Braces {
+    pub sides: [Side; 1026],
+    pub depth: usize,
+}
+
+impl Braces {
+    // The value before a brace or a comma, where `next` is that behind it.
+    fn step(&mut self, brace: Brace, next: bool) -> bool
+        requires { (self.old.depth < length self.old.sides) × (self.old.depth < 1026) }
+        ensures { Braced brace self.old next self.new result }
+    {
+        if let Brace::Closes = brace {
+            self.sides[self.depth] = Side {
+                others: false,
+                after: next,
+            };
+            self.depth += 1;
+            return next;
         }
-        return (chars[p + 1] == c) & known.prior;
+        if self.depth == 0 {
+            return next;
+        }
+        let top = self.sides[self.depth - 1];
+        if let Brace::Comma = brace {
+            self.sides[self.depth - 1].others = next | top.others;
+            return top.after;
+        }
+        self.depth -= 1;
+        next | top.others
     }
-    if k == 11 {
-        return (c == 47) & known.next;
-    }
-    if k == 12 {
-        return (123 == c) & known.prior;
-    }
-    if k == 13 {
-        return (44 == c) & known.prior;
-    }
-    (125 == c) & known.prior
+}
+
+// The character behind p, or 0.
+fn code_behind(chars: &[u32], p: usize) -> u32
+    requires { p < length chars.now }
+    ensures { result ≡ get_or chars.now (p + 1) 0 }
+{
+    chars.get(p + 1).copied().unwrap_or(0)
 }
 
 // The value at p of a token that is no brace or comma.
-fn value_at(k: u8, chars: &[u32], p: usize, c: u32, known: Known) -> bool
-    requires { (p < length chars.now) × ((ltb 0 k && ltb k 4) ≡ false) }
+#[tactic(auto, unfolding(crate::specs::Kinds::plain_at, crate::specs::Kinds::range_in, crate::specs::Pass::value_at))]
+fn value_at(k: ItemKind, chars: &[u32], p: usize, c: u32, known: Known) -> bool
+    requires { p < length chars.now }
     ensures { result ≡ value_at (plain_at k (drop p chars.now)) c known }
 {
-    if k == 0 {
-        return (chars[p] == c) & known.prior;
-    }
-    if k == 4 {
-        return known.next;
-    }
-    if k == 5 {
-        return (c != 47) & known.prior;
-    }
-    if k == 6 {
-        return known.next | ((c != 47) & known.old);
-    }
-    if k == 7 {
-        return known.next | known.old;
-    }
-    if k == 8 {
-        let named = set::in_set(chars, p + 1, c);
-        return named & known.prior;
-    }
-    rare_value(k, chars, p, c, known)
-}
-
-// The braces around the place before a brace or a comma, and its value. `after` has what follows each, `others` its
-// alternatives to the right.
-fn brace_step(
-    k: u8,
-    after: &mut [bool; 1026],
-    others: &mut [bool; 1026],
-    depth: usize,
-    next: bool,
-) -> Level
-    requires { (depth < length after.old) × (depth < length others.old) × (depth < 1026) }
-    ensures { Braced k others.old after.old depth next others.new
-        after.new result }
-{
-    if k == 1 {
-        after[depth] = next;
-        others[depth] = false;
-        return Level {
-            depth: depth + 1,
-            next,
-        };
-    }
-    if depth == 0 {
-        return Level { depth, next };
-    }
-    let m = depth - 1;
-    if k == 2 {
-        others[m] = next | others[m];
-        return Level {
-            depth,
-            next: after[m],
-        };
-    }
-    Level {
-        depth: m,
-        next: next | others[m],
+    match k {
+        ItemKind::Plain => (chars[p] == c) & known.prior,
+        ItemKind::Covered => known.next,
+        ItemKind::One => (c != 47) & known.prior,
+        ItemKind::Star => known.next | ((c != 47) & known.old),
+        ItemKind::Stars => known.next | known.old,
+        ItemKind::Set => set::in_set(&chars[p + 1..], c) & known.prior,
+        ItemKind::Range => known.hit,
+        ItemKind::Escape => (code_behind(chars, p) == c) & known.prior,
+        ItemKind::Ahead => (c == 47) & known.next,
+        ItemKind::Lone(brace) => (brace.code() == c) & known.prior,
     }
 }
 
 // One character more of the path: v holds the values without it, and then with it. For the end of the path, base is
 // true and c is 0.
 pub fn pass(
-    kinds: &[u8],
+    kinds: &[Kind],
     chars: &[u32],
     c: u32,
     base: bool,
@@ -130,32 +104,30 @@ pub fn pass(
     ensures { Passed (held kinds.now chars.now) c base hits.now v.old
         v.new }
 {
-    let mut after: [bool; 1026] = [false; 1026];
-    let mut others: [bool; 1026] = [false; 1026];
-    let mut p = kinds.len();
-    let mut depth: usize = 0;
+    let mut braces = Braces {
+        sides: [Side {
+            others: false,
+            after: false,
+        }; 1026],
+        depth: 0,
+    };
     let mut next = base;
-    let mut prior = v[p];
-    v[p] = base;
-    while 0 < p {
-        p -= 1;
+    let mut prior = v[kinds.len()];
+    v[kinds.len()] = base;
+    for p in (0..kinds.len()).rev() {
         let old = v[p];
-        let k = kinds[p];
-        if (0 < k) & (k < 4) {
-            let level = brace_step(k, &mut after, &mut others, depth, next);
-            depth = level.depth;
-            next = level.next;
-            v[p] = next;
-            prior = old;
-            continue;
-        }
-        let known = Known {
-            next,
-            old,
-            prior,
-            hit: hits[p],
+        next = match kinds[p] {
+            Kind::Brace(brace) => braces.step(brace, next),
+            Kind::Item(item) => {
+                let known = Known {
+                    next,
+                    old,
+                    prior,
+                    hit: hits[p],
+                };
+                value_at(item, chars, p, c, known)
+            }
         };
-        next = value_at(k, chars, p, c, known);
         v[p] = next;
         prior = old;
     }

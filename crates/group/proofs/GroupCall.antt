@@ -1,181 +1,209 @@
 -- What a grouping call comes to, by its tests in their order.
+--     refused_by_tests, no_text_law                a source that is refused
 --     codes_ready, text_short, text_fits           the text of the codes in the output
---     show_refused, show_text                      a source without the first refusals
---     too_long_law, scratch_short, not_utf8, done      the outcome of a call; answered the answer
+--     refused_output; answered the answer
 use Prim.Native.Nat.{ℕ, ◌+◌, ◌*◌, ◌-◌, ◌≤◌, ◌<◌}
 use native.Mathlib.Omega.{arith}
-use mathlib.Core.Bool.{not}
-use mathlib.Core.List.{List, [], ◌++◌}
+use mathlib.Core.List.{List, [], ◌∷◌, ◌++◌}
 use mathlib.Core.Path.{◌≡◌, refl, sym, ap, ◌∙◌, subst}
 use borrow.Author.Tests.{lt-ltb, le-ltb}
 use lib.Dec.{ltb}
 use lib.ListN.{length, take, replicate}
 use lib.Seq.{take_at}
-use Rattle.utf8.specs.Unicode.{size, decode, encode, prefix_len, well_formed}
-use Rattle.utf8.proofs.Decode.{wf_whole, test_whole, test_part}
+use Rattle.std.specs.Prelude.{true, false, Ok, Err, is_err, IsErr, IsErrAnd}
+use Rattle.utf8.specs.Unicode.{size, decode, encode}
+use Rattle.utf8.proofs.Decode.{test_wf}
 use Rattle.buffer.specs.Buffer.{part, Appended, Finishes, Agree}
 use Rattle.buffer.proofs.AgreeLaws.{agree_nil, appended_agree, finishes_text}
-use Rattle.rules.specs.Basics.{choose}
-use Rattle.rules.specs.Refusals.{max_source}
+use Rattle.rules.specs.Refusals.{Verdict, scratch_needed, number_of, tested, long_source, short_scratch, ill_formed}
 use Rattle.rules.specs.Call.{filled}
 use Rattle.rules.specs.declared.Refusal.{Refusal}
 use Rattle.rules.proofs.Choose.{choose_true, choose_false, choose_case}
+use Rattle.rules.proofs.RefusalLaws.{numbered, pass, stop, Readable, readable}
 use Rattle.group_rules.specs.Expression.{Token, Reading, read, refused_at, reading}
 use Rattle.group_rules.specs.Grouping.{text, grouping_of, grouping, tree_of, written}
 use Rattle.group_rules.specs.Passes.{opened_text, closed_text}
 use Rattle.group_rules.specs.Promises.{Groups, Longest}
-use Rattle.group_rules.specs.Outcome.{group_scratch, grouping_in, group_outcome, group_answer, grouped_text, group_output_for, group_output}
+use Rattle.group_rules.specs.Outcome.{GroupOutcome, group_scratch, group_tests, grouping_in, group_after, group_outcome, group_answer, grouped_text, group_output_for, group_output}
 use Rattle.group_rules.specs.Answered.{GroupAnswered}
-use Rattle.group_rules.specs.declared.GroupOutcome.{GroupOutcome}
+use Rattle.group_rules.specs.declared.Fault.{Fault}
+use Rattle.group_rules.specs.declared.NoText.{NoText}
+use Rattle.group_rules.specs.declared.GroupRefusal.{GroupRefusal}
 use Rattle.group_rules.specs.declared.GroupAnswer.{GroupAnswer}
 use Rattle.group_rules.proofs.ByteLaws.{reading_bytes}
 use Rattle.group_rules.proofs.GroupLaws.{text_of, text_bytes, text_decode, groups}
-use Rattle.group_rules.proofs.PlaceLaws.{longest, number}
+use Rattle.group_rules.proofs.PlaceLaws.{longest}
 use Rattle.group_open.specs.Back.{OpenedAll}
 use Rattle.group_close.specs.Forth.{Ready}
 use Rattle.group_read.specs.Read.{Codes, CodedAs, SourceFits}
-use Rattle.group_read.specs.declared.Coded.{Coded}
-use Rattle.group.specs.Ran.{Admitted, CodesFit, text_outcome, codes_text, TextShown, Shown, RefusedGroup, GroupRan}
+use Rattle.group.specs.Ran.{GroupWritten, GroupRan}
 
--- ---- the text of the codes
+-- outcomes, with their type
+abbrev outcome_refused : GroupRefusal → GroupOutcome
+outcome_refused w = Err w
 
-pub codes_ready : {l l₁ : List ℕ} {n from : ℕ} → CodesFit l n → OpenedAll l l₁ n from → Ready l₁ (3 * n) from 0 0
-codes_ready f o =
-    record {
-      within = o.within;
-      fits = omega (arith, f.room, o.size);
-      height = omega arith;
-      counted = omega arith;
-      small = omega (arith, f.small);
-    }
+abbrev outcome_short : ℕ → GroupOutcome
+outcome_short k = Err (GroupRefusal.Call (Refusal.OutputShort k))
 
-module _ (l l₁ l₂ out out₁ : List ℕ) (n from len : ℕ) (o : OpenedAll l l₁ n from) (w : Appended out out₁ 0 (closed_text (part l₁ from (3 * n))) len)
-    (eo : length out₁ ≡ length out) (el : length l₂ ≡ length l₁) where
-  the_text : closed_text (part l₁ from (3 * n)) ≡ codes_text l n
-  the_text = ap closed_text (sym o.is)
+abbrev outcome_of_length : ℕ → GroupOutcome
+outcome_of_length k = Ok k
 
-  the_length : length (codes_text l n) ≡ len
-  the_length = let a = w.next in let b = ap length the_text in omega arith
+-- ---- a source that no test refuses
 
-  pub text_short : (r : GroupOutcome) (out₂ work : List ℕ) → length out₁ < len
-      → RefusedGroup (GroupOutcome.Refused (Refusal.OutputShort len)) (length out₁) (length l₂) r out₂ work → TextShown l n (length out) r out₂ work
-  text_short r out₂ work h k =
-      record {
-        outcome = k.outcome ∙ sym (choose_true (ltb (length out) (length (codes_text l n))) _ _ (lt-ltb (length out) (length (codes_text l n)) (omega (arith, the_length)))
-            ∙ ap (λ m. GroupOutcome.Refused (Refusal.OutputShort m)) the_length);
-        output = k.zeros ∙ ap (λ m. replicate m 0) eo ∙ sym (ap (λ x. group_output_for x (length out) (codes_text l n)) k.outcome);
-        cleared = k.cleared ∙ ap (λ m. replicate m 0) (el ∙ o.size);
-      }
+module _ (source : List ℕ) (scratch : ℕ) where
+  abbrev source_tests : List Verdict
+  source_tests = short_scratch (scratch_needed group_scratch source) scratch ∷ ill_formed source ∷ []
 
-  pub text_fits : (out₂ work : List ℕ) → len ≤ length out₁ → Finishes out₁ out₂ len → work ≡ replicate (length l₂) 0
-      → TextShown l n (length out) (GroupOutcome.Grouped len) out₂ work
-  unfolding filled
-  text_fits out₂ work h f z =
-      record {
-        outcome = sym (choose_false (ltb (length out) (length (codes_text l n))) _ _ (le-ltb (length out) (length (codes_text l n)) (omega (arith, the_length))) ∙ ap GroupOutcome.Grouped the_length);
-        output = finishes_text f h (codes_text l n) the_length (subst (Agree out₁) the_text (appended_agree w [] refl (agree_nil out)))
-            ∙ ap (λ m. codes_text l n ++ replicate m 0) (same_room eo the_length);
-        cleared = z ∙ ap (λ m. replicate m 0) (el ∙ o.size);
-      }
-    where
-      same_room : {a b c d : ℕ} → a ≡ b → c ≡ d → a - d ≡ b - c
-      same_room e f = omega arith
+  refused_by_tests : (n : ℕ) (why : Refusal) → tested (group_tests source scratch) ≡ Err why → Err (GroupRefusal.Call why) ≡ group_outcome source n scratch
+  unfolding group_outcome
+  refused_by_tests n why e = rw e
 
--- ---- a source to which refusals 1, 3 and 4 do not apply
+  -- at the first test, or at the others
+  pub refused_first : (n : ℕ) (why : Refusal) → Err why ≡ long_source source → Err (GroupRefusal.Call why) ≡ group_outcome source n scratch
+  refused_first n why e = refused_by_tests n why (stop (long_source source) why source_tests (sym e))
 
-pub source_fits : {source l : List ℕ} → Admitted source l → SourceFits source l
+  pub refused_then : (n : ℕ) (why : Refusal) → Ok tt ≡ long_source source → Err why ≡ tested source_tests → Err (GroupRefusal.Call why) ≡ group_outcome source n scratch
+  refused_then n why e f = refused_by_tests n why (pass (long_source source) source_tests (sym e) ∙ sym f)
+
+  module _ (short : Ok tt ≡ long_source source) (passed : Ok tt ≡ tested source_tests) where
+    pub admitted : Readable group_scratch source scratch
+    admitted = readable group_scratch source scratch (sym short) (sym passed)
+
+    pub no_test : tested (group_tests source scratch) ≡ Ok tt
+    no_test = pass (long_source source) source_tests (sym short) ∙ sym passed
+
+    on_characters : {r : Reading} → reading source ≡ r → grouping (decode source) ≡ grouping_of r
+    unfolding grouping
+    on_characters e = ap grouping_of (sym (reading_bytes source (test_wf source admitted.well)) ∙ e)
+
+    -- the outcome of a reading
+    outcome_is : (n : ℕ) {r : Reading} → reading source ≡ r → group_outcome source n scratch ≡ grouping_in n (grouping_of r)
+    unfolding group_outcome
+    outcome_is n e = rw (no_test, on_characters e)
+
+    pub no_text_law : (n : ℕ) (w : NoText) → reading source ≡ refused_at w.fault w.place → Err (GroupRefusal.NoText w) ≡ group_outcome source n scratch
+    no_text_law n w e = sym (outcome_is n e ∙ unfold grouping_in grouping_of in refl)
+
+    module _ (ts : List Token) (is : reading source ≡ read ts) (n : ℕ) where
+      abbrev shown : List ℕ
+      shown = encode (written (tree_of ts))
+
+      pub too_long_law : n < length shown → Err (GroupRefusal.Call (Refusal.OutputShort (length shown))) ≡ group_outcome source n scratch
+      too_long_law h = sym (outcome_is n is ∙ unfold grouping_in grouping_of in choose_true (ltb n (length shown)) _ _ (lt-ltb n (length shown) h))
+
+      pub fits_law : length shown ≤ n → Ok (length shown) ≡ group_outcome source n scratch
+      fits_law h = sym (outcome_is n is ∙ unfold grouping_in grouping_of in choose_false (ltb n (length shown)) _ _ (le-ltb n (length shown) h))
+
+      pub output_law : length shown ≤ n → group_output source n scratch ≡ filled n shown
+      unfolding group_output
+      output_law h =
+          ap (λ o. group_output_for o n (grouped_text (grouping (decode source)))) (sym (fits_law h))
+          ∙ ap (λ g. filled n (grouped_text g)) (on_characters is) ∙ unfold grouped_text grouping_of in refl
+
+-- ---- the codes of its tokens, and the text
+
+pub source_fits : {source l : List ℕ} → Readable group_scratch source (length l) → SourceFits source l
 source_fits p = record { fits = omega (arith, p.room); small = omega (arith, p.short) }
 
-module _ {source l l₁ : List ℕ} {q : Coded} (p : Admitted source l) (c : CodedAs source l l₁ q) where
-  pub codes_fit : q.refusal ≡ 0 → CodesFit l₁ q.length
-  codes_fit e = let k = c.is.yes e in record { room = omega (arith, k.short, p.room, c.size); small = omega (arith, k.short, p.short) }
+module _ {source l l₁ : List ℕ} {m : ℕ} (p : Readable group_scratch source (length l)) (c : CodedAs source l l₁ (Ok m)) where
+  abbrev codes : Codes l₁ (reading source) (length source) m
+  codes = c.is.yes m refl
 
-  on_characters : {r : Reading} → reading source ≡ r → grouping (decode source) ≡ grouping_of r
-  unfolding grouping
-  on_characters e = ap grouping_of (sym (reading_bytes source p.well) ∙ e)
+  pub codes_room : (3 * m ≤ length l₁) × (4 * m ≤ length l₁) × (m ≤ 3145728)
+  codes_room = (omega (arith, codes.short, p.room, c.size), omega (arith, codes.short, p.room, c.size), omega (arith, codes.short, p.short))
 
-  pub show_refused : (r : GroupOutcome) (out out₁ work : List ℕ) → (q.refusal ≡ 0 → ⊥)
-      → RefusedGroup (GroupOutcome.NoText q.refusal q.place) (length out) (length l₁) r out₁ work
-      → Shown (grouping (decode source)) (length out) (length l) r out₁ work
-  unfolding grouping_in grouping_of
-  show_refused r out out₁ work h k =
-      subst (λ g. Shown g (length out) (length l) r out₁ work) (sym (on_characters (c.is.no h)))
-      (record { outcome = k.outcome; output = k.zeros; cleared = k.cleared ∙ ap (λ m. replicate m 0) c.size })
-
-  pub show_text : (r : GroupOutcome) (out out₁ work : List ℕ) → q.refusal ≡ 0 → TextShown l₁ q.length (length out) r out₁ work
-      → Shown (grouping (decode source)) (length out) (length l) r out₁ work
-  unfolding grouping_in grouping_of grouped_text
-  show_text r out out₁ work e k = go (c.is.yes e)
-    where
-      go : Codes l₁ (reading source) (length source) q.length → Shown (grouping (decode source)) (length out) (length l) r out₁ work
-      go s =
-          let t : codes_text l₁ q.length ≡ written (tree_of s.tokens) = ap (λ x. closed_text (opened_text x)) s.codes ∙ text_of source s.tokens s.is in
-          let b : encode (written (tree_of s.tokens)) ≡ codes_text l₁ q.length = text_bytes source s.tokens s.is ∙ sym t in
-          subst (λ g. Shown g (length out) (length l) r out₁ work) (sym (on_characters s.is))
-          (record {
-            outcome = k.outcome ∙ ap (text_outcome (length out)) (sym b);
-            output = k.output ∙ ap (λ x. group_output_for x (length out) (codes_text l₁ q.length)) (k.outcome ∙ ap (text_outcome (length out)) (sym b))
-                ∙ ap (group_output_for (text_outcome (length out) (encode (written (tree_of s.tokens)))) (length out)) (sym b);
-            cleared = k.cleared ∙ ap (λ m. replicate m 0) c.size;
-          })
-
--- ---- the outcome of a call
-
-pub passed : (source l : List ℕ) → length source ≤ 1048576 → 12 * length source + 256 ≤ length l → (prefix : ℕ) → prefix ≡ prefix_len source → prefix ≡ length source → Admitted source l
-passed source l short room prefix e f = record { well = wf_whole source (sym e ∙ f); room = room; short = short }
-
-module _ (source out l : List ℕ) (r : GroupOutcome) (out₁ work : List ℕ) where
-  -- refused at a test whose outcome is r
-  refused_as_law : (why : GroupOutcome) → group_outcome source (length out) (length l) ≡ why → (output_for : (t : List ℕ) → group_output_for why (length out) t ≡ replicate (length out) 0)
-      → RefusedGroup why (length out) (length l) r out₁ work → GroupRan source (length out) (length l) r out₁ work
-  unfolding group_output
-  refused_as_law why e f k =
+  pub codes_ready : {l₂ : List ℕ} {from : ℕ} → OpenedAll l₁ l₂ m from → Ready l₂ (3 * m) from 0 0
+  codes_ready o =
       record {
-        outcome = k.outcome ∙ sym e;
-        output = k.zeros ∙ sym (ap (λ x. group_output_for x (length out) (grouped_text (grouping (decode source)))) e ∙ f (grouped_text (grouping (decode source))));
-        cleared = k.cleared;
+        within = o.within;
+        fits = omega (arith, codes_room.1, o.size);
+        height = omega arith;
+        counted = omega arith;
+        small = omega (arith, codes_room.2);
       }
 
-  pub too_long_law : 1048576 < length source → RefusedGroup (GroupOutcome.Refused Refusal.SourceTooLong) (length out) (length l) r out₁ work
-      → GroupRan source (length out) (length l) r out₁ work
-  unfolding group_outcome
-  too_long_law h k = refused_as_law (GroupOutcome.Refused Refusal.SourceTooLong) (choose_true (ltb max_source (length source)) _ _ (lt-ltb max_source (length source) h)) (λ t. refl) k
+  module _ (l₂ out out₁ : List ℕ) (from len : ℕ) (o : OpenedAll l₁ l₂ m from) (w : Appended out out₁ 0 (closed_text (part l₂ from (3 * m))) len)
+      (eo : length out₁ ≡ length out) (short : Ok tt ≡ long_source source)
+      (passed : Ok tt ≡ tested (source_tests source (length l))) where
+    the_text : closed_text (part l₂ from (3 * m)) ≡ encode (written (tree_of codes.tokens))
+    the_text =
+        ap closed_text (sym o.is) ∙ ap (λ x. closed_text (opened_text x)) codes.codes ∙ text_of source codes.tokens codes.is
+        ∙ sym (text_bytes source codes.tokens codes.is)
 
-  module _ (short : length source ≤ 1048576) where
-    pub scratch_short : length l < 12 * length source + 256 → RefusedGroup (GroupOutcome.Refused (Refusal.ScratchShort (12 * length source + 256))) (length out) (length l) r out₁ work
-        → GroupRan source (length out) (length l) r out₁ work
-    unfolding group_outcome
-    scratch_short h k =
-        refused_as_law (GroupOutcome.Refused (Refusal.ScratchShort (12 * length source + 256)))
-        (choose_false (ltb max_source (length source)) _ _ (le-ltb max_source (length source) short)
-        ∙ choose_true (ltb (length l) (group_scratch source)) _ _ (lt-ltb (length l) (group_scratch source) h)) (λ t. refl) k
+    the_length : length (encode (written (tree_of codes.tokens))) ≡ len
+    the_length = let a = w.next in let b = ap length the_text in omega arith
 
-    module _ (room : 12 * length source + 256 ≤ length l) (prefix : ℕ) (e : prefix ≡ prefix_len source) where
-      first_tests : (x y z : GroupOutcome) → choose (ltb max_source (length source)) x (choose (ltb (length l) (group_scratch source)) y z) ≡ z
-      first_tests x y z =
-          choose_false (ltb max_source (length source)) _ _ (le-ltb max_source (length source) short)
-          ∙ choose_false (ltb (length l) (group_scratch source)) _ _ (le-ltb (length l) (group_scratch source) room)
+    pub text_short : (out₂ : List ℕ) → length out₁ < len
+        → GroupWritten source (length out) (length l) (Err (GroupRefusal.Call (Refusal.OutputShort len))) out₂
+    text_short out₂ h =
+        record {
+          outcome = ap (λ k. outcome_short k) (sym the_length)
+              ∙ too_long_law source (length l) short passed codes.tokens codes.is (length out) (omega (arith, the_length));
+          output = λ k e. absurd (no_count k e);
+        }
+      where
+        no_count : (k : ℕ) → ◌≡◌ {A = GroupOutcome} (Err (GroupRefusal.Call (Refusal.OutputShort len))) (Ok k) → ⊥
+        no_count k e = let z : ◌≡◌ {A = ℕ} 0 1 = cc in omega arith
 
-      pub not_utf8 : (prefix ≡ length source → ⊥) → RefusedGroup (GroupOutcome.Refused (Refusal.NotUtf8 prefix)) (length out) (length l) r out₁ work
-          → GroupRan source (length out) (length l) r out₁ work
-      unfolding group_outcome
-      not_utf8 h k =
-          refused_as_law (GroupOutcome.Refused (Refusal.NotUtf8 prefix))
-          (first_tests _ _ _ ∙ choose_true (not (well_formed source)) _ _ (ap not (test_part source (λ f. h (e ∙ f)))) ∙ ap (λ x. GroupOutcome.Refused (Refusal.NotUtf8 x)) (sym e))
-          (λ t. refl) k
+    pub text_fits : (out₂ : List ℕ) → len ≤ length out₁ → Finishes out₁ out₂ len → GroupWritten source (length out) (length l) (Ok len) out₂
+    unfolding filled
+    text_fits out₂ h f =
+        let fits : length (encode (written (tree_of codes.tokens))) ≤ length out = omega (arith, the_length) in
+        record {
+          outcome = ap (λ k. outcome_of_length k) (sym the_length) ∙ fits_law source (length l) short passed codes.tokens codes.is (length out) fits;
+          output = λ k e. finishes_text f h (encode (written (tree_of codes.tokens))) the_length (subst (Agree out₁) the_text (appended_agree w [] refl (agree_nil out)))
+              ∙ ap (λ r. encode (written (tree_of codes.tokens)) ++ replicate r 0) (same_room eo the_length)
+              ∙ sym (output_law source (length l) short passed codes.tokens codes.is (length out) fits);
+        }
+      where
+        same_room : {a b c d : ℕ} → a ≡ b → c ≡ d → a - d ≡ b - c
+        same_room e f = omega arith
 
-      pub done : prefix ≡ length source → Shown (grouping (decode source)) (length out) (length l) r out₁ work → GroupRan source (length out) (length l) r out₁ work
-      unfolding group_outcome group_output
-      done f s =
-          let g : group_outcome source (length out) (length l) ≡ grouping_in (length out) (grouping (decode source))
-          = first_tests _ _ _ ∙ choose_false (not (well_formed source)) _ _ (ap not (test_whole source (sym e ∙ f))) in
-          record {
-            outcome = s.outcome ∙ sym g;
-            output = s.output ∙ ap (λ x. group_output_for x (length out) (grouped_text (grouping (decode source)))) (sym g);
-            cleared = s.cleared;
-          }
+-- ---- refused: `?` gives what the conversion makes of a refusal, and the output is all zeros
+
+pub refused_written : (source : List ℕ) (n m : ℕ) (r : GroupOutcome) (out : List ℕ) (why : GroupRefusal) → IsErr r × IsErrAnd r (λ e. e ≡ why)
+    → Err why ≡ group_outcome source n m → GroupWritten source n m r out
+refused_written source n m (Ok len) out why h e = absurd h.1
+refused_written source n m (Err w) out why h e = record { outcome = ap outcome_refused h.1 ∙ e; output = λ len k. absurd (no_count len k) }
+  where
+    no_count : (len : ℕ) → ◌≡◌ {A = GroupOutcome} (Err w) (Ok len) → ⊥
+    no_count len k = let z : ◌≡◌ {A = ℕ} 0 1 = cc in omega arith
+
+pub refused_output : (source : List ℕ) (n m : ℕ) (r : GroupOutcome) → r ≡ group_outcome source n m → (why : GroupRefusal) → r ≡ Err why → group_output source n m ≡ replicate n 0
+unfolding group_output
+refused_output source n m r e why k = ap (λ o. group_output_for o n (grouped_text (grouping (decode source)))) (sym e ∙ k)
+
+module _ {source : List ℕ} {n m : ℕ} {r : GroupOutcome} {out work : List ℕ} (w : GroupWritten source n m r out) (z : work ≡ replicate m 0) where
+  pub ran_refused : {out₁ : List ℕ} → true ≡ is_err r → out₁ ≡ replicate n 0 → GroupRan source n m r out₁ work
+  ran_refused {out₁} e o = record { outcome = w.outcome; output = go r refl e; cleared = z }
+    where
+      go : (s : GroupOutcome) → r ≡ s → true ≡ is_err s → out₁ ≡ group_output source n m
+      go (Ok len) k f = absurd (let y : ◌≡◌ {A = ℕ} 0 1 = cc in omega arith)
+      go (Err why) k f = o ∙ sym (refused_output source n m r w.outcome why k)
+
+  pub ran_text : false ≡ is_err r → GroupRan source n m r out work
+  ran_text e = record { outcome = w.outcome; output = go r refl e; cleared = z }
+    where
+      go : (s : GroupOutcome) → r ≡ s → false ≡ is_err s → out ≡ group_output source n m
+      go (Ok len) k f = w.output len k
+      go (Err why) k f = absurd (let y : ◌≡◌ {A = ℕ} 0 1 = cc in omega arith)
 
 -- ---- the answer
+
+-- no other refusal has the number 14
+no_expression : (r : Refusal) → number_of r ≡ 14 → ⊥
+no_expression Refusal.SourceTooLong e = omega arith
+no_expression Refusal.BadOption e = omega arith
+no_expression (Refusal.ScratchShort n) e = omega arith
+no_expression (Refusal.NotUtf8 n) e = omega arith
+no_expression (Refusal.OutputShort n) e = omega arith
+no_expression Refusal.NoPlace e = omega arith
+no_expression Refusal.PlacesUnordered e = omega arith
+no_expression Refusal.KindsShort e = omega arith
+no_expression Refusal.RulerTooWide e = omega arith
+no_expression Refusal.StrengthsLength e = omega arith
+no_expression Refusal.StrengthsBits e = omega arith
+no_expression (Refusal.ListShort n) e = omega arith
 
 -- what an outcome o of the source promises, in an output of n bytes
 abbrev Promised : List ℕ → ℕ → GroupOutcome → Type 0
@@ -202,17 +230,16 @@ module _ (source : List ℕ) (n : ℕ) where
   promised_reading : (r : Reading) → reading (decode source) ≡ r → Promised source n (grouping_in n (grouping_of r))
   unfolding grouping_of
   promised_reading (read ts) e = promised_text ts e
-  promised_reading (refused_at k p) e =
-      unfold grouping_in in
-      ((λ z. absurd (let m = number (decode source) k p e in omega arith)), (λ z. longest (decode source) p (e ∙ ap (λ (x : ℕ). refused_at x p) z)))
+  promised_reading (refused_at Fault.NoExpression p) e = unfold grouping_in in ((λ z. absurd (omega arith)), (λ z. longest (decode source) p e))
+  promised_reading (refused_at Fault.TooDeep p) e = unfold grouping_in in ((λ z. absurd (omega arith)), (λ z. absurd (omega arith)))
 
   promised : (m : ℕ) → Promised source n (group_outcome source n m)
   unfolding group_outcome
-  promised m =
-      choose_case (Promised source n) (λ _. ((λ z. absurd (omega arith)), (λ z. absurd (omega arith))))
-      (λ _. choose_case (Promised source n) (λ _. ((λ z. absurd (omega arith)), (λ z. absurd (omega arith))))
-      (λ _. choose_case (Promised source n) (λ _. ((λ z. absurd (omega arith)), (λ z. absurd (omega arith))))
-      (λ _. unfold grouping in promised_reading (reading (decode source)) refl)))
+  promised m = go (tested (group_tests source m))
+    where
+      go : (v : Verdict) → Promised source n (group_after v (grouping_in n (grouping (decode source))))
+      go (Ok _) = unfold grouping in promised_reading (reading (decode source)) refl
+      go (Err r) = ((λ z. absurd (numbered r z)), (λ z. absurd (no_expression r z)))
 
 pub answered : {source : List ℕ} {n m : ℕ} {o : GroupOutcome} {r : GroupAnswer} {out work : List ℕ} → GroupRan source n m o out work → r ≡ group_answer o
     → GroupAnswered source n m r out work

@@ -4,116 +4,43 @@
 //   group_close    from the first to the last: puts `)` where they end, and writes the text
 #![tactic(auto)]
 
-ghost use Rattle.std.specs.Prelude.{◌≡◌, length};
-ghost use Rattle.utf8.specs.Unicode.{decode};
-ghost use Rattle.group_rules.specs.Grouping.{grouping};
-ghost use Rattle.group_rules.specs.Outcome.{group_answer};
+ghost use Rattle.std.specs.Prelude.{length};
 ghost use Rattle.group_rules.specs.Answered.{GroupAnswered};
-ghost use Rattle.group.specs.Ran.{Admitted, CodesFit, TextShown, Shown, RefusedGroup, GroupRan};
+ghost use Rattle.group.specs.Ran.{GroupWritten, GroupRan};
 
-use answer::{MAX_SOURCE, number_of, place_of};
-use group_rules::{GroupAnswer, GroupOutcome};
+use group_rules::{GroupAnswer, GroupRefusal};
 use rules::Refusal;
 
-// Both buffers are cleared.
-fn refuse(output: &mut [u8], scratch: &mut [u8], why: GroupOutcome) -> GroupOutcome
-    ensures { RefusedGroup why (length output.old) (length scratch.old) result output.new scratch.new }
-{
-    buffer::zero(output);
-    buffer::zero(scratch);
-    why
-}
+// The bytes of scratch for each of the source's, beside 256.
+const GROUP_SCRATCH: usize = 12;
 
-// The text of a source's codes, of which the scratch has n, goes to the output; the scratch is cleared.
-fn write_text(output: &mut [u8], scratch: &mut [u8], n: usize) -> GroupOutcome
-    requires { CodesFit scratch.old n }
-    ensures { TextShown scratch.old n (length output.old) result output.new
-        scratch.new }
+// The source's text goes to the output, and zeros after it, if it has one and it fits.
+fn write_group(source: &[u8], output: &mut [u8], scratch: &mut [u8]) -> Result<usize, GroupRefusal>
+    ensures { GroupWritten source.now (length output.old) (length scratch.old) result output.new }
 {
+    answer::test_length(source)?;
+    answer::test_bytes(source, GROUP_SCRATCH, scratch.len())?;
+    let n = group_read::read(source, scratch)?;
     let from = group_open::open_all(scratch, n);
     let length = group_close::close_all(scratch, output, from, 3 * n);
     if output.len() < length {
-        return refuse(
-            output,
-            scratch,
-            GroupOutcome::Refused(Refusal::OutputShort(length)),
-        );
+        return Err(Refusal::OutputShort(length).into());
     }
     buffer::finish(output, length);
-    buffer::zero(scratch);
-    GroupOutcome::Grouped(length)
+    Ok(length)
 }
 
-// The source's text goes to the output, if it has one and it fits.
-fn show(source: &[u8], output: &mut [u8], scratch: &mut [u8]) -> GroupOutcome
-    requires { Admitted source.now scratch.old }
-    ensures { Shown (grouping (decode source.now)) (length output.old) (length
-        scratch.old) result output.new scratch.new }
-{
-    let coded = group_read::read(source, scratch);
-    if coded.refusal != 0 {
-        return refuse(
-            output,
-            scratch,
-            GroupOutcome::NoText(coded.refusal, coded.place),
-        );
-    }
-    write_text(output, scratch, coded.length)
-}
-
-// Refusals 1, 3 and 4, then the text.
-fn run_group(source: &[u8], output: &mut [u8], scratch: &mut [u8]) -> GroupOutcome
+// Refused, the output is cleared; the scratch is in any case.
+fn run_group(source: &[u8], output: &mut [u8], scratch: &mut [u8]) -> Result<usize, GroupRefusal>
     ensures { GroupRan source.now (length output.old) (length
         scratch.old) result output.new scratch.new }
 {
-    let n = source.len();
-    if MAX_SOURCE < n {
-        return refuse(
-            output,
-            scratch,
-            GroupOutcome::Refused(Refusal::SourceTooLong),
-        );
+    let outcome = write_group(source, output, scratch);
+    if outcome.is_err() {
+        buffer::zero(output);
     }
-    let needed = 12 * n + 256;
-    if scratch.len() < needed {
-        return refuse(
-            output,
-            scratch,
-            GroupOutcome::Refused(Refusal::ScratchShort(needed)),
-        );
-    }
-    let prefix = utf8::well_formed_prefix(source);
-    if prefix != n {
-        return refuse(
-            output,
-            scratch,
-            GroupOutcome::Refused(Refusal::NotUtf8(prefix)),
-        );
-    }
-    show(source, output, scratch)
-}
-
-// The outcome in numbers.
-fn answer_of(o: GroupOutcome) -> GroupAnswer
-    ensures { result ≡ group_answer o }
-{
-    match o {
-        GroupOutcome::Grouped(length) => GroupAnswer {
-            refusal: 0,
-            place: 0,
-            length: length as u64,
-        },
-        GroupOutcome::NoText(number, place) => GroupAnswer {
-            refusal: number,
-            place: place as u64,
-            length: 0,
-        },
-        GroupOutcome::Refused(r) => GroupAnswer {
-            refusal: number_of(r),
-            place: place_of(r),
-            length: 0,
-        },
-    }
+    buffer::zero(scratch);
+    outcome
 }
 
 // The whole call, with its answer in numbers.
@@ -121,5 +48,5 @@ pub fn group_call(source: &[u8], output: &mut [u8], scratch: &mut [u8]) -> Group
     ensures { GroupAnswered source.now (length output.old) (length
         scratch.old) result output.new scratch.new }
 {
-    answer_of(run_group(source, output, scratch))
+    run_group(source, output, scratch).into()
 }

@@ -18,27 +18,27 @@ use Rattle.rules.proofs.Choose.{choose_true, choose_false}
 use Rattle.group_rules.specs.Grouping.{takes}
 use Rattle.group_rules.specs.Passes.{Pass, pass, closes_before, close_end, close_bracket, close_operator, forth_step, close_forth, closed_text}
 use Rattle.utf8.proofs.Tests.{and_left}
-use Rattle.group_close.specs.Forth.{stack_of, Room, Closed, Stepped, Ready, ForthTo}
+use Rattle.group_close.specs.Forth.{stack_of, Room, close_until, Closed, Stepped, Ready, ForthTo}
 use Rattle.group_close.specs.declared.Spot.{Spot}
 use Rattle.group_close.specs.declared.Forth.{Forth}
 
 -- ---- put
 
-pub put_fits : (x : List ℕ) (at b : ℕ) → at < length x → Appended x (set x at b) at (b ∷ []) (at + 1)
+pub put_fits : (x y : List ℕ) (at b : ℕ) → at < length x → y ≡ set x at b → Appended x y at (b ∷ []) (at + 1)
 unfolding over
-put_fits x at b h =
+put_fits x y at b h e =
     record {
       next = refl;
-      is = set_split x at b h
+      is = e ∙ set_split x at b h
           ∙ ap (λ y. take at x ++ y) (sym (ap (λ y. over y (b ∷ [])) (drop-cons x at 0 h) ∙ ap (λ y. b ∷ y) (over_nil (drop (suc at) x))));
     }
 
-pub put_past : (x : List ℕ) (at b : ℕ) → length x ≤ at → Appended x x at (b ∷ []) (at + 1)
+pub put_past : (x y : List ℕ) (at b : ℕ) → length x ≤ at → y ≡ x → Appended x y at (b ∷ []) (at + 1)
 unfolding over
-put_past x at b h =
+put_past x y at b h e =
     record {
       next = refl;
-      is = sym (ap (λ y. take at x ++ over y (b ∷ [])) (drop_of_length-le x {i = at} h) ∙ append-nil (take at x) ∙ take_all at x h);
+      is = e ∙ sym (ap (λ y. take at x ++ over y (b ∷ [])) (drop_of_length-le x {i = at} h) ∙ append-nil (take at x) ∙ take_all at x h);
     }
 
 -- ---- the stack
@@ -50,7 +50,7 @@ stack_top l (suc k) h = ap (λ m. stack_of l m) same ∙ unfold stack_of in refl
     same : suc k ≡ suc (suc k - 1)
     same = omega arith
 
--- ---- close_before and close_end
+-- ---- close_until, close_before and close_end
 
 pub record Closing (l out₀ out : List ℕ) (len₀ top₀ len top : ℕ) (close : List ℕ → List ℕ → Pass) : Type 0 where
   pub added : List ℕ
@@ -80,45 +80,48 @@ module _ {l out₀ out : List ℕ} {len₀ top₀ len top : ℕ} {close : List �
   closing_here : ((t : List ℕ) → close t (stack_of l top) ≡ pass t (stack_of l top)) → Closed l out₀ out len₀ top₀ close (record { length = len; top = top })
   closing_here e = record { added = o.added; is = λ t. o.is t ∙ e (t ++ o.added); wrote = o.wrote; lower = o.lower; moved = o.moved }
 
-module _ (s : ℕ) {l out₀ out : List ℕ} {len₀ top₀ len top : ℕ} (o : Closing l out₀ out len₀ top₀ len top (closes_before s)) where
-  pub before_more : {out' : List ℕ} {n : ℕ} (b : Bool) → 0 < top → b ≡ takes (get_or l (top - 1) 0) s → b ≡ false → Appended out out' len (41 ∷ []) n
-      → Closing l out₀ out' len₀ top₀ n (top - 1) (closes_before s)
-  before_more {out'} {n} b h e f w =
-      let k : (t : List ℕ) → closes_before s t (get_or l (top - 1) 0 ∷ stack_of l (top - 1)) ≡ closes_before s (t ++ 41 ∷ []) (stack_of l (top - 1))
-      = λ t. unfold closes_before in choose_false (takes (get_or l (top - 1) 0) s) _ _ (sym e ∙ f) in
-      closing_on o h (λ t. ap (closes_before s t) (stack_top l top h) ∙ k t) w
+module _ (p : ℕ → Bool) {l out₀ out : List ℕ} {len₀ top₀ len top : ℕ} (o : Closing l out₀ out len₀ top₀ len top (close_until p)) where
+  pub until_more : {out' : List ℕ} {n : ℕ} (b : Bool) → 0 < top → b ≡ p (get_or l (top - 1) 0) → b ≡ false → Appended out out' len (41 ∷ []) n
+      → Closing l out₀ out' len₀ top₀ n (top - 1) (close_until p)
+  until_more {out'} {n} b h e f w =
+      let k : (t : List ℕ) → close_until p t (get_or l (top - 1) 0 ∷ stack_of l (top - 1)) ≡ close_until p (t ++ 41 ∷ []) (stack_of l (top - 1))
+      = λ t. unfold close_until in choose_false (p (get_or l (top - 1) 0)) _ _ (sym e ∙ f) in
+      closing_on o h (λ t. ap (close_until p t) (stack_top l top h) ∙ k t) w
 
-  pub before_stop : (b : Bool) → 0 < top → b ≡ takes (get_or l (top - 1) 0) s → b ≡ true → Closed l out₀ out len₀ top₀ (closes_before s) (record { length = len; top = top })
-  before_stop b h e f =
-      let k : (t : List ℕ) → closes_before s t (get_or l (top - 1) 0 ∷ stack_of l (top - 1)) ≡ pass t (get_or l (top - 1) 0 ∷ stack_of l (top - 1))
-      = λ t. unfold closes_before in choose_true (takes (get_or l (top - 1) 0) s) _ _ (sym e ∙ f) in
-      closing_here o (λ t. ap (closes_before s t) (stack_top l top h) ∙ k t ∙ ap (pass t) (sym (stack_top l top h)))
+  pub until_stop : (b : Bool) → 0 < top → b ≡ p (get_or l (top - 1) 0) → b ≡ true → Closed l out₀ out len₀ top₀ (close_until p) (record { length = len; top = top })
+  until_stop b h e f =
+      let k : (t : List ℕ) → close_until p t (get_or l (top - 1) 0 ∷ stack_of l (top - 1)) ≡ pass t (get_or l (top - 1) 0 ∷ stack_of l (top - 1))
+      = λ t. unfold close_until in choose_true (p (get_or l (top - 1) 0)) _ _ (sym e ∙ f) in
+      closing_here o (λ t. ap (close_until p t) (stack_top l top h) ∙ k t ∙ ap (pass t) (sym (stack_top l top h)))
 
-  pub before_end : top ≤ 0 → Closed l out₀ out len₀ top₀ (closes_before s) (record { length = len; top = top })
-  before_end h = closing_here o (λ t. subst (λ x. closes_before s t (stack_of l x) ≡ pass t (stack_of l x)) zero_top (unfold closes_before stack_of in refl))
+  pub until_end : top ≤ 0 → Closed l out₀ out len₀ top₀ (close_until p) (record { length = len; top = top })
+  until_end h = closing_here o (λ t. subst (λ x. close_until p t (stack_of l x) ≡ pass t (stack_of l x)) zero_top (unfold close_until stack_of in refl))
     where
       zero_top : 0 ≡ top
       zero_top = omega arith
 
-module _ {l out₀ out : List ℕ} {len₀ top₀ len top : ℕ} (o : Closing l out₀ out len₀ top₀ len top close_end) where
-  pub end_more : {out' : List ℕ} {n : ℕ} → 0 < top → (get_or l (top - 1) 0 ≡ 0 → ⊥) → Appended out out' len (41 ∷ []) n
-      → Closing l out₀ out' len₀ top₀ n (top - 1) close_end
-  end_more {out'} {n} h f w =
-      let k : (t : List ℕ) → close_end t (get_or l (top - 1) 0 ∷ stack_of l (top - 1)) ≡ close_end (t ++ 41 ∷ []) (stack_of l (top - 1))
-      = λ t. unfold close_end in choose_false (eqb (get_or l (top - 1) 0) 0) _ _ (ne_eqb (get_or l (top - 1) 0) 0 f) in
-      closing_on o h (λ t. ap (close_end t) (stack_top l top h) ∙ k t) w
+closed_as : {l out out' : List ℕ} {len top : ℕ} {close close' : List ℕ → List ℕ → Pass} {r : Spot}
+    → ((t sp : List ℕ) → close t sp ≡ close' t sp) → Closed l out out' len top close' r → Closed l out out' len top close r
+closed_as {l} {out} {out'} {len} {top} {close} {close'} {r} e w =
+    record { added = w.added; is = λ t. e t (stack_of l top) ∙ w.is t; wrote = w.wrote; lower = w.lower; moved = w.moved }
 
-  pub end_stop : 0 < top → get_or l (top - 1) 0 ≡ 0 → Closed l out₀ out len₀ top₀ close_end (record { length = len; top = top })
-  end_stop h f =
-      let k : (t : List ℕ) → close_end t (get_or l (top - 1) 0 ∷ stack_of l (top - 1)) ≡ pass t (get_or l (top - 1) 0 ∷ stack_of l (top - 1))
-      = λ t. unfold close_end in choose_true (eqb (get_or l (top - 1) 0) 0) _ _ (eq-eqb (get_or l (top - 1) 0) 0 f) in
-      closing_here o (λ t. ap (close_end t) (stack_top l top h) ∙ k t ∙ ap (pass t) (sym (stack_top l top h)))
+before_until : (s : ℕ) (t sp : List ℕ) → closes_before s t sp ≡ close_until (λ x. takes x s) t sp
+unfolding closes_before close_until
+before_until s t [] = refl
+before_until s t (x ∷ sp) = ap (choose (takes x s) (pass t (x ∷ sp))) (before_until s (t ++ 41 ∷ []) sp)
 
-  pub end_end : top ≤ 0 → Closed l out₀ out len₀ top₀ close_end (record { length = len; top = top })
-  end_end h = closing_here o (λ t. subst (λ x. close_end t (stack_of l x) ≡ pass t (stack_of l x)) zero_top (unfold close_end stack_of in refl))
-    where
-      zero_top : 0 ≡ top
-      zero_top = omega arith
+end_until : (t sp : List ℕ) → close_end t sp ≡ close_until (λ x. eqb x 0) t sp
+unfolding close_end close_until
+end_until t [] = refl
+end_until t (x ∷ sp) = ap (choose (eqb x 0) (pass t (x ∷ sp))) (end_until (t ++ 41 ∷ []) sp)
+
+pub closed_before : (s : ℕ) {l out out' : List ℕ} {len top : ℕ} {r : Spot} → Closed l out out' len top (close_until (λ x. takes x s)) r
+    → Closed l out out' len top (closes_before s) r
+closed_before s {l} {out} {out'} {len} {top} {r} w = closed_as (before_until s) w
+
+pub closed_end : {l out out' : List ℕ} {len top : ℕ} {r : Spot} → Closed l out out' len top (close_until (λ x. eqb x 0)) r
+    → Closed l out out' len top close_end r
+closed_end {l} {out} {out'} {len} {top} {r} w = closed_as end_until w
 
 -- ---- one byte
 

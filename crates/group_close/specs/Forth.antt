@@ -1,7 +1,8 @@
 -- The pass from the first byte of the opened text to the last: the bytes from a place up to `end` are left to read, the
 -- spine stands in front of them in the same buffer, and the text goes to an output that may be too short.
-use Rattle.std.specs.Prelude.{ℕ, zero, suc, ◌+◌, ◌*◌, ◌≤◌, ◌<◌, ◌^◌, List, [], ◌∷◌, ◌++◌, ◌≡◌, length, get_or}
+use Rattle.std.specs.Prelude.{ℕ, zero, suc, ◌+◌, ◌*◌, ◌≤◌, ◌<◌, ◌^◌, Bool, List, [], ◌∷◌, ◌++◌, ◌≡◌, length, get_or}
 use Rattle.buffer.specs.Buffer.{part, Appended}
+use Rattle.rules.specs.Basics.{choose}
 use Rattle.group_rules.specs.Passes.{Pass, pass, forth_step, close_forth}
 use Rattle.group_close.specs.declared.Spot.{Spot}
 use Rattle.group_close.specs.declared.Forth.{Forth}
@@ -15,6 +16,16 @@ stack_of l (suc k) = get_or l k 0 ∷ stack_of l k
 pub record Room (l : List ℕ) (len top more : ℕ) : Type 0 where
   pub height : top + more ≤ length l
   pub counted : len + top < 2 ^ 62
+
+-- a test may be made of any byte, by pre, and answers as p does, by post
+abbrev pub Tells : (ℕ → Type 0) → (ℕ → Bool → Type 0) → (ℕ → Bool) → Type 0
+Tells pre post p = ((b : ℕ) → b < 256 → pre b) × ((b : ℕ) → (r : Bool) → post b r → r ≡ p b)
+
+-- `)` for each operation down to the first whose strength passes the test
+unfoldable pub close_until : (ℕ → Bool) → List ℕ → List ℕ → Pass
+close_until p text [] = pass text []
+close_until p text (t ∷ spine) =
+    let r = close_until p (text ++ 41 ∷ []) spine in choose (p t) (pass text (t ∷ spine)) r
 
 -- `)` for each operation that ends here: what is added, whatever text stands before
 pub record Closed (l out out' : List ℕ) (len top : ℕ) (close : List ℕ → List ℕ → Pass) (r : Spot) : Type 0 where

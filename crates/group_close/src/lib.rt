@@ -2,12 +2,12 @@
 // goes on stand on a stack in front of the bytes that are left, the nearest on top, 0 for a bracket.
 #![tactic(auto)]
 
-ghost use Rattle.std.specs.Prelude.{◌≡◌, ◌∷◌, [], ◌+◌, ◌≤◌, ◌<◌, ◌^◌};
+ghost use Rattle.std.specs.Prelude.{◌≡◌, ◌∷◌, [], ◌+◌, ◌≤◌, ◌<◌, ◌^◌, ℕ, Bool};
 ghost use Rattle.buffer.specs.Buffer.{part, Appended};
 ghost use Rattle.group_rules.specs.Passes.{closes_before, close_end, closed_text};
-ghost use Rattle.group_close.specs.Forth.{Room, Closed, Stepped, Ready, ForthTo};
+ghost use Rattle.group_close.specs.Forth.{Room, Tells, close_until, Closed, Stepped, Ready, ForthTo};
 
-use group_open::{enters, lower, second_takes, stops};
+use group_open::{enters, second_takes, stops};
 use group_rules::{CLOSER, OPENER};
 
 // The text's length so far, and the stack's height.
@@ -32,9 +32,31 @@ fn put(out: &mut [u8], at: usize, b: u8) -> usize
 {
     if at < out.len() {
         out[at] = b;
-        return at + 1;
     }
     at + 1
+}
+
+// Takes operations off the stack down to the first whose strength passes the test: `)` for each.
+fn close_until<F: Fn(u8) -> bool>(
+    scratch: &[u8],
+    out: &mut [u8],
+    len: usize,
+    top: usize,
+    stop: &F,
+) -> Spot
+    ghost meets: { ℕ → Bool }
+    requires tells { Tells (F.pre stop.now) (F.post stop.now) meets }
+    requires room { Room scratch.now len top 0 }
+    ensures { Closed scratch.now out.old out.new len top (close_until meets) result }
+{
+    let mut n = len;
+    let mut k = top;
+    // kept: a range is no plainer, since the stack is taken from its top until one stays
+    while 0 < k && !stop(scratch[k - 1]) {
+        n = put(out, n, b')');
+        k -= 1;
+    }
+    Spot { length: n, top: k }
 }
 
 // Operations that end before an operator of strength s.
@@ -42,17 +64,7 @@ fn close_before(scratch: &[u8], out: &mut [u8], s: u8, len: usize, top: usize) -
     requires { Room scratch.now len top 0 }
     ensures { Closed scratch.now out.old out.new len top (closes_before s) result }
 {
-    let mut n = len;
-    let mut k = top;
-    while 0 < k {
-        let t = scratch[k - 1];
-        if second_takes(t, s) {
-            return Spot { length: n, top: k };
-        }
-        n = put(out, n, b')');
-        k -= 1;
-    }
-    Spot { length: n, top: k }
+    close_until(scratch, out, len, top, &|t| second_takes(t, s))
 }
 
 // Operations that end before a closing bracket, or at the end.
@@ -60,16 +72,7 @@ fn close_end(scratch: &[u8], out: &mut [u8], len: usize, top: usize) -> Spot
     requires { Room scratch.now len top 0 }
     ensures { Closed scratch.now out.old out.new len top close_end result }
 {
-    let mut n = len;
-    let mut k = top;
-    while 0 < k {
-        if scratch[k - 1] == 0 {
-            return Spot { length: n, top: k };
-        }
-        n = put(out, n, b')');
-        k -= 1;
-    }
-    Spot { length: n, top: k }
+    close_until(scratch, out, len, top, &|t| t == 0)
 }
 
 fn close_bracket(scratch: &[u8], out: &mut [u8], len: usize, top: usize) -> Spot
@@ -80,7 +83,7 @@ fn close_bracket(scratch: &[u8], out: &mut [u8], len: usize, top: usize) -> Spot
     let c = close_end(scratch, out, len, top);
     Spot {
         length: c.length,
-        top: lower(c.top),
+        top: c.top.saturating_sub(1),
     }
 }
 
@@ -144,11 +147,10 @@ fn step_forth(scratch: &mut [u8], out: &mut [u8], end: usize, s: Forth) -> Forth
     ensures { ForthTo scratch.old scratch.new out.old out.new
         end 1 s result × (result.at ≡ s.at + 1) }
 {
-    let at = s.at;
-    let b = scratch[at];
+    let b = scratch[s.at];
     let next = close_code(scratch, out, b, s.length, s.top);
     Forth {
-        at: at + 1,
+        at: s.at + 1,
         length: next.length,
         top: next.top,
     }
@@ -161,9 +163,10 @@ fn past_one(scratch: &mut [u8], out: &mut [u8], end: usize, s: Forth) -> Forth
         end 1 s result }
 {
     if s.at < end {
-        return step_forth(scratch, out, end, s);
+        step_forth(scratch, out, end, s)
+    } else {
+        s
     }
-    s
 }
 
 // Writes up to the end, or in a bracket up to the byte that closes it. No more than 64 calls stand in each other.
@@ -173,9 +176,9 @@ fn close_forth(scratch: &mut [u8], out: &mut [u8], end: usize, depth: usize, fro
         end depth from result }
 {
     let mut s = from;
+    // kept: a range is no plainer, since a bracket's inside is passed by one call
     while s.at < end {
-        let at = s.at;
-        let b = scratch[at];
+        let b = scratch[s.at];
         if stops(depth, b, CLOSER) {
             return s;
         }

@@ -292,21 +292,15 @@ backed_step {l} {l'} {n} {left} {at} {top} {b} {r} h k e m =
 
 -- ---- tests
 
-pub second_less : (s t : ℕ) → s < t → true ≡ takes s t
-second_less s t h = sym (takes_lt s t h)
+pub second_less : (s t : ℕ) → s < t → ltb s t ≡ takes s t
+second_less s t h = lt-ltb s t h ∙ sym (takes_lt s t h)
 
 pub second_equal : (s t : ℕ) → t ≤ s → s ≡ t → eqb t 12 ≡ takes s t
 unfolding takes
 second_equal s t h e = rw (le-ltb s t h, eq-eqb s t e, star_is)
 
-pub second_more : (s t : ℕ) → t ≤ s → (s ≡ t → ⊥) → false ≡ takes s t
-second_more s t h k = sym (takes_not s t h (λ e q. k e))
-
-pub right_above : (b : ℕ) → 16 < b → ltb b 32 ≡ is_right_code b
-right_above b h = rw (lt-ltb 16 b h)
-
-pub right_below : (b : ℕ) → b ≤ 16 → false ≡ is_right_code b
-right_below b h = rw (le-ltb 16 b h)
+pub second_more : (s t : ℕ) → t ≤ s → (s ≡ t → ⊥) → eqb s t ≡ takes s t
+second_more s t h k = ne_eqb s t k ∙ sym (takes_not s t h (λ e q. k e))
 
 -- ---- open_back
 
@@ -352,18 +346,6 @@ pub back_ready : {l l₁ : List ℕ} {n left depth : ℕ} (s : Back) → BackTo 
 back_ready s b = rebase b.backed
 
 -- ---- the tests of a code in so many brackets
-
-pub in_bracket : (depth b code : ℕ) → 0 < depth → eqb b code ≡ (ltb 0 depth && eqb b code)
-in_bracket depth b code h = rw (lt-ltb 0 depth h)
-
-pub in_none : (depth b code : ℕ) → depth ≤ 0 → false ≡ (ltb 0 depth && eqb b code)
-in_none depth b code h = rw (le-ltb 0 depth h)
-
-pub may_enter : (depth b code : ℕ) → depth < 64 → eqb b code ≡ (ltb depth 64 && eqb b code)
-may_enter depth b code h = rw (lt-ltb depth 64 h)
-
-pub too_deep : (depth b code : ℕ) → 64 ≤ depth → false ≡ (ltb depth 64 && eqb b code)
-too_deep depth b code h = rw (le-ltb depth 64 h)
 
 pub entered : (depth : ℕ) (x t : Bool) → t ≡ (ltb depth 64 && x) → t ≡ true → depth < 64
 entered depth x t e f = ltb-true depth 64 (and_left (ltb depth 64) x (sym e ∙ f))

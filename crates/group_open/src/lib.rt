@@ -33,13 +33,7 @@ pub struct Back {
 pub fn second_takes(s: u8, t: u8) -> bool
     ensures { result ≡ takes s t }
 {
-    if s < t {
-        return true;
-    }
-    if s == t {
-        return t == 12;
-    }
-    false
+    s < t || (s == t && t == 12)
 }
 
 fn push_back(scratch: &mut [u8], at: usize, b: u8) -> usize
@@ -60,26 +54,12 @@ fn open_after(scratch: &mut [u8], n: usize, s: u8, at: usize, top: usize) -> Spo
     let base = 3 * n;
     let mut p = at;
     let mut k = top;
-    while 0 < k {
-        let t = scratch[base + (k - 1)];
-        if second_takes(s, t) {
-            p = push_back(scratch, p, b'(');
-            k -= 1;
-        } else {
-            return Spot { at: p, top: k };
-        }
+    // kept: a range is no plainer, since the stack is taken from its top until one stays
+    while 0 < k && second_takes(s, scratch[base + (k - 1)]) {
+        p = push_back(scratch, p, b'(');
+        k -= 1;
     }
     Spot { at: p, top: k }
-}
-
-// One less, or 0.
-pub fn lower(top: usize) -> usize
-    ensures { result ≡ top - 1 }
-{
-    if top == 0 {
-        return 0;
-    }
-    top - 1
 }
 
 fn open_bracket(scratch: &mut [u8], n: usize, at: usize, top: usize) -> Spot
@@ -91,7 +71,7 @@ fn open_bracket(scratch: &mut [u8], n: usize, at: usize, top: usize) -> Spot
     let p = push_back(scratch, o.at, OPENER);
     Spot {
         at: p,
-        top: lower(o.top),
+        top: o.top.saturating_sub(1),
     }
 }
 
@@ -133,10 +113,7 @@ fn open_plain(scratch: &mut [u8], n: usize, b: u8, at: usize, top: usize) -> Spo
 fn is_right_code(b: u8) -> bool
     ensures { result ≡ is_right_code b }
 {
-    if 16 < b {
-        return b < 32;
-    }
-    false
+    16 < b && b < 32
 }
 
 // One code.
@@ -162,11 +139,11 @@ fn step_back(scratch: &mut [u8], n: usize, s: Back) -> Back
     requires { (0 < s.left) × Backed (take n scratch.old) scratch.old n s.left s.at s.top }
     ensures { BackTo scratch.old scratch.new n 1 (s.left - 1) result }
 {
-    let left = s.left;
-    let b = scratch[left - 1];
+    let left = s.left - 1;
+    let b = scratch[left];
     let next = open_code(scratch, n, b, s.at, s.top);
     Back {
-        left: left - 1,
+        left,
         at: next.at,
         top: next.top,
     }
@@ -178,29 +155,24 @@ fn past_one(scratch: &mut [u8], n: usize, s: Back) -> Back
     ensures { BackTo scratch.old scratch.new n 1 s.left result }
 {
     if 0 < s.left {
-        return step_back(scratch, n, s);
+        step_back(scratch, n, s)
+    } else {
+        s
     }
-    s
 }
 
 // Whether b is the code at which a bracket's end is told, if brackets are open.
 pub fn stops(depth: usize, b: u8, code: u8) -> bool
     ensures { result ≡ (ltb 0 depth && eqb b code) }
 {
-    if 0 < depth {
-        return b == code;
-    }
-    false
+    0 < depth && b == code
 }
 
 // Whether b is the code that leads into a bracket, and there may be one more.
 pub fn enters(depth: usize, b: u8, code: u8) -> bool
     ensures { result ≡ (ltb depth 64 && eqb b code) }
 {
-    if depth < MAX_DEPTH {
-        return b == code;
-    }
-    false
+    depth < MAX_DEPTH && b == code
 }
 
 // Reads back to the first code, or in a bracket to the code that opens it. No more than 64 calls stand in each other.
@@ -209,9 +181,9 @@ fn open_back(scratch: &mut [u8], n: usize, depth: usize, from: Back) -> Back
     ensures { BackTo scratch.old scratch.new n depth from.left result }
 {
     let mut s = from;
+    // kept: a range is no plainer, since a bracket's inside is passed by one call
     while 0 < s.left {
-        let left = s.left;
-        let b = scratch[left - 1];
+        let b = scratch[s.left - 1];
         if stops(depth, b, OPENER) {
             return s;
         }

@@ -7,18 +7,19 @@ use native.Mathlib.Omega.{arith}
 use native.Mathlib.Numerals.{add-one}
 use lib.ListN.{length, take, drop, get_or}
 use lib.Seq.{drop-cons}
+use Rattle.std.specs.Prelude.{Ok, Err}
 use Rattle.buffer.specs.Buffer.{part}
 use Rattle.rules.specs.Basics.{choose, one_of}
 use Rattle.rules.specs.SplitOperation.{keywords}
 use Rattle.rules.proofs.Choose.{choose_true, choose_false}
 use Rattle.group_rules.specs.Expression.{max_depth, Token, word, Stage, due, in_name, in_number, after, in_operator, State, Step, due_step, after_step, stage_step, step, read, refused_at, ended, ending, on_step, read_from, reading_to, reading}
 use Rattle.group_rules.specs.Passes.{coded}
-use Rattle.group_read.specs.Read.{refused_as, stage_of, state_of, word_of, room_of, Holds, Went, StepIs, Steps, ReaderRoom, DueRoom, DueSteps, AfterSteps, ByteRoom, WordSteps, name_step, number_step, OperatorRoom, OperatorSteps, CodedIs, EndAs, SourceFits, CodedAs}
+use Rattle.group_read.specs.Read.{Next, Coded, stage_of, state_of, word_of, room_of, Holds, Went, StepIs, Steps, ReaderRoom, DueRoom, DueSteps, AfterSteps, ByteRoom, WordSteps, name_step, number_step, OperatorRoom, OperatorSteps, Codes, CodedIs, EndAs, SourceFits, CodedAs}
 use Rattle.group_read.specs.declared.Phase.{Phase}
 use Rattle.group_read.specs.declared.Phase.TheVariants.{Due, Name, Number, After, Operator}
 use Rattle.group_read.specs.declared.Reader.{Reader}
-use Rattle.group_read.specs.declared.Next.{Next}
-use Rattle.group_read.specs.declared.Coded.{Coded}
+use Rattle.group_rules.specs.declared.Fault.{Fault}
+use Rattle.group_rules.specs.declared.NoText.{NoText}
 use Rattle.group_read.proofs.ReadLaws.{coded_more}
 
 -- ---- one character: what each phase asks, and what its step says
@@ -93,6 +94,9 @@ module _ {source l : List ℕ} {i : ℕ} {r : Reader} (h : ReaderRoom source l i
 
 -- ---- the loop: what is read so far, and what is left
 
+abbrev pub here : Fault → ℕ → NoText
+here f i = record { fault = f; place = i }
+
 pub record Reads (source l₀ l : List ℕ) (i : ℕ) (r : Reader) : Type 0 where
   pub tokens : List Token
   pub is : reading source ≡ read_from max_depth i (state_of source i r tokens) (drop i source)
@@ -123,11 +127,11 @@ module _ {source l₀ l : List ℕ} {i : ℕ} {r : Reader} (h : Reads source l�
   stepped k = h.is ∙ ap (read_from max_depth i (state_of source i r h.tokens)) (drop-cons source i 0 k)
 
   module _ {l' : List ℕ} {q : Next} (k : i < length source) (s : Steps source l l' i r q) where
-    pub reads_next : (p : Reader) → p ≡ q.reader → q.refusal ≡ 0 → Reads source l₀ l' (i + 1) p
+    pub reads_next : (p : Reader) → q ≡ Ok p → Reads source l₀ l' (i + 1) p
     unfolding on_step
-    reads_next p e z = subst (λ x. Reads source l₀ l' (i + 1) x) (sym e) (subst (λ n. Reads source l₀ l' n q.reader) (sym (add-one i)) (go ((s.is h.tokens h.holds).goes z)))
+    reads_next p z = subst (λ n. Reads source l₀ l' n p) (sym (add-one i)) (go ((s.is h.tokens h.holds).goes p z))
       where
-        go : Went source l' (suc i) (step max_depth (state_of source i r h.tokens) (get_or source i 0)) q.reader → Reads source l₀ l' (suc i) q.reader
+        go : Went source l' (suc i) (step max_depth (state_of source i r h.tokens) (get_or source i 0)) p → Reads source l₀ l' (suc i) p
         go w =
             record {
               tokens = w.tokens;
@@ -138,17 +142,22 @@ module _ {source l₀ l : List ℕ} {i : ℕ} {r : Reader} (h : Reads source l�
               small = h.small;
             }
 
-    pub reads_refused : (z : Coded) → z ≡ refused_as q.refusal i → (q.refusal ≡ 0 → ⊥) → CodedAs source l₀ l' z
+    pub reads_refused : (f : Fault) → q ≡ Err f → CodedAs source l₀ l' (Err (record { fault = f; place = i }))
     unfolding on_step
-    reads_refused z e n =
-        subst (CodedAs source l₀ l') (sym e)
-        (record {
-          is = record {
-            yes = λ x. absurd (n x);
-            no = λ x. stepped k ∙ ap (λ (y : Step). on_step i y (λ (t : State). read_from max_depth (suc i) t (drop (suc i) source))) ((s.is h.tokens h.holds).stops n);
-          };
+    reads_refused f e =
+        record {
+          is = record { yes = λ m x. absurd (no_count x); no = λ w x. whole ∙ ap (λ y. refused_at y.fault y.place) (why x) };
           size = s.size ∙ h.size;
-        })
+        }
+      where
+        whole : reading source ≡ refused_at f i
+        whole = stepped k ∙ ap (λ (y : Step). on_step i y (λ (t : State). read_from max_depth (suc i) t (drop (suc i) source))) ((s.is h.tokens h.holds).stops f e)
+
+        no_count : {m : ℕ} → ◌≡◌ {A = Coded} (Err (here f i)) (Ok m) → ⊥
+        no_count x = let z : ◌≡◌ {A = ℕ} 0 1 = cc in omega arith
+
+        why : {w : NoText} → ◌≡◌ {A = Coded} (Err (here f i)) (Err w) → here f i ≡ w
+        why x = cc
 
   pub reads_end : {q : Coded} → length source ≤ i → EndAs source r q → CodedAs source l₀ l q
   unfolding read_from
@@ -168,17 +177,17 @@ module _ {source l₀ l : List ℕ} {i : ℕ} {r : Reader} (h : Reads source l�
 
 -- ---- the end
 
-deep : (d i : ℕ) (ts : List Token) → 0 < d → ended i d ts ≡ refused_at 14 i
+deep : (d i : ℕ) (ts : List Token) → 0 < d → ended i d ts ≡ refused_at Fault.NoExpression i
 unfolding ended
 deep zero i ts h = absurd (omega arith)
 deep (suc d) i ts h = refl
 
-deep_stage : (m : Stage) (d i : ℕ) (ts : List Token) → 0 < d → ending i m d ts ≡ refused_at 14 i
+deep_stage : (m : Stage) (d i : ℕ) (ts : List Token) → 0 < d → ending i m d ts ≡ refused_at Fault.NoExpression i
 unfolding ending choose
 deep_stage due d i ts h = refl
 deep_stage (in_name w) d i ts h = go (one_of keywords w)
   where
-    go : (b : Bool) → choose b (refused_at 14 i) (ended i d (word w ∷ ts)) ≡ refused_at 14 i
+    go : (b : Bool) → choose b (refused_at Fault.NoExpression i) (ended i d (word w ∷ ts)) ≡ refused_at Fault.NoExpression i
     go true = refl
     go false = deep d i (word w ∷ ts) h
 deep_stage (in_number w) d i ts h = deep d i (word w ∷ ts) h
@@ -186,26 +195,37 @@ deep_stage after d i ts h = deep d i ts h
 deep_stage (in_operator a) d i ts h = refl
 
 module _ (source : List ℕ) (r : Reader) where
-  end_refused : (z : Coded) → z ≡ refused_as 14 (length source)
-      → ((ts : List Token) → ending (length source) (stage_of source (length source) r.phase r.start) r.depth ts ≡ refused_at 14 (length source)) → EndAs source r z
-  end_refused z e f = subst (EndAs source r) (sym e) (record { is = λ l ts h. record { yes = λ x. absurd (omega arith); no = λ x. f ts } })
+  abbrev pub early : Coded
+  early = Err (here Fault.NoExpression (length source))
 
-  pub end_deep : (z : Coded) → z ≡ refused_as 14 (length source) → 0 < r.depth → EndAs source r z
+  end_refused : (z : Coded) → z ≡ early
+      → ((ts : List Token) → ending (length source) (stage_of source (length source) r.phase r.start) r.depth ts ≡ refused_at Fault.NoExpression (length source)) → EndAs source r z
+  end_refused z e f =
+      subst (EndAs source r) (sym e)
+      (record { is = λ l ts h. record { yes = λ m x. absurd (no_count x); no = λ w x. f ts ∙ ap (λ y. refused_at y.fault y.place) (why x) } })
+    where
+      no_count : {m : ℕ} → ◌≡◌ {A = Coded} early (Ok m) → ⊥
+      no_count x = let z : ◌≡◌ {A = ℕ} 0 1 = cc in omega arith
+
+      why : {w : NoText} → ◌≡◌ {A = Coded} early (Err w) → here Fault.NoExpression (length source) ≡ w
+      why x = cc
+
+  pub end_deep : (z : Coded) → z ≡ early → 0 < r.depth → EndAs source r z
   end_deep z e h = end_refused z e (λ ts. deep_stage (stage_of source (length source) r.phase r.start) r.depth (length source) ts h)
 
   ending_at : (p : Phase) → r.phase ≡ p → (ts : List Token) → ending (length source) (stage_of source (length source) r.phase r.start) r.depth ts
       ≡ ending (length source) (stage_of source (length source) p r.start) r.depth ts
   ending_at p e ts = ap (λ x. ending (length source) (stage_of source (length source) x r.start) r.depth ts) e
 
-  pub end_due : (z : Coded) → z ≡ refused_as 14 (length source) → r.phase ≡ Due → EndAs source r z
+  pub end_due : (z : Coded) → z ≡ early → r.phase ≡ Due → EndAs source r z
   unfolding ending
   end_due z e p = end_refused z e (λ ts. ending_at Due p ts)
 
-  pub end_operator : (z : Coded) → z ≡ refused_as 14 (length source) → r.phase ≡ Operator → EndAs source r z
+  pub end_operator : (z : Coded) → z ≡ early → r.phase ≡ Operator → EndAs source r z
   unfolding ending
   end_operator z e p = end_refused z e (λ ts. ending_at Operator p ts)
 
-  pub end_keyword : (z : Coded) → z ≡ refused_as 14 (length source) → r.phase ≡ Name → (b : Bool) → b ≡ one_of keywords (part source r.start (length source)) → b ≡ true
+  pub end_keyword : (z : Coded) → z ≡ early → r.phase ≡ Name → (b : Bool) → b ≡ one_of keywords (part source r.start (length source)) → b ≡ true
       → EndAs source r z
   unfolding ending
   end_keyword z e p b u t = end_refused z e (λ ts. ending_at Name p ts ∙ choose_true (one_of keywords (part source r.start (length source))) _ _ (sym u ∙ t))
@@ -215,15 +235,22 @@ module _ (source : List ℕ) (r : Reader) where
       → ((ts : List Token) → ending (length source) (stage_of source (length source) r.phase r.start) r.depth ts ≡ read (reverse (us ts)))
       → ((ts : List Token) → coded (reverse ts) ++ word_of (stage_of source (length source) r.phase r.start) ≡ coded (reverse (us ts)))
       → ((i : ℕ) → room_of r.phase r.at i → r.at ≤ 3 * i)
-      → (z : Coded) → z ≡ record { refusal = 0; place = 0; length = r.at } → EndAs source r z
+      → (z : Coded) → z ≡ Ok r.at → EndAs source r z
   end_read us f g room z e =
       subst (EndAs source r) (sym e)
       (record {
         is = λ l ts h. record {
-          yes = λ x. record { tokens = reverse (us ts); is = f ts; codes = h.codes ∙ g ts; short = room (length source) h.room };
-          no = λ x. absurd (x refl);
+          yes = λ m x. subst (Codes l (ending (length source) (stage_of source (length source) r.phase r.start) r.depth ts) (length source)) (count x)
+              (record { tokens = reverse (us ts); is = f ts; codes = h.codes ∙ g ts; short = room (length source) h.room });
+          no = λ w x. absurd (no_text x);
         };
       })
+    where
+      count : {m : ℕ} → ◌≡◌ {A = Coded} (Ok r.at) (Ok m) → r.at ≡ m
+      count x = cc
+
+      no_text : {w : NoText} → ◌≡◌ {A = Coded} (Ok r.at) (Err w) → ⊥
+      no_text x = let z : ◌≡◌ {A = ℕ} 0 1 = cc in omega arith
 
   module _ (d : r.depth ≤ 0) where
     shallow : (ts : List Token) → ended (length source) r.depth ts ≡ read (reverse ts)
@@ -236,7 +263,7 @@ module _ (source : List ℕ) (r : Reader) where
         ap (λ x. coded (reverse ts) ++ word_of (stage_of source (length source) x r.start)) e ∙ ap (λ x. coded (reverse ts) ++ x) u ∙ sym (coded_more (word w) ts)
 
     pub end_name_law : r.phase ≡ Name → (b : Bool) → b ≡ one_of keywords (part source r.start (length source)) → b ≡ false
-        → (z : Coded) → z ≡ record { refusal = 0; place = 0; length = r.at } → EndAs source r z
+        → (z : Coded) → z ≡ Ok r.at → EndAs source r z
     unfolding ending
     end_name_law p b u t =
         end_read (λ ts. word (part source r.start (length source)) ∷ ts)
@@ -244,7 +271,7 @@ module _ (source : List ℕ) (r : Reader) where
         (λ ts. word_codes Name p ts (part source r.start (length source)) refl)
         (λ i k. subst (λ x. room_of x r.at i) p k)
 
-    pub end_number_law : r.phase ≡ Number → (z : Coded) → z ≡ record { refusal = 0; place = 0; length = r.at } → EndAs source r z
+    pub end_number_law : r.phase ≡ Number → (z : Coded) → z ≡ Ok r.at → EndAs source r z
     unfolding ending
     end_number_law p =
         end_read (λ ts. word (part source r.start (length source)) ∷ ts)
@@ -252,7 +279,7 @@ module _ (source : List ℕ) (r : Reader) where
         (λ ts. word_codes Number p ts (part source r.start (length source)) refl)
         (λ i k. subst (λ x. room_of x r.at i) p k)
 
-    pub end_after : r.phase ≡ After → (z : Coded) → z ≡ record { refusal = 0; place = 0; length = r.at } → EndAs source r z
+    pub end_after : r.phase ≡ After → (z : Coded) → z ≡ Ok r.at → EndAs source r z
     unfolding ending
     end_after p =
         end_read (λ ts. ts)

@@ -1,5 +1,5 @@
 -- Laws of the operators: their strengths, and the codes that they get.
-use Prim.Native.Nat.{ℕ, zero, suc, ◌+◌, ◌≤◌, ◌<◌}
+use Prim.Native.Nat.{ℕ, suc, ◌+◌, ◌≤◌, ◌<◌}
 use mathlib.Core.Bool.{Bool, true, false, ◌||◌}
 use mathlib.Core.List.{List, [], ◌∷◌, ◌++◌, reverse, append_assoc, append-nil}
 use mathlib.Core.Path.{◌≡◌, refl, ap, sym, ◌∙◌, subst}
@@ -7,6 +7,7 @@ use native.Mathlib.Omega.{arith}
 use native.Mathlib.Numerals.{add-one}
 use lib.ListN.{length, take, get_or, set, length-set}
 use lib.Seq.{take-suc-set}
+use Rattle.std.specs.Prelude.{Err}
 use Rattle.rules.specs.Basics.{choose, same, one_of}
 use Rattle.rules.specs.Operators.{operators, strengths, index_in}
 use Rattle.rules.specs.Strengths.{strengths_in, built_in}
@@ -17,10 +18,12 @@ use Rattle.group_rules.specs.Expression.{max_depth, Token, operator, in_operator
 use Rattle.group_rules.specs.Grouping.{strength_of}
 use Rattle.group_rules.specs.Passes.{coded}
 use Rattle.group_rules.proofs.PlainLaws.{operator_plain}
-use Rattle.group_read.specs.Read.{onward, refused_by, StepIs, DueRoom, DueSteps, Written, OperatorRoom, OperatorSteps}
+use Rattle.group_read.specs.Read.{Next, onward, StepIs, DueRoom, DueSteps, Written, OperatorRoom, OperatorSteps}
 use Rattle.group_read.specs.declared.Phase.TheVariants.{Due}
-use Rattle.group_read.specs.declared.Next.{Next}
+use Rattle.group_rules.specs.declared.Fault.{Fault}
 use Rattle.group_read.proofs.FirstLaws.{by_equal}
+use Rattle.std.specs.Prelude.{Option, Some, None}
+use Rattle.group_read.specs.Strength.{Positive}
 use Rattle.group_read.proofs.ReadLaws.{coded_more, went, stopped}
 
 -- ---- the strengths
@@ -32,13 +35,19 @@ strength_of_law w k s e h = h ∙ ap (λ n. get_or strengths n 0) e
 pub built_read : (k r : ℕ) → r ≡ get_or (strengths_in built_in) k 0 → r ≡ get_or strengths k 0
 built_read k r e = e ∙ ap (λ l. get_or l k 0) built_in_read
 
-pub past_table : (k : ℕ) → 21 ≤ k → 0 ≡ get_or strengths k 0
-past_table k h = sym (past strengths k h)
-  where
-    past : (l : List ℕ) (k : ℕ) → length l ≤ k → get_or l k 0 ≡ 0
-    past [] k h = refl
-    past (x ∷ l) zero h = absurd (omega arith)
-    past (x ∷ l) (suc k) h = past l k (omega arith)
+pub positive_some : (n s : ℕ) → s ≡ n → (s ≡ 0 → ⊥) → Positive n (Some s)
+positive_some n s e h =
+    record {
+      some = λ t d. let y : s ≡ t = cc in subst (λ x. (x ≡ n) × (0 < x)) y (e, omega arith);
+      none = λ d. absurd (cc);
+    }
+
+pub positive_none : (n : ℕ) → 0 ≡ n → Positive n None
+positive_none n e = record { some = λ t d. absurd (cc); none = λ d. sym e }
+
+pub strength_found : (w : List ℕ) (k : ℕ) (r : Option ℕ) → k ≡ index_in operators w → Positive (get_or strengths k 0) r
+    → Positive (strength_of w) r
+strength_found w k r e q = subst (λ n. Positive n r) (strength_of_law w k (get_or strengths k 0) e refl) q
 
 found : (ks : List (List ℕ)) (ns w : List ℕ) → length ns ≤ length ks → 0 < get_or ns (index_in ks w) 0 → one_of ks w ≡ true
 unfolding index_in one_of choose
@@ -112,10 +121,12 @@ module _ {l : List ℕ} {i d at : ℕ} (a c : ℕ) (room : OperatorRoom l i d at
   coded_operator op s p l' e w ts g =
       w.is ∙ ap (λ x. x ++ (s ∷ op ++ (s + 16) ∷ [])) g ∙ ap (λ n. coded (reverse ts) ++ (n ∷ op ++ (n + 16) ∷ [])) e ∙ sym (coded_more (operator op) ts)
 
-  pub operator_two_law : {l' : List ℕ} (s p : ℕ) → s ≡ strength_of (a ∷ c ∷ []) → 0 < s → Written l l' at (s ∷ a ∷ c ∷ (s + 16) ∷ []) p
+  pub operator_two_law : {l' : List ℕ} (s p : ℕ) → Positive (strength_of (a ∷ c ∷ [])) (Some s) → Written l l' at (s ∷ a ∷ c ∷ (s + 16) ∷ []) p
       → (z : Next) → z ≡ onward Due d i p → OperatorSteps l l' i a c d at z
   unfolding stage_step
-  operator_two_law {l'} s p e h w z u =
+  operator_two_law {l'} s p q' w z u =
+      let e : s ≡ strength_of (a ∷ c ∷ []) = (q'.some s refl).0 in
+      let h : 0 < s = (q'.some s refl).1 in
       record {
         is = λ source ts q j f k g. went z u source l' (suc i) (stage_step max_depth (in_operator a) d ts c) (operator (a ∷ c ∷ []) ∷ ts)
             (choose_true (one_of operators (a ∷ c ∷ [])) _ _ (is_operator (a ∷ c ∷ []) (subst (λ n. 0 < n) e h)))
@@ -129,24 +140,26 @@ module _ {l : List ℕ} {i d at : ℕ} (a c : ℕ) (room : OperatorRoom l i d at
         size = w.size;
       }
 
-  module _ (s : ℕ) (e : s ≡ strength_of (a ∷ c ∷ [])) (h : s ≤ 0) where
-    pub operator_none : (t : ℕ) → t ≡ strength_of (a ∷ []) → t ≡ 0 → (z : Next) → z ≡ refused_by 14 → OperatorSteps l l i a c d at z
+  module _ (two : Positive (strength_of (a ∷ c ∷ [])) None) where
+    pub operator_none : Positive (strength_of (a ∷ [])) None → (z : Next) → z ≡ Err Fault.NoExpression → OperatorSteps l l i a c d at z
     unfolding stage_step
-    operator_none t f k z u =
+    operator_none one z u =
         record {
-          is = λ source ts q j m n g. stopped z u source l (suc i) (stage_step max_depth (in_operator a) d ts c) (omega arith)
-              (choose_false (one_of operators (a ∷ c ∷ [])) _ _ (no_operator (a ∷ c ∷ []) (omega (arith, e)))
-              ∙ choose_false (one_of operators (a ∷ [])) _ _ (no_operator (a ∷ []) (omega (arith, f))));
+          is = λ source ts q j m n g. stopped z u source l (suc i) (stage_step max_depth (in_operator a) d ts c)
+              (choose_false (one_of operators (a ∷ c ∷ [])) _ _ (no_operator (a ∷ c ∷ []) (two.none refl))
+              ∙ choose_false (one_of operators (a ∷ [])) _ _ (no_operator (a ∷ []) (one.none refl)));
           size = refl;
         }
 
-    pub operator_one_law : {m l' : List ℕ} (t p : ℕ) → t ≡ strength_of (a ∷ []) → (t ≡ 0 → ⊥) → Written l m at (t ∷ a ∷ (t + 16) ∷ []) p → (z : Next)
+    pub operator_one_law : {m l' : List ℕ} (t p : ℕ) → Positive (strength_of (a ∷ [])) (Some t) → Written l m at (t ∷ a ∷ (t + 16) ∷ []) p → (z : Next)
         → DueSteps m l' i c d p z → OperatorSteps l l' i a c d at z
     unfolding stage_step
-    operator_one_law {m} {l'} t p f k w z v =
+    operator_one_law {m} {l'} t p one w z v =
+        let f : t ≡ strength_of (a ∷ []) = (one.some t refl).0 in
+        let k : 0 < t = (one.some t refl).1 in
         record {
           is = λ source ts q j n o g. subst (λ st. StepIs source l' (suc i) st z)
-              (sym (choose_false (one_of operators (a ∷ c ∷ [])) _ _ (no_operator (a ∷ c ∷ []) (omega (arith, e)))
+              (sym (choose_false (one_of operators (a ∷ c ∷ [])) _ _ (no_operator (a ∷ c ∷ []) (two.none refl))
               ∙ choose_true (one_of operators (a ∷ [])) _ _ (is_operator (a ∷ []) (omega (arith, f)))))
               (v.is source (operator (a ∷ []) ∷ ts) q j (omega (arith, w.size)) (omega (arith, w.place)) (coded_operator (a ∷ []) t p m f w ts g));
           size = v.size ∙ w.size;

@@ -9,6 +9,7 @@ use lib.Dec.{eqb, leb}
 use lib.ListN.{length, take, drop, get_or, set, length-set}
 use lib.Seq.{take-suc-set, drop-cons}
 use borrow.Author.Tests.{eq-eqb, ne_eqb, le-leb, lt-leb}
+use Rattle.std.specs.Prelude.{Ok, Err}
 use Rattle.buffer.specs.Buffer.{part}
 use Rattle.buffer.proofs.RegionLaws.{part_more}
 use Rattle.rules.specs.Basics.{one_of, is_blank, is_ident}
@@ -18,10 +19,10 @@ use Rattle.group_rules.specs.Expression.{Token, word, sign, opener, closer, due,
 use Rattle.rules.specs.Operators as F
 use Rattle.group_rules.specs.Passes.{codes_of, coded}
 use Rattle.group_read.proofs.FirstLaws.{starts_same}
-use Rattle.group_read.specs.Read.{state_of, Holds, StepIs, DueRoom, onward, refused_by, DueSteps, AfterSteps, ByteRoom, WordSteps, name_step, number_step}
+use Rattle.group_read.specs.Read.{state_of, Holds, StepIs, DueRoom, Next, onward, DueSteps, AfterSteps, ByteRoom, WordSteps, name_step, number_step}
 use Rattle.group_read.specs.declared.Phase.TheVariants.{Due, Name, Number, After, Operator}
 use Rattle.group_read.specs.declared.Reader.{Reader}
-use Rattle.group_read.specs.declared.Next.{Next}
+use Rattle.group_rules.specs.declared.Fault.{Fault}
 use Rattle.group_rules.proofs.PassLaws.{coded_append}
 
 coded_one : (t : Token) → coded (t ∷ []) ≡ codes_of t
@@ -38,13 +39,30 @@ part_one s i h = ap (λ m. take m (drop i s)) same ∙ ap (take 1) (drop-cons s 
     same = omega arith
 
 -- a step that goes on, or not
-pub went : (z : Next) {r : Reader} → z ≡ record { refusal = 0; reader = r } → (source l : List ℕ) (i : ℕ) (st : Step) (ts : List Token)
+pub went : (z : Next) {r : Reader} → z ≡ Ok r → (source l : List ℕ) (i : ℕ) (st : Step) (ts : List Token)
     → st ≡ next (state_of source i r ts) → Holds source l i r ts → StepIs source l i st z
 went z {r} w source l i st ts e h =
-    subst (StepIs source l i st) (sym w) (record { goes = λ _. record { tokens = ts; is = e; holds = h }; stops = λ k. absurd (k refl) })
+    subst (StepIs source l i st) (sym w)
+    (record { goes = λ p k. record { tokens = ts; is = e ∙ ap next (same k p); holds = subst (λ x. Holds source l i x ts) (read_as k) h }; stops = λ f k. absurd (no_fault k) })
+  where
+    read_as : {p : Reader} → ◌≡◌ {A = Next} (Ok r) (Ok p) → r ≡ p
+    read_as k = cc
 
-pub stopped : (z : Next) {n : ℕ} → z ≡ refused_by n → (source l : List ℕ) (i : ℕ) (st : Step) → 0 < n → st ≡ refused n → StepIs source l i st z
-stopped z {n} w source l i st h e = subst (StepIs source l i st) (sym w) (record { goes = λ k. absurd (omega arith); stops = λ _. e })
+    same : {p : Reader} → ◌≡◌ {A = Next} (Ok r) (Ok p) → (p' : Reader) → state_of source i r ts ≡ state_of source i p ts
+    same k p' = ap (λ x. state_of source i x ts) (read_as k)
+
+    no_fault : {f : Fault} → ◌≡◌ {A = Next} (Ok r) (Err f) → ⊥
+    no_fault k = let z : ◌≡◌ {A = ℕ} 0 1 = cc in omega arith
+
+pub stopped : (z : Next) {f : Fault} → z ≡ Err f → (source l : List ℕ) (i : ℕ) (st : Step) → st ≡ refused f → StepIs source l i st z
+stopped z {f} w source l i st e =
+    subst (StepIs source l i st) (sym w) (record { goes = λ r k. absurd (no_reader k); stops = λ g k. e ∙ ap refused (same k) })
+  where
+    no_reader : {r : Reader} → ◌≡◌ {A = Next} (Err f) (Ok r) → ⊥
+    no_reader k = let z : ◌≡◌ {A = ℕ} 0 1 = cc in omega arith
+
+    same : {g : Fault} → ◌≡◌ {A = Next} (Err f) (Err g) → f ≡ g
+    same k = cc
 
 module _ (l : List ℕ) (i c d at : ℕ) (room : DueRoom l i d at) where
   -- one code more
@@ -76,11 +94,11 @@ module _ (l : List ℕ) (i c d at : ℕ) (room : DueRoom l i d at) where
         }
 
     module _ (s : Bool) (e₂ : s ≡ is_sign c) (n₂ : s ≡ false) where
-      pub due_deep : c ≡ 40 → 64 ≤ d → (z : Next) → z ≡ refused_by 15 → DueSteps l l i c d at z
+      pub due_deep : c ≡ 40 → 64 ≤ d → (z : Next) → z ≡ Err Fault.TooDeep → DueSteps l l i c d at z
       unfolding due_step open_step
       due_deep p h z w =
           record {
-            is = λ source ts q j f k g. stopped z w source l (suc i) (due_step max_depth d ts c) (omega arith)
+            is = λ source ts q j f k g. stopped z w source l (suc i) (due_step max_depth d ts c)
                 (choose_false (is_blank c) _ _ (sym e₁ ∙ n₁) ∙ choose_false (is_sign c) _ _ (sym e₂ ∙ n₂) ∙ choose_true (eqb c 40) _ _ (eq-eqb c 40 p)
                 ∙ choose_true (leb 64 d) _ _ (le-leb 64 d h));
             size = refl;
@@ -122,11 +140,11 @@ module _ (l : List ℕ) (i c d at : ℕ) (room : DueRoom l i d at) where
                 size = length-set l at c;
               }
 
-          pub due_refused : (u : Bool) → u ≡ is_ident c → u ≡ false → (z : Next) → z ≡ refused_by 14 → DueSteps l l i c d at z
+          pub due_refused : (u : Bool) → u ≡ is_ident c → u ≡ false → (z : Next) → z ≡ Err Fault.NoExpression → DueSteps l l i c d at z
           unfolding due_step
           due_refused u e y z w =
               record {
-                is = λ source ts q j f k g. stopped z w source l (suc i) (due_step max_depth d ts c) (omega arith)
+                is = λ source ts q j f k g. stopped z w source l (suc i) (due_step max_depth d ts c)
                     (choose_false (is_blank c) _ _ (sym e₁ ∙ n₁) ∙ choose_false (is_sign c) _ _ (sym e₂ ∙ n₂) ∙ choose_false (eqb c 40) _ _ (ne_eqb c 40 n₃)
                     ∙ choose_false (is_digit c) _ _ (sym e₄ ∙ n₄) ∙ choose_false (is_ident c) _ _ (sym e ∙ y));
                 size = refl;
@@ -153,16 +171,16 @@ module _ (l : List ℕ) (i c d at : ℕ) (room : DueRoom l i d at) where
       }
 
   module _ (b : Bool) (e₁ : b ≡ is_blank c) (n₁ : b ≡ false) where
-    pub after_none : c ≡ 41 → d ≡ 0 → (z : Next) → z ≡ refused_by 14 → AfterSteps l l i c d at z
+    pub after_none : c ≡ 41 → d ≡ 0 → (z : Next) → z ≡ Err Fault.NoExpression → AfterSteps l l i c d at z
     unfolding after_step
     after_none p o z w =
         record {
-          is = λ source ts q j f k g. stopped z w source l (suc i) (after_step d ts c) (omega arith)
+          is = λ source ts q j f k g. stopped z w source l (suc i) (after_step d ts c)
               (choose_false (is_blank c) _ _ (sym e₁ ∙ n₁) ∙ choose_true (eqb c 41) _ _ (eq-eqb c 41 p) ∙ ap (λ x. close_step x ts) o ∙ none ts);
           size = refl;
         }
       where
-        none : (ts : List Token) → close_step 0 ts ≡ refused 14
+        none : (ts : List Token) → close_step 0 ts ≡ refused Fault.NoExpression
         none ts = unfold close_step in refl
 
     pub after_close : c ≡ 41 → (d ≡ 0 → ⊥) → (z : Next) → z ≡ onward After (d - 1) i (at + 1) → AfterSteps l (set l at 15) i c d at z
@@ -193,11 +211,11 @@ module _ (l : List ℕ) (i c d at : ℕ) (room : DueRoom l i d at) where
             size = refl;
           }
 
-      pub after_refused : (s : Bool) → s ≡ F.starts_operator c → s ≡ false → (z : Next) → z ≡ refused_by 14 → AfterSteps l l i c d at z
+      pub after_refused : (s : Bool) → s ≡ F.starts_operator c → s ≡ false → (z : Next) → z ≡ Err Fault.NoExpression → AfterSteps l l i c d at z
       unfolding after_step
       after_refused s e t z w =
           record {
-            is = λ source ts q j f k g. stopped z w source l (suc i) (after_step d ts c) (omega arith)
+            is = λ source ts q j f k g. stopped z w source l (suc i) (after_step d ts c)
                 (choose_false (is_blank c) _ _ (sym e₁ ∙ n₁) ∙ choose_false (eqb c 41) _ _ (ne_eqb c 41 n₂) ∙ choose_false (starts_operator c) _ _ (sym (starts_same c) ∙ sym e ∙ t));
             size = refl;
           }
@@ -258,11 +276,11 @@ module _ {source l : List ℕ} {start i d at : ℕ} (r : ByteRoom source l start
       }
 
   module _ (c : ℕ) (e : c ≡ get_or source i 0) (b : Bool) (p : b ≡ is_ident c) (t : b ≡ false) where
-    pub name_word : (k : Bool) → k ≡ one_of keywords (part source start i) → k ≡ true → (z : Next) → z ≡ refused_by 14 → WordSteps source l l start i at (name_step source start i d) z
+    pub name_word : (k : Bool) → k ≡ one_of keywords (part source start i) → k ≡ true → (z : Next) → z ≡ Err Fault.NoExpression → WordSteps source l l start i at (name_step source start i d) z
     unfolding stage_step
     name_word k u v z w =
         record {
-          is = λ ts g. stopped z w source l (suc i) (name_step source start i d ts) (omega arith)
+          is = λ ts g. stopped z w source l (suc i) (name_step source start i d ts)
               (choose_false (is_ident (get_or source i 0)) _ _ (ap is_ident (sym e) ∙ sym p ∙ t) ∙ choose_true (one_of keywords (part source start i)) _ _ (sym u ∙ v));
           size = refl;
         }

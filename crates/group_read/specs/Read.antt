@@ -1,6 +1,6 @@
 -- The reader as the code holds it: the tokens are codes in the scratch, the word and the operator's first character
 -- stand in the source.
-use Rattle.std.specs.Prelude.{ℕ, suc, ◌+◌, ◌*◌, ◌≤◌, ◌<◌, ◌^◌, List, [], ◌++◌, reverse, ◌≡◌, length, take, get_or}
+use Rattle.std.specs.Prelude.{ℕ, suc, ◌+◌, ◌*◌, ◌≤◌, ◌<◌, ◌^◌, List, [], ◌++◌, reverse, ◌≡◌, length, take, get_or, Result, Ok, Err}
 use Rattle.buffer.specs.Buffer.{part}
 use Rattle.group_rules.specs.Expression.{max_depth, Token, Stage, due, in_name, in_number, after, in_operator, State, state}
 use Rattle.group_rules.specs.Expression.{Step, next, refused, due_step, after_step, stage_step, Reading, read, refused_at}
@@ -9,17 +9,19 @@ use Rattle.group_rules.specs.Passes.{coded}
 use Rattle.group_read.specs.declared.Phase.{Phase}
 use Rattle.group_read.specs.declared.Phase.TheVariants.{Due, Name, Number, After, Operator}
 use Rattle.group_read.specs.declared.Reader.{Reader}
-use Rattle.group_read.specs.declared.Next.{Next}
-use Rattle.group_read.specs.declared.Coded.{Coded}
+use Rattle.group_rules.specs.declared.Fault.{Fault}
+use Rattle.group_rules.specs.declared.NoText.{NoText}
+
+-- what a character leaves: the reader after it, or what is wrong
+abbrev pub Next : Type 0
+Next = Result Reader Fault
+
+-- how many codes a source has, or why it has none
+abbrev pub Coded : Type 0
+Coded = Result ℕ NoText
 
 abbrev pub onward : Phase → ℕ → ℕ → ℕ → Next
-onward p d s a = record { refusal = 0; reader = record { phase = p; depth = d; start = s; at = a } }
-
-abbrev pub refused_by : ℕ → Next
-refused_by n = record { refusal = n; reader = record { phase = Due; depth = 0; start = 0; at = 0 } }
-
-abbrev pub refused_as : ℕ → ℕ → Coded
-refused_as n p = record { refusal = n; place = p; length = 0 }
+onward p d s a = Ok (record { phase = p; depth = d; start = s; at = a })
 
 -- the stage that a phase means before the character at i; start is where the word or the operator starts
 abbrev pub stage_of : List ℕ → ℕ → Phase → ℕ → Stage
@@ -63,8 +65,8 @@ pub record Went (source l : List ℕ) (i : ℕ) (st : Step) (r : Reader) : Type 
   pub holds : Holds source l i r tokens
 
 pub record StepIs (source l : List ℕ) (i : ℕ) (st : Step) (q : Next) : Type 0 where
-  pub goes : q.refusal ≡ 0 → Went source l i st q.reader
-  pub stops : (q.refusal ≡ 0 → ⊥) → st ≡ refused q.refusal
+  pub goes : (r : Reader) → q ≡ Ok r → Went source l i st r
+  pub stops : (f : Fault) → q ≡ Err f → st ≡ refused f
 
 -- the character at i, whatever the tokens are
 pub record Steps (source l l' : List ℕ) (i : ℕ) (r : Reader) (q : Next) : Type 0 where
@@ -150,8 +152,8 @@ pub record Codes (l : List ℕ) (g : Reading) (n length : ℕ) : Type 0 where
   pub short : length ≤ 3 * n
 
 pub record CodedIs (l : List ℕ) (g : Reading) (n : ℕ) (q : Coded) : Type 0 where
-  pub yes : q.refusal ≡ 0 → Codes l g n q.length
-  pub no : (q.refusal ≡ 0 → ⊥) → g ≡ refused_at q.refusal q.place
+  pub yes : (m : ℕ) → q ≡ Ok m → Codes l g n m
+  pub no : (w : NoText) → q ≡ Err w → g ≡ refused_at w.fault w.place
 
 pub record EndAs (source : List ℕ) (r : Reader) (q : Coded) : Type 0 where
   pub is : (l : List ℕ) (ts : List Token) → Holds source l (length source) r ts

@@ -1,32 +1,35 @@
-// The strengths of 01's operators, 0 for what is none: the table that splitting breaks by.
-ghost use Rattle.std.specs.Prelude.{◌≡◌, [], ◌∷◌, get_or};
+// The strengths of 01's operators, by the table that splitting breaks by.
+ghost use Rattle.std.specs.Prelude.{[], ◌∷◌, get_or};
 ghost use Rattle.rules.specs.Operators.{strengths};
+ghost use Rattle.operators.specs.Places.{place_in};
 ghost use Rattle.group_rules.specs.Grouping.{strength_of};
+ghost use Rattle.group_read.specs.Strength.{Positive};
 
-use operators::{one_index, strength_at, two_index};
+use operators::Operator;
 use rules::Strengths;
 
-fn at_index(k: usize) -> u8
-    ensures { result ≡ get_or strengths k 0 }
+fn built_in(operator: Option<Operator>) -> Option<u8>
+    ensures { Positive (get_or strengths (place_in operator) 0) result }
 {
-    if k < 21 {
-        let s = Strengths::BUILT_IN;
-        let table = s.table;
-        return strength_at(&table, k);
+    match operator {
+        Some(operator) => match operator.strength(&Strengths::BUILT_IN.table) {
+            0 => None,
+            s => Some(s),
+        },
+        None => None,
     }
-    0
 }
 
 // Of the byte a alone.
-pub fn of_one(a: u8) -> u8
-    ensures { result ≡ strength_of (a ∷ []) }
+pub fn of_one(a: u8) -> Option<u8>
+    ensures { Positive (strength_of (a ∷ [])) result }
 {
-    at_index(one_index(a))
+    built_in(Operator::of_one(a))
 }
 
 // Of two bytes.
-pub fn of_two(a: u8, b: u8) -> u8
-    ensures { result ≡ strength_of (a ∷ b ∷ []) }
+pub fn of_two(a: u8, b: u8) -> Option<u8>
+    ensures { Positive (strength_of (a ∷ b ∷ [])) result }
 {
-    at_index(two_index(a, b))
+    built_in(Operator::of_two(a, b))
 }

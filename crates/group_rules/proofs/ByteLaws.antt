@@ -17,6 +17,7 @@ use Rattle.rules.specs.Operators.{operators}
 use Rattle.rules.specs.SplitOperation.{is_sign, keywords}
 use Rattle.rules.proofs.Choose.{choose_false, choose_case}
 use Rattle.rules.proofs.StartsBytes.{on_decode}
+use Rattle.group_rules.specs.declared.Fault.{Fault}
 use Rattle.group_rules.specs.Expression.{max_depth, Token, word, operator, closer, Stage, due, in_name, in_number, after, in_operator, State, state, Step, next, refused, is_digit, starts_operator, due_step, after_step, stage_step, step, Reading, refused_at, on_step, read_from, reading_to, reading}
 use Rattle.group_rules.specs.Grouping.{Tree, operand, signed, bracketed, operation, written}
 use Rattle.group_rules.proofs.TableLaws.{or_cases, all_of}
@@ -57,32 +58,32 @@ module _ (c : ℕ) (h : 128 ≤ c) where
   no_second : (a : ℕ) → one_of operators (a ∷ c ∷ []) ≡ false
   no_second a = not_true (one_of operators (a ∷ c ∷ [])) (λ e. let m = (operator_ascii (a ∷ c ∷ []) e).1.0 in omega arith)
 
-  high_due : (limit d : ℕ) (ts : List Token) → due_step limit d ts c ≡ refused 14
+  high_due : (limit d : ℕ) (ts : List Token) → due_step limit d ts c ≡ refused Fault.NoExpression
   unfolding due_step
   high_due limit d ts =
       choose_false (is_blank c) _ _ no_blank ∙ choose_false (is_sign c) _ _ no_sign ∙ choose_false (eqb c 40) _ _ (no_one 40 (omega arith))
       ∙ choose_false (is_digit c) _ _ no_digit_law ∙ choose_false (is_ident c) _ _ no_ident
 
-  high_after : (d : ℕ) (ts : List Token) → after_step d ts c ≡ refused 14
+  high_after : (d : ℕ) (ts : List Token) → after_step d ts c ≡ refused Fault.NoExpression
   unfolding after_step
   high_after d ts =
       choose_false (is_blank c) _ _ no_blank ∙ choose_false (eqb c 41) _ _ (no_one 41 (omega arith)) ∙ choose_false (starts_operator c) _ _ no_start
 
-  same_both : (b : Bool) (x y : Step) → x ≡ refused 14 → y ≡ refused 14 → choose b x y ≡ refused 14
-  same_both b x y e f = choose_case (λ z. z ≡ refused 14) (λ _. e) (λ _. f)
+  same_both : (b : Bool) (x y : Step) → x ≡ refused Fault.NoExpression → y ≡ refused Fault.NoExpression → choose b x y ≡ refused Fault.NoExpression
+  same_both b x y e f = choose_case (λ z. z ≡ refused Fault.NoExpression) (λ _. e) (λ _. f)
 
-  high : (limit : ℕ) (m : Stage) (d : ℕ) (ts : List Token) → stage_step limit m d ts c ≡ refused 14
+  high : (limit : ℕ) (m : Stage) (d : ℕ) (ts : List Token) → stage_step limit m d ts c ≡ refused Fault.NoExpression
   unfolding stage_step
   high limit due d ts = high_due limit d ts
   high limit (in_name w) d ts =
-      choose_false (is_ident c) _ _ no_ident ∙ same_both (one_of keywords w) (refused 14) (after_step d (word w ∷ ts) c) refl (high_after d (word w ∷ ts))
+      choose_false (is_ident c) _ _ no_ident ∙ same_both (one_of keywords w) (refused Fault.NoExpression) (after_step d (word w ∷ ts) c) refl (high_after d (word w ∷ ts))
   high limit (in_number w) d ts = choose_false (is_digit c) _ _ no_digit_law ∙ high_after d (word w ∷ ts)
   high limit after d ts = high_after d ts
   high limit (in_operator a) d ts =
       choose_false (one_of operators (a ∷ c ∷ [])) _ _ (no_second a)
-      ∙ same_both (one_of operators (a ∷ [])) (due_step limit d (operator (a ∷ []) ∷ ts) c) (refused 14) (high_due limit d (operator (a ∷ []) ∷ ts)) refl
+      ∙ same_both (one_of operators (a ∷ [])) (due_step limit d (operator (a ∷ []) ∷ ts) c) (refused Fault.NoExpression) (high_due limit d (operator (a ∷ []) ∷ ts)) refl
 
-  high_read : (limit i : ℕ) (s : State) (cs : List ℕ) → read_from limit i s (c ∷ cs) ≡ refused_at 14 i
+  high_read : (limit i : ℕ) (s : State) (cs : List ℕ) → read_from limit i s (c ∷ cs) ≡ refused_at Fault.NoExpression i
   unfolding read_from on_step
   high_read limit i s cs = ap (λ (x : Step). on_step i x (λ (t : State). read_from limit (suc i) t cs)) (high limit s.stage s.depth s.tokens)
 

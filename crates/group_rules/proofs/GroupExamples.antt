@@ -6,6 +6,7 @@ use mathlib.Core.Path.{◌≡◌, refl}
 use lib.ListN.{replicate}
 use Rattle.rules.specs.Basics.{codes}
 use Rattle.rules.proofs.Computing.{computing}
+use Rattle.group_rules.specs.declared.Fault.{Fault}
 use Rattle.group_rules.specs.Expression.{starts_operator, open_step, close_step, due_step, after_step, stage_step, ended, ending, on_step, read_from, reading_to}
 use Rattle.group_rules.specs.Grouping.{takes, extend, with_signs, join_left, feed_due, feed_closed, feed_done, feed_at, tree_of, written, Grouping, text, no_text, grouping_of, grouping}
 
@@ -20,7 +21,7 @@ abbrev gives : String → String → Case
 gives s t = (s, text (codes t))
 
 abbrev at14 : String → ℕ → Case
-at14 s p = (s, no_text 14 p)
+at14 s p = (s, no_text Fault.NoExpression p)
 
 abbrev cases : List Case
 cases =
@@ -45,7 +46,7 @@ unfolding opened
 examples = refl
 
 -- refusal 15 at the 65th bracket; 64 pass
-deep : grouping (replicate 65 40 ++ codes "a") ≡ no_text 15 64
+deep : grouping (replicate 65 40 ++ codes "a") ≡ no_text Fault.TooDeep 64
 unfolding opened
 deep = refl
 

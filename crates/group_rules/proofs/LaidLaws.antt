@@ -9,6 +9,7 @@ use Rattle.rules.specs.Basics.{one_of, is_blank, is_ident}
 use Rattle.rules.specs.Operators.{operators}
 use Rattle.rules.specs.SplitOperation.{is_sign, keywords}
 use Rattle.rules.proofs.Choose.{choose_case}
+use Rattle.group_rules.specs.declared.Fault.{Fault}
 use Rattle.group_rules.specs.Expression.{Token, word, sign, operator, opener, closer, Stage, due, in_name, in_number, after, in_operator, State, state, Step, next, refused, is_digit, open_step, close_step, due_step, after_step, stage_step, read, refused_at, ended, ending, on_step, read_from, reading_to}
 use Rattle.group_rules.proofs.TableLaws.{unlike, all_of, found}
 use Rattle.group_rules.proofs.SpelledLaws.{digit_ident, AllAre, name, NumberSoFar, number, SpelledStage, name_more, number_more}
@@ -88,20 +89,20 @@ number_free (number c w h a) = go (one_of keywords (c ∷ w)) refl
 
 -- ---- a reading that is accepted
 
-never : {X : Type 0} (n p : ℕ) (all : List Token) → refused_at n p ≡ read all → X
+never : {X : Type 0} (n : Fault) (p : ℕ) (all : List Token) → refused_at n p ≡ read all → X
 never n p all e = absurd (let z : ◌≡◌ {A = ℕ} 0 1 = cc in omega arith)
 
 module _ (limit i c : ℕ) (cs : List ℕ) (all : List Token) where
   abbrev Gives : Type 0 → Step → Type 0
   Gives X st = on_step i st (λ (t : State). read_from limit (suc i) t cs) ≡ read all → X
 
-  refused_gives : (X : Type 0) (n : ℕ) → Gives X (refused n)
+  refused_gives : (X : Type 0) (n : Fault) → Gives X (refused n)
   unfolding on_step
   refused_gives X n e = never n i all e
 
   open_gives : (X : Type 0) (d : ℕ) (ts : List Token) → Gives X (next (state due (suc d) (opener ∷ ts))) → Gives X (open_step limit d ts)
   unfolding open_step
-  open_gives X d ts f = choose_case (Gives X) (λ _. refused_gives X 15) (λ _. f)
+  open_gives X d ts f = choose_case (Gives X) (λ _. refused_gives X Fault.TooDeep) (λ _. f)
 
   due_calm : (d : ℕ) (ts : List Token) → Gives (CalmChar c) (due_step limit d ts c)
   unfolding due_step
@@ -111,7 +112,7 @@ module _ (limit i c : ℕ) (cs : List ℕ) (all : List Token) where
       (λ _. choose_case (Gives (CalmChar c)) (λ h e. calm_open c h)
       (λ _. choose_case (Gives (CalmChar c)) (λ h e. calm_ident c (digit_ident c h))
       (λ _. choose_case (Gives (CalmChar c)) (λ h e. calm_ident c h)
-      (λ _. refused_gives (CalmChar c) 14)))))
+      (λ _. refused_gives (CalmChar c) Fault.NoExpression)))))
 
 calm : (limit i d : ℕ) (ts : List Token) (cs : List ℕ) (all : List Token) → read_from limit i (state due d ts) cs ≡ read all → Calm cs
 unfolding read_from stage_step
@@ -131,11 +132,11 @@ module _ (limit i c : ℕ) (cs : List ℕ) (all : List Token)
       (λ _. choose_case (Go (Laid all due d ts (c ∷ cs))) (λ h. open_gives limit i c cs all (Laid all due d ts (c ∷ cs)) d ts (λ e. open_due h (ih due (suc d) (opener ∷ ts) tt e)))
       (λ _. choose_case (Go (Laid all due d ts (c ∷ cs))) (λ h e. number_due (digit_ident c h) (ih (in_number (c ∷ [])) d ts (number c [] h tt) e))
       (λ n. choose_case (Go (Laid all due d ts (c ∷ cs))) (λ h e. name_due h (ih (in_name (c ∷ [])) d ts (name c [] n h tt) e))
-      (λ _. refused_gives limit i c cs all (Laid all due d ts (c ∷ cs)) 14)))))
+      (λ _. refused_gives limit i c cs all (Laid all due d ts (c ∷ cs)) Fault.NoExpression)))))
 
   close_laid : (d : ℕ) (ts : List Token) → eqb c 41 ≡ true → Go (Laid all after d ts (c ∷ cs)) (close_step d ts)
   unfolding close_step on_step
-  close_laid zero ts h = refused_gives limit i c cs all (Laid all after 0 ts (c ∷ cs)) 14
+  close_laid zero ts h = refused_gives limit i c cs all (Laid all after 0 ts (c ∷ cs)) Fault.NoExpression
   close_laid (suc d) ts h = λ e. close_after h (ih after d (closer ∷ ts) tt e)
 
   after_laid : (d : ℕ) (ts : List Token) → Go (Laid all after d ts (c ∷ cs)) (after_step d ts c)
@@ -144,14 +145,14 @@ module _ (limit i c : ℕ) (cs : List ℕ) (all : List Token)
       choose_case (Go (Laid all after d ts (c ∷ cs))) (λ h e. blank_after h (ih after d ts tt e))
       (λ _. choose_case (Go (Laid all after d ts (c ∷ cs))) (λ h. close_laid d ts h)
       (λ _. choose_case (Go (Laid all after d ts (c ∷ cs))) (λ h e. ih (in_operator c) d ts h e)
-      (λ _. refused_gives limit i c cs all (Laid all after d ts (c ∷ cs)) 14)))
+      (λ _. refused_gives limit i c cs all (Laid all after d ts (c ∷ cs)) Fault.NoExpression)))
 
   stage_laid : (m : Stage) (d : ℕ) (ts : List Token) → SpelledStage m → Go (LaidAt all m d ts (c ∷ cs)) (stage_step limit m d ts c)
   unfolding stage_step on_step
   stage_laid due d ts s = due_laid d ts
   stage_laid (in_name w) d ts s =
       choose_case (Go (Laid all (in_name w) d ts (c ∷ cs))) (λ h e. more_name h (ih (in_name (w ++ c ∷ [])) d ts (name_more c s h) e))
-      (λ _. choose_case (Go (Laid all (in_name w) d ts (c ∷ cs))) (λ h. refused_gives limit i c cs all (Laid all (in_name w) d ts (c ∷ cs)) 14)
+      (λ _. choose_case (Go (Laid all (in_name w) d ts (c ∷ cs))) (λ h. refused_gives limit i c cs all (Laid all (in_name w) d ts (c ∷ cs)) Fault.NoExpression)
       (λ k e. end_name k (after_laid d (word w ∷ ts) e)))
   stage_laid (in_number w) d ts s =
       choose_case (Go (Laid all (in_number w) d ts (c ∷ cs))) (λ h e. more_number (digit_ident c h) (ih (in_number (w ++ c ∷ [])) d ts (number_more c s h) e))
@@ -162,21 +163,21 @@ module _ (limit i c : ℕ) (cs : List ℕ) (all : List Token)
       (λ h e. operator_two h (calm limit (suc i) d (operator (a ∷ c ∷ []) ∷ ts) cs all e) (ih due d (operator (a ∷ c ∷ []) ∷ ts) tt e))
       (λ n. choose_case (Go (Laid all after d ts (a ∷ c ∷ cs)))
       (λ h e. operator_one n h (due_calm limit i c cs all d (operator (a ∷ []) ∷ ts) e) (due_laid d (operator (a ∷ []) ∷ ts) e))
-      (λ _. refused_gives limit i c cs all (Laid all after d ts (a ∷ c ∷ cs)) 14))
+      (λ _. refused_gives limit i c cs all (Laid all after d ts (a ∷ c ∷ cs)) Fault.NoExpression))
 
 ended_laid : (i d : ℕ) (ts all : List Token) → ended i d ts ≡ read all → Laid all after d ts []
 unfolding ended
 ended_laid i zero ts all e = ends {ts = ts} (cc)
-ended_laid i (suc d) ts all e = never 14 i all e
+ended_laid i (suc d) ts all e = never Fault.NoExpression i all e
 
 ending_laid : (i : ℕ) (m : Stage) (d : ℕ) (ts all : List Token) → SpelledStage m → ending i m d ts ≡ read all → LaidAt all m d ts []
 unfolding ending
-ending_laid i due d ts all s e = never 14 i all e
+ending_laid i due d ts all s e = never Fault.NoExpression i all e
 ending_laid i (in_name w) d ts all s e =
-    choose_case (λ r. r ≡ read all → Laid all (in_name w) d ts []) (λ _ e. never 14 i all e) (λ k e. end_name k (ended_laid i d (word w ∷ ts) all e)) e
+    choose_case (λ r. r ≡ read all → Laid all (in_name w) d ts []) (λ _ e. never Fault.NoExpression i all e) (λ k e. end_name k (ended_laid i d (word w ∷ ts) all e)) e
 ending_laid i (in_number w) d ts all s e = end_number (number_free s) (ended_laid i d (word w ∷ ts) all e)
 ending_laid i after d ts all s e = ended_laid i d ts all e
-ending_laid i (in_operator a) d ts all s e = never 14 i all e
+ending_laid i (in_operator a) d ts all s e = never Fault.NoExpression i all e
 
 laid_from : (limit : ℕ) (all : List Token) (cs : List ℕ) (i : ℕ) (m : Stage) (d : ℕ) (ts : List Token) → SpelledStage m
     → read_from limit i (state m d ts) cs ≡ read all → LaidAt all m d ts cs

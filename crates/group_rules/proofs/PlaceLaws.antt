@@ -15,6 +15,7 @@ use Rattle.group_rules.specs.Promises.{IsRead, Begins, Longest}
 use Rattle.rules.proofs.Computing.{computing}
 use Rattle.rules.proofs.Choose.{choose_case, choose_true, choose_false}
 use Rattle.group_rules.proofs.TableLaws.{or_cases, and_none, not_of, all_of, found}
+use Rattle.group_rules.specs.declared.Fault.{Fault}
 use Rattle.group_rules.specs.Expression.{max_depth, Token, word, operator, opener, closer, Stage, due, in_name, in_number, after, in_operator, State, state, Step, next, refused, starts_operator, open_step, close_step, due_step, after_step, stage_step, step, Reading, read, refused_at, ended, ending, on_step, read_from, reading_to, reading}
 use Rattle.utf8.proofs.Tests.{and_left, and_right}
 
@@ -42,9 +43,9 @@ unfolding ending ended
 name_end w i ts h = subst IsRead (sym (choose_false (one_of keywords w) _ _ h)) tt
 
 name_closer : (w : List ℕ) (d : ℕ) (ts : List Token) → one_of keywords w ≡ false → stage_step max_depth (in_name w) (suc d) ts 41 ≡ next (state after d (closer ∷ word w ∷ ts))
-name_closer w d ts h = first ∙ choose_false (one_of keywords w) (refused 14) (after_step (suc d) (word w ∷ ts) 41) h ∙ second
+name_closer w d ts h = first ∙ choose_false (one_of keywords w) (refused Fault.NoExpression) (after_step (suc d) (word w ∷ ts) 41) h ∙ second
   where
-    first : stage_step max_depth (in_name w) (suc d) ts 41 ≡ choose (one_of keywords w) (refused 14) (after_step (suc d) (word w ∷ ts) 41)
+    first : stage_step max_depth (in_name w) (suc d) ts 41 ≡ choose (one_of keywords w) (refused Fault.NoExpression) (after_step (suc d) (word w ∷ ts) 41)
     first = unfold stage_step is_ident in choose_false (is_ident 41) _ _ (unfold is_ident in refl)
 
     second : after_step (suc d) (word w ∷ ts) 41 ≡ next (state after d (closer ∷ word w ∷ ts))
@@ -252,8 +253,8 @@ place source = place_from source [] (state due 0 []) (λ rest. refl) tt
 -- ---- the limit of brackets makes no other difference than refusal 15
 
 record Alike (x y : Step) : Type 0 where
-  goes : (t : State) → x ≡ next t → (y ≡ next t) ⊎ (y ≡ refused 15)
-  stops : x ≡ refused 14 → y ≡ refused 14
+  goes : (t : State) → x ≡ next t → (y ≡ next t) ⊎ (y ≡ refused Fault.TooDeep)
+  stops : x ≡ refused Fault.NoExpression → y ≡ refused Fault.NoExpression
 
 alike_same : (x : Step) → Alike x x
 alike_same x = record { goes = λ t e. inl e; stops = λ e. e }
@@ -263,19 +264,19 @@ unfolding choose
 alike_both true f g = f
 alike_both false f g = g
 
-no_next : (n : ℕ) (t : State) → refused n ≡ next t → ⊥
+no_next : (n : Fault) (t : State) → refused n ≡ next t → ⊥
 no_next n t e = let z : ◌≡◌ {A = ℕ} 0 1 = cc in omega arith
 
-no_refused : (n : ℕ) (t : State) → next t ≡ refused n → ⊥
+no_refused : (n : Fault) (t : State) → next t ≡ refused n → ⊥
 no_refused n t e = let z : ◌≡◌ {A = ℕ} 0 1 = cc in omega arith
 
-other_number : refused 15 ≡ refused 14 → ⊥
-other_number e = let z : ◌≡◌ {A = ℕ} 15 14 = cc in omega arith
+other_number : refused Fault.TooDeep ≡ refused Fault.NoExpression → ⊥
+other_number e = let z : ◌≡◌ {A = ℕ} 0 1 = cc in omega arith
 
-alike_opens : (t : State) (a b : Bool) → Alike (choose a (refused 15) (next t)) (choose b (refused 15) (next t))
+alike_opens : (t : State) (a b : Bool) → Alike (choose a (refused Fault.TooDeep) (next t)) (choose b (refused Fault.TooDeep) (next t))
 unfolding choose
-alike_opens t true b = record { goes = λ u e. absurd (no_next 15 u e); stops = λ e. absurd (other_number e) }
-alike_opens t false true = record { goes = λ u e. inr refl; stops = λ e. absurd (no_refused 14 t e) }
+alike_opens t true b = record { goes = λ u e. absurd (no_next Fault.TooDeep u e); stops = λ e. absurd (other_number e) }
+alike_opens t false true = record { goes = λ u e. inr refl; stops = λ e. absurd (no_refused Fault.NoExpression t e) }
 alike_opens t false false = alike_same (next t)
 
 alike_due : (limit limit' d : ℕ) (ts : List Token) (c : ℕ) → Alike (due_step limit d ts c) (due_step limit' d ts c)
@@ -307,7 +308,7 @@ module _ (past : List ℕ) (s : State) (c : ℕ) (th : Through past s) where
       let e : reading_to limit ((past ++ c ∷ []) ++ rest) ≡ reading_to limit (past ++ c ∷ rest) = ap (reading_to limit) (append_assoc past (c ∷ []) rest) in
       e ∙ th limit (c ∷ rest) (subst IsRead e h)
 
-  refused_there : (limit n : ℕ) (rest : List ℕ) → IsRead (reading_to limit ((past ++ c ∷ []) ++ rest)) → step limit s c ≡ refused n → ⊥
+  refused_there : (limit : ℕ) (n : Fault) (rest : List ℕ) → IsRead (reading_to limit ((past ++ c ∷ []) ++ rest)) → step limit s c ≡ refused n → ⊥
   unfolding on_step
   refused_there limit n rest h q =
       subst IsRead (further limit rest h ∙ ap (λ (x : Step). on_step (length past) x (λ (u : State). read_from limit (suc (length past)) u rest)) q) h
@@ -318,46 +319,46 @@ module _ (past : List ℕ) (s : State) (c : ℕ) (th : Through past s) where
       ⊎_elim
       (λ e. further limit rest h ∙ ap (λ (x : Step). on_step (length past) x (λ (u : State). read_from limit (suc (length past)) u rest)) e
       ∙ ap (λ (n : ℕ). read_from limit n t rest) (sym (longer past c)))
-      (λ e. absurd (refused_there limit 15 rest h e))
+      (λ e. absurd (refused_there limit Fault.TooDeep rest h e))
       ((alike_stage max_depth limit s.stage s.depth s.tokens c).goes t q)
 
 -- ---- and with the character at the place of refusal 14 no expression begins
 
-pub record Ends (source : List ℕ) (n p : ℕ) : Type 0 where
-  pub is : n ≡ 14 → p < length source → Begins (take (suc p) source) → ⊥
+pub record Ends (source : List ℕ) (n : Fault) (p : ℕ) : Type 0 where
+  pub is : n ≡ Fault.NoExpression → p < length source → Begins (take (suc p) source) → ⊥
 
 abbrev pub EndsOf : List ℕ → Reading → Type 0
 EndsOf source (read ts) = Unit {0}
 EndsOf source (refused_at n p) = Ends source n p
 
 -- at the source's end there is no character
-at_end : (source : List ℕ) (n : ℕ) → Ends source n (length source)
+at_end : (source : List ℕ) (n : Fault) → Ends source n (length source)
 at_end source n = record { is = λ e h. absurd (omega arith) }
 
 ends_ended : (source : List ℕ) (d : ℕ) (ts : List Token) → EndsOf source (ended (length source) d ts)
 unfolding ended
 ends_ended source zero ts = tt
-ends_ended source (suc d) ts = at_end source 14
+ends_ended source (suc d) ts = at_end source Fault.NoExpression
 
 ends_ending : (source : List ℕ) (m : Stage) (d : ℕ) (ts : List Token) → EndsOf source (ending (length source) m d ts)
 unfolding ending
-ends_ending source due d ts = at_end source 14
-ends_ending source (in_name w) d ts = choose_case (EndsOf source) (λ h. at_end source 14) (λ h. ends_ended source d (word w ∷ ts))
+ends_ending source due d ts = at_end source Fault.NoExpression
+ends_ending source (in_name w) d ts = choose_case (EndsOf source) (λ h. at_end source Fault.NoExpression) (λ h. ends_ended source d (word w ∷ ts))
 ends_ending source (in_number w) d ts = ends_ended source d (word w ∷ ts)
 ends_ending source after d ts = ends_ended source d ts
-ends_ending source (in_operator a) d ts = at_end source 14
+ends_ending source (in_operator a) d ts = at_end source Fault.NoExpression
 
-ends_step : (source : List ℕ) (i : ℕ) (st : Step) (go : State → Reading) → ((n : ℕ) → st ≡ refused n → Ends source n i)
+ends_step : (source : List ℕ) (i : ℕ) (st : Step) (go : State → Reading) → ((n : Fault) → st ≡ refused n → Ends source n i)
     → ((t : State) → st ≡ next t → EndsOf source (go t)) → EndsOf source (on_step i st go)
 unfolding on_step
 ends_step source i (next t) go b k = k t refl
 ends_step source i (refused n) go b k = b n refl
 
-ends_here : (past : List ℕ) (s : State) (c n : ℕ) → Through past s → step max_depth s c ≡ refused n → (cs : List ℕ) → Ends (past ++ c ∷ cs) n (length past)
+ends_here : (past : List ℕ) (s : State) (c : ℕ) (n : Fault) → Through past s → step max_depth s c ≡ refused n → (cs : List ℕ) → Ends (past ++ c ∷ cs) n (length past)
 ends_here past s c n th q cs =
     record {
       is = λ e h k.
-          refused_there past s c th k.limit 14 k.rest
+          refused_there past s c th k.limit Fault.NoExpression k.rest
           (subst (λ x. IsRead (reading_to k.limit (x ++ k.rest)))
           (ap (take (suc (length past))) (sym (append_assoc past (c ∷ []) cs)) ∙ take_at (past ++ c ∷ []) cs (suc (length past)) (longer past c)) k.is)
           ((alike_stage max_depth k.limit s.stage s.depth s.tokens c).stops (q ∙ ap refused e));
@@ -410,81 +411,12 @@ within_from source [] i s h = within_ending source i s.stage s.depth s.tokens (o
 within_from source (c ∷ cs) i s h =
     within_step source i (step max_depth s c) (λ (t : State). read_from max_depth (suc i) t cs) (omega arith) (λ t. within_from source cs (suc i) t (omega arith))
 
-longest_of : (source : List ℕ) (r : Reading) (p : ℕ) → r ≡ refused_at 14 p → PlaceOf source r → EndsOf source r → WithinOf source r → Longest source p
+longest_of : (source : List ℕ) (r : Reading) (p : ℕ) → r ≡ refused_at Fault.NoExpression p → PlaceOf source r → EndsOf source r → WithinOf source r → Longest source p
 longest_of source r p e b f w = go (subst (PlaceOf source) e b) (subst (EndsOf source) e f) (subst (WithinOf source) e w)
   where
-    go : Begins (take p source) → Ends source 14 p → p ≤ length source → Longest source p
+    go : Begins (take p source) → Ends source Fault.NoExpression p → p ≤ length source → Longest source p
     go x y z = record { begins = x; ends = λ h k. y.is refl h k; within = z }
 
-pub longest : (source : List ℕ) (p : ℕ) → reading source ≡ refused_at 14 p → Longest source p
+pub longest : (source : List ℕ) (p : ℕ) → reading source ≡ refused_at Fault.NoExpression p → Longest source p
 unfolding reading_to
 longest source p e = longest_of source (reading source) p e (place source) (ends source) (within_from source source 0 (state due 0 []) (omega arith))
-
--- ---- a refusal's number is 14 or 15
-
-abbrev StepNumber : Step → Type 0
-StepNumber (next s) = Unit {0}
-StepNumber (refused n) = 14 ≤ n
-
-number_open : (d : ℕ) (ts : List Token) → StepNumber (open_step max_depth d ts)
-unfolding open_step
-number_open d ts = choose_case StepNumber (λ h. omega arith) (λ h. tt)
-
-number_close : (d : ℕ) (ts : List Token) → StepNumber (close_step d ts)
-unfolding close_step
-number_close zero ts = omega arith
-number_close (suc d) ts = tt
-
-number_due_law : (d : ℕ) (ts : List Token) (c : ℕ) → StepNumber (due_step max_depth d ts c)
-unfolding due_step
-number_due_law d ts c =
-    choose_case StepNumber (λ h. tt) (λ _. choose_case StepNumber (λ h. tt) (λ _. choose_case StepNumber (λ h. number_open d ts)
-    (λ _. choose_case StepNumber (λ h. tt) (λ _. choose_case StepNumber (λ h. tt) (λ _. omega arith)))))
-
-number_after : (d : ℕ) (ts : List Token) (c : ℕ) → StepNumber (after_step d ts c)
-unfolding after_step
-number_after d ts c =
-    choose_case StepNumber (λ h. tt) (λ _. choose_case StepNumber (λ h. number_close d ts) (λ _. choose_case StepNumber (λ h. tt) (λ _. omega arith)))
-
-number_stage : (m : Stage) (d : ℕ) (ts : List Token) (c : ℕ) → StepNumber (stage_step max_depth m d ts c)
-unfolding stage_step
-number_stage due d ts c = number_due_law d ts c
-number_stage (in_name w) d ts c =
-    choose_case StepNumber (λ h. tt) (λ _. choose_case StepNumber (λ h. omega arith) (λ _. number_after d (word w ∷ ts) c))
-number_stage (in_number w) d ts c = choose_case StepNumber (λ h. tt) (λ _. number_after d (word w ∷ ts) c)
-number_stage after d ts c = number_after d ts c
-number_stage (in_operator a) d ts c =
-    choose_case StepNumber (λ h. tt) (λ _. choose_case StepNumber (λ h. number_due_law d (operator (a ∷ []) ∷ ts) c) (λ _. omega arith))
-
-abbrev NumberOf : Reading → Type 0
-NumberOf (read ts) = Unit {0}
-NumberOf (refused_at n p) = 14 ≤ n
-
-number_ended : (i d : ℕ) (ts : List Token) → NumberOf (ended i d ts)
-unfolding ended
-number_ended i zero ts = tt
-number_ended i (suc d) ts = omega arith
-
-number_ending : (i : ℕ) (m : Stage) (d : ℕ) (ts : List Token) → NumberOf (ending i m d ts)
-unfolding ending
-number_ending i due d ts = omega arith
-number_ending i (in_name w) d ts = choose_case NumberOf (λ _. omega arith) (λ _. number_ended i d (word w ∷ ts))
-number_ending i (in_number w) d ts = number_ended i d (word w ∷ ts)
-number_ending i after d ts = number_ended i d ts
-number_ending i (in_operator a) d ts = omega arith
-
-number_step_law : (i : ℕ) (st : Step) (go : State → Reading) → StepNumber st → ((t : State) → NumberOf (go t)) → NumberOf (on_step i st go)
-unfolding on_step
-number_step_law i (next t) go h k = k t
-number_step_law i (refused n) go h k = h
-
-number_from : (cs : List ℕ) (i : ℕ) (s : State) → NumberOf (read_from max_depth i s cs)
-unfolding read_from
-number_from [] i s = number_ending i s.stage s.depth s.tokens
-number_from (c ∷ cs) i s =
-    number_step_law i (step max_depth s c) (λ (t : State). read_from max_depth (suc i) t cs) (number_stage s.stage s.depth s.tokens c)
-    (λ t. number_from cs (suc i) t)
-
-pub number : (source : List ℕ) (n p : ℕ) → reading source ≡ refused_at n p → 14 ≤ n
-unfolding reading_to
-number source n p e = subst NumberOf e (number_from source 0 (state due 0 []))

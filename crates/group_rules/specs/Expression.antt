@@ -4,6 +4,7 @@ use Rattle.utf8.specs.Unicode.{within}
 use Rattle.rules.specs.Basics.{choose, is, one_of, is_blank, is_ident}
 use Rattle.rules.specs.Operators.{operators}
 use Rattle.rules.specs.SplitOperation.{is_sign, keywords}
+use Rattle.group_rules.specs.declared.Fault.{Fault}
 
 pub data Token : Type 0 where
   -- a name or a whole number
@@ -34,7 +35,11 @@ state m d ts = record { stage = m; depth = d; tokens = ts }
 -- a character is read, or no expression can have it there (14), or it opens a bracket too deep (15)
 pub data Step : Type 0 where
   next : State → Step
-  refused : ℕ → Step
+  refused : Fault → Step
+
+abbrev pub fault_number : Fault → ℕ
+fault_number Fault.NoExpression = 14
+fault_number Fault.TooDeep = 15
 
 -- how deep the source's brackets may stand
 abbrev pub max_depth : ℕ
@@ -48,10 +53,10 @@ unfoldable pub starts_operator : ℕ → Bool
 starts_operator c = one_of (map (take 1) operators) (c ∷ [])
 
 unfoldable pub open_step : ℕ → ℕ → List Token → Step
-open_step limit d ts = choose (leb limit d) (refused 15) (next (state due (suc d) (opener ∷ ts)))
+open_step limit d ts = choose (leb limit d) (refused Fault.TooDeep) (next (state due (suc d) (opener ∷ ts)))
 
 unfoldable pub close_step : ℕ → List Token → Step
-close_step zero ts = refused 14
+close_step zero ts = refused Fault.NoExpression
 close_step (suc d) ts = next (state after d (closer ∷ ts))
 
 -- where an operand is due: blanks, signs, a bracket, the first character of a name or a number
@@ -62,7 +67,7 @@ due_step limit d ts c =
     (choose (is "(" c) (open_step limit d ts)
     (choose (is_digit c) (next (state (in_number (c ∷ [])) d ts))
     (choose (is_ident c) (next (state (in_name (c ∷ [])) d ts))
-    (refused 14)))))
+    (refused Fault.NoExpression)))))
 
 -- where an operand has ended: blanks, a closing bracket, an operator
 unfoldable pub after_step : ℕ → List Token → ℕ → Step
@@ -70,7 +75,7 @@ after_step d ts c =
     choose (is_blank c) (next (state after d ts))
     (choose (is ")" c) (close_step d ts)
     (choose (starts_operator c) (next (state (in_operator c) d ts))
-    (refused 14)))
+    (refused Fault.NoExpression)))
 
 -- A name ends where no letter, digit or underscore follows, and is none of 01's five words. An operator is as long as
 -- it can be.
@@ -78,7 +83,7 @@ unfoldable pub stage_step : ℕ → Stage → ℕ → List Token → ℕ → Ste
 stage_step limit due d ts c = due_step limit d ts c
 stage_step limit (in_name w) d ts c =
     choose (is_ident c) (next (state (in_name (w ++ c ∷ [])) d ts))
-    (choose (one_of keywords w) (refused 14)
+    (choose (one_of keywords w) (refused Fault.NoExpression)
     (after_step d (word w ∷ ts) c))
 stage_step limit (in_number w) d ts c =
     choose (is_digit c) (next (state (in_number (w ++ c ∷ [])) d ts))
@@ -87,31 +92,31 @@ stage_step limit after d ts c = after_step d ts c
 stage_step limit (in_operator a) d ts c =
     choose (one_of operators (a ∷ c ∷ [])) (next (state due d (operator (a ∷ c ∷ []) ∷ ts)))
     (choose (one_of operators (a ∷ [])) (due_step limit d (operator (a ∷ []) ∷ ts) c)
-    (refused 14))
+    (refused Fault.NoExpression))
 
 abbrev pub step : ℕ → State → ℕ → Step
 step limit s c = stage_step limit s.stage s.depth s.tokens c
 
--- the tokens of a whole expression, or a refusal's number and place
+-- the tokens of a whole expression, or what is wrong and its place
 pub data Reading : Type 0 where
   read : List Token → Reading
-  refused_at : ℕ → ℕ → Reading
+  refused_at : Fault → ℕ → Reading
 
 -- nothing may follow where an operand has ended and no bracket is open; elsewhere the source ends early
 unfoldable pub ended : ℕ → ℕ → List Token → Reading
 ended i zero ts = read (reverse ts)
-ended i (suc d) ts = refused_at 14 i
+ended i (suc d) ts = refused_at Fault.NoExpression i
 
 unfoldable pub ending : ℕ → Stage → ℕ → List Token → Reading
-ending i due d ts = refused_at 14 i
-ending i (in_name w) d ts = choose (one_of keywords w) (refused_at 14 i) (ended i d (word w ∷ ts))
+ending i due d ts = refused_at Fault.NoExpression i
+ending i (in_name w) d ts = choose (one_of keywords w) (refused_at Fault.NoExpression i) (ended i d (word w ∷ ts))
 ending i (in_number w) d ts = ended i d (word w ∷ ts)
 ending i after d ts = ended i d ts
-ending i (in_operator a) d ts = refused_at 14 i
+ending i (in_operator a) d ts = refused_at Fault.NoExpression i
 
 unfoldable pub on_step : ℕ → Step → (State → Reading) → Reading
 on_step i (next s) go = go s
-on_step i (refused n) go = refused_at n i
+on_step i (refused f) go = refused_at f i
 
 -- i characters stand before
 unfoldable pub read_from : ℕ → ℕ → State → List ℕ → Reading

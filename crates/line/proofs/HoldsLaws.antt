@@ -47,6 +47,7 @@ use Rattle.basics.specs.Closers.{Closers}
 use Rattle.brackets.specs.Stack.{stacked, Nested, Popped, StackFits, BracketsDone}
 use Rattle.brackets.specs.declared.Nesting.{Nesting}
 use Rattle.format.specs.Words.{declaration_of}
+use Rattle.std.specs.Prelude.{Option}
 use Rattle.format.specs.declared.words.Declaration.{Declaration}
 use Rattle.line.specs.declared.formatter.Prev.{Prev}
 use Rattle.format.specs.Else.{Facts}
@@ -97,9 +98,9 @@ declaration_encode l = simp starts_encode
 pub declaration_bytes : (line : List ℕ) → WellFormed line → declaration_of line ≡ declaration_of (decode line)
 declaration_bytes = on_decode declaration_of declaration_of declaration_encode
 
-pub prev_by : (line : List ℕ) (d : Declaration) (b : Bool) → d ≡ declaration_of line → b ≡ last_is (is "}") line → ◌≡◌ {A = Prev} (record { declares = d; brace = b }) (prev_of line)
+pub prev_by : (line : List ℕ) (d : Option Declaration) (b : Bool) → d ≡ declaration_of line → b ≡ last_is (is "}") line → ◌≡◌ {A = Prev} (record { declares = d; brace = b }) (prev_of line)
 prev_by line d b e q =
-    ap {B = Prev} (λ (x : Declaration). record { declares = x; brace = b }) e ∙ ap {B = Prev} (λ (x : Bool). record { declares = declaration_of line; brace = x }) q
+    ap {B = Prev} (λ (x : Option Declaration). record { declares = x; brace = b }) e ∙ ap {B = Prev} (λ (x : Bool). record { declares = declaration_of line; brace = x }) q
 
 pub prev_bytes : (line : List ℕ) → WellFormed line → prev_of line ≡ prev_of (decode line)
 prev_bytes line w = prev_by (decode line) _ _ (declaration_bytes line w) (brace_bytes line w)

@@ -1,4 +1,5 @@
 -- A line that is one bracket: what the rules make of it, and its step.
+use Rattle.std.specs.Prelude.{Some, None}
 use Prim.Native.Nat.{ℕ, ◌+◌, ◌^◌, ◌≤◌, ◌<◌}
 use native.Mathlib.Omega.{arith}
 use native.Mathlib.Nat.{add-zero}
@@ -17,14 +18,13 @@ use Rattle.rules.specs.Spacing.{respaced}
 use Rattle.rules.specs.Brackets.{Entry, leading_closers, scan_brackets, count_brackets, levels}
 use Rattle.rules.specs.Words.{same_declaration, is_marker}
 use Rattle.rules.specs.Else.{is_plain_else, joinable, can_join}
-use Rattle.rules.specs.Options.{Options, indent_of}
+use Rattle.rules.specs.Options.{Options, indent_of, PrintWidth}
 use Rattle.rules.specs.Refusals.{max_source}
 use Rattle.rules.specs.SplitImport.{Laid, split_import}
 use Rattle.rules.specs.SplitOperation.{split_once, next_break, break_on, break_first, lay_pieces, split_operation}
 use Rattle.rules.specs.Line.{Formatter, lines_before, continues, level_of, one_line, or_operation, broken, split_wide, laid, placed_line, spaced_line}
 use Rattle.rules.specs.declared.Carry.{Carry}
 use Rattle.rules.specs.declared.Ignore.{Ignore}
-use Rattle.rules.specs.declared.PrintWidth.{PrintWidth}
 use Rattle.rules.proofs.Choose.{choose_case, choose_true, choose_false}
 use Rattle.rules.proofs.Computing.{computing}
 use Rattle.basics.proofs.OnlyLaws.{only_same}
@@ -32,7 +32,7 @@ use Rattle.brackets.specs.Stack.{stacked, Popped, StackFits, BracketsDone, opene
 use Rattle.brackets.specs.declared.Nesting.{Nesting}
 use Rattle.brackets.proofs.StackLaws.{stacked_drop, levels_most}
 use Rattle.format.specs.Words.{declaration_of}
-use Rattle.format.specs.declared.words.Declaration.{Declaration}
+use Rattle.std.specs.Prelude.{None}
 use Rattle.text.specs.Text.{Text, Line, Adds}
 use Rattle.text.specs.declared.Written.{Written}
 use Rattle.text.proofs.StepLaws.{grown_ordered}
@@ -70,7 +70,7 @@ pub record Facts (c : ℕ) : Type 0 where
   pub whole : (table : List ℕ) → split_once table (classify Carry.Code (c ∷ [])) ≡ none
   pub stack : (n : ℕ) (s : List Entry) → scan_brackets n (drop (choose (is_closer c) 1 0) (classify Carry.Code (c ∷ []))) s ≡ choose (is_closer c) s (opened_by n s)
   pub carry : carry_after Carry.Code (c ∷ []) ≡ Carry.Code
-  pub prev : prev_of (c ∷ []) ≡ record { declares = Declaration.Nothing; brace = eqb c 125 }
+  pub prev : prev_of (c ∷ []) ≡ record { declares = None; brace = eqb c 125 }
   pub joins : joinable (c ∷ []) ≡ eqb c 125
   pub trims : trim_end (c ∷ []) ≡ c ∷ []
   pub chars : decode (c ∷ []) ≡ c ∷ []
@@ -138,8 +138,8 @@ module _ (c : ℕ) (k : Facts c) (o : Options) where
 
   wide_whole : (w : PrintWidth) (level : ℕ) → split_wide w o level (c ∷ []) ≡ one_line (indent_of o level ++ (c ∷ []))
   unfolding split_wide
-  wide_whole PrintWidth.Off level = refl
-  wide_whole (PrintWidth.Columns max) level =
+  wide_whole None level = refl
+  wide_whole (Some max) level =
       choose_case (λ (x : Laid). x ≡ one_line (indent_of o level ++ (c ∷ []))) (λ q. broken_whole max level) (λ q. refl)
 
   module _ (f : Formatter) where
@@ -249,7 +249,7 @@ module _
               text = u;
               nesting = deep;
               blank = false;
-              prev = record { declares = Declaration.Nothing; brace = brace };
+              prev = record { declares = None; brace = brace };
               ignore = Ignore.Nothing;
               carry = Carry.Code;
               imports = st.imports;

@@ -1,5 +1,5 @@
 -- What the code holds of the formatter's record, and what a step of the code does.
-use Rattle.std.specs.Prelude.{ℕ, ◌+◌, ◌*◌, ◌≤◌, ◌^◌, Bool, true, false, List, ◌≡◌, length, take}
+use Rattle.std.specs.Prelude.{ℕ, ◌+◌, ◌*◌, ◌≤◌, ◌^◌, Bool, true, false, List, ◌≡◌, length, take, None}
 use Rattle.utf8.specs.Unicode.{decode, trim, WellFormed}
 use Rattle.buffer.specs.Buffer.{part}
 use Rattle.rules.specs.Basics.{choose, is, last_is}
@@ -15,7 +15,6 @@ use Rattle.basics.specs.Depth.{carry_depth}
 use Rattle.basics.specs.Closers.{Closers}
 use Rattle.brackets.specs.Stack.{stacked}
 use Rattle.format.specs.Words.{declaration_of}
-use Rattle.format.specs.declared.words.Declaration.{Declaration}
 use Rattle.text.specs.Text.{Text, Ordered, nothing, far_place}
 use Rattle.line.specs.declared.formatter.Formatter as code
 use Rattle.line.specs.declared.formatter.Prev.{Prev}
@@ -37,7 +36,7 @@ initial =
       text = nothing;
       nesting = record { depth = 0; levels = 0; line = 0 };
       blank = false;
-      prev = record { declares = Declaration.Nothing; brace = false };
+      prev = record { declares = None; brace = false };
       ignore = Ignore.Nothing;
       carry = Carry.Code;
       imports = 0;

@@ -11,16 +11,17 @@ use utf8::ByteOffset;
 // What later lines ask of a line: which declaration it is, and whether it ends in `}`.
 #[derive(Clone, Copy)]
 pub struct Prev {
-    pub declares: Declaration,
+    pub declares: Option<Declaration>,
     pub brace: bool,
 }
 
 pub fn prev_of(line: &[u8]) -> Prev
     ensures { result ≡ prev_of line.now }
 {
-    let declares = format::words::declaration_of(line);
-    let brace = format::else_line::ends_in_brace(line);
-    Prev { declares, brace }
+    Prev {
+        declares: format::words::declaration_of(line),
+        brace: format::else_line::ends_in_brace(line),
+    }
 }
 
 // Of the open brackets it keeps how many there are and how many of them added a level, with the number of the line that
@@ -42,9 +43,8 @@ impl Formatter {
     pub fn new() -> Self
         ensures { result ≡ initial }
     {
-        let text = Written::new();
         Self {
-            text,
+            text: Written::new(),
             nesting: Nesting {
                 depth: 0,
                 levels: 0,
@@ -52,7 +52,7 @@ impl Formatter {
             },
             blank: false,
             prev: Prev {
-                declares: Declaration::Nothing,
+                declares: None,
                 brace: false,
             },
             carry: Carry::Code,

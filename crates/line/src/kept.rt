@@ -17,10 +17,7 @@ use text::{Adding, Last};
 fn takes_else(facts: LineFacts) -> bool
     ensures { result ≡ (facts.brace && not facts.else_first) }
 {
-    if facts.else_first {
-        return false;
-    }
-    facts.brace
+    facts.brace && !facts.else_first
 }
 
 // How much of a kept line is written: all of it, or, where it isn't protected and starts inside a comment, as far as
@@ -28,13 +25,10 @@ fn takes_else(facts: LineFacts) -> bool
 fn shown_len(guarded: bool, carry: Carry, tail: usize, len: usize) -> usize
     ensures { result ≡ shown_len guarded carry tail len }
 {
-    if guarded {
-        return len;
-    }
-    match carry {
-        Carry::Code => len,
-        Carry::Block(_) => tail,
-        Carry::Prefab => len,
+    if !guarded && matches!(carry, Carry::Block(_)) {
+        tail
+    } else {
+        len
     }
 }
 
@@ -42,10 +36,10 @@ fn shown_len(guarded: bool, carry: Carry, tail: usize, len: usize) -> usize
 fn scanned_part<'a>(carry: Carry, raw: &'a [u8], line: &'a [u8]) -> &'a [u8]
     ensures { result.now ≡ part_of carry raw.now line.now }
 {
-    match carry {
-        Carry::Code => line,
-        Carry::Block(_) => raw,
-        Carry::Prefab => raw,
+    if matches!(carry, Carry::Code) {
+        line
+    } else {
+        raw
     }
 }
 
@@ -53,10 +47,10 @@ fn scanned_part<'a>(carry: Carry, raw: &'a [u8], line: &'a [u8]) -> &'a [u8]
 fn closers_of(carry: Carry, line: &[u8]) -> usize
     ensures { ClosersOf carry line.now result }
 {
-    match carry {
-        Carry::Code => brackets::leading_closers(line),
-        Carry::Block(_) => 0,
-        Carry::Prefab => 0,
+    if matches!(carry, Carry::Code) {
+        brackets::leading_closers(line)
+    } else {
+        0
     }
 }
 
@@ -64,11 +58,7 @@ fn closers_of(carry: Carry, line: &[u8]) -> usize
 pub fn in_block(ignore: Ignore) -> bool
     ensures { result ≡ in_block ignore }
 {
-    match ignore {
-        Ignore::Nothing => false,
-        Ignore::NextLine => false,
-        Ignore::Block(_) => true,
-    }
+    matches!(ignore, Ignore::Block(_))
 }
 
 // Whether a line goes out without being looked at: it is one of a protected block, or starts inside a comment or a
@@ -76,11 +66,7 @@ pub fn in_block(ignore: Ignore) -> bool
 pub fn is_raw(guarded: bool, carry: Carry) -> bool
     ensures { result ≡ (guarded || not (in_code_now carry)) }
 {
-    match carry {
-        Carry::Code => guarded,
-        Carry::Block(_) => true,
-        Carry::Prefab => true,
-    }
+    guarded || !matches!(carry, Carry::Code)
 }
 
 // A block goes on while more brackets are open than before it.
@@ -88,9 +74,10 @@ fn block_after(earlier: usize, now: usize) -> Ignore
     ensures { result ≡ block_after earlier now }
 {
     if earlier < now {
-        return Ignore::Block(earlier);
+        Ignore::Block(earlier)
+    } else {
+        Ignore::Nothing
     }
-    Ignore::Nothing
 }
 
 // What is protected after a line that found `before` brackets open and leaves `now`.
@@ -133,40 +120,29 @@ pub fn kept_line<'a>(
         (length raw.now) k.unit model.now (as_str k.ending) st
         out.old scratch.old result out.new scratch.new }
 {
-    let t = st.text;
-    let nesting = st.nesting;
-    let ignore = st.ignore;
-    let carry = st.carry;
-    let after = k.after;
-    let ending = k.ending;
-    let n = k.shown;
-    let shown = &raw[..n];
+    let shown = &raw[..k.shown];
     let facts = format::else_line::line_facts(shown);
-    let joins = takes_else(facts);
     let how = Adding {
-        ending,
+        ending: k.ending,
         drops: false,
         levels: 0,
         tail: facts.trimmed,
-        joins,
+        joins: takes_else(facts),
     };
-    let next = text::push_line(model, out, t, b"", shown, how);
-    let closers = closers_of(carry, line);
+    let text = text::push_line(model, out, st.text, b"", shown, how);
+    let closers = closers_of(st.carry, line);
     let base = STACK * k.unit;
-    let left = brackets::pop_closers(scratch, base, nesting, closers);
-    let part = scanned_part(carry, raw, line);
-    let deep = brackets::scan_brackets(part, scratch, 0, base, left, closers);
-    let prev = prev_of(line);
-    let guards = protected_after(ignore, nesting.depth, deep.depth);
+    let left = brackets::pop_closers(scratch, base, st.nesting, closers);
+    let part = scanned_part(st.carry, raw, line);
+    let nesting = brackets::scan_brackets(part, scratch, 0, base, left, closers);
     Formatter {
-        text: next,
-        nesting: deep,
+        text,
+        nesting,
         blank: false,
-        prev,
-        ignore: guards,
-        carry: after,
-        imports: st.imports,
-        blanks: st.blanks,
+        prev: prev_of(line),
+        ignore: protected_after(st.ignore, st.nesting.depth, nesting.depth),
+        carry: k.after,
+        ..st
     }
 }
 
@@ -186,16 +162,12 @@ pub fn raw_line(
         model.now (as_str ending) st out.old scratch.old result
         out.new scratch.new }
 {
-    let carry = st.carry;
-    let ignore = st.ignore;
     let tail = utf8::trim_end(raw);
     let start = utf8::trim_start(&raw[..tail]);
     let line = &raw[start..tail];
-    let part = scanned_part(carry, raw, line);
-    let n = part.len();
-    let after = scan::classify(part, carry, &mut scratch[..n]);
-    let guarded = in_block(ignore);
-    let shown = shown_len(guarded, carry, tail, raw.len());
+    let part = scanned_part(st.carry, raw, line);
+    let after = scan::classify(part, st.carry, &mut scratch[..part.len()]);
+    let shown = shown_len(in_block(st.ignore), st.carry, tail, raw.len());
     let k = Kept {
         shown,
         after,
@@ -209,10 +181,7 @@ pub fn raw_line(
 pub fn adds_nothing(blank: bool, last: Last) -> bool
     ensures { result ≡ (blank || is_first last) }
 {
-    if blank {
-        return true;
-    }
-    text::is_first(last)
+    blank || text::is_first(last)
 }
 
 // Of blank lines in a row one is written, and none before the first line. A pending marker stays pending.
@@ -220,15 +189,9 @@ pub fn blank_line(model: &[u8], out: &mut [u8], ending: LineEnding, st: Formatte
     requires { Small st }
     ensures { Blanked model.now (as_str ending) st out.old result out.new }
 {
-    let t = st.text;
-    let last = t.last;
-    if adds_nothing(st.blank, last) {
+    if adds_nothing(st.blank, st.text.last) {
         return st;
     }
-    let nesting = st.nesting;
-    let prev = st.prev;
-    let pending = st.ignore;
-    let carry = st.carry;
     let how = Adding {
         ending,
         drops: false,
@@ -236,15 +199,9 @@ pub fn blank_line(model: &[u8], out: &mut [u8], ending: LineEnding, st: Formatte
         tail: 0,
         joins: false,
     };
-    let next = text::push_line(model, out, t, b"", b"", how);
     Formatter {
-        text: next,
-        nesting,
+        text: text::push_line(model, out, st.text, b"", b"", how),
         blank: true,
-        prev,
-        ignore: pending,
-        carry,
-        imports: st.imports,
-        blanks: st.blanks,
+        ..st
     }
 }

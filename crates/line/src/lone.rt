@@ -13,18 +13,13 @@ use crate::scratch::STACK;
 use crate::style::Setup;
 use basics::{is_closer, is_opener};
 use brackets::Nesting;
-use format::words::Declaration;
 use rules::{Carry, Ignore};
 use text::Adding;
 
 pub fn is_lone(line: &[u8]) -> bool
     ensures { result ≡ is_lone line.now }
 {
-    if line.len() == 1 {
-        let c = line[0];
-        return is_opener(c) | is_closer(c);
-    }
-    false
+    line.len() == 1 && (is_opener(line[0]) | is_closer(line[0]))
 }
 
 // How many leading closers it has.
@@ -42,9 +37,10 @@ fn turn(c: u8, scratch: &mut [u8], base: usize, left: Nesting) -> Nesting
         (opened_by left.line (stacked scratch.old base left.depth))) result }
 {
     if is_closer(c) {
-        return left;
+        left
+    } else {
+        brackets::open(scratch, base, left)
     }
-    brackets::open(scratch, base, left)
 }
 
 // The line, which no marker protects.
@@ -66,33 +62,27 @@ pub fn lone_line(
         scratch.new }
 {
     let c = line[0];
-    let style = setup.style;
-    let ending = style.ending;
-    let t = st.text;
-    let nesting = st.nesting;
     let base = STACK * setup.unit;
-    let left = brackets::pop_closers(scratch, base, nesting, closers_in(c));
+    let left = brackets::pop_closers(scratch, base, st.nesting, closers_in(c));
     let brace = c == b'}';
     let how = Adding {
-        ending,
+        ending: setup.style.ending,
         drops: false,
         levels: left.levels,
         tail: 1,
         joins: brace,
     };
-    let next = text::push_line(model, out, t, indent, line, how);
-    let deep = turn(c, scratch, base, left);
+    let text = text::push_line(model, out, st.text, indent, line, how);
     Formatter {
-        text: next,
-        nesting: deep,
+        text,
+        nesting: turn(c, scratch, base, left),
         blank: false,
         prev: Prev {
-            declares: Declaration::Nothing,
+            declares: None,
             brace,
         },
         carry: Carry::Code,
         ignore: Ignore::Nothing,
-        imports: st.imports,
-        blanks: st.blanks,
+        ..st
     }
 }

@@ -1,10 +1,10 @@
 // What formatting asks of the options beside the indent, by value.
-use rules::{LineEnding, PrintWidth, Strengths};
+use rules::{LineEnding, Strengths};
 
 // The print width, the ruler tab, the ending that the text's lines get, and the strengths of the operators.
 #[derive(Clone, Copy)]
 pub struct Style {
-    pub width: PrintWidth,
+    pub width: Option<usize>,
     pub ruler: u8,
     pub ending: LineEnding,
     pub strengths: Strengths,

@@ -9,15 +9,16 @@ use native.Mathlib.Numerals.{add-one}
 use mathlib.Core.Bool.{Bool, true, false}
 use mathlib.Core.List.{List, [], ◌∷◌}
 use mathlib.Core.Path.{◌≡◌, refl, sym, ap, subst, ◌∙◌}
-use lib.Dec.{T, eqb}
-use borrow.Author.Tests.{eq-eqb, ne_eqb, eqb-true, eqb-false}
+use lib.Dec.{T, eqb, ltb}
+use borrow.Author.Tests.{eq-eqb, ne_eqb, eqb-true, eqb-false, ltb-true, ltb-false}
 use lib.ListN.{length, get_or, take, drop, length-take, length-drop, drop_of_length-le}
 use lib.Seq.{drop-cons}
 use Rattle.utf8.specs.Unicode.{is_scalar, Scalars}
 use Rattle.utf8.proofs.Tests.{by_test}
 use Rattle.rules.specs.Basics.{choose, is, Pieces, pieces, at_sep, split_on}
 use Rattle.rules.specs.Lines.{drop_cr}
-use Rattle.line_ends.specs.LineEnds.{Ending, LineEnd}
+use Rattle.blocks.specs.Blocks.{FirstFrom}
+use Rattle.line_ends.specs.LineEnds.{lf_at, Ending, LineEnd}
 
 -- ---- the first piece of a text
 
@@ -68,6 +69,18 @@ ending_none s at i r (suc n) h none =
     let q = ending_none s at i r n (omega arith) (λ j l. none j (omega arith)) in
     let e : i + n + 1 ≡ i + suc n = omega arith in
     rw e at (ending_more s at (i + n) q (omega arith) (none n (omega arith)))
+
+-- what a search for an LF gives
+pub ending_first : (s : List ℕ) (at e : ℕ) → at ≤ length s → FirstFrom (lf_at s) at (length s) e → LineEnd s at e
+ending_first s at e h f =
+    by_test (ltb e (length s)) (λ t. ending_lf s at e r (ltb-true e (length s) t) (eqb-true _ _ (f.passes (ltb-true e (length s) t))))
+    (λ t. ending_last s at e r (ltb-false e (length s) t))
+  where
+    r : Ending s at e
+    r =
+        let q = ending_none s at at (ending_start s at h) (e - at) (omega (arith, f.from, f.within)) (λ j l. eqb-false _ _ (f.none (at + j) (omega arith) (omega arith))) in
+        let k : at + (e - at) ≡ e = omega (arith, f.from) in
+        rw k at q
 
 -- from one place to another, and on
 pub ending_then : {s : List ℕ} {at i j : ℕ} → Ending s at i → Ending s i j → Ending s at j

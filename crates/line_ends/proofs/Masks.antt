@@ -10,7 +10,7 @@ use lib.Dec.{ltb}
 use lib.Count.{count_trailing_zeros, trailing_of_zero}
 use lib.ListN.{length}
 use borrow.Author.Tests.{eqb-false, ltb-true, ltb-false}
-use Rattle.utf8.specs.Places.{NoneAmong}
+use Rattle.blocks.specs.Blocks.{NoneAmong}
 use Rattle.utf8.specs.Masks.{Masked}
 use Rattle.utf8.proofs.Tests.{by_test}
 use Rattle.utf8.proofs.Masks.{masked_none, masked_within, masked_first}

@@ -2,22 +2,16 @@
 #![tactic(auto)]
 
 ghost use Rattle.std.specs.Prelude.{◌≡◌, cond, ◌+◌, ◌≤◌, length};
-ghost use Rattle.utf8.specs.Places.{NoneAmong};
+ghost use Rattle.blocks.specs.Blocks.{NoneAmong};
 ghost use Rattle.rules.specs.Lines.{drop_cr};
 ghost use Rattle.line_ends.specs.LineEnds.{lf_at, Ending, LineEnd};
 
-// Whether an LF stands among the 16 bytes from `at` on. It makes no branch, so that the 16 are tested at once.
+// Whether an LF stands among the 16 bytes from `at` on.
 fn has_lf(source: &[u8], at: usize) -> bool
     requires { at + 16 ≤ length source.now }
     ensures { NoneAmong (lf_at source.now) at 16 result }
 {
-    let mut any = false;
-    let mut k: usize = 0;
-    while k < 16 {
-        any = any | (source[at + k] == b'\n');
-        k += 1;
-    }
-    any
+    blocks::any_among::<16, _>(at, &|i| source[i] == b'\n')
 }
 
 // n where t, else m.
@@ -45,6 +39,7 @@ fn past_blocks(source: &[u8], at: usize) -> usize
     ensures { Ending source.now at result }
 {
     let mut i = at;
+    // kept: a range is no plainer, since a step ends at the block that has an LF, or takes three blocks
     while source.len() - i >= 48 {
         let e = past_three(source, i);
         if e < i + 48 {
@@ -60,14 +55,7 @@ fn last_end(source: &[u8], at: usize) -> usize
     requires { at ≤ length source.now }
     ensures { LineEnd source.now at result }
 {
-    let mut i = at;
-    while i < source.len() {
-        if source[i] == b'\n' {
-            return i;
-        }
-        i += 1;
-    }
-    i
+    blocks::first_from(at, source.len(), &|i| source[i] == b'\n')
 }
 
 // The same. An empty line is told at once, a short one by its first 16 bytes.
@@ -75,12 +63,11 @@ pub fn line_end(source: &[u8], at: usize) -> usize
     requires { at ≤ length source.now }
     ensures { LineEnd source.now at result }
 {
-    if at < source.len() {
-        if source[at] == b'\n' {
-            return at;
-        }
+    if at < source.len() && source[at] == b'\n' {
+        return at;
     }
     let mut i = at;
+    // kept: a range is no plainer, since a step takes a block and those without an LF after it
     while source.len() - i >= 16 {
         let m = utf8::byte_mask(source, i, b'\n');
         if m != 0 {
@@ -95,12 +82,8 @@ pub fn line_end(source: &[u8], at: usize) -> usize
 pub fn without_cr(line: &[u8]) -> &[u8]
     ensures { result.now ≡ drop_cr line.now }
 {
-    let n = line.len();
-    if n == 0 {
-        return line;
+    match line {
+        [head @ .., last] if *last == b'\r' => head,
+        _ => line,
     }
-    if line[n - 1] == b'\r' {
-        return &line[..n - 1];
-    }
-    line
 }

@@ -1,4 +1,5 @@
 -- The loop over the lines: `Reached` before the line that starts at `at`.
+use Rattle.std.specs.Prelude.{None}
 use Prim.Native.Nat.{ℕ, suc, ◌+◌, ◌-◌, ◌*◌, ◌^◌, ◌≤◌, ◌<◌, zero-le}
 use native.Mathlib.Omega.{arith}
 use mathlib.Core.List.{List, [], ◌∷◌, map}
@@ -13,7 +14,6 @@ use Rattle.rules.specs.Lines.{as_str, drop_cr, lines_of}
 use Rattle.rules.specs.Options.{Options}
 use Rattle.rules.specs.Line.{Formatter, start, any_line, read_on, format_line}
 use Rattle.rules.specs.Assembly.{format_lines}
-use Rattle.rules.specs.declared.EndOfLine.{EndOfLine}
 use Rattle.rules.specs.declared.FinalNewline.{FinalNewline}
 use Rattle.basics.specs.Depth.{carry_depth}
 use Rattle.split.specs.Text.{AllWell}
@@ -108,7 +108,7 @@ some_options indent style =
     record {
       indent = indent;
       print_width = style.width;
-      end_of_line = EndOfLine.Kept;
+      end_of_line = None;
       insert_final_newline = FinalNewline.Always;
       ruler_tab = style.ruler;
       strengths = style.strengths;

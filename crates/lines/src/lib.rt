@@ -9,6 +9,7 @@ use line_ends::{line_end, without_cr};
 use step::line_step;
 
 // The record after the lines that were read, and whether these are all.
+// kept: the new form is no plainer: the record is used in both ways, so that a Result would hold it twice
 #[derive(Clone, Copy)]
 pub struct LinesRead {
     pub st: Formatter,
@@ -19,10 +20,7 @@ pub struct LinesRead {
 fn differs(checks: bool, model: &[u8], out: &[u8], k: usize) -> bool
     ensures { Differs checks model.now out.now k result }
 {
-    if checks {
-        return !compare::begins(model, out, k);
-    }
-    false
+    checks && !compare::begins(model, out, k)
 }
 
 // Every line of the source goes to the output. After the last LF stands one more line. If checks, the text is compared
@@ -45,16 +43,14 @@ pub fn read_lines(
     let setup = Setup { style, unit };
     let mut st = Formatter::new();
     let mut at = 0;
+    // kept: the new form is no plainer: each turn finds where its line ends, which no range gives
     while at <= unit {
         let end = line_end(source, at);
         let raw = without_cr(&source[at..end]);
-        let after = line_step(raw, indent, setup, model, out, scratch, st);
-        st = after.remade();
-        let next = st.nesting.line + 1;
-        st.nesting.line = next;
+        st = line_step(raw, indent, setup, model, out, scratch, st).remade();
+        st.nesting.line += 1;
         at = end + 1;
-        let text = st.text;
-        if differs(checks, model, out, text.settled) {
+        if differs(checks, model, out, st.text.settled) {
             return LinesRead { st, all: false };
         }
     }

@@ -8,11 +8,7 @@ ghost use Rattle.buffer.specs.Buffer.{Finishes};
 pub fn zero(list: &mut [u64])
     ensures { list.new ≡ replicate (length list.old) 0 }
 {
-    let mut i = 0;
-    while i < list.len() {
-        list[i] = 0;
-        i += 1;
-    }
+    list.fill(0);
 }
 
 // Zeros what stands after the first `at` numbers.
@@ -20,5 +16,5 @@ pub fn finish(list: &mut [u64], at: usize)
     requires { at ≤ length list.old }
     ensures { Finishes list.old list.new at }
 {
-    zero(&mut list[at..]);
+    list[at..].fill(0);
 }

@@ -5,8 +5,8 @@ pub mod within;
 
 ghost use Rattle.std.specs.Prelude.{◌≡◌, ◌∷◌, [], ◌+◌, ◌<◌, ◌^◌};
 ghost use Rattle.rules.specs.Basics.{starts_with};
-ghost use Rattle.rules.specs.Scan.{in_code, in_quoted, in_interp, in_inner, in_block, in_prefab, mark_at, next, at_quote, long};
-ghost use Rattle.rules.specs.Scan.{one, mode_of, begin};
+ghost use Rattle.rules.specs.Scan.{in_code, in_quoted, in_interp, in_inner, in_block, in_prefab, mark_at, next, at_quote};
+ghost use Rattle.rules.specs.Scan.{begin};
 ghost use Rattle.basics.specs.Depth.{depth_of};
 
 use basics::{quote_of, starts_with};
@@ -16,10 +16,7 @@ use rules::{Carry, Class, Mark, Mode};
 fn first_is(s: &[u8], c: u8) -> bool
     ensures { result ≡ starts_with s.now (c ∷ []) }
 {
-    if s.len() == 0 {
-        return false;
-    }
-    s[0] == c
+    s.len() != 0 && s[0] == c
 }
 
 // Whether s starts with the character that ends a string.
@@ -29,59 +26,43 @@ fn closes(s: &[u8], double: bool) -> bool
     first_is(s, quote_of(double))
 }
 
-fn long_mark(more: usize, class: Class, mode: Mode) -> Mark
-    ensures { result ≡ long more class mode }
-{
-    Mark { more, class, mode }
-}
-
-fn one_mark(class: Class, mode: Mode) -> Mark
-    ensures { result ≡ one class mode }
-{
-    Mark {
-        more: 0,
-        class,
-        mode,
-    }
-}
-
 fn in_code(s: &[u8]) -> Mark
     ensures { result ≡ in_code s.now }
 {
     if first_is(s, b'\\') {
-        return long_mark(1, Class::Code, Mode::Code);
+        return Mark::long(1, Class::Code, Mode::Code);
     }
     if first_is(s, b'"') {
-        return one_mark(Class::Str, Mode::Quoted(true));
+        return Mark::one(Class::Str, Mode::Quoted(true));
     }
     if first_is(s, b'\'') {
-        return one_mark(Class::Str, Mode::Quoted(false));
+        return Mark::one(Class::Str, Mode::Quoted(false));
     }
     if starts_with(s, b"//") {
-        return one_mark(Class::LineComment, Mode::Line);
+        return Mark::one(Class::LineComment, Mode::Line);
     }
     if starts_with(s, b"/*") {
-        return long_mark(1, Class::BlockComment, Mode::Block(1));
+        return Mark::long(1, Class::BlockComment, Mode::Block(1));
     }
     if starts_with(s, b"$```") {
-        return long_mark(3, Class::Prefab, Mode::Prefab);
+        return Mark::long(3, Class::Prefab, Mode::Prefab);
     }
-    one_mark(Class::Code, Mode::Code)
+    Mark::one(Class::Code, Mode::Code)
 }
 
 fn in_quoted(s: &[u8], q: bool) -> Mark
     ensures { result ≡ in_quoted q s.now }
 {
     if first_is(s, b'\\') {
-        return long_mark(1, Class::Str, Mode::Quoted(q));
+        return Mark::long(1, Class::Str, Mode::Quoted(q));
     }
     if starts_with(s, b"${") {
-        return long_mark(1, Class::Str, Mode::Interp(q, 1));
+        return Mark::long(1, Class::Str, Mode::Interp(q, 1));
     }
     if closes(s, q) {
-        return one_mark(Class::Str, Mode::Code);
+        return Mark::one(Class::Str, Mode::Code);
     }
-    one_mark(Class::Str, Mode::Quoted(q))
+    Mark::one(Class::Str, Mode::Quoted(q))
 }
 
 fn in_interp(s: &[u8], q: bool, d: u32) -> Mark
@@ -89,36 +70,36 @@ fn in_interp(s: &[u8], q: bool, d: u32) -> Mark
     ensures { result ≡ in_interp q d s.now }
 {
     if first_is(s, b'\\') {
-        return long_mark(1, Class::Str, Mode::Interp(q, d));
+        return Mark::long(1, Class::Str, Mode::Interp(q, d));
     }
     if first_is(s, b'"') {
-        return one_mark(Class::Str, Mode::Inner(q, d, true));
+        return Mark::one(Class::Str, Mode::Inner(q, d, true));
     }
     if first_is(s, b'\'') {
-        return one_mark(Class::Str, Mode::Inner(q, d, false));
+        return Mark::one(Class::Str, Mode::Inner(q, d, false));
     }
     if first_is(s, b'{') {
-        return one_mark(Class::Str, Mode::Interp(q, d + 1));
+        return Mark::one(Class::Str, Mode::Interp(q, d + 1));
     }
     if first_is(s, b'}') {
         if d <= 1 {
-            return one_mark(Class::Str, Mode::Quoted(q));
+            return Mark::one(Class::Str, Mode::Quoted(q));
         }
-        return one_mark(Class::Str, Mode::Interp(q, d - 1));
+        return Mark::one(Class::Str, Mode::Interp(q, d - 1));
     }
-    one_mark(Class::Str, Mode::Interp(q, d))
+    Mark::one(Class::Str, Mode::Interp(q, d))
 }
 
 fn in_inner(s: &[u8], q: bool, d: u32, k: bool) -> Mark
     ensures { result ≡ in_inner q d k s.now }
 {
     if first_is(s, b'\\') {
-        return long_mark(1, Class::Str, Mode::Inner(q, d, k));
+        return Mark::long(1, Class::Str, Mode::Inner(q, d, k));
     }
     if closes(s, k) {
-        return one_mark(Class::Str, Mode::Interp(q, d));
+        return Mark::one(Class::Str, Mode::Interp(q, d));
     }
-    one_mark(Class::Str, Mode::Inner(q, d, k))
+    Mark::one(Class::Str, Mode::Inner(q, d, k))
 }
 
 fn in_block(s: &[u8], d: u32) -> Mark
@@ -126,24 +107,24 @@ fn in_block(s: &[u8], d: u32) -> Mark
     ensures { result ≡ in_block d s.now }
 {
     if starts_with(s, b"/*") {
-        return long_mark(1, Class::BlockComment, Mode::Block(d + 1));
+        return Mark::long(1, Class::BlockComment, Mode::Block(d + 1));
     }
     if starts_with(s, b"*/") {
         if d <= 1 {
-            return long_mark(1, Class::BlockComment, Mode::Code);
+            return Mark::long(1, Class::BlockComment, Mode::Code);
         }
-        return long_mark(1, Class::BlockComment, Mode::Block(d - 1));
+        return Mark::long(1, Class::BlockComment, Mode::Block(d - 1));
     }
-    one_mark(Class::BlockComment, Mode::Block(d))
+    Mark::one(Class::BlockComment, Mode::Block(d))
 }
 
 fn in_prefab(s: &[u8]) -> Mark
     ensures { result ≡ in_prefab s.now }
 {
     if starts_with(s, b"```") {
-        return long_mark(2, Class::Prefab, Mode::Code);
+        return Mark::long(2, Class::Prefab, Mode::Code);
     }
-    one_mark(Class::Prefab, Mode::Prefab)
+    Mark::one(Class::Prefab, Mode::Prefab)
 }
 
 // The mark at the head of s in mode m.
@@ -156,7 +137,7 @@ fn mark_at(s: &[u8], m: Mode) -> Mark
         Mode::Quoted(q) => in_quoted(s, q),
         Mode::Interp(q, d) => in_interp(s, q, d),
         Mode::Inner(q, d, k) => in_inner(s, q, d, k),
-        Mode::Line => one_mark(Class::LineComment, Mode::Line),
+        Mode::Line => Mark::one(Class::LineComment, Mode::Line),
         Mode::Block(d) => in_block(s, d),
         Mode::Prefab => in_prefab(s),
     }
@@ -167,32 +148,15 @@ pub fn next_mark(s: &[u8], t: Mark) -> Mark
     requires { depth_of t.mode + 1 < 2 ^ 32 }
     ensures { result ≡ next t s.now }
 {
-    let n = t.more;
-    let k = t.class;
-    let m = t.mode;
-    if n == 0 {
-        return mark_at(s, m);
+    if t.more == 0 {
+        return mark_at(s, t.mode);
     }
-    long_mark(n - 1, k, m)
-}
-
-fn mode_of(y: Carry) -> Mode
-    ensures { result ≡ mode_of y }
-{
-    match y {
-        Carry::Code => Mode::Code,
-        Carry::Block(d) => Mode::Block(d),
-        Carry::Prefab => Mode::Prefab,
-    }
+    Mark::long(t.more - 1, t.class, t.mode)
 }
 
 // The mark before a line's first byte.
 pub fn begin(y: Carry) -> Mark
     ensures { result ≡ begin y }
 {
-    Mark {
-        more: 0,
-        class: Class::Code,
-        mode: mode_of(y),
-    }
+    Mark::one(Class::Code, Mode::from(y))
 }

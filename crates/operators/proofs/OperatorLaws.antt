@@ -1,16 +1,21 @@
 -- The places of the operators in the list of the rules.
-use Prim.Native.Nat.{ℕ, suc, ◌≤◌, ◌<◌}
+use Prim.Native.Nat.{ℕ, suc, ◌<◌}
 use mathlib.Core.Bool.{Bool, true, false, ◌&&◌, ◌||◌, and-false}
 use mathlib.Core.List.{List, [], ◌∷◌}
 use mathlib.Core.Path.{◌≡◌, refl, sym, ◌∙◌}
 use native.Mathlib.Omega.{arith}
 use lib.Dec.{eqb, ltb}
+use Rattle.std.proofs.Common.{lit<}
+use Rattle.std.specs.Prelude.{Option, Some, None, is_some}
 use lib.ListN.{length, get_or}
 use borrow.Author.Tests.{ne_eqb, eqb-true, le-ltb, lt-ltb, ltb-true, ltb-false}
 use Rattle.rules.specs.Basics.{choose, same, one_of}
 use Rattle.rules.specs.Operators.{operators, index_in}
 use Rattle.rules.specs.SplitOperation.{precedence}
 use Rattle.utf8.proofs.Tests.{by_test}
+use Rattle.operators.specs.Places.{place_of, place_in}
+use Rattle.operators.specs.declared.Operator.{Operator}
+use Rattle.operators.specs.declared.Operator.TheVariants.{Or, Xor, And, BitOr, BitXor, BitAnd, Equal, NotEqual, Less, Greater, AtMost, AtLeast, ShiftLeft, ShiftRight, Range, Add, Sub, Mul, Div, Rem, Pow}
 
 -- ---- the list of operators
 
@@ -34,14 +39,38 @@ one_of_index (k ∷ ks) w = go (same k w) (one_of_index ks w)
     go true r = sym (lt-ltb 0 (suc (length ks)) (omega arith))
     go false r = r ∙ sym (ltb_suc (index_in ks w) (length ks))
 
-pub is_operator : (w : List ℕ) (k : ℕ) → k ≡ index_in operators w → k < 21 → one_of operators w ≡ true
-is_operator w k e h = one_of_index operators w ∙ rw (← e) (lt-ltb k 21 h)
+pub place_below : (o : Operator) → place_of o < 21
+place_below Or = lit< tt
+place_below Xor = lit< tt
+place_below And = lit< tt
+place_below BitOr = lit< tt
+place_below BitXor = lit< tt
+place_below BitAnd = lit< tt
+place_below Equal = lit< tt
+place_below NotEqual = lit< tt
+place_below Less = lit< tt
+place_below Greater = lit< tt
+place_below AtMost = lit< tt
+place_below AtLeast = lit< tt
+place_below ShiftLeft = lit< tt
+place_below ShiftRight = lit< tt
+place_below Range = lit< tt
+place_below Add = lit< tt
+place_below Sub = lit< tt
+place_below Mul = lit< tt
+place_below Div = lit< tt
+place_below Rem = lit< tt
+place_below Pow = lit< tt
 
-pub no_operator : (w : List ℕ) (k : ℕ) → k ≡ index_in operators w → 21 ≤ k → one_of operators w ≡ false
-no_operator w k e h = one_of_index operators w ∙ rw (← e) (le-ltb k 21 h)
+pub is_operator : (w : List ℕ) (o : Operator) → place_of o ≡ index_in operators w → one_of operators w ≡ true
+is_operator w o e = one_of_index operators w ∙ rw (← e) (lt-ltb (place_of o) 21 (place_below o))
 
-pub found_operator : (w : List ℕ) (k : ℕ) → k ≡ index_in operators w → ltb k 21 ≡ one_of operators w
-found_operator w k e = sym (one_of_index operators w ∙ rw (← e))
+pub no_operator : (w : List ℕ) → 21 ≡ index_in operators w → one_of operators w ≡ false
+no_operator w e = one_of_index operators w ∙ rw (← e)
+
+pub found_operator : (w : List ℕ) (r : Option Operator) (b : Bool) → place_in r ≡ index_in operators w → b ≡ is_some r → b ≡ one_of operators w
+found_operator w (Some o) b e f = f ∙ sym (is_operator w o e)
+found_operator w None b e f = f ∙ sym (no_operator w e)
 
 -- ---- the places of the operators
 

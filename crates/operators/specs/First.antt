@@ -1,5 +1,5 @@
 -- Lines without a byte that operators start with.
-use Rattle.std.specs.Prelude.{ℕ, ◌≤◌, Bool, false, ◌||◌, List, [], ◌∷◌, ◌≡◌, length, get_or, drop}
+use Rattle.std.specs.Prelude.{ℕ, Bool, false, ◌||◌, List, [], ◌∷◌, get_or}
 use Rattle.rules.specs.Operators.{starts_operator}
 
 abbrev pub operator_starts_at : List ℕ → ℕ → Bool
@@ -9,8 +9,3 @@ operator_starts_at s i = starts_operator (get_or s i 0)
 unfoldable pub any_starts : List ℕ → Bool
 any_starts [] = false
 any_starts (c ∷ cs) = starts_operator c || any_starts cs
-
--- none of the bytes before i does
-pub record NoneBefore (s : List ℕ) (i : ℕ) : Type 0 where
-  pub fits : i ≤ length s
-  pub same : any_starts s ≡ any_starts (drop i s)

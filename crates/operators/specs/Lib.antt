@@ -1,2 +1,3 @@
 -- What the contracts cite besides the rules.
 pub mod First
+pub mod Places

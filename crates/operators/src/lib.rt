@@ -1,197 +1,142 @@
-// The operators: which they are, by their places in document 01's tightness list, and their strengths in a table. The
-// places stand here alone; the list of the rules has the same order, and the contracts say so. They are found by
-// comparing bytes: a table that is indexed would be slower.
+// The operators: which they are, in the order of document 01's tightness list, and their strengths in a table. The list
+// of the rules has the same order, and the contracts say so. They are found by comparing bytes: a table that is indexed
+// would be slower.
 #![tactic(auto)]
 
 pub mod first;
 
-ghost use Rattle.std.specs.Prelude.{◌≡◌, [], ◌∷◌, ◌<◌, get_or};
+ghost use Rattle.std.specs.Prelude.{◌≡◌, [], ◌∷◌, get_or};
 ghost use Rattle.rules.specs.Basics.{one_of};
 ghost use Rattle.rules.specs.Operators.{operators, index_in};
 ghost use Rattle.rules.specs.Strengths.{strengths_in};
 ghost use Rattle.rules.specs.SplitOperation.{is_sign};
+ghost use Rattle.operators.specs.Places.{place_of, place_in};
 
 use rules::Strengths;
-
-// The places.
-pub const OR: usize = 0;
-
-pub const XOR: usize = 1;
-
-pub const AND: usize = 2;
-
-pub const BIT_OR: usize = 3;
-
-pub const BIT_XOR: usize = 4;
-
-pub const BIT_AND: usize = 5;
-
-pub const EQUAL: usize = 6;
-
-pub const NOT_EQUAL: usize = 7;
-
-pub const LESS: usize = 8;
-
-pub const GREATER: usize = 9;
-
-pub const AT_MOST: usize = 10;
-
-pub const AT_LEAST: usize = 11;
-
-pub const SHL: usize = 12;
-
-pub const SHR: usize = 13;
-
-pub const RANGE: usize = 14;
-
-pub const ADD: usize = 15;
-
-pub const SUB: usize = 16;
-
-pub const MUL: usize = 17;
-
-pub const DIV: usize = 18;
-
-pub const REM: usize = 19;
-
-pub const POW: usize = 20;
-
-// How many there are. As a place it stands for no operator.
-pub const COUNT: usize = 21;
 
 // A strength takes 4 bits.
 pub const MAX_STRENGTH: usize = 15;
 
-// The strength that a table has for the operator at a place: the upper or the lower four bits of a byte.
-pub fn strength_at(table: &[u8; Strengths::LENGTH], k: usize) -> u8
-    requires { k < 21 }
-    ensures { result ≡ get_or (strengths_in table.now) k 0 }
-{
-    let b = table[k / 2];
-    if k % 2 == 0 {
-        return b / 16 % 16;
-    }
-    b % 16
+#[derive(Clone, Copy, PartialEq, Eq)]
+pub enum Operator {
+    Or,
+    Xor,
+    And,
+    BitOr,
+    BitXor,
+    BitAnd,
+    Equal,
+    NotEqual,
+    Less,
+    Greater,
+    AtMost,
+    AtLeast,
+    ShiftLeft,
+    ShiftRight,
+    Range,
+    Add,
+    Sub,
+    Mul,
+    Div,
+    Rem,
+    Pow,
 }
 
-// The place of the operator that is the byte a twice, or COUNT.
-fn double_index(a: u8) -> usize
-    ensures { result ≡ index_in operators (a ∷ a ∷ []) }
-{
-    if a == b'|' {
-        return OR;
+impl Operator {
+    // The one that is the byte a twice.
+    #[tactic(auto, using(crate::proofs::OperatorLaws::double_none), unfolding(rules::specs::Operators::index_in, rules::specs::Basics::same, rules::specs::Basics::choose))]
+    fn doubled(a: u8) -> Option<Operator>
+        ensures { place_in result ≡ index_in operators (a ∷ a ∷ []) }
+    {
+        match a {
+            b'|' => Some(Operator::Or),
+            b'^' => Some(Operator::Xor),
+            b'&' => Some(Operator::And),
+            b'=' => Some(Operator::Equal),
+            b'<' => Some(Operator::ShiftLeft),
+            b'>' => Some(Operator::ShiftRight),
+            b'.' => Some(Operator::Range),
+            b'*' => Some(Operator::Pow),
+            _ => None,
+        }
     }
-    if a == b'^' {
-        return XOR;
-    }
-    if a == b'&' {
-        return AND;
-    }
-    if a == b'=' {
-        return EQUAL;
-    }
-    if a == b'<' {
-        return SHL;
-    }
-    if a == b'>' {
-        return SHR;
-    }
-    if a == b'.' {
-        return RANGE;
-    }
-    if a == b'*' {
-        return POW;
-    }
-    COUNT
-}
 
-// Of the one that is the byte a and `=`.
-fn equals_index(a: u8) -> usize
-    requires { a ≡ 61 → ⊥ }
-    ensures { result ≡ index_in operators (a ∷ 61 ∷ []) }
-{
-    if a == b'!' {
-        return NOT_EQUAL;
+    // The one that is the byte a and `=`.
+    #[tactic(auto, using(crate::proofs::OperatorLaws::equals_none), unfolding(rules::specs::Operators::index_in, rules::specs::Basics::same, rules::specs::Basics::choose))]
+    fn with_equals(a: u8) -> Option<Operator>
+        requires { a ≡ 61 → ⊥ }
+        ensures { place_in result ≡ index_in operators (a ∷ 61 ∷ []) }
+    {
+        match a {
+            b'!' => Some(Operator::NotEqual),
+            b'<' => Some(Operator::AtMost),
+            b'>' => Some(Operator::AtLeast),
+            _ => None,
+        }
     }
-    if a == b'<' {
-        return AT_MOST;
-    }
-    if a == b'>' {
-        return AT_LEAST;
-    }
-    COUNT
-}
 
-// Of the one that is two bytes.
-pub fn two_index(a: u8, b: u8) -> usize
-    ensures { result ≡ index_in operators (a ∷ b ∷ []) }
-{
-    if a == b {
-        return double_index(a);
+    // The one that is two bytes.
+    #[tactic(auto, using(crate::proofs::OperatorLaws::two_none), unfolding(rules::specs::Operators::index_in, rules::specs::Basics::same, rules::specs::Basics::choose))]
+    pub fn of_two(a: u8, b: u8) -> Option<Operator>
+        ensures { place_in result ≡ index_in operators (a ∷ b ∷ []) }
+    {
+        if a == b {
+            return Operator::doubled(a);
+        }
+        if b == b'=' {
+            return Operator::with_equals(a);
+        }
+        None
     }
-    if b == b'=' {
-        return equals_index(a);
-    }
-    COUNT
-}
 
-// Of the one that is the byte a alone.
-pub fn one_index(a: u8) -> usize
-    ensures { result ≡ index_in operators (a ∷ []) }
-{
-    if a == b'+' {
-        return ADD;
+    // The one that is the byte a alone.
+    #[tactic(auto, using(crate::proofs::OperatorLaws::one_none), unfolding(rules::specs::Operators::index_in, rules::specs::Basics::same, rules::specs::Basics::choose))]
+    pub fn of_one(a: u8) -> Option<Operator>
+        ensures { place_in result ≡ index_in operators (a ∷ []) }
+    {
+        match a {
+            b'+' => Some(Operator::Add),
+            b'-' => Some(Operator::Sub),
+            b'*' => Some(Operator::Mul),
+            b'/' => Some(Operator::Div),
+            b'%' => Some(Operator::Rem),
+            b'|' => Some(Operator::BitOr),
+            b'^' => Some(Operator::BitXor),
+            b'&' => Some(Operator::BitAnd),
+            b'<' => Some(Operator::Less),
+            b'>' => Some(Operator::Greater),
+            _ => None,
+        }
     }
-    if a == b'-' {
-        return SUB;
+
+    // The strength that a table has for it: the upper or the lower four bits of a byte.
+    pub fn strength(self, table: &[u8; Strengths::LENGTH]) -> u8
+        ensures { result ≡ get_or (strengths_in table.now) (place_of self) 0 }
+    {
+        let k = self as usize;
+        let b = table[k / 2];
+        if k % 2 == 0 { b / 16 % 16 } else { b % 16 }
     }
-    if a == b'*' {
-        return MUL;
-    }
-    if a == b'/' {
-        return DIV;
-    }
-    if a == b'%' {
-        return REM;
-    }
-    if a == b'|' {
-        return BIT_OR;
-    }
-    if a == b'^' {
-        return BIT_XOR;
-    }
-    if a == b'&' {
-        return BIT_AND;
-    }
-    if a == b'<' {
-        return LESS;
-    }
-    if a == b'>' {
-        return GREATER;
-    }
-    COUNT
 }
 
 // Whether the byte a alone is an operator.
 pub fn is_one(a: u8) -> bool
     ensures { result ≡ one_of operators (a ∷ []) }
 {
-    one_index(a) < COUNT
+    Operator::of_one(a).is_some()
 }
 
 // Whether two bytes are one.
 pub fn is_two(a: u8, b: u8) -> bool
     ensures { result ≡ one_of operators (a ∷ b ∷ []) }
 {
-    two_index(a, b) < COUNT
+    Operator::of_two(a, b).is_some()
 }
 
 // An operator that is a sign where no operand ends.
+#[tactic(auto, unfolding(rules::specs::SplitOperation::is_sign))]
 pub fn is_sign(c: u8) -> bool
     ensures { result ≡ is_sign c }
 {
-    if c == b'+' {
-        return true;
-    }
-    c == b'-'
+    matches!(c, b'+' | b'-')
 }

@@ -1,17 +1,13 @@
 -- Laws on lists of bytes.
-use Prim.Native.Nat.{ℕ, zero, suc, ◌+◌, ◌≤◌, ◌<◌}
-use mathlib.Core.Path.{◌≡◌, refl, ap, ◌∙◌}
-use mathlib.Core.List.{List, [], ◌∷◌, append-nil}
+use Rattle.std.proofs.Common.{ℕ, zero, suc, ◌+◌, ◌≤◌, ◌<◌, ◌≡◌, List, [], ◌∷◌, length, get_or, take, drop, replicate, refl, ap, ◌∙◌, add-one, arith}
 use native.Mathlib.Nat.{sub-zero, suc-sub-suc, not-suc-le-zero, le_of_suc-le-suc, mul-one}
-use native.Mathlib.Numerals.{add-one}
-use native.Mathlib.Omega.{arith}
-use lib.ListN.{length, get_or, take, drop, replicate}
 use lib.Seq.{drop-cons, take_at}
 use Rattle.buffer.specs.Buffer.{over}
-use Rattle.buffer.specs.Repeat.{times}
 use Rattle.buffer.proofs.OverLaws.{over_nil}
 use Rattle.buffer.proofs.RepeatLaws.{length_times}
 use Rattle.rules.specs.Call.{filled}
+use Rattle.rules.specs.Options.{max_indent, spaces}
+use Rattle.options.specs.Indents.{IsFilled}
 
 -- what is left at i is the byte there and what is left after it
 pub drop_next : (s : List ℕ) (i : ℕ) → i < length s → drop i s ≡ get_or s i 0 ∷ drop (i + 1) s
@@ -32,15 +28,22 @@ over_whole zero (a ∷ t) h = absurd (omega arith)
 over_whole (suc n) [] h = absurd (omega arith)
 over_whole (suc n) (a ∷ t) h = ap (λ (l : List ℕ). a ∷ l) (over_whole n t (omega arith))
 
-pub times_one : (w : List ℕ) → times 1 w ≡ w
-unfolding times
-times_one w = append-nil w
-
--- n times one byte
-pub length_unit : (n b : ℕ) → length (times n (b ∷ [])) ≡ n
-length_unit n b = length_times n (b ∷ []) ∙ mul-one n
+pub length_spaces : (n : ℕ) → length (spaces n) ≡ n
+length_spaces n = length_times n (32 ∷ []) ∙ mul-one n
 
 -- a text in front of its zeros
 pub take_filled : (n : ℕ) (t : List ℕ) → take (length t) (filled n t) ≡ t
 unfolding filled
 take_filled n t = take_at t _ (length t) refl
+
+-- ---- an indent that was written over zeros
+
+module _ (t bytes : List ℕ) (n : ℕ) (fits : length t ≤ max_indent) (size : n ≡ length t) (is : bytes ≡ over (replicate max_indent 0) t) where
+  array : bytes ≡ filled max_indent t
+  array = is ∙ over_zeros max_indent t fits
+
+  pub made_view : take n bytes ≡ t
+  made_view = rw (size, array) (take_filled max_indent t)
+
+  pub made_filled : IsFilled (record { bytes = bytes; len = n })
+  made_filled = rw (made_view, size, array)

@@ -1,3 +1,4 @@
 -- What the contracts cite.
 pub mod Held
 pub mod Endings
+pub mod Indents

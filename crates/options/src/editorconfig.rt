@@ -1,67 +1,55 @@
 // The EditorConfig step, value by value.
 ghost use Rattle.std.specs.Prelude.{◌≡◌};
-ghost use Rattle.rules.specs.EditorConfig.{size_of, tab_size, too_large, width_from, ending_from, newline_from};
+ghost use Rattle.rules.specs.EditorConfig.{size_of, too_large, width_from, ending_from, newline_from};
 
 use crate::FormatOptions;
-use rules::{
-    ConfigEnding, EndOfLine, FinalNewline, IndentSize, InsertFinalNewline, LineEnding, MaxLineLen,
-    PrintWidth, TabWidth,
-};
+use rules::{ConfigEnding, FinalNewline, IndentSize, LineEnding, MaxLineLen};
 
-// The size, in the form of a tab width: a numeric indent_size, else tab_width, else none.
-pub fn size_of(size: IndentSize, tab: TabWidth) -> TabWidth
-    ensures { tab_size result ≡ size_of size tab }
+// A numeric indent_size, else tab_width, else none.
+pub fn size_of(size: Option<IndentSize>, tab: Option<usize>) -> Option<usize>
+    ensures { result ≡ size_of size tab }
 {
     match size {
-        IndentSize::Unset => tab,
-        IndentSize::UseTabWidth => tab,
-        IndentSize::Value(n) => TabWidth::Value(n),
+        Some(IndentSize::Value(n)) => Some(n),
+        Some(IndentSize::UseTabWidth) | None => tab,
     }
 }
 
 // A size over 64.
-pub fn too_large(size: TabWidth) -> bool
-    ensures { result ≡ too_large (tab_size size) }
+pub fn too_large(size: Option<usize>) -> bool
+    ensures { result ≡ too_large size }
 {
-    match size {
-        TabWidth::Unset => false,
-        TabWidth::Value(n) => FormatOptions::MAX_INDENT < n,
-    }
+    size.is_some_and(|n| FormatOptions::MAX_INDENT < n)
 }
 
 // `off` gives no width.
-pub fn width_from(max: MaxLineLen, old: PrintWidth) -> PrintWidth
+pub fn width_from(max: Option<MaxLineLen>, old: Option<usize>) -> Option<usize>
     ensures { result ≡ width_from max old }
 {
     match max {
-        MaxLineLen::Unset => old,
-        MaxLineLen::Off => PrintWidth::Off,
-        MaxLineLen::Value(n) => PrintWidth::Columns(n),
+        Some(MaxLineLen::Value(n)) => Some(n),
+        Some(MaxLineLen::Off) => None,
+        None => old,
     }
 }
 
 // `cr` changes nothing.
-pub fn ending_from(ending: ConfigEnding, old: EndOfLine) -> EndOfLine
+pub fn ending_from(ending: Option<ConfigEnding>, old: Option<LineEnding>) -> Option<LineEnding>
     ensures { result ≡ ending_from ending old }
 {
     match ending {
-        ConfigEnding::Unset => old,
-        ConfigEnding::Lf => EndOfLine::Set(LineEnding::LF),
-        ConfigEnding::CrLf => EndOfLine::Set(LineEnding::CRLF),
-        ConfigEnding::Cr => old,
+        Some(ConfigEnding::Lf) => Some(LineEnding::LF),
+        Some(ConfigEnding::CrLf) => Some(LineEnding::CRLF),
+        Some(ConfigEnding::Cr) | None => old,
     }
 }
 
-pub fn newline_from(newline: InsertFinalNewline, old: FinalNewline) -> FinalNewline
+pub fn newline_from(newline: Option<bool>, old: FinalNewline) -> FinalNewline
     ensures { result ≡ newline_from newline old }
 {
     match newline {
-        InsertFinalNewline::Unset => old,
-        InsertFinalNewline::Value(insert) => {
-            if insert {
-                return FinalNewline::Always;
-            }
-            FinalNewline::Never
-        }
+        Some(true) => FinalNewline::Always,
+        Some(false) => FinalNewline::Never,
+        None => old,
     }
 }

@@ -22,8 +22,7 @@ fn count_endings(source: &[u8], from: usize, end: usize, last: u8) -> Endings
     let mut lf: u8 = 0;
     let mut crlf: u8 = 0;
     let mut before = last;
-    let mut i = from;
-    while i < end {
+    for i in from..end {
         let b = source[i];
         if b == b'\n' {
             lf += 1;
@@ -32,7 +31,6 @@ fn count_endings(source: &[u8], from: usize, end: usize, last: u8) -> Endings
             }
         }
         before = b;
-        i += 1;
     }
     Endings {
         lf,
@@ -46,10 +44,7 @@ fn block_end(from: usize, len: usize) -> usize
     requires { from < len }
     ensures { Block len from result × (from < result) }
 {
-    if len - from <= 240 {
-        return len;
-    }
-    from + 240
+    if len - from <= 240 { len } else { from + 240 }
 }
 
 // The ending most of the source's lines have: LF on a tie or with none.
@@ -60,6 +55,7 @@ pub fn dominant_in(source: &[u8]) -> LineEnding
     let mut crlf: usize = 0;
     let mut last: u8 = 0;
     let mut i = 0;
+    // kept: a range is no plainer, since a step takes a block of at most 240 bytes
     while i < source.len() {
         let end = block_end(i, source.len());
         let e = count_endings(source, i, end, last);
@@ -69,19 +65,18 @@ pub fn dominant_in(source: &[u8]) -> LineEnding
         i = end;
     }
     if lf - crlf < crlf {
-        return LineEnding::Crlf;
+        LineEnding::Crlf
+    } else {
+        LineEnding::Lf
     }
-    LineEnding::Lf
 }
 
+#[tactic(auto, using(crate::proofs::EndingLaws::ends_empty, crate::proofs::EndingLaws::ends_last))]
 pub fn ends_in_lf(source: &[u8]) -> bool
     ensures { result ≡ ends_in_lf source.now }
 {
     let n = source.len();
-    if n == 0 {
-        return false;
-    }
-    source[n - 1] == b'\n'
+    n != 0 && source[n - 1] == b'\n'
 }
 
 // The bytes of the ending: a part of b"\r\n", which the caller lends.

@@ -1,4 +1,5 @@
 -- A line broken: an import first, otherwise at its operators.
+use Rattle.std.specs.Prelude.{None}
 use Prim.Native.Nat.{ℕ, ◌+◌, ◌*◌, ◌≤◌}
 use mathlib.Core.Bool.{Bool, true, false, true≢false}
 use mathlib.Core.List.{List, [], ◌∷◌, reverse, reverse_aux}
@@ -19,10 +20,8 @@ use Rattle.rules.specs.Assembly.{joined}
 use Rattle.rules.specs.Else.{joinable}
 use Rattle.rules.specs.Line.{drop_blank, or_operation, broken}
 use Rattle.rules.specs.declared.Carry.{Carry}
-use Rattle.rules.specs.declared.EndOfLine.{EndOfLine}
 use Rattle.rules.specs.declared.FinalNewline.{FinalNewline}
 use Rattle.rules.specs.declared.LineEnding.{LineEnding}
-use Rattle.rules.specs.declared.PrintWidth.{PrintWidth}
 use Rattle.rules.specs.declared.Strengths.{Strengths}
 use Rattle.rules.proofs.SplitLines.{Newest, newest, newest_one, alone_line, import_lines_law, operation_lines, operation_several, operation_alone}
 use Rattle.rules.proofs.SplitSizes.{Fit, import_fits, operation_fits}
@@ -30,7 +29,8 @@ use Rattle.split.specs.Text.{first_of, Fits}
 use Rattle.split.specs.Measure.{InUse}
 use Rattle.split_import.specs.Import.{Given, ImportFits}
 use Rattle.split_import.specs.declared.ImportLines.{ImportLines}
-use Rattle.split_import.specs.declared.ImportSplit.{ImportSplit}
+use Rattle.std.specs.Prelude.{Some, None}
+use Rattle.std.specs.Prelude as code
 use Rattle.split.specs.declared.NewLine.{NewLine}
 use Rattle.split_operation.specs.Operation.{line_of, is_broken, Broken, OperationFits}
 use Rattle.split_operation.specs.declared.OperationSplit.{OperationSplit}
@@ -49,8 +49,8 @@ abbrev some_options_law : List ℕ → ℕ → Strengths → Options
 some_options_law indent ruler st =
     record {
       indent = indent;
-      print_width = PrintWidth.Off;
-      end_of_line = EndOfLine.Kept;
+      print_width = None;
+      end_of_line = None;
       insert_final_newline = FinalNewline.Always;
       ruler_tab = ruler;
       strengths = st;
@@ -141,9 +141,9 @@ module _
 
     -- ---- an import
 
-    module _ (st : Strengths) (ruler max : ℕ) (brace : Bool) (ends : brace ≡ last_is (is "}") line) (o2 : List ℕ) (i : ImportSplit)
+    module _ (st : Strengths) (ruler max : ℕ) (brace : Bool) (ends : brace ≡ last_is (is "}") line) (o2 : List ℕ) (i : code.Option ImportLines)
         (given : (o : Options) → InUse o indent ruler → Given (split_import o max level (classify Carry.Code (decode line))) eol model o1 o2 start i) where
-      module _ (m : ImportLines) (yes : i ≡ ImportSplit.Split m) (u : Written) (reached : u ≡ after_lines m.last m.next brace) where
+      module _ (m : ImportLines) (yes : i ≡ Some m) (u : Written) (reached : u ≡ after_lines m.last m.next brace) where
         abbrev placed : Placed
         placed = record { text = u; imports = 1; blanks = m.blanks }
 
@@ -174,7 +174,7 @@ module _
 
       -- ---- an expression
 
-      module _ (other : i ≡ ImportSplit.Whole) (o3 : List ℕ) (r : OperationSplit)
+      module _ (other : i ≡ None) (o3 : List ℕ) (r : OperationSplit)
           (made : (o : Options) → InUse o indent ruler → Broken eol (split_operation (strengths_in st.table) o max level (decode line)) model o2 o3 start r) where
         abbrev table : List ℕ
         table = strengths_in st.table

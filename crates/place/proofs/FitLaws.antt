@@ -1,22 +1,22 @@
 -- A line laid out at its level.
+use Rattle.std.specs.Prelude.{Some, None}
 use Prim.Native.Nat.{ℕ, ◌≤◌}
 use mathlib.Core.Bool.{Bool, true, false}
 use mathlib.Core.List.{List, ◌++◌, reverse_aux}
 use mathlib.Core.Path.{◌≡◌, refl, sym, ap, ◌∙◌, subst}
 use native.Mathlib.Omega.{arith}
-use lib.Dec.{T, ltb}
+use lib.Dec.{ltb}
 use lib.ListN.{length}
 use Rattle.utf8.specs.Unicode.{decode}
 use Rattle.buffer.specs.Repeat.{times}
 use Rattle.rules.specs.Basics.{choose}
 use Rattle.rules.specs.Scan.{classify, all_code_or_str}
 use Rattle.rules.specs.ClassBytes.{cells_of}
-use Rattle.rules.specs.Options.{Options, indent_of, measure, over_wide}
+use Rattle.rules.specs.Options.{Options, indent_of, measure, over_wide, PrintWidth}
 use Rattle.rules.specs.Refusals.{max_source}
 use Rattle.rules.specs.SplitImport.{Laid}
 use Rattle.rules.specs.Line.{drop_blank, broken, one_line, split_wide}
 use Rattle.rules.specs.declared.Carry.{Carry}
-use Rattle.rules.specs.declared.PrintWidth.{PrintWidth}
 use Rattle.rules.specs.declared.Strengths.{Strengths}
 use Rattle.rules.proofs.CellsLaws.{cells_classify, length_class_bytes, length_classify}
 use Rattle.rules.proofs.ScanBytes.{classify_encode, all_encode}
@@ -26,7 +26,6 @@ use Rattle.text.specs.Text.{Text, Adds}
 use Rattle.text.specs.declared.Written.{Written}
 use Rattle.text.proofs.StepLaws.{grown_ordered}
 use Rattle.text.proofs.PadLaws.{indent_blanks, blanks_size}
-use Rattle.place.specs.declared.Fit.{Fit}
 use Rattle.place.specs.declared.Placed.{Placed}
 use Rattle.line.specs.Holds.{ValidIndent}
 use Rattle.split.specs.Measure.{InUse}
@@ -46,57 +45,47 @@ code_same line class g =
     ap all_code_or_str (ap (classify Carry.Code) (sym g.well) ∙ classify_encode Carry.Code (decode line))
     ∙ all_encode (classify Carry.Code (decode line))
 
--- whether a line is broken, from what is told
-abbrev is_whole : Fit → Bool
-is_whole Fit.Whole = true
-is_whole (Fit.Broken max) = false
-
-abbrev width_in : Fit → ℕ
-width_in Fit.Whole = 0
-width_in (Fit.Broken max) = max
-
 -- whether a line is broken, as the code's tests find it
-told_mixed : (t : Bool) (max : ℕ) → Fit.Whole ≡ choose t (choose false (Fit.Broken max) Fit.Whole) Fit.Whole
-unfolding choose
-told_mixed true max = refl
-told_mixed false max = refl
-
 module _ (width : PrintWidth) (column : ℕ) (code : Bool) where
-  pub fit_off : width ≡ PrintWidth.Off → Fit.Whole ≡ fit_by width column code
+  pub fit_off : width ≡ None → None ≡ fit_by width column code
   unfolding fit_by
   fit_off e = rw e
 
-  module _ (max : ℕ) (e : width ≡ PrintWidth.Columns max) (t : Bool) (over : t ≡ ltb max column) where
-    pub fit_narrow : t ≡ false → Fit.Whole ≡ fit_by width column code
+  module _ (max : ℕ) (e : width ≡ Some max) where
+    pub fit_narrow : ltb max column ≡ false → None ≡ fit_by width column code
     unfolding fit_by choose
-    fit_narrow q = rw (e, ← over, q)
+    fit_narrow q = rw (e, q)
 
-    pub fit_mixed : (c : Bool) → c ≡ code → c ≡ false → Fit.Whole ≡ fit_by width column code
+    pub fit_wide : ltb max column ≡ true → code ≡ true → Some max ≡ fit_by width column code
+    unfolding fit_by choose
+    fit_wide q k = rw (e, q, k)
+
+    pub fit_mixed : code ≡ false → None ≡ fit_by width column code
     unfolding fit_by
-    fit_mixed c is q = rw (e, ← is, q) (told_mixed (ltb max column) max)
+    fit_mixed k = rw (e, k) (either (ltb max column))
+      where
+        either : (t : Bool) → None ≡ choose t (choose false (Some max) None) None
+        either true = unfold choose in refl
+        either false = unfold choose in refl
 
-    pub fit_wide : t ≡ true → (c : Bool) → c ≡ code → c ≡ true → Fit.Broken max ≡ fit_by width column code
-    unfolding fit_by choose
-    fit_wide q c is k = rw (e, ← over, q, ← is, k)
-
-narrow_of : (t : Bool) (max : ℕ) → choose t (choose true (Fit.Broken max) Fit.Whole) Fit.Whole ≡ Fit.Whole → t ≡ false
+narrow_of : (t : Bool) (max : ℕ) → choose t (choose true (Some max) None) None ≡ None → t ≡ false
 unfolding choose
-narrow_of true max h = absurd (subst (λ (x : Fit). T (is_whole x)) (sym h) tt)
+narrow_of true max h = cc
 narrow_of false max h = refl
 
-broken_of : (t code : Bool) (max m : ℕ) → choose t (choose code (Fit.Broken max) Fit.Whole) Fit.Whole ≡ Fit.Broken m → (max ≡ m) × ((t ≡ true) × (code ≡ true))
+broken_of : (t code : Bool) (max m : ℕ) → choose t (choose code (Some max) None) None ≡ Some m → (max ≡ m) × ((t ≡ true) × (code ≡ true))
 unfolding choose
-broken_of true true max m h = (ap width_in h, (refl, refl))
-broken_of true false max m h = absurd (subst (λ (x : Fit). T (is_whole x)) h tt)
-broken_of false code max m h = absurd (subst (λ (x : Fit). T (is_whole x)) h tt)
+broken_of true true max m h = (cc, (refl, refl))
+broken_of true false max m h = cc
+broken_of false code max m h = cc
 
-pub is_broken_law : (width : PrintWidth) (column : ℕ) (code : Bool) (m : ℕ) → fit_by width column code ≡ Fit.Broken m
-    → (width ≡ PrintWidth.Columns m) × ((ltb m column ≡ true) × (code ≡ true))
+pub is_broken_law : (width : PrintWidth) (column : ℕ) (code : Bool) (m : ℕ) → fit_by width column code ≡ Some m
+    → (width ≡ Some m) × ((ltb m column ≡ true) × (code ≡ true))
 unfolding fit_by
-is_broken_law PrintWidth.Off column code m h = absurd (subst (λ (x : Fit). T (is_whole x)) h tt)
-is_broken_law (PrintWidth.Columns max) column code m h =
+is_broken_law None column code m h = cc
+is_broken_law (Some max) column code m h =
     let b = broken_of (ltb max column) code max m h in
-    (ap PrintWidth.Columns b.0, (ap (λ (x : ℕ). ltb x column) (sym b.0) ∙ b.1.0, b.1.1))
+    (ap Some b.0, (ap (λ (x : ℕ). ltb x column) (sym b.0) ∙ b.1.0, b.1.1))
 
 -- what a line in use measures
 over_same : {indent : List ℕ} {ruler : ℕ} (max level : ℕ) (l : List ℕ) (o : Options) → InUse o indent ruler
@@ -126,26 +115,26 @@ module _
     lays_one = subst (λ (x : Placed). Lays ruler w indent st (decode line) level model eol drops (length line) out t x out') (sym is) lays_alone
 
 abbrev fits : Bool → PrintWidth → PrintWidth
-fits b width = choose b width PrintWidth.Off
+fits b width = choose b width None
 
-off_same : (b : Bool) (level : ℕ) (indent l : List ℕ) (o : Options) → o.indent ≡ indent → split_wide (fits b PrintWidth.Off) o level l ≡ one_line (times level indent ++ l)
+off_same : (b : Bool) (level : ℕ) (indent l : List ℕ) (o : Options) → o.indent ≡ indent → split_wide (fits b None) o level l ≡ one_line (times level indent ++ l)
 unfolding choose split_wide indent_of
 off_same true level indent l o e = rw e
 off_same false level indent l o e = rw e
 
 narrow_same : (b : Bool) (max level : ℕ) (indent l : List ℕ) (o : Options) → o.indent ≡ indent → over_wide o max (indent_of o level ++ l) ≡ false
-    → split_wide (fits b (PrintWidth.Columns max)) o level l ≡ one_line (times level indent ++ l)
+    → split_wide (fits b (Some max)) o level l ≡ one_line (times level indent ++ l)
 unfolding choose split_wide indent_of
 narrow_same true max level indent l o e h = rw (h, e)
 narrow_same false max level indent l o e h = rw e
 
 whole_same : (width : PrintWidth) (column : ℕ) (code : Bool) (level : ℕ) (indent l : List ℕ) (o : Options) → o.indent ≡ indent
-    → ((max : ℕ) → over_wide o max (indent_of o level ++ l) ≡ ltb max column) → fit_by width column code ≡ Fit.Whole
+    → ((max : ℕ) → over_wide o max (indent_of o level ++ l) ≡ ltb max column) → fit_by width column code ≡ None
     → split_wide (fits code width) o level l ≡ one_line (times level indent ++ l)
 unfolding fit_by
-whole_same PrintWidth.Off column code level indent l o e over h = off_same code level indent l o e
-whole_same (PrintWidth.Columns max) column false level indent l o e over h = unfold choose split_wide indent_of in (rw e)
-whole_same (PrintWidth.Columns max) column true level indent l o e over h =
+whole_same None column code level indent l o e over h = off_same code level indent l o e
+whole_same (Some max) column false level indent l o e over h = unfold choose split_wide indent_of in (rw e)
+whole_same (Some max) column true level indent l o e over h =
     narrow_same true max level indent l o e (over max ∙ narrow_of (ltb max column) max h)
 
 -- the column that a line reaches with its indent
@@ -162,31 +151,31 @@ module _
     abbrev here : Bool
     here = all_code_or_str (classify Carry.Code (decode line))
 
-    pub fit_whole : (width : PrintWidth) → fit_by width (reached ruler indent level line) (all_code line) ≡ Fit.Whole
-        → Lays ruler (choose here width PrintWidth.Off) indent st (decode line) level model eol drops (length line) out t p out'
+    pub fit_whole : (width : PrintWidth) → fit_by width (reached ruler indent level line) (all_code line) ≡ None
+        → Lays ruler (choose here width None) indent st (decode line) level model eol drops (length line) out t p out'
     fit_whole width h =
-        lays_one ruler (choose here width PrintWidth.Off) indent line class level model eol drops out out' t u v flat g a p is st
+        lays_one ruler (choose here width None) indent line class level model eol drops out out' t u v flat g a p is st
         (λ o k. whole_same width (reached ruler indent level line) here level indent (decode line) o k.indents (λ max. over_same max level (decode line) o k)
         (ap (fit_by width (reached ruler indent level line)) (sym (code_same line class g)) ∙ h))
 
 -- a line that is split
 wide_same : (max level : ℕ) (l : List ℕ) (o : Options) → over_wide o max (indent_of o level ++ l) ≡ true
-    → split_wide (PrintWidth.Columns max) o level l ≡ broken o max level l
+    → split_wide (Some max) o level l ≡ broken o max level l
 unfolding choose split_wide
 wide_same max level l o h = rw h
 
-laid_broken : (ruler : ℕ) (indent line : List ℕ) (st : Strengths) (level : ℕ) (width : PrintWidth) (max : ℕ) → width ≡ PrintWidth.Columns max
+laid_broken : (ruler : ℕ) (indent line : List ℕ) (st : Strengths) (level : ℕ) (width : PrintWidth) (max : ℕ) → width ≡ Some max
     → ltb max (reached ruler indent level line) ≡ true → all_code_or_str (classify Carry.Code (decode line)) ≡ true → (o : Options) → LaidBy o indent ruler st
-    → split_wide (choose (all_code_or_str (classify Carry.Code (decode line))) width PrintWidth.Off) o level (decode line) ≡ broken o max level (decode line)
+    → split_wide (choose (all_code_or_str (classify Carry.Code (decode line))) width None) o level (decode line) ≡ broken o max level (decode line)
 laid_broken ruler indent line st level width max e wide here o i =
-    ap (λ (x : Bool). split_wide (choose x width PrintWidth.Off) o level (decode line)) here
-    ∙ ap (λ (x : PrintWidth). split_wide (choose true x PrintWidth.Off) o level (decode line)) e
+    ap (λ (x : Bool). split_wide (choose x width None) o level (decode line)) here
+    ∙ ap (λ (x : PrintWidth). split_wide (choose true x None) o level (decode line)) e
     ∙ (unfold choose in (wide_same max level (decode line) o (over_same max level (decode line) o i.used ∙ wide)))
 
 pub fit_broken : (ruler : ℕ) (indent line class : List ℕ) (st : Strengths) (level : ℕ) (model eol : List ℕ) (drops : Bool) (out out' : List ℕ) (t : Written) (p : Placed) (width : PrintWidth) (max : ℕ)
-    → GoesOn line class → fit_by width (reached ruler indent level line) (all_code line) ≡ Fit.Broken max
+    → GoesOn line class → fit_by width (reached ruler indent level line) (all_code line) ≡ Some max
     → Breaks ruler max indent st (decode line) level model eol drops (length line) out t p out'
-    → Lays ruler (choose (all_code_or_str (classify Carry.Code (decode line))) width PrintWidth.Off) indent st (decode line) level model eol drops (length line) out t p out'
+    → Lays ruler (choose (all_code_or_str (classify Carry.Code (decode line))) width None) indent st (decode line) level model eol drops (length line) out t p out'
 fit_broken ruler indent line class st level model eol drops out out' t p width max g h b =
     let e = is_broken_law width (reached ruler indent level line) (all_code line) max h in
     let here : all_code_or_str (classify Carry.Code (decode line)) ≡ true = sym (code_same line class g) ∙ e.1.1 in

@@ -1,5 +1,6 @@
 -- A line placed: its level, the blank before it and the width that it may be broken at, as the code finds them, are
 -- those of the rules.
+use Rattle.std.specs.Prelude.{None}
 use Prim.Native.Nat.{ℕ, zero, suc, ◌+◌, ◌<◌, ◌^◌}
 use mathlib.Core.Bool.{Bool, true, false, not, ◌&&◌}
 use mathlib.Core.List.{List, ◌++◌}
@@ -12,13 +13,12 @@ use Rattle.utf8.specs.Unicode.{decode}
 use Rattle.rules.specs.Basics.{choose, is_empty}
 use Rattle.rules.specs.Scan.{classify, all_code_or_str}
 use Rattle.rules.specs.Lines.{as_str}
-use Rattle.rules.specs.Options.{Options, indent_of}
+use Rattle.rules.specs.Options.{Options, indent_of, PrintWidth}
 use Rattle.rules.specs.Brackets.{leading_closers}
 use Rattle.rules.specs.Words.{same_declaration}
 use Rattle.rules.specs.Else.{is_plain_else, can_join}
 use Rattle.rules.specs.Line.{Formatter, else_line, drop_blank, lines_before, continues, level_of, one_line, split_wide, may_split, laid, placed_line, spaced_line}
 use Rattle.rules.specs.declared.Carry.{Carry}
-use Rattle.rules.specs.declared.PrintWidth.{PrintWidth}
 use Rattle.utf8.proofs.Tests.{and_right}
 use Rattle.rules.proofs.Choose.{choose_true, choose_false}
 use Rattle.rules.proofs.StartsBytes.{on_decode, closers_encode}
@@ -41,8 +41,8 @@ use Rattle.place.specs.Placing.{GoesOn, Knows, Heads, Asks, HoldsText, Puts, Lai
 
 -- the width that a line may be broken at
 width_same : (k z m a : Bool) (w : PrintWidth)
-    → choose (not k && z && not m && a) w PrintWidth.Off
-    ≡ choose a (choose k PrintWidth.Off (choose z (choose m PrintWidth.Off w) PrintWidth.Off)) PrintWidth.Off
+    → choose (not k && z && not m && a) w None
+    ≡ choose a (choose k None (choose z (choose m None w) None)) None
 unfolding choose
 width_same true z m true w = refl
 width_same true z m false w = refl
@@ -55,7 +55,7 @@ width_same false true false false w = refl
 
 -- a line that may not be split is laid out as with no width
 width_off : (b : Bool) (w : PrintWidth) (o : Options) (level : ℕ) (l : List ℕ)
-    → choose b (split_wide w o level l) (one_line (indent_of o level ++ l)) ≡ split_wide (choose b w PrintWidth.Off) o level l
+    → choose b (split_wide w o level l) (one_line (indent_of o level ++ l)) ≡ split_wide (choose b w None) o level l
 unfolding choose split_wide
 width_off true w o level l = refl
 width_off false w o level l = refl
@@ -78,7 +78,7 @@ module _
     (drops : Bool) (max : PrintWidth) (p : Placed) (g : GoesOn line class) (hd : Heads line k)
     (wk : Continues line st.prev.brace continued) (wl : level ≡ k.levels + choose continued 1 0)
     (er : drops ≡ drops_blank st.nesting.depth k.own.declares st.prev.declares) (em : max ≡ break_width k.style.width k.marker continued k.closers)
-    (w : Lays k.style.ruler (choose (all_code_or_str (classify Carry.Code (decode line))) max PrintWidth.Off) indent k.style.strengths (decode line) level model (as_str k.style.ending) drops (length line) out st.text p out')
+    (w : Lays k.style.ruler (choose (all_code_or_str (classify Carry.Code (decode line))) max None) indent k.style.strengths (decode line) level model (as_str k.style.ending) drops (length line) out st.text p out')
   where
     closers_same : k.closers ≡ leading_closers (decode line)
     closers_same = hd.closers.is ∙ on_decode leading_closers leading_closers closers_encode line g.well
@@ -98,13 +98,13 @@ module _
       level_same =
           sym (wl ∙ rw (x.running, closers_same, continued_same) refl)
 
-      fits_same : choose (may_split f k.marker (decode line)) o.print_width PrintWidth.Off
-          ≡ choose (all_code_or_str (classify Carry.Code (decode line))) max PrintWidth.Off
+      fits_same : choose (may_split f k.marker (decode line)) o.print_width None
+          ≡ choose (all_code_or_str (classify Carry.Code (decode line))) max None
       unfolding may_split
       fits_same =
           rw (em, ← continued_same, ← closers_same, u.breaks) (width_same continued (eqb k.closers 0) k.marker (all_code_or_str (classify Carry.Code (decode line))) k.style.width)
 
-      laid_same : laid o f k.marker (decode line) ≡ split_wide (choose (all_code_or_str (classify Carry.Code (decode line))) max PrintWidth.Off) o level (decode line)
+      laid_same : laid o f k.marker (decode line) ≡ split_wide (choose (all_code_or_str (classify Carry.Code (decode line))) max None) o level (decode line)
       unfolding laid
       laid_same = width_off (may_split f k.marker (decode line)) o.print_width o (level_of f (decode line)) (decode line) ∙ rw (fits_same, level_same) refl
 

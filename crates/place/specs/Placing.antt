@@ -1,17 +1,16 @@
 -- What putting a line into the text does.
-use Rattle.std.specs.Prelude.{ℕ, ◌+◌, ◌*◌, ◌≤◌, ◌<◌, ◌^◌, Bool, true, false, ◌≡◌, eqb, ltb, length, drop}
+use Rattle.std.specs.Prelude.{ℕ, ◌+◌, ◌*◌, ◌≤◌, ◌<◌, ◌^◌, Bool, true, false, ◌≡◌, eqb, ltb, length, drop, Option, Some, None}
 use mathlib.Core.List.{List, reverse_aux}
 use Rattle.utf8.specs.Unicode.{decode, trim_end, WellFormed}
 use Rattle.rules.specs.Basics.{choose}
 use Rattle.rules.specs.Scan.{classify}
 use Rattle.rules.specs.ClassBytes.{class_bytes}
-use Rattle.rules.specs.Options.{Options}
+use Rattle.rules.specs.Options.{Options, PrintWidth}
 use Rattle.rules.specs.Refusals.{max_source}
 use Rattle.rules.specs.Brackets.{levels}
 use Rattle.rules.specs.Lines.{as_str}
 use Rattle.rules.specs.Line.{Formatter, drop_blank, broken, split_wide, spaced_line, placed_line}
 use Rattle.rules.specs.declared.Carry.{Carry}
-use Rattle.rules.specs.declared.PrintWidth.{PrintWidth}
 use Rattle.rules.specs.declared.Strengths.{Strengths}
 use Rattle.basics.specs.Closers.{Closers}
 use Rattle.format.specs.Words.{same_of}
@@ -20,7 +19,6 @@ use Rattle.text.specs.Text.{Text, Ordered}
 use Rattle.text.specs.declared.Written.{Written}
 use Rattle.split.specs.Measure.{InUse, Wide}
 use Rattle.line.specs.Holds.{Record, Holds, Small, Uses, prev_of}
-use Rattle.place.specs.declared.Fit.{Fit}
 use Rattle.place.specs.declared.Placed.{Placed}
 use Rattle.place.specs.declared.Placing.{Placing}
 
@@ -98,7 +96,7 @@ abbrev pub placed_by : Bool → List ℕ → Options → Formatter → Formatter
 placed_by marker line o f = placed_line o f marker line
 
 -- whether a blank between goes
-abbrev pub drops_blank : ℕ → Declaration → Declaration → Bool
+abbrev pub drops_blank : ℕ → Option Declaration → Option Declaration → Bool
 drops_blank depth d before = choose (eqb depth 0) (same_of d before) false
 
 -- the options in use where a line is laid out: those that have this indent, this ruler tab and these strengths
@@ -122,17 +120,16 @@ pub record Lays (ruler : ℕ) (w : PrintWidth) (indent : List ℕ) (st : Strengt
 -- the width that a line may be broken at, by what is known before its classes are looked at
 abbrev pub break_width : PrintWidth → Bool → Bool → ℕ → PrintWidth
 break_width width marker continued closers =
-    choose continued PrintWidth.Off (choose (eqb closers 0) (choose marker PrintWidth.Off width) PrintWidth.Off)
+    choose continued None (choose (eqb closers 0) (choose marker None width) None)
 
 -- if r, an indented line is not wider than max
 pub record Short (ruler : ℕ) (indent : List ℕ) (level : ℕ) (line : List ℕ) (max : ℕ) (r : Bool) : Type 0 where
   pub fits : r ≡ true → Wide ruler indent level line max false
 
--- whether a line is broken: at width w, if it reaches the column `reached` and all of it is code and strings
-unfoldable pub fit_by : PrintWidth → ℕ → Bool → Fit
-fit_by PrintWidth.Off reached code = Fit.Whole
-fit_by (PrintWidth.Columns max) reached code =
-    choose (ltb max reached) (choose code (Fit.Broken max) Fit.Whole) Fit.Whole
+-- the width that a line is broken at, if it reaches past it to the column `reached` and all of it is code and strings
+unfoldable pub fit_by : PrintWidth → ℕ → Bool → Option ℕ
+fit_by None reached code = None
+fit_by (Some max) reached code = choose (ltb max reached) (choose code (Some max) None) None
 
 -- the line of characters l was broken at a level as `broken` says
 pub record Breaks (ruler max : ℕ) (indent : List ℕ) (st : Strengths) (l : List ℕ) (level : ℕ) (model eol : List ℕ)

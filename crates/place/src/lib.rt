@@ -12,7 +12,6 @@ ghost use Rattle.rules.specs.Else.{is_plain_else};
 ghost use Rattle.rules.specs.Refusals.{max_source};
 ghost use Rattle.rules.specs.Scan.{classify, all_code_or_str};
 ghost use Rattle.rules.specs.declared.Carry.{Carry};
-ghost use Rattle.rules.specs.declared.PrintWidth.{PrintWidth};
 ghost use Rattle.line.specs.Holds.{ValidIndent};
 ghost use Rattle.split.specs.Measure.{Indent};
 ghost use Rattle.place.specs.Placing.{GoesOn, Short, Heads, Asks, Puts, spaced_by, placed_by, drops_blank, alone_in};
@@ -21,9 +20,9 @@ ghost use Rattle.place.specs.Placing.{break_width, fit_by, Lays, Breaks, after_p
 use format::words::Declaration;
 use line::formatter::{Formatter, Prev};
 use line::style::Style;
-use rules::{LineEnding, PrintWidth};
+use rules::LineEnding;
 use split::{Layout, over_wide};
-use split_import::{ImportSplit, split_import};
+use split_import::split_import;
 use split_operation::{OperationSplit, split_operation};
 use text::{Adding, Last, Written};
 use utf8::Utf16Column;
@@ -47,13 +46,6 @@ pub struct Placed {
     pub blanks: usize,
 }
 
-// How a line is laid out: whole, or broken at a width.
-#[derive(Clone, Copy)]
-pub enum Fit {
-    Whole,
-    Broken(usize),
-}
-
 // Where a line is put: the text so far, the level of the line's indent, whether an empty newest line goes first, and
 // the width that the line may be broken at.
 #[derive(Clone, Copy)]
@@ -61,7 +53,7 @@ pub struct Slot {
     pub text: Written,
     pub level: usize,
     pub drops: bool,
-    pub width: PrintWidth,
+    pub width: Option<usize>,
 }
 
 // The levels left after the leading closers, and one more if the line continues the one before.
@@ -69,20 +61,15 @@ fn level_of(levels: usize, continued: bool) -> usize
     requires { levels < max_source }
     ensures { result ≡ levels + choose continued 1 0 }
 {
-    if continued {
-        return levels + 1;
-    }
-    levels
+    if continued { levels + 1 } else { levels }
 }
 
 // Whether a blank between this line and the one before goes: no bracket is open, and both declare the same.
-fn drops_blank(depth: usize, d: Declaration, before: Declaration) -> bool
+#[tactic(auto, unfolding(rules::specs::Basics::choose))]
+fn drops_blank(depth: usize, d: Option<Declaration>, before: Option<Declaration>) -> bool
     ensures { result ≡ drops_blank depth d before }
 {
-    if depth == 0 {
-        return format::words::same_declaration(d, before);
-    }
-    false
+    depth == 0 && format::words::same_declaration(d, before)
 }
 
 // The line indented, alone. It is trimmed at its end.
@@ -103,16 +90,14 @@ fn push_one(
         (times slot.level indent.now ++ decode line.now) model.now
         out.old slot.text out.new result }
 {
-    let joins = format::else_line::trimmed_takes_else(line);
-    let t = slot.text;
     let how = Adding {
         ending,
         drops: slot.drops,
         levels: slot.level,
         tail: line.len(),
-        joins,
+        joins: format::else_line::trimmed_takes_else(line),
     };
-    text::push_line(model, out, t, indent, line, how)
+    text::push_line(model, out, slot.text, indent, line, how)
 }
 
 // A plain else joined to the newest line.
@@ -138,19 +123,15 @@ fn alone(text: Written) -> Placed
 
 // The width that a line may be broken at, before its classes are looked at: a marker, a line that continues another and
 // one with leading closers are not broken.
-fn break_width(width: PrintWidth, marker: bool, continued: bool, closers: usize) -> PrintWidth
+#[tactic(auto, unfolding(rules::specs::Basics::choose))]
+fn break_width(width: Option<usize>, marker: bool, continued: bool, closers: usize) -> Option<usize>
     ensures { result ≡ break_width width marker continued closers }
 {
-    if continued {
-        return PrintWidth::Off;
+    if continued || marker || closers != 0 {
+        None
+    } else {
+        width
     }
-    if closers == 0 {
-        if marker {
-            return PrintWidth::Off;
-        }
-        return width;
-    }
-    PrintWidth::Off
 }
 
 // Whether a line is known to fit without being measured, its indent included: a character takes no more columns than
@@ -161,21 +142,18 @@ fn is_short(line: &[u8], indent: &[u8], level: usize, ruler: u8, max: usize) -> 
     ensures { Short ruler indent.now level line.now max result }
 {
     let bytes = level * indent.len() + line.len();
-    if bytes * (ruler as usize + 1) <= max {
-        return true;
-    }
-    false
+    bytes * (ruler as usize + 1) <= max
 }
 
-// Whether the line is broken: it is wider than the width, and all of it is code and strings.
+// The width that the line is broken at, if it is wider than that and all of it is code and strings.
 fn fit_of(
     line: &[u8],
     class: &[u8],
     indent: &[u8],
     style: Style,
     level: usize,
-    width: PrintWidth,
-) -> Fit
+    width: Option<usize>,
+) -> Option<usize>
     requires valid_indent { ValidIndent indent.now }
     requires level_le_max_source { level ≤ max_source }
     requires goes_on { GoesOn line.now class.now }
@@ -183,29 +161,21 @@ fn fit_of(
         (times level indent.now ++ decode line.now))
         (all_code_or_str (classify Carry.Code line.now)) }
 {
-    match width {
-        PrintWidth::Off => Fit::Whole,
-        PrintWidth::Columns(max) => {
-            if is_short(line, indent, level, style.ruler, max) {
-                return Fit::Whole;
-            }
-            let ending = style.ending;
-            let strengths = style.strengths;
-            let s = Layout {
-                level,
-                max: Utf16Column(max),
-                ruler: style.ruler,
-                ending,
-                strengths,
-            };
-            if over_wide(s, indent, line) {
-                if scan::all_code_or_str(class) {
-                    return Fit::Broken(max);
-                }
-                return Fit::Whole;
-            }
-            Fit::Whole
-        }
+    let max = width?;
+    if is_short(line, indent, level, style.ruler, max) {
+        return None;
+    }
+    let s = Layout {
+        level,
+        max: Utf16Column(max),
+        ruler: style.ruler,
+        ending: style.ending,
+        strengths: style.strengths,
+    };
+    if over_wide(s, indent, line) && scan::all_code_or_str(class) {
+        Some(max)
+    } else {
+        None
     }
 }
 
@@ -225,7 +195,7 @@ fn fit_line(
     requires goes_on { GoesOn line.now class.now }
     requires ordered { Ordered slot.text × (slot.text.at.0 ≤ far_place) }
     ensures { Lays style.ruler (choose (all_code_or_str (classify Carry.Code (decode line.now)))
-        slot.width PrintWidth.Off) indent.now style.strengths (decode line.now)
+        slot.width None) indent.now style.strengths (decode line.now)
         slot.level model.now (as_str style.ending) slot.drops (length line.now)
         out.old slot.text result out.new }
 {
@@ -233,8 +203,8 @@ fn fit_line(
     let strengths = style.strengths;
     let width = slot.width;
     match fit_of(line, class, indent, style, slot.level, width) {
-        Fit::Whole => alone(push_one(line, indent, ending, slot, model, out)),
-        Fit::Broken(max) => {
+        None => alone(push_one(line, indent, ending, slot, model, out)),
+        Some(max) => {
             let s = Layout {
                 level: slot.level,
                 max: Utf16Column(max),
@@ -265,25 +235,14 @@ fn lay_line(
         model.now (length line.now) k st out.old (after_placed st result)
         out.new }
 {
-    let text = st.text;
-    let nesting = st.nesting;
-    let prev = st.prev;
-    let own = k.own;
-    let style = k.style;
-    let before = prev.declares;
-    let d = own.declares;
-    let max = style.width;
-    let continued = format::words::continues(line, k.closers, prev.brace);
-    let level = level_of(k.levels, continued);
-    let drops = drops_blank(nesting.depth, d, before);
-    let width = break_width(max, k.marker, continued, k.closers);
+    let continued = format::words::continues(line, k.closers, st.prev.brace);
     let slot = Slot {
-        text,
-        level,
-        drops,
-        width,
+        text: st.text,
+        level: level_of(k.levels, continued),
+        drops: drops_blank(st.nesting.depth, k.own.declares, st.prev.declares),
+        width: break_width(k.style.width, k.marker, continued, k.closers),
     };
-    fit_line(line, class, indent, style, slot, model, out)
+    fit_line(line, class, indent, k.style, slot, model, out)
 }
 
 // Whether the line is a plain else that the newest line can take.
@@ -291,10 +250,7 @@ fn joins_newest(line: &[u8], last: Last) -> bool
     requires { WellFormed line.now }
     ensures { result ≡ (is_plain_else (decode line.now) && is_joinable last) }
 {
-    if format::else_line::is_plain_else(line) {
-        return text::is_joinable(last);
-    }
-    false
+    format::else_line::is_plain_else(line) && text::is_joinable(last)
 }
 
 // A plain else is joined to the newest line if that can take it.
@@ -315,12 +271,11 @@ fn join_or_lay(
         model.now (length line.now) k st out.old (after_placed st result)
         out.new }
 {
-    let t = st.text;
-    let last = t.last;
-    if joins_newest(line, last) {
-        return alone(join_one(line, class, model, out, t));
+    if joins_newest(line, st.text.last) {
+        alone(join_one(line, class, model, out, st.text))
+    } else {
+        lay_line(line, class, indent, k, model, out, st)
     }
-    lay_line(line, class, indent, k, model, out, st)
 }
 
 // The record with the text after the line, and what the line adds to the counts.
@@ -329,12 +284,12 @@ fn after_placed(st: Formatter, p: Placed) -> Formatter
     requires blanks_bound { st.blanks + p.blanks < 2 ^ 64 }
     ensures { result ≡ after_placed st p }
 {
-    let text = p.text;
-    let mut next = st;
-    next.text = text;
-    next.imports = st.imports + p.imports;
-    next.blanks = st.blanks + p.blanks;
-    next
+    Formatter {
+        text: p.text,
+        imports: st.imports + p.imports,
+        blanks: st.blanks + p.blanks,
+        ..st
+    }
 }
 
 // The record after the line that goes on was put into the text. There is one call of `after_placed`, after all ways:
@@ -378,26 +333,20 @@ fn break_line(
         s.level model.now (as_str s.ending) slot.drops (length line.now)
         out.old slot.text result out.new }
 {
-    let ending = s.ending;
-    let t = slot.text;
-    let start = text::continue_text(model, out, t, ending, slot.drops);
+    let start = text::continue_text(model, out, slot.text, s.ending, slot.drops);
     let brace = format::else_line::ends_in_brace(line);
-    let i = split_import(line, class, s, indent, model, out, start);
-    match i {
-        ImportSplit::Split(m) => Placed {
+    match split_import(line, class, s, indent, model, out, start) {
+        Some(m) => Placed {
             text: text::after_lines(m.last, m.next, brace),
             imports: 1,
             blanks: m.blanks,
         },
-        ImportSplit::Whole => {
-            let o = split_operation(line, class, s, indent, model, out, start);
-            match o {
-                OperationSplit::Broken(w) => alone(text::after_lines(w.start, w.next, brace)),
-                OperationSplit::Whole(w) => {
-                    let joins = format::else_line::trimmed_takes_else(line);
-                    alone(text::after_lines(w.start, w.next, joins))
-                }
+        None => match split_operation(line, class, s, indent, model, out, start) {
+            OperationSplit::Broken(w) => alone(text::after_lines(w.start, w.next, brace)),
+            OperationSplit::Whole(w) => {
+                let joins = format::else_line::trimmed_takes_else(line);
+                alone(text::after_lines(w.start, w.next, joins))
             }
-        }
+        },
     }
 }

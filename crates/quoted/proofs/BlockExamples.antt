@@ -1,11 +1,11 @@
 -- A string and a prefab in a protected block, computed.
+use Rattle.std.specs.Prelude.{None}
 use mathlib.Core.List.{List, [], ◌∷◌}
 use mathlib.Core.Path.{◌≡◌, refl}
 use Prim.Native.Nat.{ℕ}
 use Rattle.rules.specs.Basics.{codes}
 use Rattle.rules.specs.Assembly.{format_with}
 use Rattle.rules.specs.Quoted.{quoted_of}
-use Rattle.rules.specs.declared.PrintWidth.{PrintWidth}
 use Rattle.rules.proofs.Computing.{computing}
 use Rattle.rules.proofs.Examples.{with_width}
 
@@ -19,7 +19,7 @@ in_block_law : quoted_of source
 unfolding computing
 in_block_law = refl
 
-kept : (format_with (with_width PrintWidth.Off) source).text
+kept : (format_with (with_width None) source).text
     ≡ codes "// fmt-ignore\n{\n  f( \"a  b\"  ,c)\n$```\n  d \n```}\ng( \"e  f\", h)\n"
 unfolding computing
 kept = refl

@@ -1,5 +1,6 @@
 -- How a line of the source is written where no print width is set: as it stands, as a blank line or not at all, behind
 -- an indent, or joined.
+use Rattle.std.specs.Prelude.{None}
 use Prim.Native.Nat.{ℕ}
 use mathlib.Core.Bool.{Bool, true}
 use mathlib.Core.List.{List, [], ◌∷◌, ◌++◌, reverse_aux}
@@ -7,7 +8,7 @@ use mathlib.Core.Path.{◌≡◌, refl, sym, ap, ◌∙◌}
 use Rattle.utf8.specs.Unicode.{trim}
 use Rattle.utf8.proofs.Trim.{White}
 use Rattle.rules.specs.Basics.{choose, is_empty}
-use Rattle.rules.specs.Options.{Options, indent_of}
+use Rattle.rules.specs.Options.{Options, indent_of, PrintWidth}
 use Rattle.rules.specs.Scan.{classify, carry_after, final}
 use Rattle.rules.specs.Spacing.{respaced}
 use Rattle.rules.specs.Words.{is_marker}
@@ -15,7 +16,6 @@ use Rattle.rules.specs.Else.{join_else}
 use Rattle.rules.specs.SplitImport.{Laid}
 use Rattle.rules.specs.Line.{Formatter, scanned_part, kept_line, as_written, inside_line, blank_line, protected_line, else_line, lines_before, level_of, one_line, may_split, split_wide, laid, placed_line, spaced_line, code_line, in_code_now, any_line, format_line}
 use Rattle.rules.specs.declared.Carry.{Carry}
-use Rattle.rules.specs.declared.PrintWidth.{PrintWidth}
 use Rattle.rules.proofs.Choose.{choose_case}
 use Rattle.rules.proofs.StartsBytes.{choose_both}
 use Rattle.rules.proofs.SplitOperationLaws.{white_indent}
@@ -53,7 +53,7 @@ scanned_carry Carry.Code raw = carry_trim raw
 scanned_carry (Carry.Block d) raw = refl
 scanned_carry Carry.Prefab raw = refl
 
-module _ (o : Options) (off : o.print_width ≡ PrintWidth.Off) (white : White o.indent) (f : Formatter) (raw : List ℕ) where
+module _ (o : Options) (off : o.print_width ≡ None) (white : White o.indent) (f : Formatter) (raw : List ℕ) where
   goes_inside : Goes f raw (inside_line f raw)
   unfolding kept_line
   goes_inside = record { lines = kept f.carry refl; carry = scanned_carry f.carry raw }

@@ -1,6 +1,7 @@
 -- C-22, prefabs: with no print width the lines within each closed prefab follow the line that it opens on.
 --     Opened            the newest lines are those within a prefab, behind the one that it opens on
 --     Closed            a line that is not empty stands behind such lines
+use Rattle.std.specs.Prelude.{None}
 use Prim.Native.Nat.{ℕ}
 use mathlib.Core.Bool.{true, false, ◌&&◌}
 use mathlib.Core.Logic.{inl, inr}
@@ -22,7 +23,6 @@ use Rattle.rules.specs.declared.Carry.{Carry}
 use Rattle.rules.specs.declared.LineEnding.{LineEnding}
 use Rattle.rules.specs.declared.Mark.{Mark}
 use Rattle.rules.specs.declared.Mode.{Mode}
-use Rattle.rules.specs.declared.PrintWidth.{PrintWidth}
 use Rattle.rules.proofs.Choose.{choose_case}
 use Rattle.rules.proofs.Struck.{Like, like_refl, ◌then◌, like_append, like_after, flatten_back, kept_like}
 use Rattle.rules.proofs.SpacingLaws.{all_white}
@@ -123,7 +123,7 @@ reverse_snoc : (ls : List (List ℕ)) (l : List ℕ) (acc : List (List ℕ))
 reverse_snoc [] l acc = refl
 reverse_snoc (m ∷ ls) l acc = reverse_snoc ls l (m ∷ acc)
 
-module _ (o : Options) (off : o.print_width ≡ PrintWidth.Off) (white : White o.indent) where
+module _ (o : Options) (off : o.print_width ≡ None) (white : White o.indent) where
   prefab_line : (f : Formatter) (raw : List ℕ) → f.carry ≡ Carry.Prefab → (format_line o f raw).lines ≡ raw ∷ f.lines
   unfolding format_line any_line kept_line
   prefab_line f raw e =
@@ -286,7 +286,7 @@ module _ (eol : List ℕ) (white : White eol) where
       follows_more (joined eol (drop_empty ls)) r p
       (follows_lines (drop_empty ls) p (among_empty (Closed p) (closed_lasts p) ls h))
 
-pub prefabs_follow : (o : Options) → all_blank o.indent ≡ true → o.print_width ≡ PrintWidth.Off → (source : List ℕ)
+pub prefabs_follow : (o : Options) → all_blank o.indent ≡ true → o.print_width ≡ None → (source : List ℕ)
     → All (Follows (as_str (ending_of o.end_of_line source)) (format_with o source).text) (prefabs_of source)
 unfolding format_with finish format_lines lines_of prefabs_of flatten_back NowOf
 prefabs_follow o h off source =

@@ -1,4 +1,5 @@
 -- C-22, strings: with no print width each string that is closed on its line stands in the text.
+use Rattle.std.specs.Prelude.{None}
 use Prim.Native.Nat.{ℕ}
 use mathlib.Core.Bool.{true}
 use mathlib.Core.List.{List, [], ◌∷◌, ◌++◌, map, foldl, flatten, append_assoc, append-nil}
@@ -14,7 +15,6 @@ use Rattle.rules.specs.Assembly.{ending_of, last_ending, finish, format_lines, f
 use Rattle.rules.specs.Quoted.{Quoted, quoted_in, quoted_from, quoted_of, Stands, All}
 use Rattle.rules.specs.declared.Carry.{Carry}
 use Rattle.rules.specs.declared.LineEnding.{LineEnding}
-use Rattle.rules.specs.declared.PrintWidth.{PrintWidth}
 use Rattle.rules.proofs.Struck.{like_eq, like_refl, like_sym, ◌then◌, like_append, like_after, flatten_back, kept_like, kept_from}
 use Rattle.rules.proofs.SpacingLaws.{all_white}
 use Rattle.rules.proofs.LineLaws.{Holds, holds_lines}
@@ -35,7 +35,7 @@ holds_next o white l b f h =
     (like_eq (append-nil (drop_cr l)) then like_drop_cr l then like_sym (like_after (codes "\n") l (refl, tt))))
     (holds_lines o white (drop_cr l ∷ []) b f h)
 
-module _ (o : Options) (off : o.print_width ≡ PrintWidth.Off) (white : White o.indent) where
+module _ (o : Options) (off : o.print_width ≡ None) (white : White o.indent) where
   all_lines : (ls : List (List ℕ)) (b : List ℕ) (f : Formatter) → Holds o b f → (xs : List Quoted)
       → All (In f.lines) xs
       → All (In (foldl (format_line o) f (map drop_cr ls)).lines) (xs ++ quoted_from b f.carry ls)
@@ -58,7 +58,7 @@ module _ (o : Options) (off : o.print_width ≡ PrintWidth.Off) (white : White o
       ∙ append_assoc xs here (quoted_from c (carry_after f.carry raw) ls)) r
 
 -- every string that is closed on its line stands in the text, in its place
-pub strings_stand : (o : Options) → all_blank o.indent ≡ true → o.print_width ≡ PrintWidth.Off → (source : List ℕ)
+pub strings_stand : (o : Options) → all_blank o.indent ≡ true → o.print_width ≡ None → (source : List ℕ)
     → All (Stands (format_with o source).text) (quoted_of source)
 unfolding format_with finish format_lines lines_of quoted_of flatten_back
 strings_stand o h off source =

@@ -48,22 +48,22 @@ fn order_then(c: u32, d: u32, order: u8) -> u8
     order
 }
 
+#[tactic(auto, unfolding(rules::specs::Basics::choose, crate::specs::Slots::not_above))]
 fn not_above(minus: bool, none: bool, order: u8) -> bool
     ensures { result ≡ not_above minus none order }
 {
     if minus {
-        return none & (order == 1);
+        none & (order == 1)
+    } else {
+        order <= 1
     }
-    order <= 1
 }
 
+#[tactic(auto, unfolding(rules::specs::Basics::choose, crate::specs::Slots::not_below))]
 fn not_below(minus: bool, order: u8) -> bool
     ensures { result ≡ not_below minus order }
 {
-    if minus {
-        return true;
-    }
-    1 <= order
+    if minus { true } else { 1 <= order }
 }
 
 // Whether a number is in a range, by its orders o and q against the ends, of signs a and b; x and y say which of them
@@ -78,13 +78,11 @@ fn inside(a: bool, x: bool, b: bool, y: bool, o: u8, q: u8) -> bool
     (above_first & below_second) | (above_second & below_first)
 }
 
+#[tactic(auto, unfolding(rules::specs::Basics::choose))]
 fn whole_of(high: bool, order: u8) -> u8
     ensures { result ≡ whole_of high order }
 {
-    if high {
-        return 0;
-    }
-    order
+    if high { 0 } else { order }
 }
 
 // The slot above `slot`, where d and e are the digits of the ends there.
@@ -131,8 +129,7 @@ fn turned(e: End) -> End
 {
     End {
         minus: !e.minus,
-        end: e.end,
-        digits: e.digits,
+        ..e
     }
 }
 
@@ -140,13 +137,10 @@ fn turned(e: End) -> End
 fn opposite(range: Range) -> Range
     ensures { result ≡ opposite range }
 {
-    let first = turned(range.first);
-    let second = turned(range.second);
-    let width = range.width;
     Range {
-        first,
-        second,
-        width,
+        first: turned(range.first),
+        second: turned(range.second),
+        width: range.width,
     }
 }
 
@@ -155,13 +149,11 @@ fn digit_at(chars: &[u32], e: End, j: usize) -> u32
     requires { (e.digits ≤ e.end) × (e.end ≤ length chars.now) }
     ensures { result ≡ get_or (lows chars.now e.end e.digits) j 48 }
 {
-    let end = e.end;
-    let digits = e.digits;
-    if j < digits {
-        let i = end - 1 - j;
-        return chars[i];
+    if j < e.digits {
+        chars[e.end - 1 - j]
+    } else {
+        48
     }
-    48
 }
 
 // The slots of the range at p, one character more of the path: each is moved one up, the highest first.
@@ -170,15 +162,10 @@ fn slots_next(chars: &[u32], slots: &mut [u8; 1026], p: usize, range: Range, c: 
         (length chars.now < 1026) }
     ensures { Moved chars.now p range c slots.old slots.new }
 {
-    let first = range.first;
-    let second = range.second;
-    let mut j = range.width;
-    while 0 < j {
-        let below = j - 1;
-        let d = digit_at(chars, first, below);
-        let e = digit_at(chars, second, below);
-        slots[p + j] = slot_next(slots[p + below], c, d, e);
-        j = below;
+    for j in (0..range.width).rev() {
+        let d = digit_at(chars, range.first, j);
+        let e = digit_at(chars, range.second, j);
+        slots[p + j + 1] = slot_next(slots[p + j], c, d, e);
     }
 }
 
@@ -187,13 +174,10 @@ fn any_slot(slots: &[u8; 1026], p: usize, range: Range) -> bool
     requires { (p + range.width < 1026) × (p + range.width < length slots.now) }
     ensures { result ≡ any_slot range slots.now p range.width }
 {
-    let w = range.width;
     let mut found = false;
-    let mut j: usize = 0;
-    while j < w {
-        j += 1;
-        let hit = slot_in(slots[p + j], j, range);
-        found = found | hit;
+    for below in 0..range.width {
+        let j = below + 1;
+        found |= slot_in(slots[p + j], j, range);
     }
     found
 }
@@ -211,13 +195,11 @@ fn far_next(range: Range, last: u8, far: Near, c: u32) -> Near
     }
 }
 
+#[tactic(auto, unfolding(rules::specs::Basics::choose, crate::specs::Ranges::flag_of))]
 fn flag(b: bool) -> u8
     ensures { result ≡ flag_of b }
 {
-    if b {
-        return 1;
-    }
-    0
+    if b { 1 } else { 0 }
 }
 
 // Past the zeros that a number starts with.
@@ -225,14 +207,12 @@ fn past_zeros(chars: &[u32], from: usize, end: usize) -> usize
     requires { (from ≤ end) × (end ≤ length chars.now) }
     ensures { PastZeros chars.now from end result }
 {
-    let mut i = from;
-    while i < end {
+    for i in from..end {
         if chars[i] != 48 {
             return i;
         }
-        i += 1;
     }
-    i
+    end
 }
 
 // The end of a range that stands at `from` and is n characters long.
@@ -349,11 +329,9 @@ pub fn range_next(chars: &[u32], slots: &mut [u8; 1026], p: usize, next: bool, c
 }
 
 // The slot of no characters: equal to both ends' lowest digits.
+#[tactic(auto, unfolding(rules::specs::Basics::choose, crate::specs::Ranges::first_slot))]
 fn first_slot(next: bool) -> u8
     ensures { result ≡ first_slot next }
 {
-    if next {
-        return 5;
-    }
-    0
+    if next { 5 } else { 0 }
 }

@@ -50,10 +50,16 @@ module _ (list : List ℕ) (at n i : ℕ) (r : Reading list at n i) where
       in
       record { from = omega (arith, r.from); within = omega arith; small = omega arith; same = r.same ∙ e }
 
-  pub reading_end : length list ≤ i → NumberRead list at (record { value = n; next = i })
+  pub reading_end : length list ≤ i → NumberRead list at (record { value = n; next = length list })
   unfolding number_at
   reading_end h =
-      record { is = rw (drop_of_length-le list h) at (sym r.same); from = r.from; fits = r.within; small = r.small }
+      let e : i ≡ length list = omega (arith, r.within) in
+      record {
+        is = rw (← e) (rw (drop_of_length-le list h) at (sym r.same));
+        from = omega (arith, r.from);
+        fits = omega arith;
+        small = r.small;
+      }
 
 pub case_read : (list : List ℕ) (at : ℕ) (source indent answer widthSet width lineEnding finalNewline : Number) → NumberRead list at source → NumberRead list source.next indent
     → NumberRead list indent.next answer → NumberRead list answer.next widthSet → NumberRead list widthSet.next width → NumberRead list width.next lineEnding

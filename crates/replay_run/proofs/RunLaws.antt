@@ -13,10 +13,13 @@ use Rattle.utf8.proofs.Tests.{by_test}
 use Rattle.rules.proofs.Prefix.{same_eq, same_itself}
 use Rattle.buffer.specs.Buffer.{part}
 use Rattle.rules.specs.Basics.{choose, same}
-use Rattle.rules.specs.Call.{Call, outcome_of, answer_of, text_of}
-use Rattle.rules.specs.declared.Answer.{Answer}
-use Rattle.rules.proofs.CallLaws.{Delivered, delivered}
-use Rattle.call.specs.FormatAnswered.{FormatAnswered}
+use Rattle.std.specs.Prelude.{Ok, Err}
+use Rattle.rules.specs.Refusals.{number_of}
+use Rattle.rules.specs.declared.Refusal.{Refusal}
+use Rattle.rules.specs.declared.Formatted.{Formatted}
+use Rattle.rules.proofs.RefusalLaws.{numbered}
+use Rattle.call.specs.Ran.{Ran}
+use Rattle.call.proofs.CallLaws.{text_taken}
 use Rattle.line_ends.specs.LineEnds.{LineEnd}
 use Rattle.replay_run.specs.Stored.{CaseRead, answer_at, end_of}
 use Rattle.replay_run.specs.Replay.{call_in, agrees, agreed, differed, case_size, counted, stepped, replayed, from_start, CountsFit, StepReady, Advanced}
@@ -37,30 +40,15 @@ same_told a b false t =
 
 -- ---- a case beside its answer
 
-module _ (c : Call) (a : Answer) (out list work : List ℕ) (f : FormatAnswered c a out list work) where
-  number_is : (answer_of (outcome_of c)).refusal ≡ a.refusal
-  number_is = ap (λ (b : Answer). b.refusal) (sym f.answer)
-
-  module _ (z : a.refusal ≡ 0) where
-    given : Delivered c (answer_of (outcome_of c)).length (answer_of (outcome_of c)).imports_split (answer_of (outcome_of c)).blank_names
-    given = delivered c (outcome_of c) refl (number_is ∙ z)
-
-    pub text_is : take a.length out ≡ text_of c
-    text_is = rw (f.output, f.answer) given.bytes
-
-    pub text_fits : a.length ≤ length out
-    text_fits =
-        let l : a.length ≡ length (text_of c) = ap (λ (b : Answer). b.length) f.answer ∙ given.long in
-        omega (arith, ap length text_is, length-take a.length out)
-
-module _ (list : List ℕ) (c : Case) (n m : ℕ) (a : Answer) (out opened work : List ℕ) (f : FormatAnswered (call_in list c n m) a out opened work) where
-  pub refused : (a.refusal ≡ 0 → ⊥) → false ≡ agrees list c n m
+module _ (list : List ℕ) (c : Case) (n m : ℕ) (out opened work : List ℕ) where
+  pub refused : (why : Refusal) → Ran (call_in list c n m) (Err why) out opened work → false ≡ agrees list c n m
   unfolding agrees choose
-  refused h = rw (number_is _ a out opened work f, ne_eqb a.refusal 0 h)
+  refused why w = rw (← w.outcome, ne_eqb (number_of why) 0 (numbered why))
 
-  pub told : (r : Bool) → a.refusal ≡ 0 → Tells (take a.length out) (part list (answer_at c) (end_of c)) r → r ≡ agrees list c n m
+  pub told : (t : Formatted) (r : Bool) → Ran (call_in list c n m) (Ok t) out opened work → Tells (take t.length out) (part list (answer_at c) (end_of c)) r
+      → r ≡ agrees list c n m
   unfolding agrees choose
-  told r z t = same_told _ _ r t ∙ rw (text_is _ a out opened work f z, number_is _ a out opened work f, eq-eqb a.refusal 0 z)
+  told t r w k = same_told _ _ r k ∙ rw (text_taken _ t out opened work w, ← w.outcome)
 
 -- ---- one step
 

@@ -27,7 +27,7 @@ impl Progress {
         Progress {
             at: next,
             sources: self.sources + 1,
-            differ: self.differ,
+            ..self
         }
     }
 
@@ -50,10 +50,7 @@ impl Progress {
 
 // Prints that a source differs. Where that can't be written, the count still tells it.
 fn name_source<P: Print>(out: &P, number: usize) {
-    match println!(out; "source {number} differs") {
-        Ok(()) => {}
-        Err(_) => {}
-    }
+    let _ = println!(out; "source {number} differs");
 }
 
 // Whether the case's source gives its answer.
@@ -75,7 +72,7 @@ fn agrees(list: &[u8], c: Case, output: &mut [u8], scratch: &mut [u8]) -> bool
     let mut opened = [0u64; 0];
     let strengths = Strengths::BUILT_IN;
     let table = strengths.table;
-    let answer = call::format_call(
+    let outcome = call::format(
         &list[source..indent],
         &list[indent..stored],
         numbers,
@@ -84,11 +81,10 @@ fn agrees(list: &[u8], c: Case, output: &mut [u8], scratch: &mut [u8]) -> bool
         &mut opened,
         scratch,
     );
-    if answer.refusal != 0 {
-        return false;
+    match outcome {
+        Ok(text) => check::same(&output[..text.length], &list[stored..end]),
+        Err(_) => false,
     }
-    let length = answer.length as usize;
-    check::same(&output[..length], &list[stored..end])
 }
 
 // One comment, or one case. A case that the list's end cuts off differs.
@@ -102,16 +98,11 @@ fn step<P: Print>(
     requires { StepReady list.now p }
     ensures { Advanced list.now (length output.old) (length scratch.old) p result }
 {
-    let at = p.at;
-    if list[at] == b'#' {
-        let end = line_ends::line_end(list, at);
-        return Progress {
-            at: end + 1,
-            sources: p.sources,
-            differ: p.differ,
-        };
+    if list[p.at] == b'#' {
+        let end = line_ends::line_end(list, p.at);
+        return Progress { at: end + 1, ..p };
     }
-    let c = case_at(list, at);
+    let c = case_at(list, p.at);
     let size = c.source + c.indent + c.answer;
     if list.len() - c.from <= size {
         return p.differed(out, list.len());
@@ -133,6 +124,7 @@ pub fn replay<P: Print>(out: &P, list: &[u8], output: &mut [u8], scratch: &mut [
         sources: 0,
         differ: 0,
     };
+    // kept: a range is no plainer, since a step takes a comment or a case, however long
     while p.at < list.len() {
         p = step(out, list, p, output, scratch);
     }

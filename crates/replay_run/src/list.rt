@@ -29,31 +29,20 @@ fn number_at(list: &[u8], at: usize) -> Number
     ensures { NumberRead list.now at result }
 {
     let mut n = 0;
-    let mut i = at;
-    while i < list.len() {
+    for i in at..list.len() {
         let c = list[i];
-        if c < b'0' {
-            return Number {
-                value: n,
-                next: i + 1,
-            };
-        }
-        if b'9' < c {
-            return Number {
-                value: n,
-                next: i + 1,
-            };
-        }
-        if 100000000 <= n {
+        if c < b'0' || b'9' < c || 100000000 <= n {
             return Number {
                 value: n,
                 next: i + 1,
             };
         }
         n = n * 10 + (c - b'0') as usize;
-        i += 1;
     }
-    Number { value: n, next: i }
+    Number {
+        value: n,
+        next: list.len(),
+    }
 }
 
 pub fn case_at(list: &[u8], at: usize) -> Case

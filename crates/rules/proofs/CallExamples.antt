@@ -1,4 +1,5 @@
 -- Calls, text kinds and option steps of document 01 and of its readings, computed.
+use Rattle.std.specs.Prelude.{Bool, Option, Some, None}
 use Prim.Native.Nat.{ℕ, ◌+◌}
 use Prim.Native.String.{String}
 use mathlib.Core.Bool.{true, false}
@@ -10,25 +11,20 @@ use Rattle.rules.specs.Strengths.{built_in}
 use Rattle.rules.specs.Options.{Options, SettingStep, defaults, with_indent, indent_with, spaces, tab}
 use Rattle.rules.specs.Assembly.{format_with, format_wirescript}
 use Rattle.rules.specs.Choices.{Choices, default_numbers, print_width_named, end_of_line_named, final_newline_named, valid_options, options_of}
-use Rattle.rules.specs.Call.{Call, Result, outcome_of, format_call}
+use Rattle.std.specs.Prelude.{Ok, Err}
+use Rattle.rules.specs.Call.{Call, CallResult, Outcome, outcome_of, format_call}
 use Rattle.rules.specs.TextKind.{text_kind_at, kind_outcome_of, kind_number}
 use Rattle.rules.specs.EditorConfig.{with_editor_config}
 use Rattle.rules.specs.Demand3.{strike_white, strike, commas_in}
 use Rattle.rules.specs.declared.Refusal.{Refusal}
-use Rattle.rules.specs.declared.Outcome.{Outcome}
 use Rattle.rules.specs.declared.Answer.{Answer}
 use Rattle.rules.specs.declared.TextKind.{TextKind}
-use Rattle.rules.specs.declared.KindOutcome.{KindOutcome}
 use Rattle.rules.specs.declared.LineEnding.{LineEnding}
-use Rattle.rules.specs.declared.EndOfLine.{EndOfLine}
-use Rattle.rules.specs.declared.PrintWidth.{PrintWidth}
 use Rattle.rules.specs.declared.FinalNewline.{FinalNewline}
 use Rattle.rules.specs.declared.IndentStyle.{IndentStyle}
 use Rattle.rules.specs.declared.IndentSize.{IndentSize}
-use Rattle.rules.specs.declared.TabWidth.{TabWidth}
 use Rattle.rules.specs.declared.MaxLineLen.{MaxLineLen}
 use Rattle.rules.specs.declared.ConfigEnding.{ConfigEnding}
-use Rattle.rules.specs.declared.InsertFinalNewline.{InsertFinalNewline}
 use Rattle.rules.specs.declared.Resolved.{Resolved}
 use Rattle.rules.proofs.Computing.{computing}
 
@@ -97,37 +93,37 @@ defaults_valid = refl
 
 -- format_wirescript is what the default numbers and an indent give
 pub wirescript_choices : (indent source : List ℕ) → format_with (options_of (plainly indent)) source ≡ format_wirescript indent source
-unfolding options_of print_width_named end_of_line_named final_newline_named
+unfolding options_of
 wirescript_choices indent source = refl
 
 abbrev fine : ℕ → Outcome
-fine len = Outcome.Formatted len 0 0 0
+fine len = Ok (record { length = len; imports_split = 0; blank_names = 0; open_brackets = 0 })
 
 abbrev bad : Outcome
-bad = Outcome.Refused Refusal.BadOption
+bad = Err Refusal.BadOption
 
 abbrev wide : Outcome
-wide = Outcome.Refused Refusal.RulerTooWide
+wide = Err Refusal.RulerTooWide
 
 abbrev pub calls : List (Call × Outcome)
 calls =
     -- the output: the exact length fits, one less is refused with that length
     (plain (codes "f(a ,b)") 340 8, fine 8)
-    ∷ (plain (codes "f(a ,b)") 340 7, Outcome.Refused (Refusal.OutputShort 8))
+    ∷ (plain (codes "f(a ,b)") 340 7, Err (Refusal.OutputShort 8))
     -- blanks that are dropped at the end don't count, nor what an `else` cuts off (reading 40)
     ∷ (plain (codes "a\n\n\n") 400 2, fine 2)
-    ∷ (plain (codes "a\n\n\n") 400 1, Outcome.Refused (Refusal.OutputShort 2))
+    ∷ (plain (codes "a\n\n\n") 400 1, Err (Refusal.OutputShort 2))
     ∷ (plain (codes "// fmt-ignore\n}                          \nelse") 808 21, fine 21)
-    ∷ (plain (codes "// fmt-ignore\n}                          \nelse") 808 20, Outcome.Refused (Refusal.OutputShort 21))
+    ∷ (plain (codes "// fmt-ignore\n}                          \nelse") 808 20, Err (Refusal.OutputShort 21))
     -- lengths are in bytes, width in UTF-16 units
     ∷ (call (0x22 ∷ 0xF0 ∷ 0x9F ∷ 0x98 ∷ 0x80 ∷ codes "\" + b") (codes "  ") 1 7 0 1 400 13, fine 13)
     ∷ (call (0x22 ∷ 0xF0 ∷ 0x9F ∷ 0x98 ∷ 0x80 ∷ codes "\" + b") (codes "  ") 1 8 0 1 400 13, fine 11)
     -- the scratch: 12 times 7 and 256
-    ∷ (plain (codes "f(a ,b)") 339 8, Outcome.Refused (Refusal.ScratchShort 340))
+    ∷ (plain (codes "f(a ,b)") 339 8, Err (Refusal.ScratchShort 340))
     -- not UTF-8
-    ∷ (plain (0xFF ∷ []) 268 8, Outcome.Refused (Refusal.NotUtf8 0))
-    ∷ (plain (0x61 ∷ 0xE2 ∷ 0x82 ∷ []) 292 8, Outcome.Refused (Refusal.NotUtf8 1))
-    ∷ (plain (0x61 ∷ 0xED ∷ 0xA0 ∷ 0x80 ∷ []) 304 8, Outcome.Refused (Refusal.NotUtf8 1))
+    ∷ (plain (0xFF ∷ []) 268 8, Err (Refusal.NotUtf8 0))
+    ∷ (plain (0x61 ∷ 0xE2 ∷ 0x82 ∷ []) 292 8, Err (Refusal.NotUtf8 1))
+    ∷ (plain (0x61 ∷ 0xED ∷ 0xA0 ∷ 0x80 ∷ []) 304 8, Err (Refusal.NotUtf8 1))
     -- options
     ∷ (call [] (codes "q") 1 100 0 1 256 1, bad)
     ∷ (call [] (spaces 65) 1 100 0 1 256 1, bad)
@@ -144,15 +140,15 @@ calls =
     ∷ (ruled 17 (0xFF ∷ []) [] 0, wide)
     ∷ (ruled 17 [] (codes "q") 256, bad)
     -- a table of strengths: its length, then its last four bits, before everything else
-    ∷ (loaded (take 10 built_in) [] 256 1, Outcome.Refused Refusal.StrengthsLength)
-    ∷ (loaded (built_in ++ (0 ∷ [])) [] 256 1, Outcome.Refused Refusal.StrengthsLength)
-    ∷ (loaded [] (0xFF ∷ []) 0 0, Outcome.Refused Refusal.StrengthsLength)
-    ∷ (loaded (take 10 built_in ++ (0xC1 ∷ [])) (0xFF ∷ []) 0 0, Outcome.Refused Refusal.StrengthsBits)
+    ∷ (loaded (take 10 built_in) [] 256 1, Err Refusal.StrengthsLength)
+    ∷ (loaded (built_in ++ (0 ∷ [])) [] 256 1, Err Refusal.StrengthsLength)
+    ∷ (loaded [] (0xFF ∷ []) 0 0, Err Refusal.StrengthsLength)
+    ∷ (loaded (take 10 built_in ++ (0xC1 ∷ [])) (0xFF ∷ []) 0 0, Err Refusal.StrengthsBits)
     ∷ (loaded (replicate 11 0xF0) [] 256 1, fine 1)
     -- the first that applies is given
     ∷ (call (0xFF ∷ []) (codes "q") 1 100 0 1 0 0, bad)
-    ∷ (plain (0xFF ∷ []) 267 0, Outcome.Refused (Refusal.ScratchShort 268))
-    ∷ (plain (0xFF ∷ []) 268 0, Outcome.Refused (Refusal.NotUtf8 0))
+    ∷ (plain (0xFF ∷ []) 267 0, Err (Refusal.ScratchShort 268))
+    ∷ (plain (0xFF ∷ []) 268 0, Err (Refusal.NotUtf8 0))
     ∷ []
 
 pub outcomes : map (λ (c : Call × Outcome). outcome_of c.0) calls ≡ map (λ (c : Call × Outcome). c.1) calls
@@ -160,11 +156,11 @@ unfolding computing
 outcomes = refl
 
 -- the longest source passes refusal 1, and one byte more does not
-pub longest : (s : List ℕ) → length s ≡ 1048576 → outcome_of (plain s 12583167 0) ≡ Outcome.Refused (Refusal.ScratchShort 12583168)
+pub longest : (s : List ℕ) → length s ≡ 1048576 → outcome_of (plain s 12583167 0) ≡ Err (Refusal.ScratchShort 12583168)
 unfolding computing
 longest s e = rw e
 
-pub too_long_law : (s : List ℕ) → length s ≡ 1048577 → outcome_of (plain s 12583180 0) ≡ Outcome.Refused Refusal.SourceTooLong
+pub too_long_law : (s : List ℕ) → length s ≡ 1048577 → outcome_of (plain s 12583180 0) ≡ Err Refusal.SourceTooLong
 unfolding computing
 too_long_law s e = rw e
 
@@ -172,7 +168,7 @@ abbrev answer : ℕ → ℕ → ℕ → ℕ → ℕ → Answer
 answer refusal place len imports blanks =
     record { refusal = refusal; place = place; length = len; imports_split = imports; blank_names = blanks; open_brackets = 0 }
 
-abbrev left : Answer → List ℕ → ℕ → Result
+abbrev left : Answer → List ℕ → ℕ → CallResult
 left a output scratch = record { answer = a; output = output; opened = []; scratch = replicate scratch 0 }
 
 -- the answer, the output and the scratch: the text, then zeros, or zeros alone
@@ -263,10 +259,10 @@ kinds_read = refl
 
 pub kind_refusals :
     kind_outcome_of (codes "//") 0 0 272 ∷ kind_outcome_of (codes "//") 0 0 271 ∷ kind_outcome_of (0x61 ∷ 0xFF ∷ []) 0 0 271 ∷ kind_outcome_of (0x61 ∷ 0xFF ∷ []) 0 0 272 ∷ []
-    ≡ KindOutcome.Found TextKind.Comment
-    ∷ KindOutcome.Refused (Refusal.ScratchShort 272)
-    ∷ KindOutcome.Refused (Refusal.ScratchShort 272)
-    ∷ KindOutcome.Refused (Refusal.NotUtf8 1)
+    ≡ Ok TextKind.Comment
+    ∷ Err (Refusal.ScratchShort 272)
+    ∷ Err (Refusal.ScratchShort 272)
+    ∷ Err (Refusal.NotUtf8 1)
     ∷ []
 unfolding computing
 kind_refusals = refl
@@ -289,45 +285,45 @@ unfolding computing
 indents = refl
 
 -- only the indent is set
-abbrev sized : IndentStyle → IndentSize → TabWidth → Resolved
+abbrev sized : Option IndentStyle → Option IndentSize → Option ℕ → Resolved
 sized style size width =
     record {
       style = style;
       size = size;
       tab = width;
-      max = MaxLineLen.Unset;
-      ending = ConfigEnding.Unset;
-      newline = InsertFinalNewline.Unset;
+      max = None;
+      ending = None;
+      newline = None;
     }
 
-abbrev rest : MaxLineLen → ConfigEnding → InsertFinalNewline → Resolved
+abbrev rest : Option MaxLineLen → Option ConfigEnding → Option Bool → Resolved
 rest max ending newline =
-    record { style = IndentStyle.Unset; size = IndentSize.Unset; tab = TabWidth.Unset; max = max; ending = ending; newline = newline }
+    record { style = None; size = None; tab = None; max = max; ending = ending; newline = newline }
 
 abbrev pub steps : List (Options × Resolved × SettingStep)
 steps =
     -- reading 42: the size is the resolved one; size 0 gives an empty indent
-    (defaults, sized IndentStyle.Unset (IndentSize.Value 4) (TabWidth.Value 65), changed (with_indent defaults (spaces 4)))
-    ∷ (defaults, sized IndentStyle.Tabs (IndentSize.Value 65) TabWidth.Unset, refused_step)
-    ∷ (defaults, sized IndentStyle.Spaces (IndentSize.Value 0) TabWidth.Unset, changed (with_indent defaults []))
+    (defaults, sized None (Some (IndentSize.Value 4)) (Some 65), changed (with_indent defaults (spaces 4)))
+    ∷ (defaults, sized (Some IndentStyle.Tabs) (Some (IndentSize.Value 65)) None, refused_step)
+    ∷ (defaults, sized (Some IndentStyle.Spaces) (Some (IndentSize.Value 0)) None, changed (with_indent defaults []))
     -- tab_width where indent_size is no number
-    ∷ (defaults, sized IndentStyle.Unset IndentSize.UseTabWidth (TabWidth.Value 3), changed (with_indent defaults (spaces 3)))
-    ∷ (defaults, sized IndentStyle.Unset IndentSize.Unset (TabWidth.Value 65), refused_step)
+    ∷ (defaults, sized None (Some IndentSize.UseTabWidth) (Some 3), changed (with_indent defaults (spaces 3)))
+    ∷ (defaults, sized None None (Some 65), refused_step)
     -- tabs give one tab; spaces the size, else 4 after a tab, else the old length
-    ∷ (defaults, sized IndentStyle.Tabs (IndentSize.Value 8) TabWidth.Unset, changed tabbed)
-    ∷ (tabbed, sized IndentStyle.Spaces IndentSize.Unset TabWidth.Unset, changed (with_indent defaults (spaces 4)))
-    ∷ (with_indent defaults (codes " \t "), sized IndentStyle.Spaces IndentSize.Unset TabWidth.Unset, changed (with_indent defaults (spaces 3)))
+    ∷ (defaults, sized (Some IndentStyle.Tabs) (Some (IndentSize.Value 8)) None, changed tabbed)
+    ∷ (tabbed, sized (Some IndentStyle.Spaces) None None, changed (with_indent defaults (spaces 4)))
+    ∷ (with_indent defaults (codes " \t "), sized (Some IndentStyle.Spaces) None None, changed (with_indent defaults (spaces 3)))
     -- with no style a size leaves a tab
-    ∷ (tabbed, sized IndentStyle.Unset (IndentSize.Value 8) TabWidth.Unset, changed tabbed)
+    ∷ (tabbed, sized None (Some (IndentSize.Value 8)) None, changed tabbed)
     -- `cr` and unset values change nothing, `off` gives no width
-    ∷ (defaults, rest MaxLineLen.Unset ConfigEnding.Cr InsertFinalNewline.Unset, changed defaults)
+    ∷ (defaults, rest None (Some ConfigEnding.Cr) None, changed defaults)
     ∷ (
       defaults,
-      rest MaxLineLen.Off ConfigEnding.CrLf (InsertFinalNewline.Value false),
+      rest (Some MaxLineLen.Off) (Some ConfigEnding.CrLf) (Some false),
       changed (record {
         indent = defaults.indent;
-        print_width = PrintWidth.Off;
-        end_of_line = EndOfLine.Set LineEnding.Crlf;
+        print_width = None;
+        end_of_line = Some LineEnding.Crlf;
         insert_final_newline = FinalNewline.Never;
         ruler_tab = 0;
         strengths = defaults.strengths;

@@ -20,10 +20,9 @@ use Rattle.rules.specs.Basics.{is, cons_if, keep}
 use Rattle.rules.specs.Demand3.{is_kept, strike, Kept}
 use Rattle.rules.specs.Options.{all_blank, valid_indent, max_indent, max_ruler}
 use Rattle.rules.specs.Choices.{Choices, valid_options, options_of}
-use Rattle.rules.specs.Refusals.{tested, short_output}
-use Rattle.rules.specs.Call.{Call, formatted, text_of, format_scratch, format_tests, verdict_of, outcome_after, outcome_of, answer_of, filled, output_for, output_of}
-use Rattle.rules.specs.declared.Verdict.{Verdict}
-use Rattle.rules.specs.declared.Outcome.{Outcome}
+use Rattle.std.specs.Prelude.{Ok, Err}
+use Rattle.rules.specs.Refusals.{Verdict, scratch_needed, tested, wrong_length, bits_set, long_source, bad_option, wide_ruler, short_scratch, ill_formed, short_output}
+use Rattle.rules.specs.Call.{Call, Outcome, formatted, text_of, format_scratch, format_tests, verdict_of, outcome_after, outcome_of, answer_of, filled, output_for, output_of}
 use Rattle.rules.specs.declared.Answer.{Answer}
 use Rattle.rules.proofs.RefusalLaws.{numbered, Readable, readable, option_good, ruler_fits, output_fits, head_passed, tail_passed, front_passed, back_passed}
 use Rattle.rules.proofs.Demand3.{demand3}
@@ -92,23 +91,43 @@ pub record Admitted (source : List ℕ) (choices : Choices) (scratch : ℕ) : Ty
   pub reads : Readable format_scratch source scratch
 
 pub admitted : (source : List ℕ) (choices : Choices) (scratch : ℕ)
-    → tested (format_tests choices.strengths source (not (valid_options choices)) choices.numbers.ruler_tab scratch) ≡ Verdict.Accepted
+    → tested (format_tests choices.strengths source (not (valid_options choices)) choices.numbers.ruler_tab scratch) ≡ Ok tt
     → Admitted source choices scratch
 admitted source choices scratch e =
-    let t = tail_passed _ _ (tail_passed _ _ e) in
-    let r = tail_passed _ _ t in
-    let s = tail_passed _ _ r in
+    let t = back_passed table_tests (long ∷ option ∷ ruled ∷ bytes) e in
+    let r = tail_passed long (option ∷ ruled ∷ bytes) t in
+    let s = tail_passed option (ruled ∷ bytes) r in
     record {
-      valid = not-false (valid_options choices) (option_good _ (head_passed _ _ r));
-      ruler = ruler_fits _ (head_passed _ _ s);
-      reads = readable format_scratch source scratch (head_passed _ _ t) (tail_passed _ _ s);
+      valid = not-false (valid_options choices) (option_good _ (head_passed option (ruled ∷ bytes) r));
+      ruler = ruler_fits _ (head_passed ruled bytes s);
+      reads = readable format_scratch source scratch (head_passed long (option ∷ ruled ∷ bytes) t) (tail_passed ruled bytes s);
     }
+  where
+    table_tests : List Verdict
+    table_tests = wrong_length choices.strengths ∷ bits_set choices.strengths ∷ []
+
+    long : Verdict
+    long = long_source source
+
+    option : Verdict
+    option = bad_option (not (valid_options choices))
+
+    ruled : Verdict
+    ruled = wide_ruler choices.numbers.ruler_tab
+
+    bytes : List Verdict
+    bytes = short_scratch (scratch_needed format_scratch source) scratch ∷ ill_formed source ∷ []
 
 -- r is the outcome of c, and no refusal
 pub record Accepted (c : Call) (r : Outcome) : Type 0 where
   pub admits : Admitted c.source c.choices c.scratch
   pub fits : length (text_of c) ≤ c.output
-  pub outcome : r ≡ Outcome.Formatted (length (text_of c)) (formatted c).imports_split (formatted c).blank_names (length (formatted c).open_brackets)
+  pub outcome : r ≡ Ok (record {
+    length = length (text_of c);
+    imports_split = (formatted c).imports_split;
+    blank_names = (formatted c).blank_names;
+    open_brackets = length (formatted c).open_brackets;
+  })
 
 pub accepted : (c : Call) → (answer_of (outcome_of c)).refusal ≡ 0 → Accepted c (outcome_of c)
 unfolding outcome_of verdict_of
@@ -125,13 +144,13 @@ accepted c = go (verdict_of c) refl
     given v = outcome_after v (length (text_of c)) (formatted c)
 
     go : (v : Verdict) → tested (tests ++ last) ≡ v → (answer_of (given v)).refusal ≡ 0 → Accepted c (given v)
-    go Verdict.Accepted e z =
+    go (Ok _) e z =
         record {
           admits = admitted c.source c.choices c.scratch (front_passed tests last e);
-          fits = output_fits (length (text_of c)) c.output (head_passed _ _ (back_passed tests last e));
+          fits = output_fits (length (text_of c)) c.output (head_passed (short_output (length (text_of c)) c.output) [] (back_passed tests last e));
           outcome = refl;
         }
-    go (Verdict.Refused r) e z = absurd (numbered r z)
+    go (Err r) e z = absurd (numbered r z)
 
 first_of_four : (a b c d : Bool) → (a && b && c && d) ≡ true → a ≡ true
 first_of_four true b c d h = refl

@@ -1,12 +1,12 @@
 -- The cases P1 to P11 of document 01 as one list of the rules' results, its further cases, and open brackets (C-20).
+use Rattle.std.specs.Prelude.{Some}
 use mathlib.Core.Path.{◌≡◌, refl}
 use Prim.Native.Nat.{ℕ}
 use Prim.Native.String.{String}
 use mathlib.Core.List.{List, [], ◌∷◌, map}
 use Rattle.rules.specs.Basics.{codes}
-use Rattle.rules.specs.Options.{Options, defaults}
+use Rattle.rules.specs.Options.{Options, defaults, PrintWidth}
 use Rattle.rules.specs.Assembly.{format_with}
-use Rattle.rules.specs.declared.PrintWidth.{PrintWidth}
 use Rattle.rules.specs.declared.FinalNewline.{FinalNewline}
 use Rattle.rules.proofs.Computing.{computing}
 
@@ -26,7 +26,7 @@ with_width w =
     }
 
 abbrev pub at_width : ℕ → Options
-at_width n = with_width (PrintWidth.Columns n)
+at_width n = with_width (Some n)
 
 abbrev ending : FinalNewline → Options
 ending n =

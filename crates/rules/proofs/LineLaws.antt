@@ -1,4 +1,5 @@
 -- Each line of the source is kept: the invariant of the formatter's record.
+use Rattle.std.specs.Prelude.{Some, None}
 use Prim.Native.Nat.{ℕ}
 use native.Mathlib.Omega.{arith}
 use mathlib.Core.Bool.{Bool, true}
@@ -9,7 +10,7 @@ use Rattle.utf8.specs.Unicode.{is_white, trim}
 use Rattle.utf8.proofs.Trim.{White}
 use Rattle.rules.specs.Basics.{codes, is_empty}
 use Rattle.rules.specs.Demand3.{Kept}
-use Rattle.rules.specs.Options.{Options, indent_of}
+use Rattle.rules.specs.Options.{Options, indent_of, PrintWidth}
 use Rattle.rules.specs.Scan.{classify}
 use Rattle.rules.specs.Spacing.{normalize_spacing}
 use Rattle.rules.specs.Words.{is_marker}
@@ -18,7 +19,6 @@ use Rattle.rules.specs.SplitImport.{Laid, split_import}
 use Rattle.rules.specs.Line.{Formatter, as_written, kept_line, inside_line, blank_line, protected_line, else_line, drop_blank, lines_before, level_of, one_line, or_operation, broken, split_wide, laid, placed_line, spaced_line, code_line, any_line, format_line}
 use Rattle.rules.specs.Strengths.{strengths_in}
 use Rattle.rules.specs.declared.Carry.{Carry}
-use Rattle.rules.specs.declared.PrintWidth.{PrintWidth}
 use Rattle.rules.proofs.Choose.{choose_case}
 use Rattle.rules.proofs.Struck.{Like, like_eq, like_refl, ◌then◌, like_append, like_before, like_trim, like_trim_end, flatten_back, flatten_back_reverse, kept_like, kept_append, kept_from, kept_to, kept_counts}
 use Rattle.rules.proofs.ScanBytes.{chars_classify}
@@ -33,12 +33,12 @@ module _ (o : Options) (white : White o.indent) where
   unfolding flatten
   kept_one w level line = kept_like (like_eq (append-nil (indent_of o level ++ line)) then like_indent o white level line)
 
-  kept_or : (r : Option Laid) (max level : ℕ) (line : List ℕ) → Split max line r → LaidKept (PrintWidth.Columns max) line (or_operation r o max level line)
+  kept_or : (r : Option Laid) (max level : ℕ) (line : List ℕ) → Split max line r → LaidKept (Some max) line (or_operation r o max level line)
   unfolding or_operation
   kept_or none max level line h = kept_like (like_operation (strengths_in o.strengths.table) o max level white line)
   kept_or (some l) max level line h = h
 
-  kept_broken : (max level : ℕ) (line : List ℕ) → LaidKept (PrintWidth.Columns max) line (broken o max level line)
+  kept_broken : (max level : ℕ) (line : List ℕ) → LaidKept (Some max) line (broken o max level line)
   unfolding broken
   kept_broken max level line =
       kept_or (split_import o max level (classify Carry.Code line)) max level line
@@ -46,9 +46,9 @@ module _ (o : Options) (white : White o.indent) where
 
   kept_split : (w : PrintWidth) (level : ℕ) (line : List ℕ) → LaidKept w line (split_wide w o level line)
   unfolding split_wide
-  kept_split PrintWidth.Off level line = kept_one PrintWidth.Off level line
-  kept_split (PrintWidth.Columns max) level line =
-      choose_case (LaidKept (PrintWidth.Columns max) line) (λ t. kept_broken max level line) (λ t. kept_one (PrintWidth.Columns max) level line)
+  kept_split None level line = kept_one None level line
+  kept_split (Some max) level line =
+      choose_case (LaidKept (Some max) line) (λ t. kept_broken max level line) (λ t. kept_one (Some max) level line)
 
   kept_laid : (f : Formatter) (marker : Bool) (line : List ℕ) → LaidKept o.print_width line (laid o f marker line)
   unfolding laid

@@ -1,5 +1,6 @@
 -- Each of the operators, read: an operator of the list that `top_level_ops` didn't know would fail here. Tables of
 -- strengths, read.
+use Rattle.std.specs.Prelude.{Some}
 use mathlib.Core.List.{List, [], ◌∷◌, map, ◌++◌}
 use mathlib.Core.Path.{◌≡◌, refl}
 use Prim.Native.Nat.{ℕ}
@@ -13,7 +14,6 @@ use Rattle.rules.specs.Options.{defaults}
 use Rattle.rules.specs.SplitOperation.{top_level_ops, loosest}
 use Rattle.rules.specs.Assembly.{format_with}
 use Rattle.rules.specs.declared.Carry.{Carry}
-use Rattle.rules.specs.declared.PrintWidth.{PrintWidth}
 use Rattle.rules.proofs.Computing.{computing}
 use Rattle.rules.proofs.Examples.{at_width}
 
@@ -56,7 +56,7 @@ by table n source =
     (format_with
     (record {
       indent = defaults.indent;
-      print_width = PrintWidth.Columns n;
+      print_width = Some n;
       end_of_line = defaults.end_of_line;
       insert_final_newline = defaults.insert_final_newline;
       ruler_tab = defaults.ruler_tab;

@@ -1,4 +1,5 @@
 -- C-22, computed: the strings of some sources with their places, the texts of some, and prefabs.
+use Rattle.std.specs.Prelude.{None}
 use Prim.Native.Nat.{ℕ}
 use Prim.Native.String.{String}
 use mathlib.Core.List.{List, [], ◌∷◌, map}
@@ -7,7 +8,6 @@ use Rattle.rules.specs.Basics.{codes}
 use Rattle.rules.specs.Assembly.{format_with}
 use Rattle.rules.specs.Prefabs.{Prefab, prefabs_of}
 use Rattle.rules.specs.Quoted.{Quoted, quoted_of}
-use Rattle.rules.specs.declared.PrintWidth.{PrintWidth}
 use Rattle.rules.proofs.Computing.{computing}
 use Rattle.rules.proofs.Examples.{with_width}
 
@@ -69,7 +69,7 @@ texts =
     ∷ []
 
 abbrev text_of : String × String → List ℕ
-text_of p = (format_with (with_width PrintWidth.Off) (codes p.0)).text
+text_of p = (format_with (with_width None) (codes p.0)).text
 
 pub written : map text_of texts ≡ map (λ (p : String × String). codes p.1) texts
 unfolding computing

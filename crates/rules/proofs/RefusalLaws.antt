@@ -4,6 +4,7 @@
 --     pass, stop              the tests after one that lets the call pass, and after one that refuses it
 --     one_test                a test by itself
 --     goes_on_law, ends           pass and stop, of a whole list of tests
+--     then_passed, then_value, then_refused   a value that follows the tests; handed_on what `?` gives of a refusal
 --     Readable                what a source that passed 1, 3 and 4 is; readable
 use Prim.Native.Nat.{ℕ, ◌≤◌}
 use mathlib.Core.Bool.{Bool, true, false}
@@ -15,9 +16,9 @@ use borrow.Author.Tests.{ltb-false, not-false}
 use Rattle.utf8.specs.Unicode.{well_formed}
 use Rattle.rules.specs.Basics.{choose}
 use Rattle.rules.specs.Options.{max_ruler}
-use Rattle.rules.specs.Refusals.{max_source, scratch_needed, number_of, refuse_if, tested, long_source, bad_option, short_scratch, ill_formed, short_output, unordered, short_kinds, wide_ruler}
+use Rattle.std.specs.Prelude.{Result, Ok, Err, IsErr, IsErrAnd}
+use Rattle.rules.specs.Refusals.{Verdict, max_source, scratch_needed, number_of, refuse_if, tested, and_then, long_source, bad_option, short_scratch, ill_formed, short_output, unordered, short_kinds, wide_ruler}
 use Rattle.rules.specs.declared.Refusal.{Refusal}
-use Rattle.rules.specs.declared.Verdict.{Verdict}
 
 -- ---- numbers
 
@@ -38,94 +39,97 @@ numbered (Refusal.ListShort n) e = omega arith
 
 -- ---- one test
 
-pub test_on : (b : Bool) (r : Refusal) → b ≡ true → refuse_if b r ≡ Verdict.Refused r
-unfolding refuse_if choose
+pub test_on : (b : Bool) (r : Refusal) → b ≡ true → refuse_if b r ≡ Err r
+unfolding choose
 test_on b r e = rw e
 
-pub test_off : (b : Bool) (r : Refusal) → b ≡ false → refuse_if b r ≡ Verdict.Accepted
-unfolding refuse_if choose
+pub test_off : (b : Bool) (r : Refusal) → b ≡ false → refuse_if b r ≡ Ok tt
+unfolding choose
 test_off b r e = rw e
 
-passed_off : (b : Bool) (r : Refusal) → refuse_if b r ≡ Verdict.Accepted → b ≡ false
-unfolding refuse_if choose
+passed_off : (b : Bool) (r : Refusal) → refuse_if b r ≡ Ok tt → b ≡ false
+unfolding choose
 passed_off true r e = absurd (let z : ◌≡◌ {A = ℕ} 0 1 = cc in omega arith)
 passed_off false r e = refl
 
-pub source_short : (source : List ℕ) → long_source source ≡ Verdict.Accepted → length source ≤ max_source
-unfolding long_source
+pub source_short : (source : List ℕ) → long_source source ≡ Ok tt → length source ≤ max_source
 source_short source e = ltb-false max_source (length source) (passed_off _ _ e)
 
-pub option_good : (bad : Bool) → bad_option bad ≡ Verdict.Accepted → bad ≡ false
-unfolding bad_option
+pub option_good : (bad : Bool) → bad_option bad ≡ Ok tt → bad ≡ false
 option_good bad e = passed_off bad _ e
 
-pub scratch_fits : (needed scratch : ℕ) → short_scratch needed scratch ≡ Verdict.Accepted → needed ≤ scratch
-unfolding short_scratch
+pub scratch_fits : (needed scratch : ℕ) → short_scratch needed scratch ≡ Ok tt → needed ≤ scratch
 scratch_fits needed scratch e = ltb-false scratch needed (passed_off _ _ e)
 
-pub source_well : (source : List ℕ) → ill_formed source ≡ Verdict.Accepted → well_formed source ≡ true
-unfolding ill_formed
+pub source_well : (source : List ℕ) → ill_formed source ≡ Ok tt → well_formed source ≡ true
 source_well source e = not-false (well_formed source) (passed_off _ _ e)
 
-pub output_fits : (needed output : ℕ) → short_output needed output ≡ Verdict.Accepted → needed ≤ output
-unfolding short_output
+pub output_fits : (needed output : ℕ) → short_output needed output ≡ Ok tt → needed ≤ output
 output_fits needed output e = ltb-false output needed (passed_off _ _ e)
 
-pub places_ordered : (inOrder : Bool) → unordered inOrder ≡ Verdict.Accepted → inOrder ≡ true
-unfolding unordered
+pub places_ordered : (inOrder : Bool) → unordered inOrder ≡ Ok tt → inOrder ≡ true
 places_ordered inOrder e = not-false inOrder (passed_off _ _ e)
 
-pub kinds_fit : (needed kinds : ℕ) → short_kinds needed kinds ≡ Verdict.Accepted → needed ≤ kinds
-unfolding short_kinds
+pub kinds_fit : (needed kinds : ℕ) → short_kinds needed kinds ≡ Ok tt → needed ≤ kinds
 kinds_fit needed kinds e = ltb-false kinds needed (passed_off _ _ e)
 
-pub ruler_fits : (ruler : ℕ) → wide_ruler ruler ≡ Verdict.Accepted → ruler ≤ max_ruler
-unfolding wide_ruler
+pub ruler_fits : (ruler : ℕ) → wide_ruler ruler ≡ Ok tt → ruler ≤ max_ruler
 ruler_fits ruler e = ltb-false max_ruler ruler (passed_off _ _ e)
 
 -- ---- several tests
 
-pub pass : (v : Verdict) (ts : List Verdict) → v ≡ Verdict.Accepted → tested (v ∷ ts) ≡ tested ts
-unfolding tested
+pub pass : (v : Verdict) (ts : List Verdict) → v ≡ Ok tt → tested (v ∷ ts) ≡ tested ts
 pass v ts e = rw e
 
-pub stop : (v : Verdict) (r : Refusal) (ts : List Verdict) → v ≡ Verdict.Refused r → tested (v ∷ ts) ≡ Verdict.Refused r
-unfolding tested
+pub stop : (v : Verdict) (r : Refusal) (ts : List Verdict) → v ≡ Err r → tested (v ∷ ts) ≡ Err r
 stop v r ts e = rw e
 
 pub one_test : (v : Verdict) → tested (v ∷ []) ≡ v
-unfolding tested
-one_test Verdict.Accepted = refl
-one_test (Verdict.Refused r) = refl
+one_test (Ok _) = refl
+one_test (Err r) = refl
 
-pub goes_on_law : (ts us : List Verdict) → tested ts ≡ Verdict.Accepted → tested (ts ++ us) ≡ tested us
-unfolding tested
+pub goes_on_law : (ts us : List Verdict) → tested ts ≡ Ok tt → tested (ts ++ us) ≡ tested us
 goes_on_law [] us e = refl
-goes_on_law (Verdict.Accepted ∷ ts) us e = goes_on_law ts us e
-goes_on_law (Verdict.Refused r ∷ ts) us e = absurd (let z : ◌≡◌ {A = ℕ} 0 1 = cc in omega arith)
+goes_on_law (Ok _ ∷ ts) us e = goes_on_law ts us e
+goes_on_law (Err r ∷ ts) us e = absurd (let z : ◌≡◌ {A = ℕ} 0 1 = cc in omega arith)
 
-pub ends : (ts us : List Verdict) (r : Refusal) → tested ts ≡ Verdict.Refused r → tested (ts ++ us) ≡ Verdict.Refused r
-unfolding tested
+pub ends : (ts us : List Verdict) (r : Refusal) → tested ts ≡ Err r → tested (ts ++ us) ≡ Err r
 ends [] us r e = absurd (let z : ◌≡◌ {A = ℕ} 0 1 = cc in omega arith)
-ends (Verdict.Accepted ∷ ts) us r e = ends ts us r e
-ends (Verdict.Refused q ∷ ts) us r e = e
+ends (Ok _ ∷ ts) us r e = ends ts us r e
+ends (Err q ∷ ts) us r e = e
 
-pub head_passed : (v : Verdict) (ts : List Verdict) → tested (v ∷ ts) ≡ Verdict.Accepted → v ≡ Verdict.Accepted
-unfolding tested
-head_passed Verdict.Accepted ts e = refl
-head_passed (Verdict.Refused r) ts e = e
+pub head_passed : (v : Verdict) (ts : List Verdict) → tested (v ∷ ts) ≡ Ok tt → v ≡ Ok tt
+head_passed (Ok _) ts e = refl
+head_passed (Err r) ts e = e
 
-pub tail_passed : (v : Verdict) (ts : List Verdict) → tested (v ∷ ts) ≡ Verdict.Accepted → tested ts ≡ Verdict.Accepted
+pub tail_passed : (v : Verdict) (ts : List Verdict) → tested (v ∷ ts) ≡ Ok tt → tested ts ≡ Ok tt
 tail_passed v ts e = sym (pass v ts (head_passed v ts e)) ∙ e
 
-pub front_passed : (ts us : List Verdict) → tested (ts ++ us) ≡ Verdict.Accepted → tested ts ≡ Verdict.Accepted
-unfolding tested
+pub front_passed : (ts us : List Verdict) → tested (ts ++ us) ≡ Ok tt → tested ts ≡ Ok tt
 front_passed [] us e = refl
-front_passed (Verdict.Accepted ∷ ts) us e = front_passed ts us e
-front_passed (Verdict.Refused r ∷ ts) us e = e
+front_passed (Ok _ ∷ ts) us e = front_passed ts us e
+front_passed (Err r ∷ ts) us e = e
 
-pub back_passed : (ts us : List Verdict) → tested (ts ++ us) ≡ Verdict.Accepted → tested us ≡ Verdict.Accepted
+pub back_passed : (ts us : List Verdict) → tested (ts ++ us) ≡ Ok tt → tested us ≡ Ok tt
 back_passed ts us e = sym (goes_on_law ts us (front_passed ts us e)) ∙ e
+
+-- what was tested, if a value follows the tests
+pub then_passed : {A : Type 0} (v : Verdict) (x y : A) → and_then v (λ _. Ok x) ≡ Ok y → v ≡ Ok tt
+then_passed (Ok _) x y e = refl
+then_passed (Err r) x y e = absurd (let z : ◌≡◌ {A = ℕ} 0 1 = cc in omega arith)
+
+pub then_value : {A : Type 0} (v : Verdict) (x y : A) → and_then v (λ _. Ok x) ≡ Ok y → y ≡ x
+then_value (Ok _) x y e = cc
+then_value (Err r) x y e = absurd (let z : ◌≡◌ {A = ℕ} 0 1 = cc in omega arith)
+
+pub then_refused : {A : Type 0} (v : Verdict) (x : A) (r : Refusal) → and_then v (λ _. Ok x) ≡ Err r → v ≡ Err r
+then_refused (Ok _) x r e = absurd (let z : ◌≡◌ {A = ℕ} 0 1 = cc in omega arith)
+then_refused (Err q) x r e = cc
+
+-- what `?` hands on of a refusal
+pub handed_on : {A : Type 0} (r : Result A Refusal) (why : Refusal) → IsErr r × IsErrAnd r (λ e. e ≡ why) → r ≡ Err why
+handed_on (Ok x) why h = absurd h.1
+handed_on (Err q) why h = rw h.1
 
 -- ---- what passed
 
@@ -135,11 +139,14 @@ pub record Readable (each : ℕ) (source : List ℕ) (scratch : ℕ) : Type 0 wh
   pub room : scratch_needed each source ≤ scratch
   pub well : well_formed source ≡ true
 
-pub readable : (each : ℕ) (source : List ℕ) (scratch : ℕ) → long_source source ≡ Verdict.Accepted
-    → tested (short_scratch (scratch_needed each source) scratch ∷ ill_formed source ∷ []) ≡ Verdict.Accepted → Readable each source scratch
+pub readable : (each : ℕ) (source : List ℕ) (scratch : ℕ) → long_source source ≡ Ok tt
+    → tested (short_scratch (scratch_needed each source) scratch ∷ ill_formed source ∷ []) ≡ Ok tt → Readable each source scratch
 readable each source scratch a b =
     record {
       short = source_short source a;
-      room = scratch_fits (scratch_needed each source) scratch (head_passed _ _ b);
-      well = source_well source (head_passed _ _ (tail_passed _ _ b));
+      room = scratch_fits (scratch_needed each source) scratch (head_passed room_test (ill_formed source ∷ []) b);
+      well = source_well source (head_passed (ill_formed source) [] (tail_passed room_test (ill_formed source ∷ []) b));
     }
+  where
+    room_test : Verdict
+    room_test = short_scratch (scratch_needed each source) scratch

@@ -1,11 +1,11 @@
 -- Ruler tabs, computed. The numbers are those of the readings of document 02.
+use Rattle.std.specs.Prelude.{Some}
 use Prim.Native.Nat.{ℕ}
 use Prim.Native.String.{String}
 use mathlib.Core.List.{List, [], ◌∷◌, map}
 use mathlib.Core.Path.{◌≡◌, refl}
 use Rattle.rules.specs.Basics.{codes}
 use Rattle.rules.specs.Options.{Options, defaults}
-use Rattle.rules.specs.declared.PrintWidth.{PrintWidth}
 use Rattle.rules.proofs.Computing.{computing}
 use Rattle.rules.proofs.Examples.{Case, given, expected}
 
@@ -14,7 +14,7 @@ abbrev ruled : ℕ → ℕ → String → Options
 ruled ruler width indent =
     record {
       indent = codes indent;
-      print_width = PrintWidth.Columns width;
+      print_width = Some width;
       end_of_line = defaults.end_of_line;
       insert_final_newline = defaults.insert_final_newline;
       ruler_tab = ruler;

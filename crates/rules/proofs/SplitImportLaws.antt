@@ -1,4 +1,5 @@
 -- Splitting an import changes white space and commas only: each piece gets a comma, and a blank one goes with its own.
+use Rattle.std.specs.Prelude.{Some}
 use Prim.Native.Nat.{ℕ, suc, ◌+◌}
 use Prim.Native.Char.{Char, code}
 use native.Mathlib.Omega.{arith}
@@ -13,10 +14,9 @@ use Rattle.utf8.proofs.Tests.{and_right}
 use Rattle.utf8.proofs.Trim.{White}
 use Rattle.rules.specs.Basics.{choose, is, codes, is_empty, keep, count, Pieces, pieces, split_on, at_sep}
 use Rattle.rules.specs.Demand3.{strike_white, strike, commas_in, Kept}
-use Rattle.rules.specs.Options.{Options, indent_of}
+use Rattle.rules.specs.Options.{Options, indent_of, PrintWidth}
 use Rattle.rules.specs.Scan.{Cell, chars_of, is_code, before, from}
 use Rattle.rules.specs.SplitImport.{Laid, code_is, before_code, from_code, cons_name, names_of, blanks_of, with_comma, add_name, fill_names, import_lines, import_parts, closed_import, opened_import, split_import}
-use Rattle.rules.specs.declared.PrintWidth.{PrintWidth}
 use Rattle.rules.proofs.Choose.{choose_case}
 use Rattle.rules.proofs.Struck.{Like, like_eq, like_refl, ◌then◌, like_append, like_before, like_trim, like_trim_end, flatten_append, flatten_back, flatten_reverse, kept_like, kept_then, kept_append, kept_to, kept_counts}
 use Rattle.rules.proofs.SplitOperationLaws.{white_indent, like_indent}
@@ -30,7 +30,7 @@ names_text (n ∷ ns) = with_comma n ++ names_text ns
 -- at a width of `max` columns, commas may come and go
 module _ (max : ℕ) where
   abbrev Keeps : List ℕ → List ℕ → ℕ → ℕ → Type 0
-  Keeps s t i b = Kept (PrintWidth.Columns max) s t i b
+  Keeps s t i b = Kept (Some max) s t i b
 
   comma_out : Keeps (codes ",") [] 0 1
   unfolding strike strike_white commas_in keep count choose is_white
@@ -133,7 +133,7 @@ LaidKept w line l = Kept w line (flatten l.lines) l.imports_split l.blank_names
 
 abbrev pub Split : ℕ → List ℕ → Option Laid → Type 0
 Split max line none = Unit {0}
-Split max line (some l) = LaidKept (PrintWidth.Columns max) line l
+Split max line (some l) = LaidKept (Some max) line l
 
 module _ (o : Options) (white : White o.indent) (max level : ℕ) where
   like_lines : (head : List ℕ) (names : List (List ℕ)) (tail : List ℕ) → Like (flatten (import_lines o max level head names tail)) (whole head (names_text names) tail)

@@ -4,6 +4,7 @@
 --     like_before, like_after, like_trim     white space more or less changes nothing
 --     kept_like, kept_append, kept_then      `Kept` from `Like`, of parts put together, of one step after another
 --     kept_from, kept_to                     after or before a change of white space
+use Rattle.rules.specs.Options.{PrintWidth}
 use Prim.Native.Nat.{ℕ, ◌+◌}
 use mathlib.Core.Bool.{Bool, true, false, not}
 use mathlib.Core.List.{List, [], ◌∷◌, ◌++◌, map, flatten, reverse_aux, append_assoc, append-nil}
@@ -15,7 +16,6 @@ use Rattle.utf8.specs.Unicode.{is_white, trim, trim_end}
 use Rattle.utf8.proofs.Trim.{White, end_split, trim_split}
 use Rattle.rules.specs.Basics.{choose, is, cons_if, keep, count}
 use Rattle.rules.specs.Demand3.{strike_white, is_kept, strike, commas_in, Kept}
-use Rattle.rules.specs.declared.PrintWidth.{PrintWidth}
 
 -- ---- characters that are kept, and counted
 

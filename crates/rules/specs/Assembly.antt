@@ -1,14 +1,13 @@
 -- Assembly: lines in, lines out; empty lines at the end go; the rest joined by the ending.
-use Rattle.std.specs.Prelude.{ℕ}
+use Rattle.std.specs.Prelude.{ℕ, Some, None}
 use mathlib.Core.List.{List, [], ◌∷◌, ◌++◌, foldl}
 use Rattle.utf8.specs.Unicode.{encode, decode}
 use Rattle.rules.specs.Basics.{choose}
 use Rattle.rules.specs.Lines.{as_str, lines_of, dominant_in, ends_in_lf}
-use Rattle.rules.specs.Options.{Options, defaults, with_indent}
+use Rattle.rules.specs.Options.{Options, defaults, with_indent, EndOfLine}
 use Rattle.rules.specs.Brackets.{open_lines}
 use Rattle.rules.specs.Line.{Formatter, start, format_line}
 use Rattle.rules.specs.declared.LineEnding.{LineEnding}
-use Rattle.rules.specs.declared.EndOfLine.{EndOfLine}
 use Rattle.rules.specs.declared.FinalNewline.{FinalNewline}
 
 -- the text, the counts, and the source lines of the brackets that are still open
@@ -19,8 +18,8 @@ pub record Formatted : Type 0 where
   pub open_brackets : List ℕ
 
 unfoldable pub ending_of : EndOfLine → List ℕ → LineEnding
-ending_of EndOfLine.Kept source = dominant_in source
-ending_of (EndOfLine.Set e) source = e
+ending_of None source = dominant_in source
+ending_of (Some e) source = e
 
 -- the newest lines that are empty go
 unfoldable pub drop_empty : List (List ℕ) → List (List ℕ)

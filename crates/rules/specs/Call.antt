@@ -1,13 +1,13 @@
 -- A formatting call on bytes: what it gives back, and what the output, the list of open brackets and the scratch hold
 -- after it.
-use Rattle.std.specs.Prelude.{ℕ, ◌-◌, Bool, not, List, [], ◌∷◌, ◌++◌, length, take, replicate}
+use Rattle.std.specs.Prelude.{ℕ, ◌-◌, Bool, not, List, [], ◌∷◌, ◌++◌, length, take, replicate, Result, Ok, Err}
 use Rattle.utf8.specs.Unicode.{decode, encode}
 use Rattle.rules.specs.Choices.{Choices, valid_options, options_of}
 use Rattle.rules.specs.Assembly.{Formatted, format_with}
-use Rattle.rules.specs.Refusals.{scratch_needed, number_of, place_of, tested, wrong_length, bits_set, long_source}
-use Rattle.rules.specs.Refusals.{bad_option, wide_ruler, short_scratch, ill_formed, short_output}
-use Rattle.rules.specs.declared.Verdict.{Verdict}
-use Rattle.rules.specs.declared.Outcome.{Outcome}
+use Rattle.rules.specs.Refusals.{Verdict, scratch_needed, number_of, place_of, tested, wrong_length, bits_set}
+use Rattle.rules.specs.Refusals.{long_source, bad_option, wide_ruler, short_scratch, ill_formed, short_output}
+use Rattle.rules.specs.declared.Refusal.{Refusal}
+use Rattle.rules.specs.declared.Formatted.{Formatted as Counted}
 use Rattle.rules.specs.declared.Answer.{Answer}
 
 -- What a call gets: bytes, the options, and how long the lent buffers are.
@@ -52,26 +52,37 @@ verdict_of c =
     c.choices.numbers.ruler_tab c.scratch
     ++ (short_output (length (text_of c)) c.output ∷ []))
 
+-- what a call comes to: its text's length and counts, or a refusal
+abbrev pub Outcome : Type 0
+Outcome = Result Counted Refusal
+
 -- what a finished text of so many bytes comes to
 abbrev pub outcome_after : Verdict → ℕ → Formatted → Outcome
-outcome_after Verdict.Accepted len t = Outcome.Formatted len t.imports_split t.blank_names (length t.open_brackets)
-outcome_after (Verdict.Refused r) len t = Outcome.Refused r
+outcome_after (Ok _) len t =
+    Ok
+    (record {
+      length = len;
+      imports_split = t.imports_split;
+      blank_names = t.blank_names;
+      open_brackets = length t.open_brackets;
+    })
+outcome_after (Err r) len t = Err r
 
 unfoldable pub outcome_of : Call → Outcome
 outcome_of c = outcome_after (verdict_of c) (length (text_of c)) (formatted c)
 
 -- what the host reads: a refused call gives number and place, other fields 0
 abbrev pub answer_of : Outcome → Answer
-answer_of (Outcome.Formatted len imports blanks brackets) =
+answer_of (Ok t) =
     record {
       refusal = 0;
       place = 0;
-      length = len;
-      imports_split = imports;
-      blank_names = blanks;
-      open_brackets = brackets;
+      length = t.length;
+      imports_split = t.imports_split;
+      blank_names = t.blank_names;
+      open_brackets = t.open_brackets;
     }
-answer_of (Outcome.Refused r) =
+answer_of (Err r) =
     record {
       refusal = number_of r;
       place = place_of r;
@@ -87,8 +98,8 @@ unfoldable pub filled : ℕ → List ℕ → List ℕ
 filled n text = text ++ replicate (n - length text) 0
 
 abbrev pub output_for : Outcome → ℕ → List ℕ → List ℕ
-output_for (Outcome.Formatted len imports blanks brackets) n text = filled n text
-output_for (Outcome.Refused r) n text = replicate n 0
+output_for (Ok t) n text = filled n text
+output_for (Err r) n text = replicate n 0
 
 unfoldable pub output_of : Call → List ℕ
 output_of c = output_for (outcome_of c) c.output (text_of c)
@@ -98,8 +109,8 @@ unfoldable pub listed : ℕ → List ℕ → List ℕ
 listed n lines = filled n (take n lines)
 
 abbrev pub opened_for : Outcome → ℕ → List ℕ → List ℕ
-opened_for (Outcome.Formatted len imports blanks brackets) n lines = listed n lines
-opened_for (Outcome.Refused r) n lines = replicate n 0
+opened_for (Ok t) n lines = listed n lines
+opened_for (Err r) n lines = replicate n 0
 
 unfoldable pub opened_of : Call → List ℕ
 opened_of c = opened_for (outcome_of c) c.opened (formatted c).open_brackets
@@ -108,12 +119,12 @@ abbrev pub scratch_of : Call → List ℕ
 scratch_of c = replicate c.scratch 0
 
 -- What a call leaves, in one record.
-pub record Result : Type 0 where
+pub record CallResult : Type 0 where
   pub answer : Answer
   pub output : List ℕ
   pub opened : List ℕ
   pub scratch : List ℕ
 
-abbrev pub format_call : Call → Result
+abbrev pub format_call : Call → CallResult
 format_call c =
     record { answer = answer_of (outcome_of c); output = output_of c; opened = opened_of c; scratch = scratch_of c }

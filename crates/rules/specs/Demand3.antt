@@ -1,8 +1,8 @@
 -- Demand 3: what a text keeps of its source. A comma is U+002C wherever it stands, in strings and comments too.
-use Rattle.std.specs.Prelude.{ℕ, ◌+◌, Bool, not, ◌&&◌, List, ◌≡◌}
+use Rattle.rules.specs.Options.{PrintWidth}
+use Rattle.std.specs.Prelude.{ℕ, ◌+◌, Bool, not, ◌&&◌, List, ◌≡◌, None}
 use Rattle.utf8.specs.Unicode.{is_white}
 use Rattle.rules.specs.Basics.{is, keep, count}
-use Rattle.rules.specs.declared.PrintWidth.{PrintWidth}
 
 -- a text without its White_Space
 unfoldable pub strike_white : List ℕ → List ℕ
@@ -23,6 +23,6 @@ pub record Kept (width : PrintWidth) (source text : List ℕ) (imports_split bla
   -- source and text, struck, are equal
   pub struck : strike text ≡ strike source
   -- with no print width it is enough to strike the white space
-  pub unbroken : width ≡ PrintWidth.Off → strike_white text ≡ strike_white source
+  pub unbroken : width ≡ None → strike_white text ≡ strike_white source
   -- each import split adds a comma, each blank name takes one
   pub commas : commas_in text + blank_names ≡ commas_in source + imports_split

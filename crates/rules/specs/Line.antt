@@ -1,11 +1,11 @@
 -- format.rs, one line: the formatter's record before and after it.
-use Rattle.std.specs.Prelude.{ℕ, ◌+◌, Bool, true, false, not, ◌&&◌, ◌||◌, eqb, ltb, length, drop}
+use Rattle.std.specs.Prelude.{ℕ, ◌+◌, Bool, true, false, not, ◌&&◌, ◌||◌, eqb, ltb, length, drop, Some, None}
 use mathlib.Core.List.{List, [], ◌∷◌, ◌++◌, reverse_aux}
 use Rattle.std.proofs.Math.Option.{Option, none, some}
 use Rattle.utf8.specs.Unicode.{trim, trim_end}
 use Rattle.rules.specs.Basics.{choose, is, codes, at, last_is, is_empty}
 use Rattle.rules.specs.Scan.{classify, carry_after, all_code_or_str}
-use Rattle.rules.specs.Options.{Options, indent_of, over_wide}
+use Rattle.rules.specs.Options.{Options, indent_of, over_wide, PrintWidth}
 use Rattle.rules.specs.Spacing.{respaced}
 use Rattle.rules.specs.Brackets.{Entry, leading_closers, scan_brackets, count_brackets, levels}
 use Rattle.rules.specs.Words.{starts_with_word, starts_with_binary_op, same_declaration, is_marker, has_code}
@@ -15,7 +15,6 @@ use Rattle.rules.specs.Strengths.{strengths_in}
 use Rattle.rules.specs.SplitOperation.{split_operation}
 use Rattle.rules.specs.declared.Carry.{Carry}
 use Rattle.rules.specs.declared.Ignore.{Ignore}
-use Rattle.rules.specs.declared.PrintWidth.{PrintWidth}
 
 -- `number` is of the source line that is read, from 0; `lines` has the newest line first; `prev` is the previous line
 -- that is not blank
@@ -177,8 +176,8 @@ may_split f marker line =
 
 -- broken, where the line, its indent included, is wider than the print width
 unfoldable pub split_wide : PrintWidth → Options → ℕ → List ℕ → Laid
-split_wide PrintWidth.Off o level line = one_line (indent_of o level ++ line)
-split_wide (PrintWidth.Columns max) o level line =
+split_wide None o level line = one_line (indent_of o level ++ line)
+split_wide (Some max) o level line =
     choose (over_wide o max (indent_of o level ++ line)) (broken o max level line) (one_line (indent_of o level ++ line))
 
 unfoldable pub laid : Options → Formatter → Bool → List ℕ → Laid

@@ -1,13 +1,21 @@
 -- options.rs: what the host chooses, the defaults, and `indent_with` with its limit.
-use Rattle.std.specs.Prelude.{ℕ, ◌+◌, ◌*◌, ◌/◌, Bool, true, false, ◌&&◌, List, [], ◌∷◌, leb, ltb, length}
+use Rattle.std.specs.Prelude.{ℕ, ◌+◌, ◌*◌, ◌/◌, Bool, true, false, ◌&&◌, List, [], ◌∷◌, leb, ltb, length, Option, Some, None}
+use Rattle.std.specs.List.{list_all}
 use Rattle.buffer.specs.Repeat.{times}
 use Rattle.utf8.specs.Unicode.{units}
 use Rattle.rules.specs.Basics.{choose, is, codes, is_blank}
 use Rattle.rules.specs.Strengths.{built_in}
-use Rattle.rules.specs.declared.EndOfLine.{EndOfLine}
-use Rattle.rules.specs.declared.PrintWidth.{PrintWidth}
+use Rattle.rules.specs.declared.LineEnding.{LineEnding}
 use Rattle.rules.specs.declared.FinalNewline.{FinalNewline}
 use Rattle.rules.specs.declared.Strengths.{Strengths}
+
+-- the print width: none, or a number of UTF-16 columns
+abbrev pub PrintWidth : Type 0
+PrintWidth = Option ℕ
+
+-- the line ending of the text: kept, or one of the two
+abbrev pub EndOfLine : Type 0
+EndOfLine = Option LineEnding
 
 pub record Options : Type 0 where
   pub indent : List ℕ
@@ -22,8 +30,8 @@ abbrev pub defaults : Options
 defaults =
     record {
       indent = codes "  ";
-      print_width = PrintWidth.Columns 100;
-      end_of_line = EndOfLine.Kept;
+      print_width = Some 100;
+      end_of_line = None;
       insert_final_newline = FinalNewline.Always;
       ruler_tab = 0;
       strengths = record { table = built_in };
@@ -34,8 +42,7 @@ abbrev pub max_indent : ℕ
 max_indent = 64
 
 unfoldable pub all_blank : List ℕ → Bool
-all_blank [] = true
-all_blank (c ∷ cs) = is_blank c && all_blank cs
+all_blank indent = list_all is_blank indent
 
 unfoldable pub valid_indent : List ℕ → Bool
 valid_indent indent = leb (length indent) max_indent && all_blank indent

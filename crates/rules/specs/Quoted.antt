@@ -1,5 +1,6 @@
 -- C-22: the strings that are closed on their line, with their places; where one stands in a text; what a text keeps of
 -- its source's quoted text with no print width.
+use Rattle.rules.specs.Options.{EndOfLine}
 use Rattle.std.specs.Prelude.{ℕ, List, [], ◌∷◌, ◌++◌, ◌≡◌}
 use Rattle.std.proofs.Math.Option.{Option, none, some, map}
 use Rattle.rules.specs.Basics.{choose, codes, pieces, split_on}
@@ -9,7 +10,6 @@ use Rattle.rules.specs.Assembly.{ending_of}
 use Rattle.rules.specs.Demand3.{strike_white}
 use Rattle.rules.specs.Prefabs.{in_code_mode, opens, prefabs_of, Follows}
 use Rattle.rules.specs.declared.Carry.{Carry}
-use Rattle.rules.specs.declared.EndOfLine.{EndOfLine}
 use Rattle.rules.specs.declared.Mark.{Mark}
 
 -- A string, from quote to quote, and all of the source that stands before it.

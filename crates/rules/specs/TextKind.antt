@@ -1,17 +1,16 @@
 -- text_kind_at: a place is a line and a character column, both from 0.
-use Rattle.std.specs.Prelude.{ℕ, zero, suc, Bool, true, false, List, [], ◌∷◌, get_or}
+use Rattle.std.specs.Prelude.{ℕ, zero, suc, Bool, true, false, List, [], ◌∷◌, get_or, Result, Ok, Err}
 use Rattle.utf8.specs.Unicode.{decode}
 use Rattle.rules.specs.Basics.{choose, pieces, split_on}
 use Rattle.rules.specs.Lines.{drop_cr}
 use Rattle.rules.specs.Scan.{next, begin, carry_after}
-use Rattle.rules.specs.Refusals.{scratch_needed, number_of, place_of, tested, long_source, short_scratch, ill_formed}
+use Rattle.rules.specs.Refusals.{Verdict, scratch_needed, number_of, place_of, tested, long_source, short_scratch, ill_formed}
 use Rattle.rules.specs.declared.Class.{Class}
 use Rattle.rules.specs.declared.Carry.{Carry}
 use Rattle.rules.specs.declared.Mode.{Mode}
 use Rattle.rules.specs.declared.Mark.{Mark}
-use Rattle.rules.specs.declared.Verdict.{Verdict}
+use Rattle.rules.specs.declared.Refusal.{Refusal}
 use Rattle.rules.specs.declared.TextKind.{TextKind}
-use Rattle.rules.specs.declared.KindOutcome.{KindOutcome}
 use Rattle.rules.specs.declared.Kind.{Kind}
 
 -- a character before which the mode is inside `${..}`: from its brace on, up to and with the closing one
@@ -64,11 +63,11 @@ abbrev pub kind_tests : List ℕ → ℕ → List Verdict
 kind_tests source scratch =
     long_source source ∷ short_scratch (scratch_needed kind_scratch source) scratch ∷ ill_formed source ∷ []
 
-abbrev pub kind_after : Verdict → TextKind → KindOutcome
-kind_after Verdict.Accepted k = KindOutcome.Found k
-kind_after (Verdict.Refused r) k = KindOutcome.Refused r
+abbrev pub kind_after : Verdict → TextKind → Result TextKind Refusal
+kind_after (Ok _) k = Ok k
+kind_after (Err r) k = Err r
 
-unfoldable pub kind_outcome_of : List ℕ → ℕ → ℕ → ℕ → KindOutcome
+unfoldable pub kind_outcome_of : List ℕ → ℕ → ℕ → ℕ → Result TextKind Refusal
 kind_outcome_of source line col scratch =
     kind_after (tested (kind_tests source scratch)) (text_kind_at (decode source) line col)
 
@@ -77,6 +76,6 @@ kind_number TextKind.Code = 0
 kind_number TextKind.Str = 1
 kind_number TextKind.Comment = 2
 
-abbrev pub kind_answer : KindOutcome → Kind
-kind_answer (KindOutcome.Found k) = record { refusal = 0; place = 0; kind = kind_number k }
-kind_answer (KindOutcome.Refused r) = record { refusal = number_of r; place = place_of r; kind = 0 }
+abbrev pub kind_answer : Result TextKind Refusal → Kind
+kind_answer (Ok k) = record { refusal = 0; place = 0; kind = kind_number k }
+kind_answer (Err r) = record { refusal = number_of r; place = place_of r; kind = 0 }

@@ -1,6 +1,16 @@
 // The types that the code and the definitions of document 01 share.
 #![tactic(auto)]
 
+mod reading;
+
+ghost use Rattle.std.specs.Prelude.{◌≡◌};
+ghost use Rattle.rules.specs.Refusals.{number_of, place_of};
+ghost use Rattle.rules.specs.Call.{answer_of};
+ghost use Rattle.rules.specs.TextKind.{kind_number, kind_answer};
+
+// The bytes that a source may have.
+pub const MAX_SOURCE: usize = 1048576;
+
 // What a character of a line is part of.
 #[derive(Clone, Copy)]
 pub enum Class {
@@ -70,24 +80,6 @@ impl LineEnding {
     pub const CRLF: LineEnding = LineEnding::Crlf;
 }
 
-// The line ending of the text: kept, or one of the two.
-#[derive(Clone, Copy)]
-pub enum EndOfLine {
-    Kept,
-    Set(LineEnding),
-}
-
-// The print width: none, or a number of UTF-16 columns.
-#[derive(Clone, Copy)]
-pub enum PrintWidth {
-    Off,
-    Columns(usize),
-}
-
-impl PrintWidth {
-    pub const DEFAULT: usize = 100;
-}
-
 // Whether the text ends in a line ending: if the source does, always, or never.
 #[derive(Clone, Copy)]
 pub enum FinalNewline {
@@ -127,9 +119,11 @@ pub struct OptionNumbers {
 }
 
 impl OptionNumbers {
+    pub const DEFAULT_PRINT_WIDTH: u64 = 100;
+
     pub const DEFAULTS: OptionNumbers = OptionNumbers {
         width_set: 1,
-        width: PrintWidth::DEFAULT as u64,
+        width: OptionNumbers::DEFAULT_PRINT_WIDTH,
         line_ending: 0,
         final_newline: 1,
         ruler_tab: 0,
@@ -137,7 +131,7 @@ impl OptionNumbers {
 }
 
 // The refusals, with what their places need.
-#[derive(Clone, Copy)]
+#[derive(Clone, Copy, PartialEq, Eq, Debug)]
 pub enum Refusal {
     SourceTooLong,
     BadOption,
@@ -153,21 +147,58 @@ pub enum Refusal {
     ListShort(usize),
 }
 
-// What the tests of a call come to.
-#[derive(Clone, Copy)]
-pub enum Verdict {
-    Accepted,
-    Refused(Refusal),
+impl Refusal {
+    // The number that a host is told.
+    pub fn number(self) -> u64
+        ensures { result ≡ number_of self }
+    {
+        match self {
+            Refusal::SourceTooLong => 1,
+            Refusal::BadOption => 2,
+            Refusal::ScratchShort(_) => 3,
+            Refusal::NotUtf8(_) => 4,
+            Refusal::OutputShort(_) => 5,
+            Refusal::NoPlace => 6,
+            Refusal::PlacesUnordered => 9,
+            Refusal::KindsShort => 10,
+            Refusal::RulerTooWide => 11,
+            Refusal::StrengthsLength => 12,
+            Refusal::StrengthsBits => 13,
+            Refusal::ListShort(_) => 16,
+        }
+    }
+
+    // The place that a host is told; one that isn't named is 0.
+    pub fn place(self) -> u64
+        ensures { result ≡ place_of self }
+    {
+        match self {
+            Refusal::SourceTooLong => MAX_SOURCE as u64,
+            Refusal::ScratchShort(needed) => needed as u64,
+            Refusal::NotUtf8(prefix) => prefix as u64,
+            Refusal::OutputShort(needed) => needed as u64,
+            Refusal::ListShort(needed) => needed as u64,
+            Refusal::BadOption
+            | Refusal::NoPlace
+            | Refusal::PlacesUnordered
+            | Refusal::KindsShort
+            | Refusal::RulerTooWide
+            | Refusal::StrengthsLength
+            | Refusal::StrengthsBits => 0,
+        }
+    }
 }
 
-// What a formatting call comes to: the text's length, imports split, blank names and open brackets; or a refusal.
-#[derive(Clone, Copy)]
-pub enum Outcome {
-    Formatted(usize, usize, usize, usize),
-    Refused(Refusal),
+// What a formatting call gives beside the text in its output: the text's length, and three counts.
+#[derive(Clone, Copy, PartialEq, Eq, Debug)]
+pub struct Formatted {
+    pub length: usize,
+    pub imports_split: usize,
+    pub blank_names: usize,
+    pub open_brackets: usize,
 }
 
-// The same in numbers, for a host.
+// What a formatting call comes to, in numbers for a host.
 #[repr(C)]
 #[derive(Clone, Copy)]
 pub struct Answer {
@@ -179,21 +210,53 @@ pub struct Answer {
     pub open_brackets: u64,
 }
 
+impl From<Result<Formatted, Refusal>> for Answer {
+    ghost from_gives = { λ o a. a ≡ answer_of o };
+
+    fn from(outcome: Result<Formatted, Refusal>) -> Answer {
+        match outcome {
+            Ok(text) => Answer {
+                refusal: 0,
+                place: 0,
+                length: text.length as u64,
+                imports_split: text.imports_split as u64,
+                blank_names: text.blank_names as u64,
+                open_brackets: text.open_brackets as u64,
+            },
+            Err(why) => Answer {
+                refusal: why.number(),
+                place: why.place(),
+                length: 0,
+                imports_split: 0,
+                blank_names: 0,
+                open_brackets: 0,
+            },
+        }
+    }
+}
+
 // What an editor is told of a place.
-#[derive(Clone, Copy)]
+#[derive(Clone, Copy, PartialEq, Eq, Debug)]
 pub enum TextKind {
     Code,
     Str,
     Comment,
 }
 
-// What asking for a text kind comes to.
-#[derive(Clone, Copy)]
-pub enum KindOutcome {
-    Found(TextKind),
-    Refused(Refusal),
+impl TextKind {
+    // The number that a host is told.
+    pub fn number(self) -> u8
+        ensures { result ≡ kind_number self }
+    {
+        match self {
+            TextKind::Code => 0,
+            TextKind::Str => 1,
+            TextKind::Comment => 2,
+        }
+    }
 }
 
+// What asking for a text kind comes to, in numbers for a host.
 #[repr(C)]
 #[derive(Clone, Copy)]
 pub struct Kind {
@@ -202,54 +265,57 @@ pub struct Kind {
     pub kind: u64,
 }
 
-// The values of .editorconfig, resolved.
+impl From<Result<TextKind, Refusal>> for Kind {
+    ghost from_gives = { λ o k. k ≡ kind_answer o };
+
+    fn from(outcome: Result<TextKind, Refusal>) -> Kind {
+        match outcome {
+            Ok(kind) => Kind {
+                refusal: 0,
+                place: 0,
+                kind: kind.number() as u64,
+            },
+            Err(why) => Kind {
+                refusal: why.number(),
+                place: why.place(),
+                kind: 0,
+            },
+        }
+    }
+}
+
 #[derive(Clone, Copy)]
 pub enum IndentStyle {
-    Unset,
     Tabs,
     Spaces,
 }
 
 #[derive(Clone, Copy)]
 pub enum IndentSize {
-    Unset,
     UseTabWidth,
     Value(usize),
 }
 
 #[derive(Clone, Copy)]
-pub enum TabWidth {
-    Unset,
-    Value(usize),
-}
-
-#[derive(Clone, Copy)]
 pub enum MaxLineLen {
-    Unset,
     Off,
     Value(usize),
 }
 
 #[derive(Clone, Copy)]
 pub enum ConfigEnding {
-    Unset,
     Lf,
     CrLf,
     Cr,
 }
 
-#[derive(Clone, Copy)]
-pub enum InsertFinalNewline {
-    Unset,
-    Value(bool),
-}
-
-#[derive(Clone, Copy)]
+// The values of .editorconfig, resolved; none where a value is unset.
+#[derive(Clone, Copy, Default)]
 pub struct Resolved {
-    pub style: IndentStyle,
-    pub size: IndentSize,
-    pub tab: TabWidth,
-    pub max: MaxLineLen,
-    pub ending: ConfigEnding,
-    pub newline: InsertFinalNewline,
+    pub style: Option<IndentStyle>,
+    pub size: Option<IndentSize>,
+    pub tab: Option<usize>,
+    pub max: Option<MaxLineLen>,
+    pub ending: Option<ConfigEnding>,
+    pub newline: Option<bool>,
 }

@@ -1,11 +1,11 @@
 -- The loops of `code_end` and `all_code_or_str`, and what they say of a line's cells.
-use Prim.Native.Nat.{ℕ, zero, suc, ◌+◌, ◌-◌, ◌<◌, ◌≤◌, zero-le}
+use Prim.Native.Nat.{ℕ, zero, suc, ◌+◌, ◌<◌, ◌≤◌, zero-le}
 use mathlib.Core.Bool.{Bool, true, false, ◌&&◌, true≢false}
 use mathlib.Core.Path.{◌≡◌, refl, sym, ap, ◌∙◌}
 use mathlib.Core.List.{List, [], ◌∷◌}
 use native.Mathlib.Numerals.{add-one}
 use native.Mathlib.Omega.{arith}
-use borrow.Author.Tests.{eq-eqb, ne_eqb, le-leb, lt-leb, eqb-false}
+use borrow.Author.Tests.{le-leb, lt-leb}
 use lib.ListN.{length, get_or, take, drop, drop_of_length-le}
 use lib.Seq.{drop-cons, take-nil, drop-nil}
 use Rattle.rules.specs.Basics.{choose}
@@ -14,57 +14,21 @@ use Rattle.rules.specs.ClassBytes.{cells_of, class_of}
 use Rattle.rules.proofs.CellsLaws.{comment_byte, code_or_str_byte}
 use Rattle.rules.proofs.Choose.{choose_true, choose_false}
 use Rattle.scan.specs.CodeEnd.{code_length, comment_at, NoComment, only_code_or_str}
-use Rattle.utf8.specs.Places.{NoneAmong}
+use Rattle.blocks.specs.Blocks.{FirstFrom, NoneBefore}
 
--- none of the first i class bytes is a `//` comment's
-pub record Passed (ks : List ℕ) (i : ℕ) : Type 0 where
-  pub within : i ≤ length ks
-  pub same : code_length ks ≡ i + code_length (drop i ks)
+-- where the first class byte of a `//` comment stands, or how many there are
+first_comment : (ks : List ℕ) (r : ℕ) → r ≤ length ks → ((j : ℕ) → j < r → comment_at ks j ≡ false) → (r < length ks → comment_at ks r ≡ true) → code_length ks ≡ r
+unfolding code_length
+first_comment [] r h n f = omega arith
+first_comment (k ∷ ks) zero h n f = choose_true _ _ _ (comment_byte k ∙ f (omega arith))
+first_comment (k ∷ ks) (suc r) h n f =
+    choose_false _ _ _ (comment_byte k ∙ n 0 (omega arith)) ∙ ap suc (first_comment ks r (omega arith) (λ j l. n (suc j) (omega arith)) (λ l. f (omega arith)))
 
-pub passed_start : (ks : List ℕ) → Passed ks 0
-passed_start ks = record { within = zero-le; same = omega arith }
+pub comment_found : (ks : List ℕ) (r : ℕ) → FirstFrom (comment_at ks) 0 (length ks) r → r ≡ code_length ks
+comment_found ks r w = sym (first_comment ks r w.within (λ j l. w.none j zero-le l) w.passes)
 
-module _ {ks : List ℕ} {i : ℕ} (p : Passed ks i) where
-  pub passed_found : i < length ks → get_or ks i 0 ≡ 2 → i ≡ code_length ks
-  unfolding code_length
-  passed_found l e =
-      let h : code_length (drop i ks) ≡ 0 = rw (drop-cons ks i 0) (choose_true _ 0 (suc (code_length (drop (suc i) ks))) (comment_byte (get_or ks i 0) ∙ eq-eqb (get_or ks i 0) 2 e)) in
-      omega (arith, p.same)
-
-  pub passed_more : i < length ks → (get_or ks i 0 ≡ 2 → ⊥) → Passed ks (i + 1)
-  unfolding code_length
-  passed_more l e =
-      let h : code_length (drop i ks) ≡ suc (code_length (drop (i + 1) ks)) = rw (add-one, drop-cons ks i 0) (choose_false _ 0 (suc (code_length (drop (suc i) ks))) (comment_byte (get_or ks i 0) ∙ ne_eqb (get_or ks i 0) 2 e)) in
-      record { within = omega arith; same = omega (arith, p.same) }
-
-  pub passed_end : length ks ≤ i → i ≡ code_length ks
-  unfolding code_length
-  passed_end l =
-      let h : code_length (drop i ks) ≡ 0 = rw (drop_of_length-le ks l) in
-      omega (arith, p.same)
-
--- ---- blocks
-
-passed_by : (ks : List ℕ) (n i : ℕ) → Passed ks i → i + n ≤ length ks → ((j : ℕ) → j < n → get_or ks (i + j) 0 ≡ 2 → ⊥) → Passed ks (i + n)
-passed_by ks zero i w h f = let e : i + 0 ≡ i = omega arith in rw e w
-passed_by ks (suc n) i w h f =
-    let e : i + 1 + n ≡ i + suc n = omega arith in
-    let z : i + 0 ≡ i = omega arith in
-    rw e at (passed_by ks n (i + 1) (passed_more w (omega arith) (rw z at (f 0 (omega arith)))) (omega arith) (λ j l. rw (shift j) at (f (suc j) (omega arith))))
-  where
-    shift : (j : ℕ) → i + suc j ≡ i + 1 + j
-    shift j = omega arith
-
-pub passed_block : (ks : List ℕ) (i n : ℕ) (r : Bool) → Passed ks i → i + n ≤ length ks → NoneAmong (comment_at ks) i n r → r ≡ false → Passed ks (i + n)
-passed_block ks i n r w h o e = passed_by ks n i w h (λ j l. eqb-false _ _ (o.none e j l))
-
-pub no_comment : (ks : List ℕ) (i : ℕ) (r : Bool) → Passed ks i → 16 ≤ length ks → length ks - 16 ≤ i → i ≤ length ks → NoneAmong (comment_at ks) (length ks - 16) 16 r → r ≡ false
-    → NoComment ks true
-no_comment ks i r w h l m o e =
-    let n : ℕ = length ks - i in
-    let q : i + n ≡ length ks = omega arith in
-    let f : (j : ℕ) → j < n → get_or ks (i + j) 0 ≡ 2 → ⊥ = λ j p. let a : length ks - 16 + (i + j - (length ks - 16)) ≡ i + j = omega arith in rw a at (eqb-false (get_or ks (length ks - 16 + (i + j - (length ks - 16))) 0) 2 (o.none e (i + j - (length ks - 16)) (omega arith))) in
-    record { none = λ z. sym (passed_end (rw q at (passed_by ks n i w (omega arith) f)) (omega arith)) }
+pub no_comment : (ks : List ℕ) (r : Bool) → NoneBefore (comment_at ks) (length ks) r → NoComment ks r
+no_comment ks r w = record { none = λ e. first_comment ks (length ks) (omega arith) (w.none e) (λ l. absurd (omega arith)) }
 
 pub no_comment_no : (ks : List ℕ) → NoComment ks false
 no_comment_no ks = record { none = λ q. absurd (true≢false (sym q)) }

@@ -1,6 +1,6 @@
 -- What is read in code, in block comments and in prefabs.
 use Prim.Native.Nat.{ℕ, zero, suc, ◌+◌, ◌-◌, ◌<◌, ◌≤◌}
-use mathlib.Core.Bool.{Bool, true, false, not, ◌||◌, true≢false}
+use mathlib.Core.Bool.{Bool, true, false, ◌||◌, true≢false}
 use mathlib.Core.Path.{◌≡◌, refl, ap, ◌∙◌}
 use mathlib.Core.List.{List, [], ◌∷◌, ◌++◌}
 use native.Mathlib.Nat.{le_refl, add-zero}
@@ -10,7 +10,7 @@ use lib.Dec.{eqb}
 use lib.ListN.{length, get_or, take, drop, set, replicate, length-replicate, length-drop, length-set}
 use lib.Seq.{length-take-le}
 use Rattle.buffer.specs.Buffer.{put}
-use Rattle.utf8.specs.Places.{NoneAmong}
+use Rattle.blocks.specs.Blocks.{NoneAmong}
 use Rattle.buffer.proofs.RegionLaws.{put_back, put_nil, put_put, set_put}
 use Rattle.rules.specs.declared.Class.{Class}
 use Rattle.rules.specs.declared.Carry.{Carry}
@@ -157,13 +157,13 @@ plain_run line (suc n) i class l room none =
     shift k = omega arith
 
 pub plain_eight : {line : List ℕ} {a i : ℕ} {x class : List ℕ} → Scanned line (fresh Mode.Code) a x (fresh Mode.Code) i class → (y : List ℕ) (r : Bool) → length line ≤ length x → i + 8 ≤ length line
-    → NoneAmong (starts_at line) i 8 (not r) → r ≡ true → y ≡ replicate (length (take (i + 8 - i) (drop i class))) 0
+    → NoneAmong (starts_at line) i 8 r → r ≡ false → y ≡ replicate (length (take (i + 8 - i) (drop i class))) 0
     → Scanned line (fresh Mode.Code) a x (fresh Mode.Code) (i + 8) (take i class ++ (y ++ drop (i + 8 - i) (drop i class)))
 plain_eight {line} {a} {i} {x} {class} p y r room l q e f =
     let n : i + 8 - i ≡ 8 = omega arith in
     let k : length line ≤ length class = omega (arith, p.moved.as_long) in
     let g : y ≡ replicate (length (take 8 (drop i class))) 0 = rw n at f in
-    rw (n, filled class y i 8 0 (omega arith) g) (scanned_then p (plain_run line 8 i class l k (q.none (ap not e))))
+    rw (n, filled class y i 8 0 (omega arith) g) (scanned_then p (plain_run line 8 i class l k (q.none e)))
 
 -- bytes of code, then what starts there, or the line's end
 module _ {line : List ℕ} {a i : ℕ} {x y : List ℕ} (p : Scanned line (fresh Mode.Code) a x (fresh Mode.Code) i y) where

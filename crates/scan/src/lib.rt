@@ -3,29 +3,28 @@
 // their line, so they are read within code.
 #![tactic(auto)]
 
-ghost use Rattle.std.specs.Prelude.{◌≡◌, not, ◌∷◌, [], ◌+◌, ◌<◌, ◌≤◌, ◌^◌, length, drop};
-ghost use Rattle.utf8.specs.Places.{NoneAmong};
+ghost use Rattle.std.specs.Prelude.{◌≡◌, ◌∷◌, [], ◌+◌, ◌<◌, ◌≤◌, ◌^◌, length, drop};
 ghost use Rattle.rules.specs.Basics.{starts_with};
 ghost use Rattle.rules.specs.Scan.{quote};
 ghost use Rattle.basics.specs.Depth.{carry_depth};
 ghost use Rattle.scan.specs.Classified.{Classified};
-ghost use Rattle.scan.specs.CodeEnd.{code_length, comment_at, NoComment, only_code_or_str};
+ghost use Rattle.scan.specs.CodeEnd.{code_length, NoComment, only_code_or_str};
 ghost use Rattle.scan.specs.Stretch.{Room, Inside, At, Deep, PairRead, InnerRead, InterpRead, DollarRead};
-ghost use Rattle.scan.specs.Stretch.{Scanned, Stretch, fresh, starts_in_code, starts_at};
+ghost use Rattle.scan.specs.Stretch.{Scanned, Stretch, fresh, starts_in_code};
 
 use basics::quote_of;
-use rules::{Carry, Mode};
+use rules::{Carry, Class, Mode};
 
 // The class bytes.
-pub const CODE: u8 = 0;
+pub const CODE: u8 = Class::Code as u8;
 
-pub const STR: u8 = 1;
+pub const STR: u8 = Class::Str as u8;
 
-pub const LINE_COMMENT: u8 = 2;
+pub const LINE_COMMENT: u8 = Class::LineComment as u8;
 
-pub const BLOCK_COMMENT: u8 = 3;
+pub const BLOCK_COMMENT: u8 = Class::BlockComment as u8;
 
-pub const PREFAB: u8 = 4;
+pub const PREFAB: u8 = Class::Prefab as u8;
 
 // A place in the line, and what is open there.
 #[derive(Clone, Copy)]
@@ -41,30 +40,12 @@ fn starts_in_code(b: u8) -> bool
     (b == b'\\') | (b == b'"') | (b == b'\'') | (b == b'/') | (b == b'$')
 }
 
-// Whether none of the eight bytes from `at` on can start something in code. It makes no branch, so that the eight are
-// tested at once.
-fn quiet(line: &[u8], at: usize) -> bool
-    requires { at + 8 ≤ length line.now }
-    ensures { NoneAmong (starts_at line.now) at 8 (not result) }
-{
-    let mut any = false;
-    let mut k: usize = 0;
-    while k < 8 {
-        any = any | starts_in_code(line[at + k]);
-        k += 1;
-    }
-    !any
-}
-
 // Whether c stands at the place after `at`.
 fn next_is(line: &[u8], at: usize, c: u8) -> bool
     requires { at < length line.now }
     ensures { result ≡ starts_with (drop (at + 1) line.now) (c ∷ []) }
 {
-    if at + 1 < line.len() {
-        return line[at + 1] == c;
-    }
-    false
+    at + 1 < line.len() && line[at + 1] == c
 }
 
 // Whether a and b stand at `at`.
@@ -72,27 +53,21 @@ fn two_at(line: &[u8], at: usize, a: u8, b: u8) -> bool
     requires { at < length line.now }
     ensures { result ≡ starts_with (drop at line.now) (a ∷ b ∷ []) }
 {
-    if line[at] == a {
-        return next_is(line, at, b);
-    }
-    false
+    line[at] == a && next_is(line, at, b)
 }
 
 // Whether ``` stands at `at`.
 fn fence_at(line: &[u8], at: usize) -> bool
     ensures { result ≡ starts_with (drop at line.now) (96 ∷ 96 ∷ 96 ∷ []) }
 {
-    if at >= line.len() {
+    if line.len() <= at || line[at] != b'`' {
         return false;
     }
-    if line[at] != b'`' {
-        return false;
-    }
-    if at + 1 >= line.len() {
-        return false;
-    }
-    two_at(line, at + 1, b'`', b'`')
+    at + 1 < line.len() && two_at(line, at + 1, b'`', b'`')
 }
+
+// kept: a line, a place and the class bytes are passed as they are: a struct would have to hold the lent class bytes, and
+// each function would take it apart again.
 
 // The class byte k of a mark of two bytes at `at`, of which the line may end after the first.
 fn pair(line: &[u8], at: usize, k: u8, class: &mut [u8]) -> usize
@@ -114,6 +89,7 @@ fn inner(line: &[u8], at: usize, k: bool, class: &mut [u8]) -> usize
 {
     let end = quote_of(k);
     let mut i = at;
+    // kept: a range is no plainer, since a mark takes one byte or more
     while i < line.len() {
         let b = line[i];
         if b == b'\\' {
@@ -136,6 +112,7 @@ fn interp(line: &[u8], at: usize, class: &mut [u8]) -> usize
 {
     let mut i = at;
     let mut d: usize = 1;
+    // kept: a range is no plainer, since a mark takes one byte or more
     while i < line.len() {
         let b = line[i];
         if b == b'\\' {
@@ -188,6 +165,7 @@ fn quoted(line: &[u8], at: usize, q: bool, class: &mut [u8]) -> usize
 {
     let end = quote_of(q);
     let mut i = at;
+    // kept: a range is no plainer, since a mark takes one byte or more
     while i < line.len() {
         let b = line[i];
         if b == b'\\' {
@@ -270,29 +248,22 @@ fn start(line: &[u8], at: usize, class: &mut [u8]) -> Stop
     requires { Inside line.now at class.old }
     ensures { Stretch line.now Carry.Code at class.old result class.new }
 {
-    let b = line[at];
-    if b == b'"' {
-        return string(line, at, true, class);
-    }
-    if b == b'\'' {
-        return string(line, at, false, class);
-    }
-    if b == b'/' {
-        return slash(line, at, class);
-    }
-    if b == b'$' {
-        return fence(line, at, class);
-    }
-    if b == b'\\' {
-        return Stop {
+    match line[at] {
+        b'"' => string(line, at, true, class),
+        b'\'' => string(line, at, false, class),
+        b'/' => slash(line, at, class),
+        b'$' => fence(line, at, class),
+        b'\\' => Stop {
             at: pair(line, at, CODE, class),
             carry: Carry::Code,
-        };
-    }
-    class[at] = CODE;
-    Stop {
-        at: at + 1,
-        carry: Carry::Code,
+        },
+        _ => {
+            class[at] = CODE;
+            Stop {
+                at: at + 1,
+                carry: Carry::Code,
+            }
+        }
     }
 }
 
@@ -302,15 +273,13 @@ fn eights(line: &[u8], at: usize, class: &mut [u8]) -> usize
     ensures { Scanned line.now (fresh Mode.Code) at class.old (fresh Mode.Code) result
         class.new }
 {
+    let test = |i: usize| starts_in_code(line[i]);
     let mut i = at;
-    while line.len() - i >= 8 {
-        if quiet(line, i) {
-            let e = i + 8;
-            buffer::fill(&mut class[i..e], CODE);
-            i = e;
-        } else {
-            return i;
-        }
+    // kept: filled block by block, since `past_blocks` and one fill took 23 to 37 % more instructions of `classify`
+    while line.len() - i >= 8 && !blocks::any_among::<8, _>(i, &test) {
+        let e = i + 8;
+        buffer::fill(&mut class[i..e], CODE);
+        i = e;
     }
     i
 }
@@ -321,15 +290,13 @@ fn ones(line: &[u8], at: usize, class: &mut [u8]) -> usize
     ensures { Scanned line.now (fresh Mode.Code) at class.old (fresh Mode.Code) result
         class.new }
 {
-    let mut i = at;
-    while i < line.len() {
+    for i in at..line.len() {
         if starts_in_code(line[i]) {
             return i;
         }
         class[i] = CODE;
-        i += 1;
     }
-    i
+    line.len()
 }
 
 // In code: past what the first byte starts that can start something.
@@ -355,6 +322,7 @@ fn block(line: &[u8], at: usize, depth: u32, class: &mut [u8]) -> Stop
 {
     let mut i = at;
     let mut d = depth;
+    // kept: a range is no plainer, since a mark takes one byte or more
     while i < line.len() {
         if two_at(line, i, b'/', b'*') {
             i = pair(line, i, BLOCK_COMMENT, class);
@@ -386,8 +354,7 @@ fn prefab(line: &[u8], at: usize, class: &mut [u8]) -> Stop
     requires { Inside line.now at class.old }
     ensures { Stretch line.now Carry.Prefab at class.old result class.new }
 {
-    let mut i = at;
-    while i < line.len() {
+    for i in at..line.len() {
         if fence_at(line, i) {
             let e = i + 3;
             buffer::fill(&mut class[i..e], PREFAB);
@@ -397,10 +364,9 @@ fn prefab(line: &[u8], at: usize, class: &mut [u8]) -> Stop
             };
         }
         class[i] = PREFAB;
-        i += 1;
     }
     Stop {
-        at: i,
+        at: line.len(),
         carry: Carry::Prefab,
     }
 }
@@ -423,6 +389,7 @@ pub fn classify(line: &[u8], carry: Carry, class: &mut [u8]) -> Carry
 {
     let mut i = 0;
     let mut y = carry;
+    // kept: a range is no plainer, since a stretch takes one byte or more
     while i < line.len() {
         let stop = stretch(line, i, y, class);
         i = stop.at;
@@ -431,68 +398,33 @@ pub fn classify(line: &[u8], carry: Carry, class: &mut [u8]) -> Carry
     y
 }
 
-// Whether one of the sixteen class bytes from `at` on is one of a `//` comment.
-fn any_comment(class: &[u8], at: usize) -> bool
-    requires { at + 16 ≤ length class.now }
-    ensures { NoneAmong (comment_at class.now) at 16 result }
-{
-    let mut any = false;
-    let mut k: usize = 0;
-    while k < 16 {
-        any = any | (class[at + k] == LINE_COMMENT);
-        k += 1;
-    }
-    any
-}
-
-// Whether none is, by blocks of which the last two may overlap. Of a short line it is not said.
+// Whether no class byte is one of a `//` comment. Of a short line it is not said.
 fn has_no_comment(class: &[u8]) -> bool
     ensures { NoComment class.now result }
 {
-    if class.len() < 16 {
-        return false;
-    }
-    let last = class.len() - 16;
-    let mut i = 0;
-    while i < last {
-        if any_comment(class, i) {
-            return false;
-        }
-        i += 16;
-    }
-    if any_comment(class, last) {
-        return false;
-    }
-    true
+    let n = class.len();
+    16 <= n && blocks::none_before::<16, _>(n, &|i| class[i] == LINE_COMMENT)
 }
 
 // Where the line's `//` comment starts, or its length, by its class bytes.
 pub fn code_end(class: &[u8]) -> usize
     ensures { result ≡ code_length class.now }
 {
+    let n = class.len();
     if has_no_comment(class) {
-        return class.len();
+        return n;
     }
-    let mut i = 0;
-    while i < class.len() {
-        if class[i] == LINE_COMMENT {
-            return i;
-        }
-        i += 1;
-    }
-    i
+    blocks::first_from(0, n, &|i| class[i] == LINE_COMMENT)
 }
 
 // Whether all of a line is code or string, the two least of its class bytes.
 pub fn all_code_or_str(class: &[u8]) -> bool
     ensures { result ≡ only_code_or_str class.now }
 {
-    let mut i = 0;
-    while i < class.len() {
-        if class[i] > STR {
+    for k in class {
+        if *k > STR {
             return false;
         }
-        i += 1;
     }
     true
 }

@@ -4,7 +4,7 @@
 use Prim.Native.Nat.{ℕ, zero, suc, ◌+◌, ◌-◌, ◌≤◌, ◌<◌}
 use native.Mathlib.Nat.{not-suc-le-zero, le_of_suc-le-suc}
 use native.Mathlib.Omega.{arith}
-use mathlib.Core.Bool.{true, false, true≢false}
+use Rattle.std.specs.Prelude.{Option, Some, None}
 use mathlib.Core.List.{List, [], ◌∷◌, ◌++◌, append_assoc, append-nil}
 use mathlib.Core.Path.{◌≡◌, refl, sym, ap, ◌∙◌}
 use lib.ListN.{length, get_or, take, drop, length-append, length-drop}
@@ -18,7 +18,7 @@ use Rattle.short_texts.specs.Texts.{texts, Short}
 use Rattle.short_texts.specs.Steps.{begin, step_of}
 use Rattle.short_texts.proofs.RunLaws.{whole_run, gave, told_end, few_in, few_at, few_out, few_all}
 use Rattle.short_sources.specs.declared.page.Page.{Page}
-use Rattle.short_sources.specs.Printed.{printed, printed_all, sources, printed_from, Added, Paged, Pages}
+use Rattle.short_sources.specs.Printed.{printed, printed_all, sources, printed_from, printed_next, left, Added, Paged, Pages}
 
 drop_past : (n : ℕ) (l : List (List ℕ)) → length l ≤ n → drop n l ≡ []
 drop_past zero [] h = refl
@@ -47,26 +47,26 @@ appended_length x y at l r w h =
 
 -- ---- a place's source
 
-module _ (most : ℕ) (q : Place) (g : Given) (e : g ≡ step_of q) (m : g.more ≡ true) where
+module _ (most : ℕ) (q : Place) (g : Given) (e : Some g ≡ step_of q) where
   -- it is short
   pub given_short : Short (take g.size g.text)
-  given_short = let r = gave q g e m in rw r.is (whole_run.only q.number r.within)
+  given_short = let r = gave q g e in rw r.is (whole_run.only q.number r.within)
 
   pub given_fits : g.size ≤ length g.text
-  given_fits = (gave q g e m).fits
+  given_fits = (gave q g e).fits
 
   -- the texts that are left become fewer
   pub given_less : length texts - g.next.number < length texts - q.number
-  given_less = let r = gave q g e m in omega (arith, r.within, r.next)
+  given_less = let r = gave q g e in omega (arith, r.within, r.next)
 
   module _ (few : g.size ≤ most) where
     given_in_law : q.number < length (sources most)
-    given_in_law = let r = gave q g e m in few_in most q.number r.within (omega (arith, r.size))
+    given_in_law = let r = gave q g e in few_in most q.number r.within (omega (arith, r.size))
 
     given_next : printed_from most q ≡ printed (take g.size g.text) ++ printed_from most g.next
     unfolding printed_all
     given_next =
-        let r = gave q g e m in
+        let r = gave q g e in
         let k : ℕ = q.number in
         let t : get_or (sources most) k [] ≡ take g.size g.text =
         few_at most k r.within (omega (arith, r.size)) ∙ sym r.is in
@@ -78,14 +78,14 @@ module _ (most : ℕ) (q : Place) (g : Given) (e : g ≡ step_of q) (m : g.more 
   given_out : most < g.size → printed_from most q ≡ []
   unfolding printed_all
   given_out far =
-      let r = gave q g e m in
+      let r = gave q g e in
       ap printed_all
       (drop_past q.number (sources most) (few_out most q.number r.within (omega (arith, r.size))))
 
-given_none : (most : ℕ) (q : Place) (g : Given) → most ≤ 6 → g ≡ step_of q → g.more ≡ false → printed_from most q ≡ []
+given_none : (most : ℕ) (q : Place) → most ≤ 6 → None ≡ step_of q → printed_from most q ≡ []
 unfolding printed_all
-given_none most q g few e m =
-    ap printed_all (drop_past q.number (sources most) (omega (arith, told_end q g e m, few_all most few)))
+given_none most q few e =
+    ap printed_all (drop_past q.number (sources most) (omega (arith, told_end q e, few_all most few)))
 
 -- ---- `fill`
 
@@ -103,70 +103,61 @@ filling_start most p page =
 module _
     (most : ℕ) (p : Place) (page₀ page : List ℕ) (size : ℕ) (q : Place) (f : Filling most p page₀ page size q)
   where
-    module _ (g : Given) (e : g ≡ step_of q) where
-      pub filling_more : g.more ≡ true → g.size ≤ most → 512 ≤ length page - size
-          → (page' : List ℕ) (r : ℕ) → Added page page' size (take g.size g.text) r
-          → Filling most p page₀ page' r g.next
-      filling_more m few room page' r w =
-          let a = w.appended in
-          let l : length page' ≡ length page = appended_length page page' size _ r a f.within in
-          let b : r ≤ length page = omega (arith, w.short) in
-          let n = (gave q g e m).next in
-          let c : length (sources most) - g.next.number < length (sources most) - q.number =
-          omega (arith, n, given_in_law most q g e m few) in
-          record {
-            long = l ∙ f.long;
-            within = omega arith;
-            is = f.is
-                ∙ ap (λ (t : List ℕ). take size page ++ t) (given_next most q g e m few)
-                ∙ sym (append_assoc (take size page) (printed (take g.size g.text)) (printed_from most g.next))
-                ∙ ap (λ (t : List ℕ). t ++ printed_from most g.next) (sym (appended_take page page' size _ r a b));
-            near = omega (arith, f.near);
-            moved = λ h. omega (arith, f.near);
-          }
+    pub filling_more : (g : Given) → Some g ≡ step_of q → g.size ≤ most → 512 ≤ length page - size
+        → (page' : List ℕ) (r : ℕ) → Added page page' size (take g.size g.text) r
+        → Filling most p page₀ page' r g.next
+    filling_more g e few room page' r w =
+        let a = w.appended in
+        let l : length page' ≡ length page = appended_length page page' size _ r a f.within in
+        let b : r ≤ length page = omega (arith, w.short) in
+        let n = (gave q g e).next in
+        let c : length (sources most) - g.next.number < length (sources most) - q.number =
+        omega (arith, n, given_in_law most q g e few) in
+        record {
+          long = l ∙ f.long;
+          within = omega arith;
+          is = f.is
+              ∙ ap (λ (t : List ℕ). take size page ++ t) (given_next most q g e few)
+              ∙ sym (append_assoc (take size page) (printed (take g.size g.text)) (printed_from most g.next))
+              ∙ ap (λ (t : List ℕ). t ++ printed_from most g.next) (sym (appended_take page page' size _ r a b));
+          near = omega (arith, f.near);
+          moved = λ h. omega (arith, f.near);
+        }
 
-      pub filling_out : g.more ≡ true → most < g.size
-          → Paged most p page (record { size = size; next = q; more = false })
-      filling_out m far =
-          record {
-            within = f.within;
-            is = f.is;
-            end = λ h. given_out most q g e m far;
-            nearer = λ h. absurd (true≢false (sym h));
-          }
-
-      pub filling_end : most ≤ 6 → g.more ≡ false → Paged most p page (record { size = size; next = q; more = false })
-      filling_end few m =
-          record {
-            within = f.within;
-            is = f.is;
-            end = λ h. given_none most q g few e m;
-            nearer = λ h. absurd (true≢false (sym h));
-          }
-
-    pub filling_full : 512 ≤ length page₀ → length page - size < 512
-        → Paged most p page (record { size = size; next = q; more = true })
-    filling_full room full =
+    last_page : printed_from most q ≡ [] → Paged most p page (record { size = size; next = None })
+    last_page z =
         record {
           within = f.within;
-          is = f.is;
-          end = λ h. absurd (true≢false h);
-          nearer = λ h. f.moved (omega (arith, f.long));
+          is = f.is ∙ ap (λ (t : List ℕ). take size page ++ t) z;
+          nearer = omega arith;
         }
+
+    pub filling_out : (g : Given) → Some g ≡ step_of q → most < g.size
+        → Paged most p page (record { size = size; next = None })
+    filling_out g e far = last_page (given_out most q g e far)
+
+    pub filling_end : most ≤ 6 → None ≡ step_of q → Paged most p page (record { size = size; next = None })
+    filling_end few e = last_page (given_none most q few e)
+
+    pub filling_full : 512 ≤ length page₀ → length page - size < 512
+        → Paged most p page (record { size = size; next = Some q })
+    filling_full room full =
+        let n = f.moved (omega (arith, f.long)) in record { within = f.within; is = f.is; nearer = omega arith }
 
 -- ---- `main`
 
-pub page_nearer : (most : ℕ) (p : Place) (page : List ℕ) (r : Page) → Paged most p page r → r.more ≡ true
-    → length (sources most) - r.next.number < length (sources most) - p.number
-page_nearer most p page r a m = a.nearer m
+pub page_nearer : (most : ℕ) (p : Place) (n : Option Place) (page : List ℕ) (r : Page) → Paged most p page r
+    → n ≡ Some p → left most r.next < left most n
+page_nearer most p n page r a e = rw e a.nearer
 
 -- ---- all pages
 
 from_place : {most : ℕ} {p : Place} {w : List ℕ} → Pages most p w → w ≡ printed_from most p
-from_place (Pages.last {page = page} {r = r} a h) =
-    sym (a.is ∙ ap (λ (t : List ℕ). take r.size page ++ t) (a.end h) ∙ append-nil (take r.size page))
-from_place (Pages.more {page = page} {r = r} a ps) =
-    ap (λ (t : List ℕ). take r.size page ++ t) (from_place ps) ∙ sym a.is
+from_place {most} (Pages.last {page = page} {r = r} a h) =
+    sym (a.is ∙ ap (λ (n : Option Place). take r.size page ++ printed_next most n) h ∙ append-nil (take r.size page))
+from_place {most} (Pages.more {page = page} {r = r} a h ps) =
+    ap (λ (t : List ℕ). take r.size page ++ t) (from_place ps)
+    ∙ sym (a.is ∙ ap (λ (n : Option Place). take r.size page ++ printed_next most n) h)
 
 pub all_pages : {most : ℕ} {w : List ℕ} → Pages most begin w → w ≡ printed_all (sources most)
 all_pages ps = from_place ps

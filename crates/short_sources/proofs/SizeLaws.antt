@@ -2,6 +2,7 @@
 --     Within       how high the stack is, and how many characters the lines so far have with their endings
 --     line_within  a line adds at most its length to the first; 16 characters and twice its length to the second
 --     text_fits    so a source of at most 6 characters, which has at most 7 lines, stays within 7 × 16 and an ending
+use Rattle.std.specs.Prelude.{Some}
 use Prim.Native.Nat.{ℕ, suc, ◌+◌, ◌*◌, ◌≤◌}
 use native.Mathlib.Omega.{arith}
 use mathlib.Core.Bool.{Bool, true, false, cond}
@@ -28,7 +29,6 @@ use Rattle.rules.specs.Line.{format_line}
 use Rattle.rules.specs.Assembly.{ending_of, drop_empty, joined, last_ending, finish, format_lines, format_with}
 use Rattle.rules.specs.declared.Carry.{Carry}
 use Rattle.rules.specs.declared.LineEnding.{LineEnding}
-use Rattle.rules.specs.declared.PrintWidth.{PrintWidth}
 use Rattle.rules.proofs.Choose.{choose_case, choose_false}
 use Rattle.rules.proofs.CellsLaws.{length_classify}
 use Rattle.rules.proofs.ScanBytes.{chars_classify}
@@ -137,7 +137,7 @@ module _ (level : ℕ) (line : List ℕ) (h : length (indent_of defaults level +
       let l : List ℕ = indent_of defaults level ++ line in
       le-ltb 100 (measure 0 0 l) (omega (arith, measure_zero 0 l, width_within l))
 
-  whole : (b : Bool) → choose b (split_wide (PrintWidth.Columns 100) defaults level line) (one_line (indent_of defaults level ++ line))
+  whole : (b : Bool) → choose b (split_wide (Some 100) defaults level line) (one_line (indent_of defaults level ++ line))
       ≡ one_line (indent_of defaults level ++ line)
   unfolding split_wide choose
   whole true = choose_false _ _ _ narrow

@@ -21,7 +21,7 @@ use Rattle.rules.specs.Options.{Options, defaults, valid_indent, all_blank}
 use Rattle.rules.specs.Assembly.{format_with, default_text}
 use Rattle.rules.specs.Refusals.{max_source, scratch_needed, refuse_if, tested, wrong_length, bits_set, long_source, bad_option, wide_ruler, short_scratch, ill_formed, short_output}
 use Rattle.rules.specs.Strengths.{built_in, fields_of, last_bits}
-use Rattle.rules.specs.Choices.{default_numbers, print_width_named, end_of_line_named, final_newline_named, is_named, valid_options, options_of}
+use Rattle.rules.specs.Choices.{default_numbers, print_width_named, end_of_line_named, final_newline_named, valid_options, options_of}
 use Rattle.rules.specs.Call.{Call, format_scratch, formatted, text_of, verdict_of, outcome_of, answer_of}
 use Rattle.rules.specs.declared.Answer.{Answer}
 use Rattle.rules.proofs.StartsBytes.{all_ascii}
@@ -56,7 +56,7 @@ short_call source n = call_of source (codes "  ") default_numbers built_in n 0 5
 
 module _ (source : List ℕ) (n : ℕ) where
   options_default : options_of (short_call source n).choices ≡ defaults
-  unfolding options_of print_width_named end_of_line_named final_newline_named
+  unfolding options_of
   options_default = refl
 
   text_is : text_of (short_call source n) ≡ default_text source
@@ -70,7 +70,7 @@ module _ (source : List ℕ) (n : ℕ) where
 
     -- no refusal applies
     accepted : 456 ≤ n → (answer_of (outcome_of (short_call source n))).refusal ≡ 0
-    unfolding outcome_of verdict_of tested refuse_if wrong_length bits_set last_bits fields_of long_source bad_option wide_ruler short_scratch ill_formed short_output choose valid_options valid_indent all_blank print_width_named end_of_line_named final_newline_named is_named
+    unfolding outcome_of verdict_of last_bits fields_of choose valid_options valid_indent all_blank
     accepted h =
         rw (
           le-ltb max_source (length source) (omega (arith, s.few)),

@@ -1,5 +1,5 @@
 -- What the program prints.
-use Rattle.std.specs.Prelude.{ℕ, suc, ◌+◌, ◌-◌, ◌≤◌, ◌<◌, true, false, List, [], ◌∷◌, ◌++◌, ◌≡◌, length, take, drop}
+use Rattle.std.specs.Prelude.{ℕ, suc, ◌+◌, ◌-◌, ◌≤◌, ◌<◌, List, [], ◌∷◌, ◌++◌, ◌≡◌, Option, Some, None, length, take, drop}
 use Rattle.utf8.specs.Unicode.{within}
 use Rattle.buffer.specs.Buffer.{Appended}
 use Rattle.decimal.specs.Decimal.{digits}
@@ -54,19 +54,27 @@ pub record Added (page page' : List ℕ) (at : ℕ) (source : List ℕ) (r : ℕ
   pub appended : Appended page page' at (printed source) r
   pub short : r ≤ at + 477
 
+-- what is printed from the next place on, if there is one
+abbrev pub printed_next : ℕ → Option Place → List ℕ
+printed_next most (Some q) = printed_from most q
+printed_next most None = []
+
+-- how many steps are left at most
+abbrev pub left : ℕ → Option Place → ℕ
+left most (Some q) = suc (length (sources most) - q.number)
+left most None = 0
+
 -- a page that is filled from a place on
 pub record Paged (most : ℕ) (p : Place) (page : List ℕ) (r : Page) : Type 0 where
   pub within : r.size ≤ length page
   -- all that is to be printed: what stands in the page, then what is printed from the next place on
-  pub is : printed_from most p ≡ take r.size page ++ printed_from most r.next
-  -- no more: nothing is left to print
-  pub end : r.more ≡ false → printed_from most r.next ≡ []
+  pub is : printed_from most p ≡ take r.size page ++ printed_next most r.next
   -- a page with more behind it has brought the end nearer
-  pub nearer : r.more ≡ true → length (sources most) - r.next.number < length (sources most) - p.number
+  pub nearer : left most r.next < left most (Some p)
 
 -- the pages from a place on, each from the place that the one before it handed on, one behind the other
 pub data Pages (most : ℕ) : Place → List ℕ → Type 0 where
-  last : {p : Place} {page : List ℕ} {r : Page} → Paged most p page r → r.more ≡ false
+  last : {p : Place} {page : List ℕ} {r : Page} → Paged most p page r → r.next ≡ None
       → Pages most p (take r.size page)
-  more : {p : Place} {page : List ℕ} {r : Page} {rest : List ℕ} → Paged most p page r → Pages most r.next rest
-      → Pages most p (take r.size page ++ rest)
+  more : {p q : Place} {page : List ℕ} {r : Page} {rest : List ℕ} → Paged most p page r → r.next ≡ Some q
+      → Pages most q rest → Pages most p (take r.size page ++ rest)

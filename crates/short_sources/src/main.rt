@@ -12,15 +12,12 @@ fn main(rt: HostRuntime) -> io::Result<()> {
     let n = input::read_full(&mut rt.reader(), &mut input)?;
     let most = greatest(&input[..n]);
     let mut page = [0u8; 65536];
-    let mut p = short_texts::start();
-    loop {
+    let mut next = Some(short_texts::start());
+    // kept: a page ends where the next begins, so no iterator of the library gives them
+    while let Some(p) = next {
         let filled = fill(&mut page, p, most);
-        let size = filled.size;
-        rt.write_all(&page[..size])?;
-        if filled.more {
-            p = filled.next;
-        } else {
-            return Ok(());
-        }
+        rt.write_all(&page[..filled.size])?;
+        next = filled.next;
     }
+    Ok(())
 }

@@ -9,41 +9,33 @@ use short_texts::Place;
 // More than a source adds: 20 digits, LF and a text of at most 456 bytes.
 const ROOM: usize = 512;
 
-// A page: how many bytes of it are filled, the place of the next source, and whether there may be one.
+// A page: how many bytes of it are filled, and the place of the next source, if there may be one.
 #[derive(Clone, Copy)]
 pub struct Page {
     pub size: usize,
-    pub next: Place,
-    pub more: bool,
+    pub next: Option<Place>,
 }
 
 // A digit from 0 to 6 as a number; any other byte means 6.
+#[tactic(auto, unfolding(rules::specs::Basics::choose))]
 fn digit(d: u8) -> usize
     ensures { result ≡ digit_in d }
 {
-    if d < b'0' {
-        return 6;
+    match d {
+        b'0'..=b'6' => (d - b'0') as usize,
+        _ => 6,
     }
-    if b'6' < d {
-        return 6;
-    }
-    (d - b'0') as usize
 }
 
 // The greatest length of a source: a digit, alone or with one LF after it; anything else means 6.
+#[tactic(auto, unfolding(crate::specs::Printed::greatest_in, rules::specs::Basics::choose))]
 pub fn greatest(input: &[u8]) -> usize
     ensures { result ≡ greatest_in input.now }
 {
-    let n = input.len();
-    if n == 1 {
-        return digit(input[0]);
+    match input {
+        [d] | [d, b'\n'] => digit(*d),
+        _ => 6,
     }
-    if n == 2 {
-        if input[1] == b'\n' {
-            return digit(input[0]);
-        }
-    }
-    6
 }
 
 // Writes the text of a source, formatted with the default options, over the front of the output, and gives its length.
@@ -53,16 +45,14 @@ fn format_short(source: &[u8], output: &mut [u8]) -> usize
     ensures { TextIn source.now output.new result }
 {
     let mut scratch = [0u8; 512];
-    let mut opened = [0u64; 0];
     let strengths = Strengths::BUILT_IN;
-    let table = strengths.table;
     let answer = call::format_call(
         source,
         b"  ",
         OptionNumbers::DEFAULTS,
-        &table,
+        &strengths.table,
         output,
-        &mut opened,
+        &mut [],
         &mut scratch,
     );
     answer.length as usize
@@ -89,31 +79,19 @@ pub fn fill(page: &mut [u8], p: Place, most: usize) -> Page
 {
     let mut size = 0;
     let mut next = p;
+    // kept: a range is no plainer, since a step takes as many bytes as the source's text has
     while ROOM <= page.len() - size {
-        let g = short_texts::step(next);
-        if g.more {
-            let n = g.size;
-            if most < n {
-                return Page {
-                    size,
-                    next,
-                    more: false,
-                };
-            }
-            let text = g.text;
-            size = add_source(page, size, &text[..n]);
-            next = g.next;
-        } else {
-            return Page {
-                size,
-                next,
-                more: false,
-            };
+        let Some(g) = short_texts::step(next) else {
+            return Page { size, next: None };
+        };
+        if most < g.size {
+            return Page { size, next: None };
         }
+        size = add_source(page, size, &g.text[..g.size]);
+        next = g.next;
     }
     Page {
         size,
-        next,
-        more: true,
+        next: Some(next),
     }
 }

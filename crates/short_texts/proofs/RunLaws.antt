@@ -11,18 +11,17 @@ use mathlib.Core.Bool.{Bool, true, false, not, ◌&&◌, true≢false}
 use mathlib.Core.Logic.{◌⊎◌, inl, inr}
 use mathlib.Core.List.{List, [], ◌∷◌, ◌++◌, head-eq_of_cons-eq, tail-eq_of_cons-eq}
 use mathlib.Core.Path.{◌≡◌, refl, sym, ap, ◌∙◌}
+use Rattle.std.specs.Prelude.{Option, Some, None}
 use lib.Dec.{eqb}
 use lib.ListN.{length, get_or, take, replicate, length-append}
 use lib.Seq.{take-suc, take_all, take-append_seam}
 use borrow.Author.Tests.{eq-eqb}
 use Rattle.utf8.proofs.Tests.{split, and_left, and_right}
-use Rattle.rules.specs.Basics.{choose}
 use Rattle.rules.specs.Call.{filled}
-use Rattle.rules.proofs.Choose.{choose_true, choose_false}
 use Rattle.short_texts.specs.declared.Place.{Place}
 use Rattle.short_texts.specs.declared.Given.{Given}
 use Rattle.short_texts.specs.Texts.{letters, of_length, shorter, texts, AllLetters, Short}
-use Rattle.short_texts.specs.Steps.{place_at, given, ended, step_of, place_after, given_by, Comes, WholeRun}
+use Rattle.short_texts.specs.Steps.{place_at, given, step_of, handed_on, place_after, add_given, given_by, Comes, WholeRun}
 use Rattle.short_texts.proofs.StepLaws.{step_in, step_out}
 use Rattle.short_texts.proofs.TextLaws.{length_of, length_shorter, length_texts, led_at, weight_pos}
 use Rattle.short_texts.proofs.TextLaws.{quotient_small, of_at, of_none, of_size}
@@ -34,8 +33,8 @@ place_in : (k : ℕ) → k ≤ length texts → place_after k ≡ place_at k
 unfolding place_after
 place_in zero h = refl
 place_in (suc k) h =
-    ap (λ (p : Place). (step_of p).next) (place_in k (omega arith))
-    ∙ ap (λ (g : Given). g.next) (step_in (place_at k) (omega arith))
+    ap (λ (p : Place). handed_on p (step_of p)) (place_in k (omega arith))
+    ∙ ap (handed_on (place_at k)) (step_in (place_at k) (omega arith))
     ∙ ap place_at (add-one k)
 
 place_out : (k : ℕ) → length texts ≤ k → place_after k ≡ place_at (length texts)
@@ -44,19 +43,23 @@ place_out zero h = absurd (omega (arith, length_texts))
 place_out (suc k) h = go (split k (length texts)) (λ l. place_out k l)
   where
     go : (k < length texts) ⊎ (length texts ≤ k) → (length texts ≤ k → place_after k ≡ place_at (length texts))
-        → (step_of (place_after k)).next ≡ place_at (length texts)
+        → handed_on (place_after k) (step_of (place_after k)) ≡ place_at (length texts)
     go (inl l) f =
         let e : suc k ≡ length texts = omega arith in
         place_in (suc k) l ∙ ap place_at e
     go (inr l) f =
-        ap (λ (p : Place). (step_of p).next) (f l)
-        ∙ ap (λ (g : Given). g.next) (step_out (place_at (length texts)) (omega arith))
+        ap (λ (p : Place). handed_on p (step_of p)) (f l)
+        ∙ ap (handed_on (place_at (length texts))) (step_out (place_at (length texts)) (omega arith))
 
 -- the end is told after the last text, and from then on
-end_out : (k : ℕ) → length texts ≤ k → step_of (place_after k) ≡ ended (place_after k)
+end_out : (k : ℕ) → length texts ≤ k → step_of (place_after k) ≡ None
 end_out k h = step_out (place_after k) (omega (arith, ap (λ (p : Place). p.number) (place_out k h)))
 
-more_in : (k : ℕ) → k < length texts → step_of (place_after k) ≡ given (get_or texts k []) (k + 1)
+stays : (k : ℕ) → length texts ≤ k → place_after (suc k) ≡ place_after k
+unfolding place_after
+stays k h = ap (handed_on (place_after k)) (end_out k h)
+
+more_in : (k : ℕ) → k < length texts → step_of (place_after k) ≡ Some (given (get_or texts k []) (k + 1))
 more_in k h = ap step_of (place_in k (omega arith)) ∙ step_in (place_at k) h
 
 -- the texts that the first k steps give are the list's first k, or all
@@ -67,12 +70,10 @@ given_by_law (suc k) = go (split k (length texts)) (given_by_law k)
   where
     go : (k < length texts) ⊎ (length texts ≤ k) → given_by k ≡ take k texts → given_by (suc k) ≡ take (suc k) texts
     go (inl l) f =
-        ap (λ (g : Given). choose g.more (given_by k ++ (take g.size g.text ∷ [])) (given_by k))
-        (more_in k l)
-        ∙ choose_true true _ _ refl
+        ap (λ (g : Option Given). add_given g (given_by k)) (more_in k l)
         ∙ rw (take-append_seam, f) (sym (take-suc texts k [] l))
     go (inr l) f =
-        choose_false _ _ _ (ap (λ (g : Given). g.more) (end_out k l))
+        ap (λ (g : Option Given). add_given g (given_by k)) (end_out k l)
         ∙ f
         ∙ take_all k texts l
         ∙ sym (take_all (suc k) texts (omega arith))
@@ -233,8 +234,8 @@ whole_run =
       comes = short_comes;
       once = comes_once;
       only = comes_short;
-      end = end_out;
-      other = step_out;
+      end = λ k h. (end_out k h, stays k h);
+      other = λ p h. (step_out p h, ap (handed_on p) (step_out p h));
     }
 
 -- ---- for a caller: what a step tells
@@ -247,15 +248,16 @@ pub record Gave (p : Place) (g : Given) : Type 0 where
   pub fits : g.size ≤ length g.text
   pub next : g.next.number ≡ p.number + 1
 
-module _ (p : Place) (g : Given) (e : g ≡ step_of p) where
-  pub gave : g.more ≡ true → Gave p g
+module _ (p : Place) where
+  pub gave : (g : Given) → Some g ≡ step_of p → Gave p g
   unfolding filled
-  gave m = go (split p.number (length texts))
+  gave g e = go (split p.number (length texts))
     where
       go : (p.number < length texts) ⊎ (length texts ≤ p.number) → Gave p g
       go (inl h) =
           let t : List ℕ = get_or texts p.number [] in
-          let f : g ≡ given t (p.number + 1) = e ∙ step_in p h in
+          let y : Some g ≡ Some (given t (p.number + 1)) = e ∙ step_in p h in
+          let f : g ≡ given t (p.number + 1) = cc in
           record {
             within = h;
             is = rw f (take-append_seam t _);
@@ -263,13 +265,14 @@ module _ (p : Place) (g : Given) (e : g ≡ step_of p) where
             fits = rw f (omega (arith, length-append t (replicate (6 - length t) 0)));
             next = ap (λ (x : Given). x.next.number) f;
           }
-      go (inr h) = absurd (true≢false (sym m ∙ ap (λ (x : Given). x.more) (e ∙ step_out p h)))
+      go (inr h) = let y : Some g ≡ None = e ∙ step_out p h in absurd (cc)
 
-  pub told_end : g.more ≡ false → length texts ≤ p.number
-  told_end m = go (split p.number (length texts))
+  pub told_end : None ≡ step_of p → length texts ≤ p.number
+  told_end e = go (split p.number (length texts))
     where
       go : (p.number < length texts) ⊎ (length texts ≤ p.number) → length texts ≤ p.number
-      go (inl h) = absurd (true≢false (sym (ap (λ (x : Given). x.more) (e ∙ step_in p h)) ∙ m))
+      go (inl h) =
+          let y : None ≡ Some (given (get_or texts p.number []) (p.number + 1)) = e ∙ step_in p h in absurd (cc)
       go (inr h) = h
 
 -- ---- the texts of at most n characters: they stand first, in the same order

@@ -5,10 +5,10 @@ use Prim.Native.Nat.{ℕ, suc, ◌+◌, ◌-◌, ◌*◌, ◌^◌, ◌/◌, ◌%
 use native.Mathlib.Nat.{sub-zero, pow-succ', pow-le-pow_right, mod-lt, mul-div_cancel_left}
 use native.Mathlib.Numerals.{add-one}
 use native.Mathlib.Omega.{arith}
-use mathlib.Core.Bool.{true}
 use mathlib.Core.List.{List, [], ◌∷◌, ◌++◌, append-nil, append_assoc}
 use mathlib.Core.Logic.{◌⊎◌, inl, inr}
 use mathlib.Core.Path.{◌≡◌, refl, sym, ap, ◌∙◌}
+use Rattle.std.specs.Prelude.{Some, None}
 use lib.ListN.{length, get_or, take, drop, set, replicate, length-set, take-append-drop}
 use lib.Seq.{take-suc-set, drop-set-lt, drop-drop}
 use borrow.Author.Tests.{lt-ltb, le-ltb}
@@ -18,7 +18,7 @@ use Rattle.rules.proofs.Choose.{choose_true, choose_false}
 use Rattle.short_texts.specs.declared.Place.{Place}
 use Rattle.short_texts.specs.declared.Given.{Given}
 use Rattle.short_texts.specs.Texts.{letters, of_length, shorter, texts}
-use Rattle.short_texts.specs.Steps.{Numbered, place_at, given, ended, step_of}
+use Rattle.short_texts.specs.Steps.{Numbered, place_at, given, step_of}
 use Rattle.short_texts.proofs.TextLaws.{length_shorter, weight_pos, quotient_small}
 use Rattle.short_texts.proofs.TextLaws.{of_at, of_none, of_size, shorter_grows, texts_at}
 
@@ -133,7 +133,7 @@ module _ (number n w left : ℕ) (r : Looking number n w left) where
   looking_numbered k = record { few = omega (arith, r.within); weighs = r.weighs; small = k }
 
   pub looking_end : (t : List ℕ) → left < w → t ≡ filled 6 (get_or (of_length n) left [])
-      → ◌≡◌ {A = Given} (record { more = true; size = n; text = t; next = place_at (number + 1) })
+      → ◌≡◌ {A = Given} (record { size = n; text = t; next = place_at (number + 1) })
       (given (get_or texts number []) (number + 1))
   looking_end t k e =
       let b : left < 12 ^ n = rw r.weighs at k in
@@ -144,11 +144,12 @@ module _ (number n w left : ℕ) (r : Looking number n w left) where
 
 -- ---- `step`
 
-pub step_in : (p : Place) → p.number < length texts → step_of p ≡ given (get_or texts p.number []) (p.number + 1)
+pub step_in : (p : Place) → p.number < length texts
+    → step_of p ≡ Some (given (get_or texts p.number []) (p.number + 1))
 unfolding step_of
 step_in p h = choose_true _ _ _ (lt-ltb _ _ h)
 
--- any other place is the end, and the place stays
-pub step_out : (p : Place) → length texts ≤ p.number → step_of p ≡ ended p
+-- any other place is the end
+pub step_out : (p : Place) → length texts ≤ p.number → step_of p ≡ None
 unfolding step_of
 step_out p h = choose_false _ _ _ (le-ltb _ _ h)

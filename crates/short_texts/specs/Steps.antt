@@ -1,5 +1,5 @@
 -- The generator, step by step, and what is promised of the whole run.
-use Rattle.std.specs.Prelude.{ℕ, zero, suc, ◌+◌, ◌<◌, ◌≤◌, ◌^◌, true, false, List, [], ◌∷◌, ◌++◌, ◌≡◌, ltb, length, get_or, take, replicate}
+use Rattle.std.specs.Prelude.{ℕ, zero, suc, ◌+◌, ◌<◌, ◌≤◌, ◌^◌, List, [], ◌∷◌, ◌++◌, ◌≡◌, Option, Some, None, ltb, length, get_or, take}
 use Rattle.rules.specs.Basics.{choose}
 use Rattle.rules.specs.Call.{filled}
 use Rattle.short_texts.specs.declared.Place.{Place}
@@ -14,24 +14,26 @@ begin = place_at 0
 
 -- the text t, and the place after it
 abbrev pub given : List ℕ → ℕ → Given
-given t next = record { more = true; size = length t; text = filled 6 t; next = place_at next }
-
--- the end, and the place as it was
-abbrev pub ended : Place → Given
-ended p = record { more = false; size = 0; text = replicate 6 0; next = p }
+given t next = record { size = length t; text = filled 6 t; next = place_at next }
 
 -- the text whose number in the list is the place's; any other place is the end
-unfoldable pub step_of : Place → Given
-step_of p = choose (ltb p.number (length texts)) (given (get_or texts p.number []) (p.number + 1)) (ended p)
+unfoldable pub step_of : Place → Option Given
+step_of p = choose (ltb p.number (length texts)) (Some (given (get_or texts p.number []) (p.number + 1))) None
+
+-- the place that a step from p hands on; at the end it stays
+abbrev pub handed_on : Place → Option Given → Place
+handed_on p (Some g) = g.next
+handed_on p None = p
 
 -- the place after k steps from the start, each with the place that the one before it handed on
 unfoldable pub place_after : ℕ → Place
 place_after zero = begin
-place_after (suc k) = (step_of (place_after k)).next
+place_after (suc k) = handed_on (place_after k) (step_of (place_after k))
 
 -- the text that a step gave, behind those before it; the end adds none
-abbrev pub add_given : Given → List (List ℕ) → List (List ℕ)
-add_given g ts = choose g.more (ts ++ (take g.size g.text ∷ [])) ts
+abbrev pub add_given : Option Given → List (List ℕ) → List (List ℕ)
+add_given (Some g) ts = ts ++ (take g.size g.text ∷ [])
+add_given None ts = ts
 
 -- the texts that the first k steps give
 unfoldable pub given_by : ℕ → List (List ℕ)
@@ -59,9 +61,9 @@ pub record WholeRun : Type 0 where
   -- no other comes
   pub only : (k : ℕ) → k < length texts → Short (get_or texts k [])
   -- the end is told after the last text, and from then on
-  pub end : (k : ℕ) → length texts ≤ k → step_of (place_after k) ≡ ended (place_after k)
+  pub end : (k : ℕ) → length texts ≤ k → (step_of (place_after k) ≡ None) × (place_after (suc k) ≡ place_after k)
   -- any other state gives the end, and stays
-  pub other : (p : Place) → length texts ≤ p.number → step_of p ≡ ended p
+  pub other : (p : Place) → length texts ≤ p.number → (step_of p ≡ None) × (handed_on p (step_of p) ≡ p)
 
 -- number is that of a text of this size; weight is 12 to the power of the size
 pub record Numbered (size weight number : ℕ) : Type 0 where

@@ -5,7 +5,7 @@
 ghost use Rattle.std.specs.Prelude.{◌≡◌, [], ◌+◌, ◌<◌, length, get_or};
 ghost use Rattle.rules.specs.Call.{filled};
 ghost use Rattle.short_texts.specs.Texts.{letters, of_length, texts};
-ghost use Rattle.short_texts.specs.Steps.{Numbered, place_at, begin, given, ended, step_of};
+ghost use Rattle.short_texts.specs.Steps.{Numbered, begin, given, step_of};
 
 // How many texts there are.
 const TEXTS: usize = 3257437;
@@ -16,11 +16,10 @@ pub struct Place {
     pub number: usize,
 }
 
-// What a step gives: a text, as the front of an array with zeros after it, and the state after it; or, with more false,
-// the end and the state as it was.
+// A text, and the state after it.
+// kept: no heap: of a text of at most six characters the size stands beside an array, with zeros after it
 #[derive(Clone, Copy)]
 pub struct Given {
-    pub more: bool,
     pub size: usize,
     pub text: [u8; 6],
     pub next: Place,
@@ -43,12 +42,10 @@ fn text_of(size: usize, weight: usize, number: usize) -> [u8; 6]
     let mut t = [0u8; 6];
     let mut left = number;
     let mut w = weight;
-    let mut i = 0;
-    while i < size {
-        w = w / 12;
+    for i in 0..size {
+        w /= 12;
         t[i] = letter(left / w);
-        left = left % w;
-        i += 1;
+        left %= w;
     }
     t
 }
@@ -61,6 +58,7 @@ fn give(number: usize) -> Given
     let mut size = 0;
     let mut weight = 1;
     let mut left = number;
+    // kept: a range is no plainer, since the loop ends by the weight, and both grow with the size
     while weight <= left {
         left -= weight;
         weight *= 12;
@@ -68,22 +66,9 @@ fn give(number: usize) -> Given
     }
     let text = text_of(size, weight, left);
     Given {
-        more: true,
         size,
         text,
         next: Place { number: number + 1 },
-    }
-}
-
-// The end; the state stays.
-fn end_at(number: usize) -> Given
-    ensures { result ≡ ended (place_at number) }
-{
-    Given {
-        more: false,
-        size: 0,
-        text: [0u8; 6],
-        next: Place { number },
     }
 }
 
@@ -94,12 +79,13 @@ pub fn start() -> Place
     Place { number: 0 }
 }
 
-// The next text and the state after it, or the end.
-pub fn step(p: Place) -> Given
+// The next text and the state after it, or the end, at which the state stays.
+pub fn step(p: Place) -> Option<Given>
     ensures { result ≡ step_of p }
 {
     if p.number < TEXTS {
-        return give(p.number);
+        Some(give(p.number))
+    } else {
+        None
     }
-    end_at(p.number)
 }

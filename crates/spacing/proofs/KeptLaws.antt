@@ -17,7 +17,7 @@ use Rattle.rules.specs.Spacing.{Spaced, spaced, trim_blanks, put_plain, put_afte
 use Rattle.rules.specs.declared.Gap.{Gap}
 use Rattle.rules.proofs.Choose.{choose_true, choose_false}
 use Rattle.rules.proofs.CellsLaws.{cells_at, cells_end}
-use Rattle.spacing.specs.Respaced.{respaced_from, InCode, KeptAt, NoBlank, Keeping, Unchanged}
+use Rattle.spacing.specs.Respaced.{respaced_from, InCode, Kept, NoBlank, Keeping, Unchanged}
 use Rattle.basics.proofs.ClassPicks.{code_other}
 use Rattle.spacing.proofs.SpacingLaws.{trim_snoc, plain_char}
 
@@ -99,60 +99,62 @@ module _ {line ks : List ℕ} {i c : ℕ} (w : InCode line ks i c) where
   here : take i line ++ (c ∷ []) ≡ take (i + 1) line
   here = rw (← w.char) (take_more line i w.within)
 
-pub kept_none : (line ks : List ℕ) (i : ℕ) → i ≤ length line → KeptAt line ks i 0
-kept_none line ks i h = record { fits = omega arith; kept = λ p. absurd (omega arith) }
-
 module _ (line ks : List ℕ) (i : ℕ) (pre : (i < length line) × (length line ≤ length ks)) where
-  one : put_at Gap.Nothing (take i line) (cell_at line ks i) ≡ spaced (take i line ++ (get_or line i 0 ∷ [])) Gap.Nothing → KeptAt line ks i 1
+  one : put_at Gap.Nothing (take i line) (cell_at line ks i) ≡ spaced (take i line ++ (get_or line i 0 ∷ [])) Gap.Nothing → Kept line ks i 1
   unfolding respaced_from
   one e =
       record {
+        some = omega arith;
         fits = omega (arith, pre.0);
-        kept = λ p. from_as line ks Gap.Nothing Gap.Nothing (take i line) (take (i + 1) line) i pre.0 pre.1 (rw (← take_more line i pre.0) e);
+        kept = from_as line ks Gap.Nothing Gap.Nothing (take i line) (take (i + 1) line) i pre.0 pre.1 (rw (← take_more line i pre.0) e);
       }
 
-  pub kept_other : (get_or ks i 0 ≡ 0 → ⊥) → KeptAt line ks i 1
+  pub kept_other : (get_or ks i 0 ≡ 0 → ⊥) → Kept line ks i 1
   kept_other h = one (plain_other (take i line) (get_or line i 0) (get_or ks i 0) h)
 
-  pub kept_char : (get_or line i 0 ≡ 32 → ⊥) → (get_or line i 0 ≡ 44 → ⊥) → (get_or line i 0 ≡ 92 → ⊥) → KeptAt line ks i 1
+  pub kept_char : (get_or line i 0 ≡ 32 → ⊥) → (get_or line i 0 ≡ 44 → ⊥) → (get_or line i 0 ≡ 92 → ⊥) → Kept line ks i 1
   kept_char p q r = one (plain_char (take i line) (get_or line i 0) (get_or ks i 0) p q r)
 
 module _ (line ks : List ℕ) (i : ℕ) (w : InCode line ks i 32) where
-  pub space_end : length line ≤ i + 1 → KeptAt line ks i 1
+  pub space_end : length line ≤ i + 1 → Kept line ks i 1
   unfolding respaced_from
   space_end h =
       record {
+        some = omega arith;
         fits = omega (arith, w.within);
-        kept = λ p. code_as w Gap.Space (take (i + 1) line) (plain_space (take i line) ∙ rw (here w)) ∙ from_end line ks Gap.Space (take (i + 1) line) (i + 1) h
+        kept = code_as w Gap.Space (take (i + 1) line) (plain_space (take i line) ∙ rw (here w)) ∙ from_end line ks Gap.Space (take (i + 1) line) (i + 1) h
             ∙ sym (from_end line ks Gap.Nothing (take (i + 1) line) (i + 1) h);
       }
 
-  pub space_then : i + 1 < length line → (get_or line (i + 1) 0 ≡ 32 → ⊥) → KeptAt line ks i 1
+  pub space_then : i + 1 < length line → (get_or line (i + 1) 0 ≡ 32 → ⊥) → Kept line ks i 1
   unfolding respaced_from
   space_then h n =
       record {
+        some = omega arith;
         fits = omega (arith, w.within);
-        kept = λ p. code_as w Gap.Space (take (i + 1) line) (plain_space (take i line) ∙ rw (here w))
+        kept = code_as w Gap.Space (take (i + 1) line) (plain_space (take i line) ∙ rw (here w))
             ∙ from_like line ks Gap.Space Gap.Nothing (take (i + 1) line) (take (i + 1) line) (i + 1) h w.classes (after_space (take (i + 1) line) (get_or line (i + 1) 0) (get_or ks (i + 1) 0) n);
       }
 
 module _ (line ks : List ℕ) (i : ℕ) (w : InCode line ks i 92) where
-  pub pair_end : length line ≤ i + 1 → KeptAt line ks i 1
+  pub pair_end : length line ≤ i + 1 → Kept line ks i 1
   unfolding respaced_from
   pair_end h =
       record {
+        some = omega arith;
         fits = omega (arith, w.within);
-        kept = λ p. code_as w Gap.Escape (take (i + 1) line) (plain_escape (take i line) ∙ rw (here w)) ∙ from_end line ks Gap.Escape (take (i + 1) line) (i + 1) h
+        kept = code_as w Gap.Escape (take (i + 1) line) (plain_escape (take i line) ∙ rw (here w)) ∙ from_end line ks Gap.Escape (take (i + 1) line) (i + 1) h
             ∙ sym (from_end line ks Gap.Nothing (take (i + 1) line) (i + 1) h);
       }
 
-  pub pair_then : i + 1 < length line → KeptAt line ks i 2
+  pub pair_then : i + 1 < length line → Kept line ks i 2
   unfolding respaced_from
   pair_then h =
       let e : i + 1 + 1 ≡ i + 2 = omega arith in
       record {
+        some = omega arith;
         fits = omega arith;
-        kept = λ p. code_as w Gap.Escape (take (i + 1) line) (plain_escape (take i line) ∙ rw (here w))
+        kept = code_as w Gap.Escape (take (i + 1) line) (plain_escape (take i line) ∙ rw (here w))
             ∙ from_as line ks Gap.Escape Gap.Nothing (take (i + 1) line) (take (i + 1 + 1) line) (i + 1) h w.classes (after_escape (take (i + 1) line) (cell_at line ks (i + 1)) ∙ rw (take_more line (i + 1) h))
             ∙ rw e;
       }
@@ -176,33 +178,36 @@ module _ (line ks : List ℕ) (i : ℕ) (w : InCode line ks i 44) (b : NoBlank l
   comma : respaced_from line ks i ≡ from line ks Gap.Comma (take (i + 1) line) (i + 1)
   comma = code_as w Gap.Comma (take (i + 1) line) (plain_comma (take i line) ∙ rw (b.none refl, here w))
 
-  pub comma_end : length line ≤ i + 1 → KeptAt line ks i 1
+  pub comma_end : length line ≤ i + 1 → Kept line ks i 1
   unfolding respaced_from
   comma_end h =
       record {
+        some = omega arith;
         fits = omega (arith, w.within);
-        kept = λ p. comma ∙ from_end line ks Gap.Comma (take (i + 1) line) (i + 1) h ∙ sym (from_end line ks Gap.Nothing (take (i + 1) line) (i + 1) h);
+        kept = comma ∙ from_end line ks Gap.Comma (take (i + 1) line) (i + 1) h ∙ sym (from_end line ks Gap.Nothing (take (i + 1) line) (i + 1) h);
       }
 
-  pub comma_closer : (r : Bool) → i + 1 < length line → r ≡ is_closer (get_or line (i + 1) 0) → r ≡ true → KeptAt line ks i 1
+  pub comma_closer : (r : Bool) → i + 1 < length line → r ≡ is_closer (get_or line (i + 1) 0) → r ≡ true → Kept line ks i 1
   unfolding respaced_from
   comma_closer r h e q =
       record {
+        some = omega arith;
         fits = omega (arith, w.within);
-        kept = λ p. comma
+        kept = comma
             ∙ from_like line ks Gap.Comma Gap.Nothing (take (i + 1) line) (take (i + 1) line) (i + 1) h w.classes (after_comma_closer (take (i + 1) line) (get_or line (i + 1) 0) (get_or ks (i + 1) 0) (sym e ∙ q));
       }
 
   pub comma_gap : (r s : Bool) → InCode line ks (i + 1) 32 → i + 2 < length line
-      → r ≡ (is_code (class_of (get_or ks (i + 2) 0)) && is_blank (get_or line (i + 2) 0)) → r ≡ false → s ≡ is_closer (get_or line (i + 2) 0) → s ≡ false → KeptAt line ks i 2
+      → r ≡ (is_code (class_of (get_or ks (i + 2) 0)) && is_blank (get_or line (i + 2) 0)) → r ≡ false → s ≡ is_closer (get_or line (i + 2) 0) → s ≡ false → Kept line ks i 2
   unfolding respaced_from
   comma_gap r s v h e q f u =
       let m : i + 1 + 1 ≡ i + 2 = omega arith in
       let o = take (i + 1) line in
       let t : o ++ (32 ∷ []) ≡ take (i + 2) line = here v ∙ rw m in
       record {
+        some = omega arith;
         fits = omega arith;
-        kept = λ p. comma
+        kept = comma
             ∙ from_as line ks Gap.Comma Gap.Comma o o (i + 1) v.within w.classes (rw (v.char, v.code) (after_comma_blank o))
             ∙ rw m
             (from_like line ks Gap.Comma Gap.Nothing o (o ++ (32 ∷ [])) (i + 2) h w.classes (after_comma_other o (get_or line (i + 2) 0) (get_or ks (i + 2) 0) (sym e ∙ q) (sym f ∙ u))
@@ -215,8 +220,8 @@ pub keeping_start : (line ks : List ℕ) → Keeping line ks 0
 unfolding respaced_from normalize_spacing
 keeping_start line ks = record { within = zero-le; same = refl }
 
-pub keeping_more : (line ks : List ℕ) (i n : ℕ) → Keeping line ks i → KeptAt line ks i n → (n ≡ 0 → ⊥) → Keeping line ks (i + n)
-keeping_more line ks i n w k z = record { within = k.fits; same = w.same ∙ k.kept (omega arith) }
+pub keeping_more : (line ks : List ℕ) (i n : ℕ) → Keeping line ks i → Kept line ks i n → Keeping line ks (i + n)
+keeping_more line ks i n w k = record { within = k.fits; same = w.same ∙ k.kept }
 
 pub keeping_end : (line ks : List ℕ) (i : ℕ) → Keeping line ks i → length line ≤ i → Unchanged line ks true
 unfolding respaced_from

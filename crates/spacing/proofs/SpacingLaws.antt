@@ -1,7 +1,6 @@
 -- Laws of a text in scratch that grows at its end, and the loops of spacing.
 use Prim.Native.Nat.{ℕ, zero, suc, ◌+◌, ◌-◌, ◌*◌, ◌≤◌, ◌<◌, zero-le}
 use mathlib.Core.Bool.{Bool, true, false, not, ◌&&◌, true≢false}
-use mathlib.Core.Logic.{◌⊎◌, inl, inr}
 use mathlib.Core.List.{List, [], ◌∷◌, ◌++◌}
 use mathlib.Core.Path.{◌≡◌, refl, sym, ap, ◌∙◌}
 use native.Mathlib.Nat.{le_refl}
@@ -12,8 +11,7 @@ use lib.Dec.{eqb}
 use lib.ListN.{length, get_or, take, drop, set, length-drop}
 use lib.Seq.{take-suc, take-suc-set, drop-set-add, get_or-drop}
 use Rattle.buffer.specs.Buffer.{part}
-use Rattle.utf8.specs.Places.{NoneAmong}
-use Rattle.utf8.proofs.Tests.{split}
+use Rattle.blocks.specs.Blocks.{FirstFrom}
 use Rattle.rules.specs.Basics.{choose, is_blank}
 use Rattle.rules.specs.Scan.{Cell, cell, is_code}
 use Rattle.rules.specs.ClassBytes.{class_of, cells_of}
@@ -22,7 +20,7 @@ use Rattle.rules.specs.declared.Gap.{Gap}
 use Rattle.rules.proofs.Choose.{choose_true, choose_false}
 use Rattle.rules.proofs.CellsLaws.{Folding, fold_start, fold_more, fold_end}
 use Rattle.basics.specs.Region.{Only}
-use Rattle.spacing.specs.Respaced.{text_at, spaced_at, Trimmed, Wrote, Plain, Dropped, other_at, Run, Place, Normalized}
+use Rattle.spacing.specs.Respaced.{text_at, spaced_at, Trimmed, Wrote, Plain, Dropped, other_at, Place, Normalized}
 use Rattle.spacing.specs.declared.Respaced.{Respaced}
 use Rattle.basics.proofs.OnlyLaws.{only_same, only_set, only_wider, only_then, read_now}
 use Rattle.buffer.proofs.RegionLaws.{length_part}
@@ -141,28 +139,6 @@ plain_yes c gap e = record { yes = λ q. (e, go (eqb c 92) (eqb c 44) (eqb c 32)
     go false true z q a b d = absurd (true≢false (sym q))
     go true y z q a b d = absurd (true≢false (sym q))
 
--- ---- runs of spaces
-
-pub dropped_no : (c : ℕ) (gap : Gap) → Dropped c gap false
-dropped_no c gap = record { yes = λ q. absurd (true≢false (sym q)) }
-
-pub dropped_space : (c : ℕ) (gap : Gap) → gap ≡ Gap.Space → Dropped c gap (eqb c 32)
-dropped_space c gap e = record { yes = λ q. (e, eqb-true c 32 q) }
-
-pub run_none : (line : List ℕ) (a : ℕ) → a ≤ length line → Run line a a
-run_none line a h = record { on = le_refl a; within = h; spaces = λ j p q. absurd (omega arith) }
-
-module _ (line : List ℕ) (a i : ℕ) (w : Run line a i) where
-  pub run_block : (n : ℕ) (r : Bool) → i + n ≤ length line → NoneAmong (other_at line) i n r → r ≡ false → Run line a (i + n)
-  run_block n r h o e = record { on = omega (arith, w.on); within = h; spaces = λ j p q. go j p q (split j i) }
-    where
-      go : (j : ℕ) → a ≤ j → j < i + n → (j < i) ⊎ (i ≤ j) → get_or line j 0 ≡ 32
-      go j p q (inl l) = w.spaces j p l
-      go j p q (inr l) = let m : i + (j - i) ≡ j = omega arith in rw m at (eqb-true (get_or line (i + (j - i)) 0) 32 (not-false (eqb (get_or line (i + (j - i)) 0) 32) (o.none e (j - i) (omega arith))))
-
-  pub run_more : i < length line → get_or line i 0 ≡ 32 → Run line a (i + 1)
-  run_more h e = run_block 1 false (omega arith) (record { none = λ q j l. let m : i + j ≡ i = omega arith in rw (m, e) }) refl
-
 -- ---- the loop over the line
 
 pub record Reached (line ks buf₀ : List ℕ) (at : ℕ) (buf : List ℕ) (t : Respaced) (i : ℕ) : Type 0 where
@@ -216,14 +192,14 @@ module _ (line buf₀ : List ℕ) (class at : ℕ) (buf : List ℕ) (t : Respace
       let a : put_at t.gap (text_at buf at t.len) (cell c (class_of (get_or buf (class + i) 0))) ≡ spaced (text_at buf at t.len ++ (c ∷ [])) Gap.Nothing = rw g.0 e in
       reached_more buf' u h (wrote_by 2 v (omega arith) (v.is ∙ sym a))
 
-  pub reached_run : (r : Bool) (e : ℕ) → i < length line → Dropped (get_or line i 0) t.gap r → r ≡ true → Run line (i + 1) e
+  pub reached_run : (r : Bool) (e : ℕ) → i < length line → Dropped (get_or line i 0) t.gap r → r ≡ true → FirstFrom (other_at line) (i + 1) (length line) e
       → Reached line (part buf₀ class (class + length line)) buf₀ at buf t e
   reached_run r e h d q u =
       let l = length_part buf₀ class (length line) (omega (arith, p.classes, p.room)) in
-      let m : i + 1 + (e - (i + 1)) ≡ e = omega (arith, u.on) in
+      let m : i + 1 + (e - (i + 1)) ≡ e = omega (arith, u.from) in
       let g = d.yes q in
       let v = reached_by line (part buf₀ class (class + length line)) buf₀ at buf t 1 i (omega arith) g.0 (omega arith) (λ j a b. let z : j ≡ i = omega arith in rw z g.1) w in
-      rw m at (reached_by line (part buf₀ class (class + length line)) buf₀ at buf t (e - (i + 1)) (i + 1) (omega arith) g.0 (omega (arith, u.within, m)) (λ j a b. u.spaces j a (omega (arith, m))) v)
+      rw m at (reached_by line (part buf₀ class (class + length line)) buf₀ at buf t (e - (i + 1)) (i + 1) (omega arith) g.0 (omega (arith, u.within, m)) (λ j a b. eqb-true (get_or line j 0) 32 (not-false (eqb (get_or line j 0) 32) (u.none j a (omega (arith, m))))) v)
 
   pub reached_end : length line ≤ i → Normalized (cells_of line (part buf₀ class (class + length line))) buf₀ buf at (length line) t.len
   unfolding normalize_spacing

@@ -1,5 +1,5 @@
 -- The respaced line as it lies in scratch.
-use Rattle.std.specs.Prelude.{ℕ, ◌+◌, ◌*◌, ◌≤◌, ◌<◌, Bool, true, false, not, ◌&&◌, ◌||◌, ◌≡◌, eqb, length, get_or, take, drop}
+use Rattle.std.specs.Prelude.{ℕ, Option, Some, None, ◌+◌, ◌*◌, ◌≤◌, ◌<◌, Bool, true, false, not, ◌&&◌, ◌||◌, ◌≡◌, eqb, length, get_or, take, drop}
 use mathlib.Core.List.{List, foldl}
 use Rattle.buffer.specs.Buffer.{part}
 use Rattle.rules.specs.Basics.{is, is_blank, is_closer}
@@ -41,12 +41,6 @@ pub record Dropped (c : ℕ) (gap : Gap) (r : Bool) : Type 0 where
 abbrev pub other_at : List ℕ → ℕ → Bool
 other_at line i = not (eqb (get_or line i 0) 32)
 
--- a run of spaces, from a up to e
-pub record Run (line : List ℕ) (a e : ℕ) : Type 0 where
-  pub on : a ≤ e
-  pub within : e ≤ length line
-  pub spaces : (j : ℕ) → a ≤ j → j < e → get_or line j 0 ≡ 32
-
 -- the class bytes of n bytes stand before the place for twice as many
 pub record Place (buf : List ℕ) (n class at : ℕ) : Type 0 where
   pub classes : class + n ≤ at
@@ -71,10 +65,16 @@ pub record InCode (line ks : List ℕ) (i c : ℕ) : Type 0 where
   pub char : get_or line i 0 ≡ c
   pub code : get_or ks i 0 ≡ 0
 
--- r characters from i on stay as they are, if r is not 0
-pub record KeptAt (line ks : List ℕ) (i r : ℕ) : Type 0 where
-  pub fits : i + r ≤ length line
-  pub kept : 0 < r → respaced_from line ks i ≡ respaced_from line ks (i + r)
+-- n characters from i on, at least one, stay as they are
+pub record Kept (line ks : List ℕ) (i n : ℕ) : Type 0 where
+  pub some : 0 < n
+  pub fits : i + n ≤ length line
+  pub kept : respaced_from line ks i ≡ respaced_from line ks (i + n)
+
+-- r characters from i on do, if r says how many
+abbrev pub KeptAt : List ℕ → List ℕ → ℕ → Option ℕ → Type 0
+KeptAt line ks i (Some n) = Kept line ks i n
+KeptAt line ks i None = Unit {0}
 
 -- r says whether a blank stands before i; if not, none is to be left out there
 pub record NoBlank (line : List ℕ) (i : ℕ) (r : Bool) : Type 0 where
@@ -112,10 +112,6 @@ busy x y = eqb x 44 || eqb x 92 || (eqb x 32 && eqb y 32)
 
 abbrev pub busy_at : List ℕ → ℕ → Bool
 busy_at line i = busy (get_or line i 0) (get_or line (i + 1) 0)
-
--- if r, no byte but the last is one
-pub record Quiet (line : List ℕ) (r : Bool) : Type 0 where
-  pub none : r ≡ true → (j : ℕ) → j + 1 < length line → busy_at line j ≡ false
 
 -- a line that is said to be spaced is what spacing makes of it
 pub record Unchanged (line ks : List ℕ) (r : Bool) : Type 0 where

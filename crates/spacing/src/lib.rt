@@ -1,17 +1,17 @@
 // Spacing: the respaced line, written into scratch, and the test whether a line is spaced already.
 #![tactic(auto)]
 
-ghost use Rattle.std.specs.Prelude.{◌≡◌, ◌&&◌, false, ◌++◌, ◌∷◌, [], ◌+◌, ◌<◌, ◌≤◌, length};
-ghost use Rattle.utf8.specs.Places.{NoneAmong};
+ghost use Rattle.std.specs.Prelude.{◌≡◌, ◌&&◌, false, ◌++◌, ◌∷◌, [], ◌+◌, ◌-◌, ◌<◌, ◌≤◌, length};
+ghost use Rattle.blocks.specs.Blocks.{FirstFrom, NoneBefore};
 ghost use Rattle.rules.specs.declared.Gap.{Gap};
 ghost use Rattle.buffer.specs.Buffer.{part};
 ghost use Rattle.rules.specs.Basics.{choose, is_blank};
 ghost use Rattle.rules.specs.Scan.{cell, is_code};
 ghost use Rattle.rules.specs.ClassBytes.{class_of, cells_of};
 ghost use Rattle.rules.specs.Spacing.{spaced, put_plain, put_after_comma, put_at};
-ghost use Rattle.spacing.specs.Respaced.{text_at, Trimmed, Wrote, Plain, Dropped, other_at, Run, Place, Normalized};
+ghost use Rattle.spacing.specs.Respaced.{text_at, Trimmed, Wrote, Plain, Dropped, other_at, Place, Normalized};
 ghost use Rattle.spacing.specs.Respaced.{InCode, KeptAt, NoBlank, Keeping, odd, odd_at, Clear, Unchanged};
-ghost use Rattle.spacing.specs.Respaced.{busy, busy_at, Quiet};
+ghost use Rattle.spacing.specs.Respaced.{busy, busy_at};
 
 use basics::{is_blank, is_closer};
 use rules::Gap;
@@ -27,10 +27,7 @@ pub struct Respaced {
 fn is_code_blank(c: u8, k: u8) -> bool
     ensures { result ≡ (is_code (class_of k) && is_blank c) }
 {
-    if k != 0 {
-        return false;
-    }
-    is_blank(c)
+    k == 0 && is_blank(c)
 }
 
 // The length of the text, n bytes from at on, without the blanks at its end.
@@ -38,17 +35,16 @@ fn trim_blanks(scratch: &[u8], at: usize, n: usize) -> usize
     requires { at + n ≤ length scratch.now }
     ensures { Trimmed scratch.now at n result }
 {
-    let mut m = n;
-    while 0 < m {
-        let j = m - 1;
-        if is_blank(scratch[at + j]) {
-            m = j;
-        } else {
-            return m;
+    for i in (0..n).rev() {
+        if !is_blank(scratch[at + i]) {
+            return i + 1;
         }
     }
-    m
+    0
 }
+
+// kept: a byte with its class and a text in scratch are passed as they are: a struct would have to hold the lent scratch,
+// and each function would take it apart again.
 
 // One byte more after the text's n bytes.
 fn put(c: u8, gap: Gap, scratch: &mut [u8], at: usize, n: usize) -> Respaced
@@ -131,13 +127,11 @@ fn put_next(c: u8, k: u8, scratch: &mut [u8], at: usize, t: Respaced) -> Respace
     ensures { Wrote (put_at t.gap (text_at scratch.old at t.len) (cell c (class_of k))) 2
         scratch.old at t.len scratch.new result }
 {
-    let n = t.len;
-    let gap = t.gap;
-    match gap {
-        Gap::Nothing => put_plain(c, k, scratch, at, n),
-        Gap::Escape => put(c, Gap::Nothing, scratch, at, n),
-        Gap::Comma => put_after_comma(c, k, scratch, at, n),
-        Gap::Space => put_after_space(c, k, scratch, at, n),
+    match t.gap {
+        Gap::Nothing => put_plain(c, k, scratch, at, t.len),
+        Gap::Escape => put(c, Gap::Nothing, scratch, at, t.len),
+        Gap::Comma => put_after_comma(c, k, scratch, at, t.len),
+        Gap::Space => put_after_space(c, k, scratch, at, t.len),
     }
 }
 
@@ -146,68 +140,22 @@ fn put_next(c: u8, k: u8, scratch: &mut [u8], at: usize, t: Respaced) -> Respace
 fn is_plain(c: u8, gap: Gap) -> bool
     ensures { Plain c gap result }
 {
-    match gap {
-        Gap::Nothing => (c != b'\\') & ((c != b',') & (c != b' ')),
-        Gap::Escape => false,
-        Gap::Comma => false,
-        Gap::Space => false,
-    }
-}
-
-// Whether one of the sixteen bytes from `at` on is no space.
-fn any_other(line: &[u8], at: usize) -> bool
-    requires { at + 16 ≤ length line.now }
-    ensures { NoneAmong (other_at line.now) at 16 result }
-{
-    let mut any = false;
-    let mut k: usize = 0;
-    while k < 16 {
-        any = any | (line[at + k] != b' ');
-        k += 1;
-    }
-    any
-}
-
-// Past spaces, sixteen at a time.
-fn past_sixteens(line: &[u8], at: usize) -> usize
-    requires { at ≤ length line.now }
-    ensures { Run line.now at result }
-{
-    let mut i = at;
-    while line.len() - i >= 16 {
-        if any_other(line, i) {
-            return i;
-        }
-        i += 16;
-    }
-    i
+    matches!(gap, Gap::Nothing) && !matches!(c, b'\\' | b',' | b' ')
 }
 
 // Past all spaces.
 fn past_spaces(line: &[u8], at: usize) -> usize
     requires { at ≤ length line.now }
-    ensures { Run line.now at result }
+    ensures { FirstFrom (other_at line.now) at (length line.now) result }
 {
-    let mut i = past_sixteens(line, at);
-    while i < line.len() {
-        if line[i] != b' ' {
-            return i;
-        }
-        i += 1;
-    }
-    i
+    blocks::first_by_blocks::<16, _>(at, line.len(), &|i| line[i] != b' ')
 }
 
 // Whether c goes because a space stands before it.
 fn is_dropped(c: u8, gap: Gap) -> bool
     ensures { Dropped c gap result }
 {
-    match gap {
-        Gap::Nothing => false,
-        Gap::Escape => false,
-        Gap::Comma => false,
-        Gap::Space => c == b' ',
-    }
+    c == b' ' && matches!(gap, Gap::Space)
 }
 
 // Writes the respaced line into scratch from out_at on, and gives its length. The line's class bytes stand in scratch
@@ -223,16 +171,15 @@ pub fn normalize_spacing(line: &[u8], scratch: &mut [u8], class_at: usize, out_a
         gap: Gap::Nothing,
     };
     let mut i = 0;
+    // kept: a range is no plainer, since the place moves past all spaces of a run
     while i < line.len() {
         let c = line[i];
-        let gap = t.gap;
-        let n = t.len;
-        if is_plain(c, gap) {
-            t = put(c, Gap::Nothing, scratch, out_at, n);
+        if is_plain(c, t.gap) {
+            t = put(c, Gap::Nothing, scratch, out_at, t.len);
             i += 1;
             continue;
         }
-        if is_dropped(c, gap) {
+        if is_dropped(c, t.gap) {
             i = past_spaces(line, i + 1);
             continue;
         }
@@ -243,34 +190,26 @@ pub fn normalize_spacing(line: &[u8], scratch: &mut [u8], class_at: usize, out_a
 }
 
 // ---- a line that is spaced already. Each function tells how many bytes from i on stand as spacing leaves them, given
-// that those before do;
-// 0 if it can't tell.
+// that those before do, or that it can't tell.
 
 // A space of code: no space follows.
-fn kept_space(line: &[u8], class: &[u8], i: usize) -> usize
+fn kept_space(line: &[u8], class: &[u8], i: usize) -> Option<usize>
     requires { InCode line.now class.now i 32 }
     ensures { KeptAt line.now class.now i result }
 {
     let j = i + 1;
-    if line.len() <= j {
-        return 1;
+    if j < line.len() && line[j] == b' ' {
+        return None;
     }
-    if line[j] == b' ' {
-        return 0;
-    }
-    1
+    Some(1)
 }
 
 // A backslash of code, with the character that it escapes.
-fn kept_pair(line: &[u8], class: &[u8], i: usize) -> usize
+fn kept_pair(line: &[u8], class: &[u8], i: usize) -> Option<usize>
     requires { InCode line.now class.now i 92 }
     ensures { KeptAt line.now class.now i result }
 {
-    let j = i + 1;
-    if line.len() <= j {
-        return 1;
-    }
-    2
+    if i + 1 < line.len() { Some(2) } else { Some(1) }
 }
 
 // Whether a blank stands before i.
@@ -278,91 +217,64 @@ fn blank_before(line: &[u8], i: usize) -> bool
     requires { i ≤ length line.now }
     ensures { NoBlank line.now i result }
 {
-    if i == 0 {
-        return false;
-    }
-    is_blank(line[i - 1])
+    0 < i && is_blank(line[i - 1])
 }
 
 // A comma and the space of code after it: something other than a blank of code or a closer follows.
-fn kept_gap(line: &[u8], class: &[u8], i: usize) -> usize
+fn kept_gap(line: &[u8], class: &[u8], i: usize) -> Option<usize>
     requires in_code { InCode line.now class.now i 44 }
     requires no_blank { NoBlank line.now i false }
     requires in_code_2 { InCode line.now class.now (i + 1) 32 }
     ensures { KeptAt line.now class.now i result }
 {
     let e = i + 2;
-    if line.len() <= e {
-        return 0;
+    if line.len() <= e || is_code_blank(line[e], class[e]) || is_closer(line[e]) {
+        return None;
     }
-    if is_code_blank(line[e], class[e]) {
-        return 0;
-    }
-    if is_closer(line[e]) {
-        return 0;
-    }
-    2
+    Some(2)
 }
 
 // A comma of code: no blank before it; a closer, the end or one space after it.
-fn kept_comma(line: &[u8], class: &[u8], i: usize) -> usize
+fn kept_comma(line: &[u8], class: &[u8], i: usize) -> Option<usize>
     requires { InCode line.now class.now i 44 }
     ensures { KeptAt line.now class.now i result }
 {
     let j = i + 1;
     if blank_before(line, i) {
-        return 0;
+        return None;
     }
-    if line.len() <= j {
-        return 1;
+    if line.len() <= j || is_closer(line[j]) {
+        return Some(1);
     }
-    if is_closer(line[j]) {
-        return 1;
-    }
-    if line[j] != b' ' {
-        return 0;
-    }
-    if class[j] != 0 {
-        return 0;
+    if line[j] != b' ' || class[j] != 0 {
+        return None;
     }
     kept_gap(line, class, i)
 }
 
-fn kept_special(line: &[u8], class: &[u8], i: usize) -> usize
+fn kept_special(line: &[u8], class: &[u8], i: usize) -> Option<usize>
     requires { (i < length line.now) × (length line.now ≤ length class.now) }
     ensures { KeptAt line.now class.now i result }
 {
     if class[i] != 0 {
-        return 1;
+        return Some(1);
     }
-    let c = line[i];
-    if c == b' ' {
-        return kept_space(line, class, i);
+    match line[i] {
+        b' ' => kept_space(line, class, i),
+        b',' => kept_comma(line, class, i),
+        b'\\' => kept_pair(line, class, i),
+        _ => Some(1),
     }
-    if c == b',' {
-        return kept_comma(line, class, i);
-    }
-    if c == b'\\' {
-        return kept_pair(line, class, i);
-    }
-    1
 }
 
-fn kept_at(line: &[u8], class: &[u8], i: usize) -> usize
+fn kept_at(line: &[u8], class: &[u8], i: usize) -> Option<usize>
     requires { (i < length line.now) × (length line.now ≤ length class.now) }
     ensures { KeptAt line.now class.now i result }
 {
-    let c = line[i];
-    if c == b' ' {
-        return kept_special(line, class, i);
+    match line[i] {
+        b' ' | b',' | b'\\' => kept_special(line, class, i),
+        _ => Some(1),
     }
-    if c == b',' {
-        return kept_special(line, class, i);
-    }
-    if c == b'\\' {
-        return kept_special(line, class, i);
-    }
-    1
 }
 
 // Whether spacing may change something of the byte x of class k, which y of class l and z follow. It makes no branch,
@@ -377,35 +289,6 @@ fn is_odd(x: u8, y: u8, z: u8, k: u8, l: u8) -> bool
         | ((k == 0) & (((x == b'\\') | ((x == b' ') & (y == b' '))) | ((x == b',') & gap)))
 }
 
-// The same of eight bytes from `at` on, and of sixteen.
-fn odd_eight(line: &[u8], class: &[u8], at: usize) -> bool
-    requires { (at + 10 ≤ length line.now) × (length line.now ≤ length class.now) }
-    ensures { NoneAmong (odd_at line.now class.now) at 8 result }
-{
-    let mut any = false;
-    let mut k: usize = 0;
-    while k < 8 {
-        let i = at + k;
-        any = any | is_odd(line[i], line[i + 1], line[i + 2], class[i], class[i + 1]);
-        k += 1;
-    }
-    any
-}
-
-fn odd_sixteen(line: &[u8], class: &[u8], at: usize) -> bool
-    requires { (at + 18 ≤ length line.now) × (length line.now ≤ length class.now) }
-    ensures { NoneAmong (odd_at line.now class.now) at 16 result }
-{
-    let mut any = false;
-    let mut k: usize = 0;
-    while k < 16 {
-        let i = at + k;
-        any = any | is_odd(line[i], line[i + 1], line[i + 2], class[i], class[i + 1]);
-        k += 1;
-    }
-    any
-}
-
 // Whether the byte x, which y follows, is a comma, a backslash or the first of two spaces. Without these no byte is odd,
 // whatever the classes are.
 fn is_busy(x: u8, y: u8) -> bool
@@ -414,121 +297,43 @@ fn is_busy(x: u8, y: u8) -> bool
     ((x == b',') | (x == b'\\')) | ((x == b' ') & (y == b' '))
 }
 
-// The same of eight bytes from `at` on, and of sixteen.
-fn busy_eight(line: &[u8], at: usize) -> bool
-    requires { at + 9 ≤ length line.now }
-    ensures { NoneAmong (busy_at line.now) at 8 result }
+// Whether no byte but the last is busy, by blocks.
+fn is_quiet(line: &[u8]) -> bool
+    requires { 9 ≤ length line.now }
+    ensures { NoneBefore (busy_at line.now) (length line.now - 1) result }
 {
-    let mut any = false;
-    let mut k: usize = 0;
-    while k < 8 {
-        let i = at + k;
-        any = any | is_busy(line[i], line[i + 1]);
-        k += 1;
+    let end = line.len() - 1;
+    let test = |i: usize| is_busy(line[i], line[i + 1]);
+    if line.len() < 18 {
+        blocks::none_before::<8, _>(end, &test)
+    } else {
+        blocks::none_before::<16, _>(end, &test)
     }
-    any
 }
 
-fn busy_sixteen(line: &[u8], at: usize) -> bool
-    requires { at + 17 ≤ length line.now }
-    ensures { NoneAmong (busy_at line.now) at 16 result }
-{
-    let mut any = false;
-    let mut k: usize = 0;
-    while k < 16 {
-        let i = at + k;
-        any = any | is_busy(line[i], line[i + 1]);
-        k += 1;
-    }
-    any
-}
-
-// Whether no byte but the last is busy, by two blocks that may overlap.
-fn is_quiet_short(line: &[u8]) -> bool
-    requires { (9 ≤ length line.now) × (length line.now ≤ 17) }
-    ensures { Quiet line.now result }
-{
-    if busy_eight(line, 0) {
-        return false;
-    }
-    if busy_eight(line, line.len() - 9) {
-        return false;
-    }
-    true
-}
-
-// The same of a longer line, by as many blocks as it takes.
-fn is_quiet_long(line: &[u8]) -> bool
-    requires { 17 ≤ length line.now }
-    ensures { Quiet line.now result }
-{
-    let last = line.len() - 17;
-    let mut i = 0;
-    while i < last {
-        if busy_sixteen(line, i) {
-            return false;
-        }
-        i += 16;
-    }
-    if busy_sixteen(line, last) {
-        return false;
-    }
-    true
-}
-
-// Whether no byte is odd but for the last two, by two blocks that may overlap.
-fn is_clear_short(line: &[u8], class: &[u8]) -> bool
-    requires in_bounds { (10 ≤ length line.now) × (length line.now ≤ 18) }
+// Whether no byte is odd but for the last two, by blocks.
+fn is_even(line: &[u8], class: &[u8]) -> bool
+    requires in_bounds { 10 ≤ length line.now }
     requires line_in_bounds { length line.now ≤ length class.now }
-    ensures { Clear line.now class.now result }
+    ensures { NoneBefore (odd_at line.now class.now) (length line.now - 2) result }
 {
-    if odd_eight(line, class, 0) {
-        return false;
+    let end = line.len() - 2;
+    let test = |i: usize| is_odd(line[i], line[i + 1], line[i + 2], class[i], class[i + 1]);
+    if line.len() < 18 {
+        blocks::none_before::<8, _>(end, &test)
+    } else {
+        blocks::none_before::<16, _>(end, &test)
     }
-    if odd_eight(line, class, line.len() - 10) {
-        return false;
-    }
-    true
-}
-
-// The same of a longer line, by as many blocks as it takes.
-fn is_clear_long(line: &[u8], class: &[u8]) -> bool
-    requires in_bounds { 18 ≤ length line.now }
-    requires line_in_bounds { length line.now ≤ length class.now }
-    ensures { Clear line.now class.now result }
-{
-    let last = line.len() - 18;
-    let mut i = 0;
-    while i < last {
-        if odd_sixteen(line, class, i) {
-            return false;
-        }
-        i += 16;
-    }
-    if odd_sixteen(line, class, last) {
-        return false;
-    }
-    true
 }
 
 fn is_clear(line: &[u8], class: &[u8]) -> bool
     requires { length line.now ≤ length class.now }
     ensures { Clear line.now class.now result }
 {
-    let n = line.len();
-    if n < 10 {
+    if line.len() < 10 {
         return false;
     }
-    if n < 18 {
-        if is_quiet_short(line) {
-            return true;
-        }
-        return is_clear_short(line, class);
-    }
-    if is_quiet_long(line) {
-        return true;
-    }
-    is_clear_long(line, class)
+    is_quiet(line) || is_even(line, class)
 }
 
 // How many bytes a first look finds to stay as they are: all but two or three, or none.
@@ -552,11 +357,11 @@ pub fn is_spaced(line: &[u8], class: &[u8]) -> bool
     ensures { Unchanged line.now class.now result }
 {
     let mut i = kept_prefix(line, class);
+    // kept: a range is no plainer, since the place moves by as many bytes as are kept
     while i < line.len() {
-        let n = kept_at(line, class, i);
-        if n == 0 {
+        let Some(n) = kept_at(line, class, i) else {
             return false;
-        }
+        };
         i += n;
     }
     true
@@ -575,7 +380,8 @@ pub fn line_that_goes_on<'a>(
         (part scratch.now at (at + len)) }
 {
     if unchanged {
-        return source_line;
+        source_line
+    } else {
+        &scratch[at..at + len]
     }
-    &scratch[at..at + len]
 }

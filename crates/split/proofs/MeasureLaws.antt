@@ -15,11 +15,11 @@ use Rattle.buffer.specs.Repeat.{times}
 use Rattle.buffer.proofs.RegionLaws.{part_from, drop_take}
 use Rattle.buffer.proofs.RepeatLaws.{length_times}
 use Rattle.utf8.specs.Unicode.{is_scalar, Scalars, encode_char, encode, decode, size, WellFormed, units, width, trim, trim_end}
-use Rattle.utf8.specs.Places.{AsciiRun, units_of, TrimmedStart, TrimmedEnd}
+use Rattle.utf8.specs.Places.{AsciiRun, units_of, TrimmedStart, TrimmedEnd, total}
 use Rattle.utf8.proofs.Tests.{by_test}
 use Rattle.utf8.proofs.Table.{High, also, Bytes, single, several}
 use Rattle.utf8.proofs.Table.{bytes as bytes_of}
-use Rattle.utf8.proofs.Bytewise.{total, SumScan, sum_begin, sum_turn, width_bytes, width_nil, width_cons}
+use Rattle.utf8.proofs.Bytewise.{SumScan, sum_begin, sum_turn, width_bytes, width_nil, width_cons}
 use Rattle.utf8.proofs.Decode.{Ascii, ascii_append, encode_nil, encode_cons, encode_ascii, size_append, decode_ascii, decode_encode, decode_scalars, wf_ascii, wf_encode}
 use Rattle.rules.proofs.Choose.{choose_true, choose_false}
 use Rattle.rules.proofs.Columns.{stop_left_over, after_tab, after_other, measure_append, measure_zero, measure_short, measure_grows, indent_levels}

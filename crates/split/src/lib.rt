@@ -31,9 +31,10 @@ fn column_after(ruler: u8, from: usize, b: u8) -> usize
 {
     if b == b'\t' {
         let step = ruler as usize;
-        return from + (step - from % step);
+        from + (step - from % step)
+    } else {
+        from + utf8::units(b)
     }
-    from + utf8::units(b)
 }
 
 // The column that a part reaches at a ruler above 0.
@@ -42,10 +43,8 @@ fn measure_tabs(ruler: u8, from: Utf16Column, part: &[u8]) -> Utf16Column
     ensures { Measured ruler from.0 part.now result.0 }
 {
     let mut column = from.0;
-    let mut i = 0;
-    while i < part.len() {
-        column = column_after(ruler, column, part[i]);
-        i += 1;
+    for &b in part {
+        column = column_after(ruler, column, b);
     }
     Utf16Column(column)
 }
@@ -55,11 +54,10 @@ fn count_units(s: &[u8]) -> usize
     requires { WellFormed s.now × (length s.now < 2 ^ 62) }
     ensures { result ≡ width (decode s.now) }
 {
-    let mut i = utf8::past_blocks(s, 0);
-    let mut n = i;
-    while i < s.len() {
+    let ascii = utf8::past_blocks(s, 0);
+    let mut n = ascii;
+    for i in ascii..s.len() {
         n += utf8::units(s[i]);
-        i += 1;
     }
     n
 }
@@ -70,9 +68,10 @@ pub fn measure_from(ruler: u8, from: Utf16Column, part: &[u8]) -> Utf16Column
     ensures { Measured ruler from.0 part.now result.0 }
 {
     if ruler == 0 {
-        return Utf16Column(from.0 + count_units(part));
+        Utf16Column(from.0 + count_units(part))
+    } else {
+        measure_tabs(ruler, from, part)
     }
-    measure_tabs(ruler, from, part)
 }
 
 // The column after an indent of so many levels, at a ruler above 0: each level after the first adds what the second
@@ -95,9 +94,10 @@ pub fn indent_column(ruler: u8, indent: &[u8], levels: usize) -> Utf16Column
     ensures { IndentMeasured ruler indent.now levels result.0 }
 {
     if ruler == 0 {
-        return Utf16Column(levels * indent.len());
+        Utf16Column(levels * indent.len())
+    } else {
+        indent_tabs(ruler, indent, levels)
     }
-    indent_tabs(ruler, indent, levels)
 }
 
 // Whether the line, with its indent, is measured wider than the width.
@@ -119,10 +119,7 @@ pub fn over_wide(s: Layout, indent: &[u8], line: &[u8]) -> bool
     ensures { Wide s.ruler indent.now s.level line.now s.max.0 result }
 {
     let bytes = s.level * indent.len() + line.len();
-    if bytes * (s.ruler as usize + 1) <= s.max.0 {
-        return false;
-    }
-    measured_wide(s, indent, line)
+    s.max.0 < bytes * (s.ruler as usize + 1) && measured_wide(s, indent, line)
 }
 
 // A part of a slice: where it starts and ends.
@@ -166,8 +163,7 @@ pub fn write_line(
     ensures { LineWritten (as_str s.ending) (lay indent.now s.level line.now)
         model.now out.old out.new at result }
 {
-    let ending = s.ending;
-    let start = text::append_ending(model, out, at, ending);
+    let start = text::append_ending(model, out, at, s.ending);
     let next = compare::append_indented(model, out, start, indent, s.level, line);
     NewLine { start, next }
 }

@@ -1,9 +1,11 @@
 -- Laws of the import and its braces.
 use Prim.Native.Nat.{ℕ, zero, suc, ◌+◌, ◌-◌, ◌^◌, ◌≤◌, ◌<◌, zero-le}
 use Prim.Native.Char.{Char, code}
-use mathlib.Core.Bool.{Bool, true, false, ◌&&◌}
+use mathlib.Core.Bool.{not, or-false, Bool, true, false, ◌&&◌}
 use mathlib.Core.List.{List, [], ◌∷◌, ◌++◌, map, map-append, foldl, reverse, append-nil, append_assoc}
 use mathlib.Core.Option.{Option, none}
+use Rattle.std.specs.Prelude.{Some, None}
+use Rattle.std.specs.Prelude as code
 use mathlib.Core.Path.{◌≡◌, refl, sym, ap, ◌∙◌, subst}
 use native.Mathlib.Numerals.{add-one}
 use native.Mathlib.Omega.{arith}
@@ -17,8 +19,9 @@ use Rattle.buffer.specs.Repeat.{times}
 use Rattle.buffer.proofs.RegionLaws.{part_from}
 use Rattle.compare.proofs.WriterLaws.{compared_append}
 use Rattle.utf8.specs.Unicode.{encode_char, encode, decode, Scalars, trim_end}
-use Rattle.utf8.specs.Places.{NoneAmong, TrimmedEnd}
-use Rattle.utf8.proofs.Tests.{by_test, and_right}
+use Rattle.utf8.specs.Places.{TrimmedEnd}
+use Rattle.blocks.specs.Blocks.{NoneFrom}
+use Rattle.utf8.proofs.Tests.{and_right}
 use Rattle.utf8.proofs.Table.{encode_char_1, Bytes, single, several}
 use Rattle.utf8.proofs.Table.{bytes as bytes_of}
 use Rattle.utf8.proofs.Decode.{encode_nil, encode_append, encode_ascii, decode_encode, decode_scalars, wf_encode}
@@ -37,8 +40,8 @@ use Rattle.split.specs.Measure.{InUse}
 use Rattle.split.specs.Text.{indented, lay, following, last_of, LineRoom, LineWritten}
 use Rattle.split.proofs.TextLaws.{following_append, last_append, written_lines, lay_encode, indent_short, level_fits, deeper_fits}
 use Rattle.split_import.specs.declared.NameLines.{NameLines}
-use Rattle.split_import.specs.declared.ImportSplit.{ImportSplit}
-use Rattle.split_import.specs.Names.{code_byte, byte_at, Lacks, parts, CountableNames, names_text, NamesFit, NamesWritten}
+use Rattle.split_import.specs.declared.ImportLines.{ImportLines}
+use Rattle.split_import.specs.Names.{code_byte, byte_at, parts, CountableNames, names_text, NamesFit, NamesWritten}
 use Rattle.split_import.specs.Import.{Given, ImportFits, HeadFits, head_line, HeadWritten, Braces, parts_of}
 
 -- ---- the word
@@ -53,14 +56,9 @@ module _ (line : List ℕ) (r : Bool) (e : r ≡ starts_with line (codes "import
     unfolding starts_import starts_then first_is
     import_short h = rw (← e, f, drop_of_length-le line {i = 6} h)
 
-    module _ (h : 6 < length line) (s : Bool) (g : s ≡ is_ident (get_or line 6 0)) where
-      pub import_ident : s ≡ true → false ≡ starts_import line
-      unfolding starts_import starts_then first_is
-      import_ident k = rw (← e, f, drop-cons line 6 0 h, ← g, k)
-
-      pub import_other : s ≡ false → true ≡ starts_import line
-      unfolding starts_import starts_then first_is
-      import_other k = rw (← e, f, drop-cons line 6 0 h, ← g, k)
+    pub import_after : 6 < length line → (s : Bool) → s ≡ is_ident (get_or line 6 0) → not s ≡ starts_import line
+    unfolding starts_import starts_then first_is
+    import_after h s g = rw (← e, f, drop-cons line 6 0 h, ← g, or-false)
 
 -- ---- a code character
 
@@ -77,22 +75,12 @@ module _ (c : ℕ) (line class : List ℕ) (i : ℕ) (q : Finding (code_byte c) 
   pub code_found : (r : Bool) → i < length line → r ≡ (is_code (class_of (get_or class i 0)) && eqb (get_or line i 0) c) → r ≡ true → FirstAt (code_byte c) line class i
   code_found r h e f = find_stop q h room (sym e ∙ f)
 
-  pub code_end : length line ≤ i → FirstAt (code_byte c) line class i
-  code_end h = find_end q h
+  pub code_end : length line ≤ i → FirstAt (code_byte c) line class (length line)
+  code_end h =
+      let e : i ≡ length line = omega (arith, q.within) in
+      subst (FirstAt (code_byte c) line class) e (find_end q h)
 
 -- ---- blocks without a byte
-
-pub lacks_start : (b : ℕ) (s : List ℕ) → Lacks b s 0
-lacks_start b s = record { within = zero-le; none = λ j l. absurd (omega arith) }
-
-pub lacks_block : (b : ℕ) (s : List ℕ) (i : ℕ) (any : Bool) → Lacks b s i → i + 16 ≤ length s → NoneAmong (byte_at b s) i 16 any → any ≡ false → Lacks b s (i + 16)
-lacks_block b s i any q h a e =
-    record {
-      within = h;
-      none = λ j l. by_test (ltb j i) (λ t. q.none j (ltb-true j i t)) (λ t.
-          let k : i + (j - i) ≡ j = omega (arith, ltb-false j i t) in
-          rw k at (a.none e (j - i) (omega (arith, ltb-false j i t))));
-    }
 
 -- where the byte isn't, no code character is that byte
 code_skip : (c : ℕ) (line class : List ℕ) → length line ≤ length class → (i : ℕ) → i ≤ length line → ((j : ℕ) → j < i → byte_at c line j ≡ false) → Finding (code_byte c) line class i
@@ -104,8 +92,8 @@ code_skip c line class room (suc i) h f =
     other true e = e
     other false e = refl
 
-pub code_begin : (c : ℕ) (line class : List ℕ) (i : ℕ) → length line ≤ length class → Lacks c line i → Finding (code_byte c) line class i
-code_begin c line class i room q = code_skip c line class room i q.within q.none
+pub code_begin : (c : ℕ) (line class : List ℕ) (i : ℕ) → length line ≤ length class → NoneFrom (byte_at c line) 0 (length line) i → Finding (code_byte c) line class i
+code_begin c line class i room q = code_skip c line class room i q.within (λ j l. q.none j zero-le l)
 
 -- ---- the lines of an import
 
@@ -185,10 +173,10 @@ module _ {line : List ℕ} {start end : ℕ} {indent : List ℕ} {level : ℕ} {
   -- ---- what is written
 
   module _ {few : Bool} (q : few ≡ ltb (length (names_of (parts (part line (start + 1) end)))) 2) where
-    pub parts_none : (model out : List ℕ) (ruler max : ℕ) → few ≡ true → (o : Options) → InUse o indent ruler → Given (parts_of o max level line start end) eol model out out at ImportSplit.Whole
+    pub parts_none : (model out : List ℕ) (ruler max : ℕ) → few ≡ true → (o : Options) → InUse o indent ruler → Given (parts_of o max level line start end) eol model out out at None
     unfolding import_parts
     parts_none model out ruler max h o e =
-        subst (λ (x : Option Laid). Given x eol model out out at ImportSplit.Whole)
+        subst (λ (x : Option Laid). Given x eol model out out at None)
         (sym (choose_false _ _ _ (lt-leb 2 (length (names_of (parts (part line (start + 1) end)))) (ltb-true _ _ (sym q ∙ h)))))
         (record { is = refl; same = refl })
 
@@ -232,10 +220,10 @@ module _ {line : List ℕ} {start end : ℕ} {indent : List ℕ} {level : ℕ} {
             map-append encode (reverse (fill_names o max (indent_of o (suc level)) names)) ((indent_of o level ++ decode (drop end line)) ∷ [])
             ∙ rw (same_fill o indent ruler max level names e, lay_encode o indent level (decode (drop end line)) e.indents (level_fits b.fits), b.tail)
 
-      pub parts_some : (o : Options) → InUse o indent ruler → Given (parts_of o max level line start end) eol model out out₃ at (ImportSplit.Split (record { next = w.next; last = w.start; blanks = m.blanks }))
+      pub parts_some : (o : Options) → InUse o indent ruler → Given (parts_of o max level line start end) eol model out out₃ at (Some (record { next = w.next; last = w.start; blanks = m.blanks }))
       unfolding import_parts import_lines
       parts_some o e =
-          subst (λ (x : Option Laid). Given x eol model out out₃ at (ImportSplit.Split (record { next = w.next; last = w.start; blanks = m.blanks })))
+          subst (λ (x : Option Laid). Given x eol model out out₃ at (Some (record { next = w.next; last = w.start; blanks = m.blanks })))
           (sym (choose_true _ _ _ (le-leb 2 (length names) (ltb-false _ _ (sym q ∙ two)))))
           (record {
             made = record { next = w.next; last = w.start; blanks = m.blanks };
@@ -352,11 +340,11 @@ module _ {line class indent : List ℕ} {level : ℕ} {eol : List ℕ} {at : ℕ
   starts_chars : starts_import (chars_of chars) ≡ starts_import line
   starts_chars = ap starts_import (chars_classify Carry.Code (decode line)) ∙ sym (import_encode (decode line)) ∙ ap starts_import f.fits.well
 
-  not_given : (model out : List ℕ) (x : Option Laid) → x ≡ none → Given x eol model out out at ImportSplit.Whole
-  not_given model out x e = subst (λ (y : Option Laid). Given y eol model out out at ImportSplit.Whole) (sym e) (record { is = refl; same = refl })
+  not_given : (model out : List ℕ) (x : Option Laid) → x ≡ none → Given x eol model out out at None
+  not_given model out x e = subst (λ (y : Option Laid). Given y eol model out out at None) (sym e) (record { is = refl; same = refl })
 
   module _ (r : Bool) (q : r ≡ starts_import line) where
-    pub no_import : (model out : List ℕ) (ruler max : ℕ) → r ≡ false → (o : Options) → InUse o indent ruler → Given (split_import o max level chars) eol model out out at ImportSplit.Whole
+    pub no_import : (model out : List ℕ) (ruler max : ℕ) → r ≡ false → (o : Options) → InUse o indent ruler → Given (split_import o max level chars) eol model out out at None
     unfolding split_import
     no_import model out ruler max e o i = not_given model out _ (choose_false _ _ _ (starts_chars ∙ sym q ∙ e))
 
@@ -365,7 +353,7 @@ module _ {line class indent : List ℕ} {level : ℕ} {eol : List ℕ} {at : ℕ
       unfolding split_import
       opened o max = choose_true _ _ _ (starts_chars ∙ sym q ∙ e)
 
-      pub no_brace : (model out : List ℕ) (ruler max : ℕ) → length line ≤ start → (o : Options) → InUse o indent ruler → Given (split_import o max level chars) eol model out out at ImportSplit.Whole
+      pub no_brace : (model out : List ℕ) (ruler max : ℕ) → length line ≤ start → (o : Options) → InUse o indent ruler → Given (split_import o max level chars) eol model out out at None
       unfolding opened_import
       no_brace model out ruler max h o i =
           not_given model out _ (opened o max ∙ ap (opened_import o max level (chars_of (before_code "{" chars))) (brace_none "{" refl chars line class cells_are class_room start u h))
@@ -390,7 +378,7 @@ module _ {line class indent : List ℕ} {level : ℕ} {eol : List ℕ} {at : ℕ
         unfolding opened_import
         closed o max = opened o max ∙ ap (opened_import o max level (chars_of (before_code "{" chars))) next.is
 
-        pub no_close : (model out : List ℕ) (ruler max : ℕ) → length line ≤ start + 1 + n → (o : Options) → InUse o indent ruler → Given (split_import o max level chars) eol model out out at ImportSplit.Whole
+        pub no_close : (model out : List ℕ) (ruler max : ℕ) → length line ≤ start + 1 + n → (o : Options) → InUse o indent ruler → Given (split_import o max level chars) eol model out out at None
         unfolding closed_import
         no_close model out ruler max k o i =
             not_given model out _ (closed o max ∙ ap (closed_import o max level (chars_of (before_code "{" chars)) (chars_of (before_code "}" inner)))
@@ -435,6 +423,6 @@ module _ {line class indent : List ℕ} {level : ℕ} {eol : List ℕ} {at : ℕ
               let tl : chars_of (y.head ∷ y.rest) ≡ decode (drop (start + 1 + n) line) = ap chars_of (sym y.is) ∙ sym (ap decode tail_is ∙ decode_encode _ (cells_scalars "}" inner scalars_inner).1) in
               closed o max ∙ ap (closed_import o max level (chars_of (before_code "{" chars)) (chars_of (before_code "}" inner))) y.is ∙ rw (hd, mid, tl)
 
-          pub given_import : (model out out' : List ℕ) (s : ImportSplit) (ruler max : ℕ) → ((o : Options) → InUse o indent ruler → Given (parts_of o max level line start (start + 1 + n)) eol model out out' at s)
+          pub given_import : (model out out' : List ℕ) (s : code.Option ImportLines) (ruler max : ℕ) → ((o : Options) → InUse o indent ruler → Given (parts_of o max level line start (start + 1 + n)) eol model out out' at s)
               → (o : Options) → InUse o indent ruler → Given (split_import o max level chars) eol model out out' at s
           given_import model out out' s ruler max g o i = subst (λ (x : Option Laid). Given x eol model out out' at s) (sym (parts_are o max)) (g o i)

@@ -2,6 +2,7 @@
 use Prim.Native.Nat.{ℕ, ◌+◌, ◌-◌, ◌*◌, ◌^◌, ◌≤◌, ◌<◌, zero-le}
 use mathlib.Core.Bool.{Bool, true, false, cond}
 use mathlib.Core.List.{List, [], ◌∷◌, ◌++◌, map, map-append, foldl, reverse, reverse-cons, append-nil, append_assoc}
+use Rattle.std.specs.Prelude.{Option, Some, None}
 use mathlib.Core.Path.{◌≡◌, refl, sym, ap, ◌∙◌, subst}
 use native.Mathlib.Numerals.{add-one}
 use native.Mathlib.Omega.{arith}
@@ -32,7 +33,7 @@ use Rattle.rules.proofs.SplitSizes.{blank_ascii}
 use Rattle.rules.proofs.Scalars.{AllScalars, all_decode, split_scalars}
 use Rattle.split.proofs.TextLaws.{all_well, following_append, indent_short}
 use Rattle.split_import.specs.declared.Filled.{Filled}
-use Rattle.split_import.specs.Names.{left, NameLen, parts, CountableNames, Spaced, NamePlace, NameMeasured, NewestAt, NameFits, names_text, OnNewLine, AddedTo, Added, NamesFit, NamesWritten}
+use Rattle.split_import.specs.Names.{left, NameLen, parts, CountableNames, Spaced, NamePlace, Named, NameMeasured, NewestAt, column_of, NameFits, names_text, OnNewLine, AddedTo, Added, NamesFit, NamesWritten}
 
 -- ---- pieces between commas
 
@@ -320,16 +321,20 @@ comma_room {indent = indent} {level = level} {name = name} q a b =
     omega (arith, a.next, b.next, q.end, q.room, indent_short indent level q.indents, length-append (times level indent) name)
 
 pub on_new_line : (ruler : ℕ) (indent : List ℕ) (level : ℕ) (eol name model out out' : List ℕ) (f : Filled) (c : ℕ) (col : Utf16Column) (at : ℕ) → IndentMeasured ruler indent level c → NameMeasured ruler c name col.0
-    → Compared model out out' f.at (eol ++ lay indent level (name ++ 44 ∷ [])) at → OnNewLine ruler indent level eol name model out out' f (record { at = at; column = col; some = true })
+    → Compared model out out' f.at (eol ++ lay indent level (name ++ 44 ∷ [])) at → OnNewLine ruler indent level eol name model out out' f (record { at = at; column = Some col })
 on_new_line ruler indent level eol name model out out' f c col at p q a =
     record {
       text = a;
       column =
-          q.is ∙ ap (λ (k : ℕ). measure ruler k (with_comma (decode name))) p.is
-          ∙ sym (measure_append ruler 0 (times level indent) (with_comma (decode name)));
+          ap {B = Option Utf16Column} (λ (k : ℕ). Some (record { 0 = k }))
+          (q.is ∙ ap (λ (k : ℕ). measure ruler k (with_comma (decode name))) p.is
+          ∙ sym (measure_append ruler 0 (times level indent) (with_comma (decode name))));
       small = omega (arith, p.small, q.small);
-      some = refl;
     }
+
+-- a name goes on from the column that the newest line reaches
+pub name_named : (indent : List ℕ) (level : ℕ) (eol name : List ℕ) (f : Filled) (w : Utf16Column) → NameFits indent level eol name f → f.column ≡ Some w → Named (w.0 + 1) name
+name_named indent level eol name f w q e = record { well = q.well; fits = omega (arith, q.narrow, q.short, ap column_of e) }
 
 -- the text of one line more
 text_cons : (eol l : List ℕ) (ls : List (List ℕ)) → names_text eol (l ∷ ls) ≡ names_text eol ls ++ (eol ++ encode l)
@@ -367,7 +372,7 @@ module _ (ruler : ℕ) (indent : List ℕ) (level : ℕ) (eol : List ℕ) (max :
     added_line : (lines : List (List ℕ)) (out' : List ℕ) (r : Filled) → OnNewLine ruler indent level eol name model out out' f r → AddedTo ruler lines (new_line ∷ lines) eol model out out' f r
     added_line lines out' r q =
         record {
-          column = record { some = q.some; at = q.column };
+          column = record { is = q.column };
           grown = eol ++ lay indent level (name ++ 44 ∷ []);
           text = q.text;
           grows = text_cons eol new_line lines ∙ rw (line_bytes indent level name fits.indents fits.well);
@@ -376,7 +381,7 @@ module _ (ruler : ℕ) (indent : List ℕ) (level : ℕ) (eol : List ℕ) (max :
     abbrev Result : List ℕ → Filled → Type 0
     Result out' r = Added ruler indent level eol max name model out out' f r
 
-    line_small : (out' : List ℕ) (r : Filled) → OnNewLine ruler indent level eol name model out out' f r → (n : ℕ) → last_indent ≤ n → f.column.0 ≤ n → r.column.0 ≤ n + 255 * length name + 510
+    line_small : (out' : List ℕ) (r : Filled) → OnNewLine ruler indent level eol name model out out' f r → (n : ℕ) → last_indent ≤ n → column_of f.column ≤ n → column_of r.column ≤ n + 255 * length name + 510
     line_small out' r q n h k = omega (arith, q.small)
 
     line_at_law : (out' : List ℕ) (r : Filled) → OnNewLine ruler indent level eol name model out out' f r → r.at ≤ f.at + (67108931 + length name)
@@ -384,7 +389,7 @@ module _ (ruler : ℕ) (indent : List ℕ) (level : ℕ) (eol : List ℕ) (max :
         omega (arith, q.text.next, length-append eol (lay indent level (name ++ 44 ∷ [])), length-append cont (name ++ 44 ∷ []), length-append name (44 ∷ []), indent_short indent level fits.indents, fits.end)
 
     -- the first line
-    pub add_first : (out' : List ℕ) (r : Filled) → f.some ≡ false → OnNewLine ruler indent level eol name model out out' f r → Result out' r
+    pub add_first : (out' : List ℕ) (r : Filled) → f.column ≡ None → OnNewLine ruler indent level eol name model out out' f r → Result out' r
     unfolding add_name
     add_first out' r e q =
         record {
@@ -395,16 +400,16 @@ module _ (ruler : ℕ) (indent : List ℕ) (level : ℕ) (eol : List ℕ) (max :
       where
         go : (lines : List (List ℕ)) → NewestAt ruler lines f → AddedTo ruler lines (add_name opts max cont lines (decode name)) eol model out out' f r
         go [] c = added_line [] out' r q
-        go (cur ∷ done) c = absurd (let y : ◌≡◌ {A = ℕ} 0 1 = cc (c.some, e) in omega arith)
+        go (cur ∷ done) c = absurd (let y : ◌≡◌ {A = ℕ} 0 1 = cc (c.is, e) in omega arith)
 
-    module _ (n : ℕ) (e : f.some ≡ true) (q : NameMeasured ruler (f.column.0 + 1) name n) where
+    module _ (n : ℕ) (w : Utf16Column) (e : f.column ≡ Some w) (q : NameMeasured ruler (w.0 + 1) name n) where
       abbrev joined_line : List ℕ → List ℕ
       joined_line cur = cur ++ (codes " " ++ with_comma (decode name))
 
       -- the column that the newest line would reach
       column_of_law : (cur : List ℕ) (done : List (List ℕ)) → NewestAt ruler (cur ∷ done) f → n ≡ measure ruler 0 (joined_line cur)
       column_of_law cur done c =
-          q.is ∙ ap (λ (k : ℕ). measure ruler k (with_comma (decode name))) (ap (λ (k : ℕ). k + 1) c.at ∙ sym (one_measured ruler (measure ruler 0 cur) 32 refl (omega arith)))
+          q.is ∙ ap (λ (k : ℕ). measure ruler k (with_comma (decode name))) (ap (λ (k : Option Utf16Column). column_of k + 1) (sym e ∙ c.is) ∙ sym (one_measured ruler (measure ruler 0 cur) 32 refl (omega arith)))
           ∙ sym (measure_append ruler 0 cur (codes " " ++ with_comma (decode name)) ∙ measure_append ruler (measure ruler 0 cur) (codes " ") (with_comma (decode name)))
 
       pub add_wide : (out' : List ℕ) (r : Filled) → max < n → OnNewLine ruler indent level eol name model out out' f r → Result out' r
@@ -417,26 +422,26 @@ module _ (ruler : ℕ) (indent : List ℕ) (level : ℕ) (eol : List ℕ) (max :
           }
         where
           go : (lines : List (List ℕ)) → NewestAt ruler lines f → AddedTo ruler lines (add_name opts max cont lines (decode name)) eol model out out' f r
-          go [] c = absurd (let y : ◌≡◌ {A = ℕ} 0 1 = cc (c.some, e) in omega arith)
+          go [] c = absurd (let y : ◌≡◌ {A = ℕ} 0 1 = cc (c.is, e) in omega arith)
           go (cur ∷ done) c =
               rw (choose_true (ltb max (measure ruler 0 (joined_line cur))) (new_line ∷ cur ∷ done) (joined_line cur ∷ done) (rw (← (column_of_law cur done c)) (lt-ltb max n h)))
               (added_line (cur ∷ done) out' r l)
 
-      pub add_here : (out' : List ℕ) (col : Utf16Column) (at : ℕ) → col.0 ≡ n → n ≤ max → Compared model out out' f.at (32 ∷ (name ++ 44 ∷ [])) at → Result out' (record { at = at; column = col; some = true })
+      pub add_here : (out' : List ℕ) (col : Utf16Column) (at : ℕ) → col.0 ≡ n → n ≤ max → Compared model out out' f.at (32 ∷ (name ++ 44 ∷ [])) at → Result out' (record { at = at; column = Some col })
       unfolding add_name over_wide
       add_here out' col at k h a =
           record {
             to = go;
-            small = λ m i j. omega (arith, q.small);
+            small = λ m i j. omega (arith, q.small, ap column_of e, k);
             room = omega (arith, a.next, length-append name (44 ∷ []));
           }
         where
-          go : (lines : List (List ℕ)) → NewestAt ruler lines f → AddedTo ruler lines (add_name opts max cont lines (decode name)) eol model out out' f (record { at = at; column = col; some = true })
-          go [] c = absurd (let y : ◌≡◌ {A = ℕ} 0 1 = cc (c.some, e) in omega arith)
+          go : (lines : List (List ℕ)) → NewestAt ruler lines f → AddedTo ruler lines (add_name opts max cont lines (decode name)) eol model out out' f (record { at = at; column = Some col })
+          go [] c = absurd (let y : ◌≡◌ {A = ℕ} 0 1 = cc (c.is, e) in omega arith)
           go (cur ∷ done) c =
               rw (choose_false (ltb max (measure ruler 0 (joined_line cur))) (new_line ∷ cur ∷ done) (joined_line cur ∷ done) (rw (← (column_of_law cur done c)) (le-ltb max n h)))
               (record {
-                column = record { some = refl; at = k ∙ column_of_law cur done c };
+                column = record { is = ap {B = Option Utf16Column} (λ (x : ℕ). Some (record { 0 = x })) (k ∙ column_of_law cur done c) };
                 grown = 32 ∷ (name ++ 44 ∷ []);
                 text = a;
                 grows = text_cons eol (joined_line cur) done ∙ grown_line eol cur name done fits.well;
@@ -452,16 +457,16 @@ pub record Filling (ruler : ℕ) (s indent : List ℕ) (level : ℕ) (eol : List
   pub fill : fill_names (indented indent ruler) max (times level indent) (names_of (parts s)) ≡ foldl (add_name (indented indent ruler) max (times level indent)) lines (names_of (map decode (left s a)))
   pub column : NewestAt ruler lines f
   pub text : Compared model out₀ out at (names_text eol lines) f.at
-  pub narrow : f.column.0 ≤ last_indent + 510 * a
+  pub narrow : column_of f.column ≤ last_indent + 510 * a
   pub room : f.at ≤ at + a * line_room
   pub as_long : length out ≡ length out₀
   pub blank : blanks_of (parts s) ≡ blanks + blanks_of (map decode (left s a))
   pub few : blanks ≤ a
 
-pub filling_start : (ruler : ℕ) (s indent : List ℕ) (level : ℕ) (eol : List ℕ) (max : ℕ) (model out : List ℕ) (at : ℕ) (col : Utf16Column) → NamesFit s indent level eol at → col.0 ≡ 0
-    → Filling ruler s indent level eol max model out at out (record { at = at; column = col; some = false }) 0 0
+pub filling_start : (ruler : ℕ) (s indent : List ℕ) (level : ℕ) (eol : List ℕ) (max : ℕ) (model out : List ℕ) (at : ℕ) → NamesFit s indent level eol at
+    → Filling ruler s indent level eol max model out at out (record { at = at; column = None }) 0 0
 unfolding fill_names following
-filling_start ruler s indent level eol max model out at col p z =
+filling_start ruler s indent level eol max model out at p =
     let q : AllPieces s = all_pieces s p.well in
     record {
       pre = p;
@@ -469,7 +474,7 @@ filling_start ruler s indent level eol max model out at col p z =
       well = q.well;
       lines = [];
       fill = rw (← q.chars);
-      column = record { some = refl; at = tt };
+      column = record { is = refl };
       text = compared_nil model out at;
       narrow = omega arith;
       room = omega arith;

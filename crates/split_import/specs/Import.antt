@@ -1,5 +1,6 @@
 -- What split_import gives.
-use Rattle.std.specs.Prelude.{ℕ, ◌+◌, ◌^◌, ◌≤◌, ◌<◌, List, [], ◌∷◌, ◌++◌, ◌≡◌, length, take, drop}
+use Rattle.std.specs.Prelude.{ℕ, ◌+◌, ◌^◌, ◌≤◌, ◌<◌, List, [], ◌∷◌, ◌++◌, ◌≡◌, length, take, drop, Some, None}
+use Rattle.std.specs.Prelude as code
 use Rattle.std.proofs.Math.Option.{Option, none, some}
 use Rattle.buffer.specs.Buffer.{part}
 use Rattle.compare.specs.Common.{Compared}
@@ -13,20 +14,20 @@ use Rattle.split.specs.Measure.{Indent}
 use Rattle.split.specs.Text.{lay, Written, Fits}
 use Rattle.split_import.specs.Names.{parts}
 use Rattle.split_import.specs.declared.ImportLines.{ImportLines}
-use Rattle.split_import.specs.declared.ImportSplit.{ImportSplit}
 
-pub record NotSplit (out out' : List ℕ) (r : ImportSplit) : Type 0 where
-  pub is : r ≡ ImportSplit.Whole
+pub record NotSplit (out out' : List ℕ) (r : code.Option ImportLines) : Type 0 where
+  pub is : r ≡ None
   pub same : out' ≡ out
 
-pub record Split (laid : Laid) (eol model out out' : List ℕ) (at : ℕ) (r : ImportSplit) : Type 0 where
+pub record Split (laid : Laid) (eol model out out' : List ℕ) (at : ℕ)
+    (r : code.Option ImportLines) : Type 0 where
   pub made : ImportLines
-  pub is : r ≡ ImportSplit.Split made
+  pub is : r ≡ Some made
   pub written : Written eol laid.lines model out out' at made.last made.next
   pub blanks : made.blanks ≡ laid.blank_names
 
 -- where the line isn't split, nothing is written
-abbrev pub Given : Option Laid → List ℕ → List ℕ → List ℕ → List ℕ → ℕ → ImportSplit → Type 0
+abbrev pub Given : Option Laid → List ℕ → List ℕ → List ℕ → List ℕ → ℕ → code.Option ImportLines → Type 0
 Given none eol model out out' at r = NotSplit out out' r
 Given (some laid) eol model out out' at r = Split laid eol model out out' at r
 

@@ -1,13 +1,15 @@
 -- The names of an import, in bytes: pieces between commas, counted and filled into lines.
-use Rattle.std.specs.Prelude.{ℕ, ◌+◌, ◌-◌, ◌*◌, ◌^◌, ◌≤◌, ◌<◌, Bool, true, false, not, ◌&&◌, List, [], ◌∷◌, ◌++◌, map, reverse, ◌≡◌, eqb, leb, length, get_or, take, drop}
+use Rattle.std.specs.Prelude.{ℕ, ◌+◌, ◌-◌, ◌*◌, ◌^◌, ◌≤◌, ◌<◌, Bool, true, ◌&&◌, List, [], ◌∷◌, ◌++◌, map, reverse, ◌≡◌, eqb, leb, length, get_or, take, drop, Option, Some, None}
 use Rattle.buffer.specs.Buffer.{part}
 use Rattle.compare.specs.Common.{Compared}
 use Rattle.buffer.specs.Repeat.{times}
 use Rattle.utf8.specs.Unicode.{encode, decode, WellFormed}
-use Rattle.rules.specs.Basics.{choose, is_empty, pieces, split_on}
+use Rattle.rules.specs.Basics.{choose, pieces, split_on}
 use Rattle.rules.specs.Options.{measure}
 use Rattle.rules.specs.Scan.{Cell, is_code}
+use Rattle.rules.specs.ClassBytes.{FirstAt}
 use Rattle.rules.specs.SplitImport.{names_of, blanks_of, with_comma, add_name, fill_names}
+use Rattle.utf8.specs.declared.Utf16Column.{Utf16Column}
 use Rattle.split.specs.declared.Part.{Part}
 use Rattle.split.specs.Measure.{Indent, last_indent}
 use Rattle.split.specs.Text.{indented, lay, following, line_room}
@@ -18,14 +20,14 @@ use Rattle.split_import.specs.declared.NameLines.{NameLines}
 abbrev pub code_byte : ℕ → Cell → Bool
 code_byte c x = is_code x.class && eqb x.ch c
 
+-- r is where the first code character c stands
+abbrev pub FoundCode : ℕ → List ℕ → List ℕ → Option ℕ → Type 0
+FoundCode c line class None = FirstAt (code_byte c) line class (length line)
+FoundCode c line class (Some i) = FirstAt (code_byte c) line class i × (i < length line)
+
 -- the byte at i is b
 abbrev pub byte_at : ℕ → List ℕ → ℕ → Bool
 byte_at b s i = eqb (get_or s i 0) b
-
--- none of the first r bytes is b
-pub record Lacks (b : ℕ) (s : List ℕ) (r : ℕ) : Type 0 where
-  pub within : r ≤ length s
-  pub none : (j : ℕ) → j < r → byte_at b s j ≡ false
 
 -- ---- pieces between commas
 
@@ -72,21 +74,26 @@ pub record NameMeasured (ruler from : ℕ) (name : List ℕ) (r : ℕ) : Type 0 
   pub is : r ≡ measure ruler from (with_comma (decode name))
   pub small : r ≤ from + 255 * length name + 255
 
--- what f says of the lines of names so far, the newest first
-abbrev pub reached : ℕ → List (List ℕ) → ℕ → Type 0
-reached ruler [] n = Unit {0}
-reached ruler (cur ∷ done) n = n ≡ measure ruler 0 cur
+-- the column that the newest of the lines reaches
+abbrev pub newest_column : ℕ → List (List ℕ) → Option Utf16Column
+newest_column ruler [] = None
+newest_column ruler (cur ∷ done) = Some (record { 0 = measure ruler 0 cur })
 
+-- what f says of the lines of names so far, the newest first
 pub record NewestAt (ruler : ℕ) (lines : List (List ℕ)) (f : Filled) : Type 0 where
-  pub some : f.some ≡ not (is_empty lines)
-  pub at : reached ruler lines f.column.0
+  pub is : f.column ≡ newest_column ruler lines
+
+-- that column, or 0
+abbrev pub column_of : Option Utf16Column → ℕ
+column_of None = 0
+column_of (Some c) = c.0
 
 pub record NameFits (indent : List ℕ) (level : ℕ) (eol name : List ℕ) (f : Filled) : Type 0 where
   pub indents : Indent indent level
   pub end : length eol ≤ 2
   pub well : WellFormed name
   pub short : length name < 2 ^ 31
-  pub narrow : f.column.0 < 2 ^ 48
+  pub narrow : column_of f.column < 2 ^ 48
   pub room : f.at + (67108931 + length name) < 2 ^ 64
 
 -- the bytes of lines of names, the newest first, each after a line ending
@@ -96,9 +103,8 @@ names_text eol lines = following eol (map encode (reverse lines))
 pub record OnNewLine (ruler : ℕ) (indent : List ℕ) (level : ℕ) (eol name model out out' : List ℕ)
     (f r : Filled) : Type 0 where
   pub text : Compared model out out' f.at (eol ++ lay indent level (name ++ 44 ∷ [])) r.at
-  pub column : r.column.0 ≡ measure ruler 0 (times level indent ++ with_comma (decode name))
-  pub small : r.column.0 ≤ last_indent + 255 * length name + 255
-  pub some : r.some ≡ true
+  pub column : r.column ≡ Some (record { 0 = measure ruler 0 (times level indent ++ with_comma (decode name)) })
+  pub small : column_of r.column ≤ last_indent + 255 * length name + 255
 
 pub record AddedTo (ruler : ℕ) (lines lines' : List (List ℕ)) (eol model out out' : List ℕ)
     (f r : Filled) : Type 0 where
@@ -112,7 +118,7 @@ pub record Added (ruler : ℕ) (indent : List ℕ) (level : ℕ) (eol : List ℕ
   pub to : (lines : List (List ℕ)) → NewestAt ruler lines f
       → AddedTo ruler lines (add_name (indented indent ruler) max (times level indent) lines (decode name)) eol model out
       out' f r
-  pub small : (n : ℕ) → last_indent ≤ n → f.column.0 ≤ n → r.column.0 ≤ n + 255 * length name + 510
+  pub small : (n : ℕ) → last_indent ≤ n → column_of f.column ≤ n → column_of r.column ≤ n + 255 * length name + 510
   pub room : r.at ≤ f.at + (67108931 + length name)
 
 pub record NamesFit (s indent : List ℕ) (level : ℕ) (eol : List ℕ) (at : ℕ) : Type 0 where

@@ -5,16 +5,15 @@ ghost use Rattle.std.specs.Prelude.{◌≡◌, ◌&&◌, [], ◌∷◌, ◌++◌
 ghost use Rattle.buffer.specs.Buffer.{part};
 ghost use Rattle.compare.specs.Common.{Compared};
 ghost use Rattle.utf8.specs.Unicode.{decode};
-ghost use Rattle.utf8.specs.Places.{NoneAmong};
 ghost use Rattle.rules.specs.Options.{Options};
 ghost use Rattle.rules.specs.Lines.{as_str};
 ghost use Rattle.rules.specs.Scan.{is_code, classify};
-ghost use Rattle.rules.specs.ClassBytes.{class_of, FirstAt};
+ghost use Rattle.rules.specs.ClassBytes.{class_of};
 ghost use Rattle.rules.specs.SplitImport.{names_of, split_import, starts_import};
 ghost use Rattle.rules.specs.declared.Carry.{Carry};
 ghost use Rattle.split.specs.Measure.{InUse, Within};
 ghost use Rattle.split.specs.Text.{lay};
-ghost use Rattle.split_import.specs.Names.{code_byte, byte_at, Lacks, NameLen, parts, CountableNames};
+ghost use Rattle.split_import.specs.Names.{FoundCode, NameLen, parts, CountableNames};
 ghost use Rattle.split_import.specs.Names.{Spaced, NamePlace, Named, NameMeasured, NameFits, OnNewLine, Added};
 ghost use Rattle.split_import.specs.Names.{NamesFit, NamesWritten};
 ghost use Rattle.split_import.specs.Import.{HeadFits, HeadWritten, Braces, parts_of, Given, ImportFits};
@@ -32,94 +31,44 @@ pub struct ImportLines {
     pub blanks: usize,
 }
 
-// What splitting an import comes to; where it stays whole, nothing is written.
-#[derive(Clone, Copy)]
-pub enum ImportSplit {
-    Whole,
-    Split(ImportLines),
-}
-
 // `import`, and no ASCII letter, digit or underscore is next.
 fn starts_import(line: &[u8]) -> bool
     ensures { result ≡ starts_import line.now }
 {
-    if starts_with(line, b"import") {
-        if line.len() <= 6 {
-            return true;
-        }
-        if is_ident(line[6]) {
-            return false;
-        }
-        return true;
-    }
-    false
+    starts_with(line, b"import") && (line.len() <= 6 || !is_ident(line[6]))
 }
 
 // Whether the byte b with the class byte k is the code character c.
 fn code_is(c: u8, b: u8, k: u8) -> bool
     ensures { result ≡ (is_code (class_of k) && eqb b c) }
 {
-    if k == 0 {
-        return b == c;
-    }
-    false
+    k == 0 && b == c
 }
 
-// Whether one of the 16 bytes from `at` on is b. It makes no branch, so that the 16 are tested at once.
-fn has_byte(s: &[u8], b: u8, at: usize) -> bool
-    requires { at + 16 ≤ length s.now }
-    ensures { NoneAmong (byte_at b s.now) at 16 result }
-{
-    let mut any = false;
-    let mut k: usize = 0;
-    while k < 16 {
-        any = any | (s[at + k] == b);
-        k += 1;
-    }
-    any
-}
-
-// Past the blocks of 16 bytes none of which is b.
-fn past_blocks(s: &[u8], b: u8) -> usize
-    ensures { Lacks b s.now result }
-{
-    let mut i = 0;
-    while s.len() - i >= 16 {
-        if has_byte(s, b, i) {
-            return i;
-        }
-        i += 16;
-    }
-    i
-}
-
-// Where the first code character c stands, or the line's length.
-fn find_code(line: &[u8], class: &[u8], c: u8) -> usize
+// Where the first code character c stands.
+fn find_code(line: &[u8], class: &[u8], c: u8) -> Option<usize>
     requires { length line.now ≤ length class.now }
-    ensures { FirstAt (code_byte c) line.now class.now result }
+    ensures { FoundCode c line.now class.now result }
 {
-    let mut i = past_blocks(line, c);
-    while i < line.len() {
+    let start = blocks::past_blocks::<16, _>(0, line.len(), &|i| line[i] == c);
+    for i in start..line.len() {
         if code_is(c, line[i], class[i]) {
-            return i;
+            return Some(i);
         }
-        i += 1;
     }
-    i
+    None
 }
 
 // How many bytes stand before the first comma.
 fn name_len(s: &[u8]) -> usize
     ensures { NameLen s.now result }
 {
-    let mut i = 0;
-    while i < s.len() {
-        if s[i] == b',' {
+    for (i, &b) in s.iter().enumerate() {
+        if b == b',' {
             return i;
         }
-        i += 1;
     }
-    i
+    s.len()
 }
 
 // Whether fewer than two pieces are names.
@@ -129,6 +78,7 @@ fn few_names(s: &[u8]) -> bool
 {
     let mut some = false;
     let mut a = 0;
+    // kept: a range is no plainer, since a step takes a piece, however long, and the comma behind it
     while a <= s.len() {
         let e = a + name_len(&s[a..]);
         let p = trim_part(s, a, e);
@@ -148,18 +98,7 @@ fn is_spaced(s: &[u8], p: Part) -> bool
     requires { Within s.now p.start p.end }
     ensures { Spaced s.now p result }
 {
-    let a = p.start;
-    let e = p.end;
-    if a == 0 {
-        return false;
-    }
-    if s.len() <= e {
-        return false;
-    }
-    if s[a - 1] == b' ' {
-        return s[e] == b',';
-    }
-    false
+    0 < p.start && p.end < s.len() && s[p.start - 1] == b' ' && s[p.end] == b','
 }
 
 // A name, and its comma, after others on its line: at once where it stands so among the names.
@@ -169,15 +108,11 @@ fn put_name(model: &[u8], out: &mut [u8], at: usize, names: &[u8], p: Part) -> u
     ensures { Compared model.now out.old out.new at
         (32 ∷ (part names.now p.start p.end ++ 44 ∷ [])) result }
 {
-    let a = p.start;
-    let e = p.end;
     if is_spaced(names, p) {
-        let b = a - 1;
-        let d = e + 1;
-        return compare::append(model, out, at, &names[b..d]);
+        return compare::append(model, out, at, &names[p.start - 1..p.end + 1]);
     }
     let n = compare::append(model, out, at, b" ");
-    let m = compare::append(model, out, n, &names[a..e]);
+    let m = compare::append(model, out, n, &names[p.start..p.end]);
     compare::append(model, out, m, b",")
 }
 
@@ -187,8 +122,7 @@ fn put_line(model: &[u8], out: &mut [u8], at: usize, s: Layout, indent: &[u8], n
     ensures { Compared model.now out.old out.new at
         (as_str s.ending ++ lay indent.now s.level (name.now ++ 44 ∷ [])) result }
 {
-    let ending = s.ending;
-    let n = text::append_ending(model, out, at, ending);
+    let n = text::append_ending(model, out, at, s.ending);
     let m = compare::append_indented(model, out, n, indent, s.level, name);
     compare::append(model, out, m, b",")
 }
@@ -202,12 +136,11 @@ fn name_column(ruler: u8, from: Utf16Column, name: &[u8]) -> Utf16Column
     Utf16Column(end.0 + 1)
 }
 
-// The lines of names so far: the place reached, the column reached on the newest of them, and whether there is one.
+// The lines of names so far: the place reached, and the column reached on the newest of them.
 #[derive(Clone, Copy)]
 pub struct Filled {
     pub at: usize,
-    pub column: Utf16Column,
-    pub some: bool,
+    pub column: Option<Utf16Column>,
 }
 
 fn new_line(
@@ -225,8 +158,7 @@ fn new_line(
     let column = name_column(s.ruler, indent_column(s.ruler, indent, s.level), name);
     Filled {
         at: put_line(model, out, f.at, s, indent, name),
-        column,
-        some: true,
+        column: Some(column),
     }
 }
 
@@ -245,22 +177,21 @@ fn add_name(
     ensures { Added s.ruler indent.now s.level (as_str s.ending) s.max.0
         (part names.now p.start p.end) model.now out.old out.new f result }
 {
-    let a = p.start;
-    let e = p.end;
-    let name = &names[a..e];
-    if f.some {
-        let c = f.column;
-        let column = name_column(s.ruler, Utf16Column(c.0 + 1), name);
-        if column.0 <= s.max.0 {
-            return Filled {
-                at: put_name(model, out, f.at, names, p),
-                column,
-                some: true,
-            };
+    let name = &names[p.start..p.end];
+    match f.column {
+        Some(newest) => {
+            let column = name_column(s.ruler, Utf16Column(newest.0 + 1), name);
+            if column.0 <= s.max.0 {
+                Filled {
+                    at: put_name(model, out, f.at, names, p),
+                    column: Some(column),
+                }
+            } else {
+                new_line(model, out, f, s, indent, name)
+            }
         }
-        return new_line(model, out, f, s, indent, name);
+        None => new_line(model, out, f, s, indent, name),
     }
-    new_line(model, out, f, s, indent, name)
 }
 
 // The lines of names, written: the next place, and how many pieces are blank.
@@ -283,13 +214,10 @@ fn write_names(
     ensures { NamesWritten s.ruler names.now indent.now s.level (as_str s.ending)
         s.max.0 model.now out.old out.new at result }
 {
-    let mut f = Filled {
-        at,
-        column: Utf16Column(0),
-        some: false,
-    };
+    let mut f = Filled { at, column: None };
     let mut blanks = 0;
     let mut a = 0;
+    // kept: a range is no plainer, since a step takes a piece, however long, and the comma behind it
     while a <= names.len() {
         let e = a + name_len(&names[a..]);
         let p = trim_part(names, a, e);
@@ -330,32 +258,24 @@ fn write_import(
     model: &[u8],
     out: &mut [u8],
     at: usize,
-) -> ImportSplit
+) -> Option<ImportLines>
     requires { Braces line.now braces.start braces.end indent.now s.level (as_str s.ending) at }
     ensures { (o : Options) → InUse o indent.now s.ruler
         → Given (parts_of o s.max.0 s.level line.now braces.start braces.end) (as_str s.ending)
         model.now out.old out.new at result }
 {
-    let start = braces.start;
-    let end = braces.end;
-    let a = start + 1;
-    let names = &line[a..end];
+    let names = &line[braces.start + 1..braces.end];
     if few_names(names) {
-        return ImportSplit::Whole;
+        return None;
     }
-    let n = write_head(model, out, at, indent, s.level, &line[..start]);
-    let ending = s.ending;
-    let strengths = s.strengths;
+    let n = write_head(model, out, at, indent, s.level, &line[..braces.start]);
     let under = Layout {
         level: s.level + 1,
-        max: Utf16Column(s.max.0),
-        ruler: s.ruler,
-        ending,
-        strengths,
+        ..s
     };
     let m = write_names(names, under, indent, model, out, n);
-    let w = write_line(model, out, m.next, s, indent, &line[end..]);
-    ImportSplit::Split(ImportLines {
+    let w = write_line(model, out, m.next, s, indent, &line[braces.end..]);
+    Some(ImportLines {
         next: w.next,
         last: w.start,
         blanks: m.blanks,
@@ -363,7 +283,7 @@ fn write_import(
 }
 
 // An over-wide line, if it is an import with braces and at least two names: its names refilled over lines, written from
-// the place at on.
+// the place at on. Else nothing is written.
 pub fn split_import(
     line: &[u8],
     class: &[u8],
@@ -372,24 +292,17 @@ pub fn split_import(
     model: &[u8],
     out: &mut [u8],
     at: usize,
-) -> ImportSplit
+) -> Option<ImportLines>
     requires { ImportFits line.now class.now indent.now s.level (as_str s.ending) at }
     ensures { (o : Options) → InUse o indent.now s.ruler
         → Given (split_import o s.max.0 s.level (classify Carry.Code (decode line.now)))
         (as_str s.ending) model.now out.old out.new at result }
 {
-    if starts_import(line) {
-        let start = find_code(line, class, b'{');
-        if line.len() <= start {
-            return ImportSplit::Whole;
-        }
-        let a = start + 1;
-        let n = find_code(&line[a..], &class[a..], b'}');
-        let end = a + n;
-        if line.len() <= end {
-            return ImportSplit::Whole;
-        }
-        return write_import(line, Part { start, end }, s, indent, model, out, at);
+    if !starts_import(line) {
+        return None;
     }
-    ImportSplit::Whole
+    let start = find_code(line, class, b'{')?;
+    let a = start + 1;
+    let end = a + find_code(&line[a..], &class[a..], b'}')?;
+    write_import(line, Part { start, end }, s, indent, model, out, at)
 }

@@ -1,10 +1,11 @@
 -- Laws of a run of letters, digits and underscores in code: it leaves the marks as they are, and an operand ends with
 -- it.
 use Prim.Native.Nat.{ℕ, zero, suc, ◌+◌, ◌-◌, ◌≤◌, ◌<◌}
-use mathlib.Core.Bool.{Bool, true, false, and-false, true≢false}
+use mathlib.Core.Bool.{Bool, true, false, not, and-false, true≢false}
 use mathlib.Core.List.{List, [], ◌∷◌}
 use mathlib.Core.Logic.{◌⊎◌, inl, inr}
 use mathlib.Core.Path.{◌≡◌, refl, sym, ap, ◌∙◌, subst}
+use Rattle.std.specs.Prelude.{Some}
 use native.Mathlib.Omega.{arith}
 use lib.Dec.{eqb}
 use lib.ListN.{length, get_or, take, drop}
@@ -23,7 +24,7 @@ use Rattle.rules.specs.OperatorBytes.{byte_step}
 use Rattle.top_level_ops.specs.declared.OpState.{OpState}
 use Rattle.top_level_ops.specs.Steps.{ops_of, step_of}
 use Rattle.split_operation.specs.Pass.{Breakable, NonePending, PlainTest, IdentRun, PlainRun, past_ident, Balances, Seeking, Pass, Passing}
-use Rattle.split_operation.proofs.PassLaws.{ReadAt, read_step, looser_zero, eqb_swap, balance_fell, balance_plain, word_on_law, passing_more, seek_read, ops_left}
+use Rattle.split_operation.proofs.PassLaws.{ReadAt, read_step, looser_zero, eqb_swap, balance_plain, word_on_law, passing_more, seek_read, ops_left}
 
 -- ---- one of them
 
@@ -109,10 +110,9 @@ module _ (table : List ℕ) (s : OpState) (line class : List ℕ) (i : ℕ) (h :
       (ident_step (get_or line i 0) is_ident_law table s (drop (i + 1) line) p
       ∙ ap (λ (k : Class). byte_step table (ops_of s) (cell (get_or line i 0) k) (drop (i + 1) line)) (sym (code_class (class_of (get_or class i 0)) is_code_law)))
 
-  ident_balance : (d : ℕ) → Balances d (cell_at line class i) d
-  ident_balance zero = balance_fell (cell_at line class i) 0 refl
-  ident_balance (suc d) =
-      balance_plain (suc d) (cell_at line class i) (λ (z : suc d ≡ 0). omega arith) true (sym is_code_law) refl false (sym (ident_opener (get_or line i 0) is_ident_law)) refl false
+  ident_balance : (d : ℕ) → Balances d (cell_at line class i) (Some d)
+  ident_balance d =
+      balance_plain d (cell_at line class i) true (sym is_code_law) refl false (sym (ident_opener (get_or line i 0) is_ident_law)) refl false
       (sym (ident_closer (get_or line i 0) is_ident_law)) refl
 
 past_plain : (s : OpState) → NonePending (past_ident s)
@@ -127,8 +127,8 @@ with_state p s = record { ops = record { ops = s; strength = p.ops.strength; cut
 passing_ident : (table line class : List ℕ) (p : Pass) (i : ℕ) → Passing table line class p i → i < length line → NonePending p.ops.ops → in_word (cell_at line class i) ≡ true
     → Passing table line class (with_state p (past_ident p.ops.ops)) (i + 1)
 passing_ident table line class p i q h y e =
-    passing_more table line class p i q h (record { start = p.start; found = false }) (word_on_law line p.start i (cell_at line class i) (h, q.start) true (sym e) refl refl)
-    p.depth (ident_balance table p.ops.ops line class i h q.ops.breaks y e p.depth) refl (with_state p (past_ident p.ops.ops)).ops
+    passing_more table line class p i q h p.start p.depth (word_on_law line p.start i (cell_at line class i) (h, q.start) true (sym e) refl refl)
+    (ident_balance table p.ops.ops line class i h q.ops.breaks y e p.depth) (with_state p (past_ident p.ops.ops)).ops
     (ops_left q.ops h (record { strength = 0; after = past_ident p.ops.ops }) (ident_read table p.ops.ops line class i h q.ops.breaks y e) (looser_zero p.ops.strength))
 
 module _ {line class : List ℕ} {i e : ℕ} {s : OpState} (u : PlainRun line class i s e) (h : i < e) where
@@ -165,11 +165,11 @@ seek_past {table} {strength} {line} {class} {from} {start} s' i e q u h z =
 
 -- ---- the functions
 
-pub plain_test : (s : OpState) → (s.skip ≡ 0) → s.esc ≡ false → PlainTest s true
-plain_test s z e = record { yes = λ y. record { skip = z; esc = e } }
+pub plain_test : (s : OpState) → s.skip ≡ 0 → PlainTest s (not s.esc)
+plain_test s z = record { yes = λ y. record { skip = z; esc = by_test s.esc (λ t. absurd (true≢false (sym y ∙ ap not t))) (λ t. t) } }
 
-pub not_plain : (s : OpState) → PlainTest s false
-not_plain s = record { yes = λ y. absurd (true≢false (sym y)) }
+pub not_plain : (s : OpState) → (s.skip ≡ 0 → ⊥) → PlainTest s (eqb s.skip 0)
+not_plain s n = record { yes = λ y. absurd (n (eqb-true s.skip 0 y)) }
 
 pub ident_begin : (line class : List ℕ) (from : ℕ) → from ≤ length line → IdentRun line class from from
 ident_begin line class from h = record { after = omega arith; fits = h; idents = λ k a l. absurd (omega arith) }

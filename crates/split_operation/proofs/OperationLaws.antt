@@ -4,6 +4,8 @@ use mathlib.Core.Bool.{Bool, true, false, not}
 use mathlib.Core.List.{List, [], ◌∷◌, ◌++◌, map, map-append, append-nil, append_assoc}
 use mathlib.Core.Logic.{◌⊎◌, inl, inr}
 use mathlib.Core.Option.{Option, none, some}
+use Rattle.std.specs.Prelude.{Some, None}
+use Rattle.std.specs.Prelude as code
 use mathlib.Core.Path.{◌≡◌, refl, sym, ap, ◌∙◌, subst}
 use native.Mathlib.Numerals.{add-one}
 use native.Mathlib.Omega.{arith}
@@ -43,8 +45,8 @@ use Rattle.split.specs.declared.NewLine.{NewLine}
 use Rattle.split_operation.specs.declared.OperationSplit.{OperationSplit}
 use Rattle.split.specs.Measure.{InUse, Indent, Wide, Within, Trimmed}
 use Rattle.split.specs.Text.{indented, lay, AllWell, following, last_of, LineRoom, LineWritten, Fits, line_room}
-use Rattle.split_operation.specs.Pass.{line_start, Sound, Breakable, Cutting, break_strength, rest_from, cuts_at, NextOp, Unbroken, BreakFound}
-use Rattle.split_operation.specs.Operation.{line_of, Broken, trim_bytes, rest_lines, RestFits, After, RestWritten, Classed, OperationFits, LineFits, round_strength, RoundBreak, first_line, other_lines, PiecesWritten, broken_in, FirstBroken}
+use Rattle.split_operation.specs.Pass.{line_start, Sound, Breakable, Cutting, break_strength, rest_from, cuts_at, NextOp, BreakFound}
+use Rattle.split_operation.specs.Operation.{line_of, Broken, trim_bytes, rest_lines, RestFits, After, RestWritten, Classed, OperationFits, LineFits, round_strength, RoundAt, RoundBreak, first_line, other_lines, PiecesWritten, broken_in, FirstBroken}
 use Rattle.split.proofs.MeasureLaws.{part_length}
 use Rattle.rules.proofs.Scalars.{AllScalars}
 use Rattle.split.proofs.TextLaws.{all_well, following_append, last_append, written_lines, lay_encode, indent_short, level_fits, deeper_fits}
@@ -209,22 +211,26 @@ module _ (table : List ℕ) (ruler : ℕ) (indent : List ℕ) (level max rounds 
   abbrev strength_of : ℕ
   strength_of = round_strength table ruler indent level max rounds line (cells_of line class)
 
-  none_round : (r : Break) → Unbroken r → 0 ≡ strength_of → RoundBreak table ruler indent level max rounds line class r
-  none_round r u e = record { strength = u.none ∙ e; cut = λ n. absurd (n u.none) }
-
-  pub round_none : (r : Break) → Unbroken r → rounds ≡ 0 → RoundBreak table ruler indent level max rounds line class r
+  pub round_none : rounds ≡ 0 → 0 ≡ strength_of
   unfolding round_strength
-  round_none r u e = none_round r u (sym (choose_true _ _ _ (eq-eqb rounds 0 e)))
+  round_none e = sym (choose_true _ _ _ (eq-eqb rounds 0 e))
 
   module _ (some : rounds ≡ 0 → ⊥) (t : Bool) (q : Wide ruler indent level line max t) where
-    pub round_fits : (r : Break) → Unbroken r → t ≡ false → RoundBreak table ruler indent level max rounds line class r
+    pub round_fits : t ≡ false → 0 ≡ strength_of
     unfolding round_strength
-    round_fits r u h = none_round r u (sym (choose_false _ _ _ (ne_eqb rounds 0 some) ∙ choose_false _ _ _ (sym q.is ∙ h)))
+    round_fits h = sym (choose_false _ _ _ (ne_eqb rounds 0 some) ∙ choose_false _ _ _ (sym q.is ∙ h))
 
-    pub round_wide : (r : Break) → t ≡ true → BreakFound table line class r → RoundBreak table ruler indent level max rounds line class r
+    -- what the pass found is the round's
+    pub round_wide : t ≡ true → (r : code.Option Break) → BreakFound table line class r → RoundBreak table ruler indent level max rounds line class r
     unfolding round_strength
-    round_wide r h e =
-        record { strength = e.strength ∙ sym (choose_false _ _ _ (ne_eqb rounds 0 some) ∙ choose_true _ _ _ (sym q.is ∙ h)); cut = e.cut }
+    round_wide h r e = go r e
+      where
+        is : strength_of ≡ break_strength table (cells_of line class)
+        is = choose_false _ _ _ (ne_eqb rounds 0 some) ∙ choose_true _ _ _ (sym q.is ∙ h)
+
+        go : (r : code.Option Break) → BreakFound table line class r → RoundBreak table ruler indent level max rounds line class r
+        go None e = e ∙ sym is
+        go (Some b) e = record { strength = e.strength ∙ sym is; some = e.some; cut = e.cut }
 
   break_none : any_starts line ≡ false → length line ≤ length class → break_strength table (cells_of line class) ≡ 0
   unfolding break_strength
@@ -232,10 +238,9 @@ module _ (table : List ℕ) (ruler : ℕ) (indent : List ℕ) (level max rounds 
       choose_case (λ (n : ℕ). n ≡ 0) (λ _. refl) (λ _. choose_case (λ (n : ℕ). n ≡ 0) (λ _. refl)
       (λ _. loosest_none table (cells_of line class) no_ops (ap any_starts (chars_cells line class h) ∙ e)))
 
-  pub round_plain : (r : Break) (b : Bool) → Unbroken r → length line ≤ length class → b ≡ any_starts line → b ≡ false → RoundBreak table ruler indent level max rounds line class r
+  pub round_plain : (b : Bool) → length line ≤ length class → b ≡ any_starts line → b ≡ false → 0 ≡ strength_of
   unfolding round_strength
-  round_plain r b u h q e =
-      none_round r u (choose_case (λ (n : ℕ). 0 ≡ n) (λ _. refl) (λ _. choose_case (λ (n : ℕ). 0 ≡ n) (λ _. sym (break_none (sym q ∙ e) h)) (λ _. refl)))
+  round_plain b h q e = choose_case (λ (n : ℕ). 0 ≡ n) (λ _. refl) (λ _. choose_case (λ (n : ℕ). 0 ≡ n) (λ _. sym (break_none (sym q ∙ e) h)) (λ _. refl))
 
   -- what the strength says of the round
   module _ (w : WellFormed line) (k : Classed line class) where
@@ -280,18 +285,19 @@ module _ (table : List ℕ) (ruler : ℕ) (indent : List ℕ) (level max rounds 
             let m : suc n - 1 ≡ n = omega arith in
             rw m (round_broken table opts max level n (decode line) (trimmed (pieces_at table line (suc p))) (breaks (λ (y : rounds ≡ 0). some_left rounds refl y) ∙ rw (← e)))
 
-  pub round_loosest : (b : Break) → RoundBreak table ruler indent level max rounds line class b → (b.strength ≡ 0 → ⊥) → b.strength ≡ break_strength table (cells_of line class)
-  unfolding round_strength choose
-  round_loosest b e z = go (eqb rounds 0) (ltb max (measure ruler 0 (times level indent ++ decode line))) e.strength
-    where
-      go : (x y : Bool) → b.strength ≡ choose x 0 (choose y (break_strength table (cells_of line class)) 0) → b.strength ≡ break_strength table (cells_of line class)
-      go true y q = absurd (z q)
-      go false true q = q
-      go false false q = absurd (z q)
+  module _ (b : Break) (e : RoundAt table ruler indent level max rounds line class b) where
+    pub round_loosest : b.strength ≡ break_strength table (cells_of line class)
+    unfolding round_strength choose
+    round_loosest = go (eqb rounds 0) (ltb max (measure ruler 0 (times level indent ++ decode line))) e.strength
+      where
+        go : (x y : Bool) → b.strength ≡ choose x 0 (choose y (break_strength table (cells_of line class)) 0) → b.strength ≡ break_strength table (cells_of line class)
+        go true y q = absurd (e.some q)
+        go false true q = q
+        go false false q = absurd (e.some q)
 
-  pub rounds_left : (b : Break) → RoundBreak table ruler indent level max rounds line class b → (b.strength ≡ 0 → ⊥) → (rounds ≡ 0 → ⊥)
-  unfolding round_strength
-  rounds_left b e z y = z (e.strength ∙ choose_true _ _ _ (eq-eqb rounds 0 y))
+    pub rounds_left : rounds ≡ 0 → ⊥
+    unfolding round_strength
+    rounds_left y = e.some (e.strength ∙ choose_true _ _ _ (eq-eqb rounds 0 y))
 
 -- ---- the pieces from a cut on
 
@@ -432,11 +438,11 @@ module _ (table : List ℕ) (ruler : ℕ) (line class indent : List ℕ) (level 
   abbrev pre : Fits line indent level eol at
   pre = asks.fits
 
-  pub first_whole : (b : Break) (model out out' : List ℕ) (next : ℕ) → RoundBreak table ruler indent level max rounds line class b → b.strength ≡ 0 → Compared model out out' at (times level indent ++ line) next
+  pub first_whole : (model out out' : List ℕ) (next : ℕ) → 0 ≡ round_strength table ruler indent level max rounds line (cells_of line class) → Compared model out out' at (times level indent ++ line) next
       → FirstBroken table ruler line indent level eol max rounds model out out' at (OperationSplit.Whole (record { start = at; next = next }))
   unfolding following last_of
-  first_whole b model out out' next e z a =
-      let b : broken_in table ruler indent level max rounds line ≡ record { first = decode line; rest = [] } = round_whole table ruler indent level max rounds line class pre.well asks.classed (sym z ∙ e.strength) in
+  first_whole model out out' next e a =
+      let b : broken_in table ruler indent level max rounds line ≡ record { first = decode line; rest = [] } = round_whole table ruler indent level max rounds line class pre.well asks.classed e in
       let q : PiecesWritten indent level eol (record { first = decode line; rest = [] }) model out out' at (record { start = at; next = next }) =
       record { text = rw (append-nil, pre.well) a; last = rw pre.well (omega (arith, a.next)) } in
       record {
@@ -445,7 +451,10 @@ module _ (table : List ℕ) (ruler : ℕ) (line class indent : List ℕ) (level 
         room = omega (arith, a.next, length-append (times level indent) line, indent_short indent level (level_fits pre));
       }
 
-  module _ (b : Break) (e : RoundBreak table ruler indent level max rounds line class b) (z : b.strength ≡ 0 → ⊥) where
+  module _ (b : Break) (e : RoundAt table ruler indent level max rounds line class b) where
+    abbrev z : b.strength ≡ 0 → ⊥
+    z = e.some
+
     abbrev p : ℕ
     p = b.strength
 
@@ -453,7 +462,7 @@ module _ (table : List ℕ) (ruler : ℕ) (line class indent : List ℕ) (level 
     c = b.cut
 
     abbrev q : NextOp table p line class 0 line_start c
-    q = e.cut z
+    q = e.cut
 
     abbrev cutting : FirstCut table line class p c
     cutting = first_cut table line class p c pre.well asks.classed z q
@@ -518,7 +527,7 @@ module _ (table : List ℕ) (ruler : ℕ) (line class indent : List ℕ) (level 
 
         -- there is an operator, so there are others
         several_pieces : not (is_empty (inner.rest ++ others)) ≡ true
-        several_pieces = some_append inner.rest others (some_map trim (pieces_at table line p).rest (cut_some p z (top_level_ops table (classify Carry.Code (decode line))) (strength_loosest table line class pre.well asks.classed p z (round_loosest table ruler indent level max rounds line class b e z))))
+        several_pieces = some_append inner.rest others (some_map trim (pieces_at table line p).rest (cut_some p z (top_level_ops table (classify Carry.Code (decode line))) (strength_loosest table line class pre.well asks.classed p z (round_loosest table ruler indent level max rounds line class b e))))
 
         pub first_broken : (out₂ : List ℕ) (r : NewLine) → RestWritten table p line class c indent (level + 1) eol model out₁ out₂ first r
             → FirstBroken table ruler line indent level eol max rounds model out out₂ at (OperationSplit.Broken r)

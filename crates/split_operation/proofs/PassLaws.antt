@@ -2,7 +2,9 @@
 use Prim.Native.Nat.{ℕ, zero, suc, ◌+◌, ◌-◌, ◌^◌, ◌≤◌, ◌<◌, zero-le, min}
 use mathlib.Core.Bool.{Bool, true, false, not, ◌&&◌, ◌||◌, and-false, true≢false}
 use mathlib.Core.List.{List, [], ◌∷◌, ◌++◌, foldl, reverse, reverse-append, reverse-reverse, append-nil, append_assoc}
-use mathlib.Core.Option.{Option, none}
+use mathlib.Core.Option.{Option, none, some}
+use Rattle.std.specs.Prelude.{Some, None}
+use Rattle.std.specs.Prelude as code
 use mathlib.Core.Path.{◌≡◌, refl, sym, ap, ◌∙◌, subst}
 use native.Mathlib.Nat.{suc-min-suc, min-eq_left, min-eq_right}
 use native.Mathlib.Numerals.{add-one}
@@ -10,13 +12,14 @@ use native.Mathlib.Omega.{arith}
 use lib.Dec.{eqb, ltb}
 use lib.ListN.{length, get_or, take, drop, length-drop}
 use lib.Seq.{drop-cons}
+use lib.Pointwise.{pointwise}
 use borrow.Author.Tests.{eq-eqb, ne_eqb, eqb-true, eqb-false, lt-ltb, le-ltb, ltb-true, ltb-false}
 use Rattle.buffer.specs.Buffer.{part}
 use Rattle.buffer.proofs.RegionLaws.{part_from, part_more}
 use mathlib.Core.Logic.{◌⊎◌, inl, inr}
 use Rattle.utf8.proofs.Tests.{by_test, split}
 use Rattle.split.proofs.MeasureLaws.{part_length}
-use Rattle.rules.specs.Basics.{choose, same, one_of, starts_with, Pieces, is_opener, is_closer}
+use Rattle.rules.specs.Basics.{choose, same, one_of, Pieces, is_opener, is_closer}
 use Rattle.rules.specs.Scan.{Cell, chars_of, is_code}
 use Rattle.rules.specs.ClassBytes.{class_of, cells_of, cell_at}
 use Rattle.rules.specs.SplitOperation.{Ops, OpStep, OpMark, op_mark, no_ops, token, operator, escape, bracket, one_char_step, two_char_step, code_step, fresh_step, op_step_at, deeper, shallower, balance_step, is_zero, is_balanced, in_word, word_on, has_word_from, has_word, keywords, looser, loosest, at_mark, cut_before}
@@ -25,14 +28,12 @@ use Rattle.rules.proofs.CellsLaws.{cells_at, cells_end, chars_cells, code_byte_l
 use Rattle.rules.specs.OperatorBytes.{byte_step, byte_marks}
 use Rattle.top_level_ops.specs.declared.OpState.{OpState}
 use Rattle.top_level_ops.specs.declared.OpFound.{OpFound}
-use Rattle.top_level_ops.specs.declared.PlainStep.{PlainStep}
 use Rattle.top_level_ops.specs.declared.Token.{Token}
 use Rattle.top_level_ops.specs.Steps.{ops_of, step_of, step_with, step_or, byte_or, token_step, FewBrackets}
 use Rattle.top_level_ops.proofs.StepLaws.{byte_or_law}
 use Rattle.split_operation.specs.declared.pass.Span.{Span}
-use Rattle.split_operation.specs.declared.pass.Word.{Word}
 use Rattle.split_operation.specs.declared.pass.Break.{Break}
-use Rattle.split_operation.specs.Pass.{marks_at, line_start, Sound, Breakable, cuts_at, rest_from, Cutting, NextOp, Seeking, break_strength, depth_as, Balances, WordStep, SpanStep, TakesOver, IsLooser, broken_at, Loosest, OpsAt, Pass, pass_at, Passing, Unbroken, BreakFound, PassEnd}
+use Rattle.split_operation.specs.Pass.{marks_at, line_start, Sound, Breakable, cuts_at, rest_from, Cutting, NextOp, Seeking, break_strength, Balances, keyword_ends, WordOn, SpanOn, TakesOver, IsLooser, broken_at, Loosest, OpsAt, Pass, strength_of, cut_of, pass_at, Strong, Passing, BreakFound, PassEnd}
 
 -- ---- one byte
 
@@ -113,18 +114,18 @@ module _ (table : List ℕ) (s : OpState) (line class : List ℕ) (i : ℕ) (h :
       }
 
   -- as the calls say it
-  module _ (r : PlainStep) (e : (t : OpStep) → step_or r.token t r.after ≡ byte_or t (ops_of s) x) where
-    pub read_plain : r.token ≡ false → ReadAt table s line class i (record { strength = 0; after = r.after })
-    read_plain k =
+  module _ (r : code.Option OpState) (e : (t : OpStep) → step_or t r ≡ byte_or t (ops_of s) x) where
+    pub read_plain : (a : OpState) → r ≡ Some a → ReadAt table s line class i (record { strength = 0; after = a })
+    read_plain a k =
         let t : OpStep = token_step table (ops_of s) (get_or line i 0 ∷ drop (i + 1) line) in
-        read_step (record { strength = 0; after = r.after }) (ap (λ (v : Bool). step_or v t r.after) (sym k) ∙ e t ∙ sym (byte_or_law table (ops_of s) x (drop (i + 1) line)))
+        read_step (record { strength = 0; after = a }) (ap (step_or t) (sym k) ∙ e t ∙ sym (byte_or_law table (ops_of s) x (drop (i + 1) line)))
 
-    pub read_token : r.token ≡ true → (t : Token) → ((o : Ops) → o.operand ≡ s.operand → step_with o t ≡ token_step table o (take (length line - i) (drop i line)))
+    pub read_token : r ≡ None → (t : Token) → ((o : Ops) → o.operand ≡ s.operand → step_with o t ≡ token_step table o (take (length line - i) (drop i line)))
         → (f : OpFound) → step_of f ≡ step_with (ops_of s) t → ReadAt table s line class i f
     read_token k t q f g =
         let d : take (length line - i) (drop i line) ≡ get_or line i 0 ∷ drop (i + 1) line = part_from line i ∙ drop-cons line i 0 h ∙ rw (add-one i) in
         let u : OpStep = token_step table (ops_of s) (get_or line i 0 ∷ drop (i + 1) line) in
-        read_step f (g ∙ q (ops_of s) refl ∙ ap (token_step table (ops_of s)) d ∙ ap (λ (v : Bool). step_or v u r.after) (sym k) ∙ e u ∙ sym (byte_or_law table (ops_of s) x (drop (i + 1) line)))
+        read_step f (g ∙ q (ops_of s) refl ∙ ap (token_step table (ops_of s)) d ∙ ap (step_or u) (sym k) ∙ e u ∙ sym (byte_or_law table (ops_of s) x (drop (i + 1) line)))
 
 pub countable : {s : OpState} {i : ℕ} {line class : List ℕ} → Sound s i → i < length line → Breakable line class → FewBrackets s
 countable q h b = record { opened = omega (arith, q.opened, b.short); closed = omega (arith, q.closed, b.short) }
@@ -192,9 +193,10 @@ code_test k = sym (code_byte_law k)
 abbrev balanced : Bool → Bool → Bool → Option ℕ → Option ℕ
 balanced code opens closes d = choose (not code) d (choose opens (deeper d) (choose closes (shallower d) d))
 
-pub balance_fell : (x : Cell) (n : ℕ) → n ≡ 0 → Balances n x 0
+-- once the depth fell, it stays so
+stays_fell : (x : Cell) → balance_step none x ≡ none
 unfolding balance_step deeper shallower choose
-balance_fell x n e = record { is = sym (rw e (go (is_code x.class) (is_opener x.ch) (is_closer x.ch))); small = omega arith }
+stays_fell x = go (is_code x.class) (is_opener x.ch) (is_closer x.ch)
   where
     go : (a b c : Bool) → balanced a b c none ≡ none
     go false b c = refl
@@ -208,39 +210,44 @@ code_balance : (d : Option ℕ) (x : Cell) (r : Bool) → r ≡ is_code x.class 
 unfolding balance_step
 code_balance d x r p q = choose_false _ _ _ (ap not (sym p ∙ q))
 
-module _ (depth : ℕ) (x : Cell) (some : depth ≡ 0 → ⊥) (r : Bool) (p : r ≡ is_code x.class) where
-  pub balance_other : r ≡ false → Balances depth x depth
+module _ (depth : ℕ) (x : Cell) (r : Bool) (p : r ≡ is_code x.class) where
+  pub balance_other : r ≡ false → Balances depth x (Some depth)
   unfolding balance_step
   balance_other q = record { is = sym (choose_true _ _ _ (ap not (sym p ∙ q))); small = omega arith }
 
-  deepens : (n : ℕ) → (n ≡ 0 → ⊥) → depth_as (n + 1) ≡ deeper (depth_as n)
+  deepens : some (depth + 1) ≡ deeper (some depth)
   unfolding deeper
-  deepens zero h = absurd (h refl)
-  deepens (suc n) h = rw (add-one (suc n))
+  deepens = rw (add-one depth)
 
-  lessens : (n : ℕ) → (n ≡ 0 → ⊥) → depth_as (n - 1) ≡ shallower (depth_as n)
+  falls : (n : ℕ) → n ≡ 0 → none ≡ shallower (some n)
+  unfolding shallower
+  falls zero h = refl
+  falls (suc n) h = absurd (omega arith)
+
+  lessens : (n : ℕ) → (n ≡ 0 → ⊥) → some (n - 1) ≡ shallower (some n)
   unfolding shallower
   lessens zero h = absurd (h refl)
-  lessens (suc zero) h = refl
-  lessens (suc (suc n)) h = let e : suc (suc n) - 1 ≡ suc n = omega arith in rw e
+  lessens (suc n) h = let e : suc n - 1 ≡ n = omega arith in rw e
 
   module _ (q : r ≡ true) (s : Bool) (u : s ≡ is_opener x.ch) where
-    pub balance_open : s ≡ true → Balances depth x (depth + 1)
+    pub balance_open : s ≡ true → Balances depth x (Some (depth + 1))
     balance_open v =
-        record { is = deepens depth some ∙ sym (code_balance (depth_as depth) x r p q ∙ choose_true _ _ _ (sym u ∙ v)); small = omega arith }
+        record { is = deepens ∙ sym (code_balance (some depth) x r p q ∙ choose_true _ _ _ (sym u ∙ v)); small = omega arith }
 
     module _ (v : s ≡ false) (t : Bool) (w : t ≡ is_closer x.ch) where
-      pub balance_close : t ≡ true → Balances depth x (depth - 1)
-      balance_close y =
-          record {
-            is = lessens depth some ∙ sym (code_balance (depth_as depth) x r p q ∙ choose_false _ _ _ (sym u ∙ v) ∙ choose_true _ _ _ (sym w ∙ y));
-            small = omega arith;
-          }
+      closed : t ≡ true → balance_step (some depth) x ≡ shallower (some depth)
+      closed y = code_balance (some depth) x r p q ∙ choose_false _ _ _ (sym u ∙ v) ∙ choose_true _ _ _ (sym w ∙ y)
 
-      pub balance_plain : t ≡ false → Balances depth x depth
+      pub balance_fell : t ≡ true → depth ≡ 0 → Balances depth x None
+      balance_fell y z = record { is = falls depth z ∙ sym (closed y); small = zero-le }
+
+      pub balance_close : t ≡ true → (depth ≡ 0 → ⊥) → Balances depth x (Some (depth - 1))
+      balance_close y z = record { is = lessens depth z ∙ sym (closed y); small = omega arith }
+
+      pub balance_plain : t ≡ false → Balances depth x (Some depth)
       balance_plain y =
           record {
-            is = sym (code_balance (depth_as depth) x r p q ∙ choose_false _ _ _ (sym u ∙ v) ∙ choose_false _ _ _ (sym w ∙ y));
+            is = sym (code_balance (some depth) x r p q ∙ choose_false _ _ _ (sym u ∙ v) ∙ choose_false _ _ _ (sym w ∙ y));
             small = omega arith;
           }
 
@@ -250,19 +257,12 @@ pub eqb_swap : (m n : ℕ) → eqb m n ≡ eqb n m
 eqb_swap m n =
     by_test (eqb n m) (λ e. eq-eqb m n (sym (eqb-true n m e)) ∙ sym e) (λ e. ne_eqb m n (λ (h : m ≡ n). eqb-false n m e (sym h)) ∙ sym e)
 
-pub same_long : (s w : List ℕ) → length s ≡ length w → starts_with s w ≡ same w s
-unfolding starts_with same
-same_long [] [] h = refl
-same_long [] (b ∷ w) h = absurd (omega arith)
-same_long (a ∷ s) [] h = absurd (omega arith)
-same_long (a ∷ s) (b ∷ w) h = rw (eqb_swap a b, same_long s w (omega arith))
-
-pub same_not : (s w : List ℕ) → (length s ≡ length w → ⊥) → false ≡ same w s
+pub same_pointwise : (s w : List ℕ) → pointwise eqb s w ≡ same w s
 unfolding same
-same_not [] [] h = absurd (h refl)
-same_not [] (b ∷ w) h = refl
-same_not (a ∷ s) [] h = refl
-same_not (a ∷ s) (b ∷ w) h = rw (← (same_not s w (λ (e : length s ≡ length w). h (ap suc e)))) (sym (and-false (eqb b a)))
+same_pointwise [] [] = refl
+same_pointwise [] (b ∷ w) = refl
+same_pointwise (a ∷ s) [] = refl
+same_pointwise (a ∷ s) (b ∷ w) = rw (eqb_swap a b, same_pointwise s w)
 
 -- a part that ends where it starts
 part_none : (l : List ℕ) (a : ℕ) → part l a a ≡ []
@@ -276,13 +276,13 @@ short_word (a ∷ []) h = simp and-false
 short_word (a ∷ b ∷ w) h = absurd (omega arith)
 
 module _ (line : List ℕ) (start i : ℕ) (x : Cell) (pre : (i < length line) × (start ≤ i)) (r : Bool) (p : r ≡ in_word x) where
-  pub word_on_law : get_or line i 0 ≡ x.ch → r ≡ true → WordStep line start i x (record { start = start; found = false })
+  pub word_on_law : get_or line i 0 ≡ x.ch → r ≡ true → WordOn line start i x start
   unfolding word_on
   word_on_law g q =
       record {
         start = omega (arith, pre.1);
         word = ap reverse (part_more line start i pre.1 pre.0) ∙ reverse-append (part line start i) (get_or line i 0 ∷ []) ∙ rw g (sym (choose_true _ _ _ (sym p ∙ q)));
-        found = rw (← p, q);
+        other = rw (← p, q);
       }
 
   module _ (q : r ≡ false) where
@@ -290,11 +290,14 @@ module _ (line : List ℕ) (start i : ℕ) (x : Cell) (pre : (i < length line) �
     unfolding word_on
     ends = ap reverse (part_none line (i + 1)) ∙ sym (choose_false _ _ _ (sym p ∙ q))
 
-    pub word_end : (s : Bool) → s ≡ one_of keywords (part line start i) → WordStep line start i x (record { start = i + 1; found = s })
-    word_end s u = record { start = omega arith; word = ends; found = rw (← p, q, ← u) }
+    pub word_keyword : (s : Bool) → s ≡ one_of keywords (part line start i) → s ≡ true → keyword_ends line start i x ≡ true
+    word_keyword s u e = rw (← p, q, ← u) e
 
-    pub word_short : i ≤ start + 1 → WordStep line start i x (record { start = i + 1; found = false })
-    word_short h = word_end false (sym (short_word (part line start i) (omega (arith, part_length line start i (omega (arith, pre.0))))))
+    pub word_end : (s : Bool) → s ≡ one_of keywords (part line start i) → s ≡ false → WordOn line start i x (i + 1)
+    word_end s u e = record { start = omega arith; word = ends; other = rw (← p, q, ← u) e }
+
+    pub word_short : i ≤ start + 1 → WordOn line start i x (i + 1)
+    word_short h = word_end false (sym (short_word (part line start i) (omega (arith, part_length line start i (omega (arith, pre.0)))))) refl
 
 -- ---- the next operator: none of the strength stands before i
 
@@ -348,9 +351,9 @@ module _ {table : List ℕ} {strength : ℕ} {line class : List ℕ} {from : ℕ
       }
 
   -- as the calls of `next_op` say it
-  pub seek_plain : (r : PlainStep) → i < length line → ((t : OpStep) → step_or r.token t r.after ≡ byte_or t (ops_of s) (cell_at line class i)) → r.token ≡ false
-      → Seeking table strength line class from start r.after (i + 1)
-  seek_plain r h e k = seek_read (record { strength = 0; after = r.after }) h (read_plain table s line class i h q.breaks r e k) (λ z. q.some (sym z))
+  pub seek_plain : (r : code.Option OpState) (a : OpState) → i < length line → ((t : OpStep) → step_or t r ≡ byte_or t (ops_of s) (cell_at line class i)) → r ≡ Some a
+      → Seeking table strength line class from start a (i + 1)
+  seek_plain r a h e k = seek_read (record { strength = 0; after = a }) h (read_plain table s line class i h q.breaks r e a k) (λ z. q.some (sym z))
 
 -- ---- the operators of the whole line
 
@@ -408,7 +411,13 @@ module _ {table line class : List ℕ} {b : Loosest} {i : ℕ} (q : OpsAt table 
 
 -- ---- the pass for a line's strength
 
-pub passing_start : (table line class : List ℕ) (p : Pass) → Breakable line class → p.ops.ops ≡ line_start → p.ops.strength ≡ 0 → p.start ≡ 0 → p.depth ≡ 1 → Passing table line class p 0
+-- the state by default
+pub starts_line : (s : OpState) → (s.opened ≡ 0) × ((s.closed ≡ 0) × ((s.operand ≡ false) × ((s.esc ≡ false) × (s.skip ≡ 0)))) → s ≡ line_start
+starts_line s e =
+    let t : ◌≡◌ {A = OpState} (record { opened = s.opened; closed = s.closed; operand = s.operand; esc = s.esc; skip = s.skip }) line_start = rw (e.0, e.1.0, e.1.1.0, e.1.1.1.0, e.1.1.1.1) in
+    t
+
+pub passing_start : (table line class : List ℕ) (p : Pass) → Breakable line class → p.ops.ops ≡ line_start → p.ops.strength ≡ 0 → p.start ≡ 0 → p.depth ≡ 0 → Passing table line class p 0
 unfolding has_word is_balanced
 passing_start table line class p h e z a d =
     record { ops = ops_start table line class p.ops h e z; start = omega arith; deep = omega arith; words = rw a; balance = rw d }
@@ -419,10 +428,7 @@ words_cons ws word x xs = refl
 
 fell : (xs : List Cell) → foldl balance_step none xs ≡ none
 fell [] = refl
-fell (x ∷ xs) = ap (λ (o : Option ℕ). foldl balance_step o xs) (sym (balance_fell x 0 refl).is) ∙ fell xs
-
-pub found_none : {table line class : List ℕ} (r : Break) → Unbroken r → 0 ≡ break_strength table (cells_of line class) → BreakFound table line class r
-found_none r u e = record { strength = u.none ∙ e; cut = λ n. absurd (n u.none) }
+fell (x ∷ xs) = ap (λ (o : Option ℕ). foldl balance_step o xs) (stays_fell x) ∙ fell xs
 
 module _ (table line class : List ℕ) (p : Pass) (i : ℕ) (q : Passing table line class p i) (h : i < length line) where
   abbrev left : List Cell
@@ -434,77 +440,78 @@ module _ (table line class : List ℕ) (p : Pass) (i : ℕ) (q : Passing table l
   pub pass_deep : p.depth < 2 ^ 32
   pass_deep = omega (arith, q.deep, q.ops.breaks.short)
 
-  module _ (w : Word) (v : WordStep line p.start i (cell_at line class i) w) where
-    next_words : has_word keywords (cells_of line class) ≡ (w.found || has_word_from keywords (reverse (part line w.start (i + 1))) left)
-    next_words =
-        q.words ∙ ap (has_word_from keywords (reverse (part line p.start i))) cells
-        ∙ words_cons keywords (reverse (part line p.start i)) (cell_at line class i) left ∙ rw (reverse-reverse, ← v.found, ← v.word)
+  -- whether a word ends at i, and what is left of the line
+  word_found : has_word keywords (cells_of line class) ≡ (keyword_ends line p.start i (cell_at line class i) || has_word_from keywords (word_on (reverse (part line p.start i)) (cell_at line class i)) left)
+  word_found =
+      q.words ∙ ap (has_word_from keywords (reverse (part line p.start i))) cells
+      ∙ words_cons keywords (reverse (part line p.start i)) (cell_at line class i) left ∙ rw reverse-reverse
 
-    pub pass_keyword : w.found ≡ true → (r : Break) → Unbroken r → BreakFound table line class r
-    unfolding break_strength
-    pass_keyword e r u = found_none r u (sym (choose_true _ _ _ (next_words ∙ rw e)))
+  balance_left : is_balanced (cells_of line class) ≡ is_zero (foldl balance_step (balance_step (some p.depth) (cell_at line class i)) left)
+  balance_left = q.balance ∙ ap (λ (xs : List Cell). is_zero (foldl balance_step (some p.depth) xs)) cells
 
-    module _ (d : ℕ) (b : Balances p.depth (cell_at line class i) d) where
-      next_balance : is_balanced (cells_of line class) ≡ is_zero (foldl balance_step (depth_as d) left)
-      next_balance = q.balance ∙ ap (λ (xs : List Cell). is_zero (foldl balance_step (depth_as p.depth) xs)) cells ∙ ap (λ (o : Option ℕ). is_zero (foldl balance_step o left)) (sym b.is)
+  pub pass_keyword : keyword_ends line p.start i (cell_at line class i) ≡ true → 0 ≡ break_strength table (cells_of line class)
+  unfolding break_strength
+  pass_keyword e = sym (choose_true _ _ _ (word_found ∙ rw e))
 
-      pub pass_fell : d ≡ 0 → (r : Break) → Unbroken r → BreakFound table line class r
-      unfolding break_strength
-      pass_fell z r u = found_none r u (by_test (has_word keywords (cells_of line class)) (λ t. sym (choose_true _ _ _ t)) (λ t. sym (choose_false _ _ _ t ∙ choose_true _ _ _ (ap not y))))
-        where
-          y : is_balanced (cells_of line class) ≡ false
-          y = next_balance ∙ rw z (ap is_zero (fell left))
+  pub pass_fell : Balances p.depth (cell_at line class i) None → 0 ≡ break_strength table (cells_of line class)
+  unfolding break_strength
+  pass_fell b = by_test (has_word keywords (cells_of line class)) (λ t. sym (choose_true _ _ _ t)) (λ t. sym (choose_false _ _ _ t ∙ choose_true _ _ _ (ap not y)))
+    where
+      y : is_balanced (cells_of line class) ≡ false
+      y = balance_left ∙ ap (λ (o : Option ℕ). is_zero (foldl balance_step o left)) (sym b.is) ∙ ap is_zero (fell left)
 
-      pub passing_more : w.found ≡ false → (ops : Loosest) → OpsAt table line class ops (i + 1) → Passing table line class (record { ops = ops; start = w.start; depth = d }) (i + 1)
-      passing_more e ops o = record { ops = o; start = v.start; deep = omega (arith, b.small, q.deep); words = next_words ∙ rw e; balance = next_balance }
+  pub passing_more : (w d : ℕ) → WordOn line p.start i (cell_at line class i) w → Balances p.depth (cell_at line class i) (Some d) → (ops : Loosest) → OpsAt table line class ops (i + 1)
+      → Passing table line class (record { ops = ops; start = w; depth = d }) (i + 1)
+  passing_more w d v b ops o =
+      record {
+        ops = o;
+        start = v.start;
+        deep = omega (arith, b.small, q.deep);
+        words = word_found ∙ rw (v.other, ← v.word);
+        balance = balance_left ∙ ap (λ (o : Option ℕ). is_zero (foldl balance_step o left)) (sym b.is);
+      }
 
 -- as the calls of `find_break` say it
-pub span_keyword : (line : List ℕ) (start depth i : ℕ) (x : Cell) (w : Word) → WordStep line start i x w → w.found ≡ true → SpanStep line start depth i x (record { start = w.start; depth = 0 })
-span_keyword line start depth i x w v e = record { keyword = w.found; word = v; hit = λ t. refl; miss = λ t. absurd (true≢false (sym e ∙ t)) }
+pub span_keyword : (line : List ℕ) (start depth i : ℕ) (x : Cell) → keyword_ends line start i x ≡ true → keyword_ends line start i x ≡ false → Balances depth x None
+span_keyword line start depth i x e t = absurd (true≢false (sym e ∙ t))
 
-pub span_on : (line : List ℕ) (start depth i : ℕ) (x : Cell) (w : Word) (d : ℕ) → WordStep line start i x w → w.found ≡ false → Balances depth x d → SpanStep line start depth i x (record { start = w.start; depth = d })
-span_on line start depth i x w d v e b = record { keyword = w.found; word = v; hit = λ t. absurd (true≢false (sym t ∙ e)); miss = λ t. b }
-
-module _ {table line class : List ℕ} {s : OpState} {start depth : ℕ} {a : Break} {i : ℕ} (q : Passing table line class (pass_at s start depth a) i) (h : i < length line)
-    (w : Span) (v : SpanStep line start depth i (cell_at line class i) w) where
+module _ {table line class : List ℕ} {s : OpState} {start depth : ℕ} (a : code.Option Break) {i : ℕ} (q : Passing table line class (pass_at s start depth a) i) (h : i < length line) where
   abbrev p : Pass
   p = pass_at s start depth a
 
-  abbrev word : Word
-  word = record { start = w.start; found = v.keyword }
+  pub pass_over : (keyword_ends line start i (cell_at line class i) ≡ false → Balances depth (cell_at line class i) None) → 0 ≡ break_strength table (cells_of line class)
+  pass_over v =
+      by_test (keyword_ends line start i (cell_at line class i))
+      (λ t. pass_keyword table line class p i q h t)
+      (λ t. pass_fell table line class p i q h (v t))
 
-  pub pass_over : (r : Break) → w.depth ≡ 0 → Unbroken r → BreakFound table line class r
-  pass_over r z u =
-      by_test v.keyword (λ t. pass_keyword table line class p i q h word v.word t r u)
-      (λ t. pass_fell table line class p i q h word v.word w.depth (v.miss t) z r u)
-
-  module _ (n : w.depth ≡ 0 → ⊥) where
+  module _ (w : Span) (v : SpanOn line start depth i (cell_at line class i) w) where
     pass_on : (b : Loosest) → OpsAt table line class b (i + 1) → Passing table line class (record { ops = b; start = w.start; depth = w.depth }) (i + 1)
-    pass_on b o =
-        let k : v.keyword ≡ false = by_test v.keyword (λ t. absurd (n (v.hit t))) (λ t. t) in
-        passing_more table line class p i q h word v.word w.depth (v.miss k) k b o
+    pass_on b o = passing_more table line class p i q h w.start w.depth v.word v.balance b o
 
-    module _ (r : PlainStep) (e : (t : OpStep) → step_or r.token t r.after ≡ byte_or t (ops_of s) (cell_at line class i)) where
-      pub pass_plain : r.token ≡ false → Passing table line class (pass_at r.after w.start w.depth a) (i + 1)
-      pass_plain k =
-          pass_on (record { ops = r.after; strength = a.strength; cut = a.cut })
-          (ops_left q.ops h (record { strength = 0; after = r.after }) (read_plain table s line class i h q.ops.breaks r e k) (looser_zero a.strength))
+    module _ (r : code.Option OpState) (e : (t : OpStep) → step_or t r ≡ byte_or t (ops_of s) (cell_at line class i)) where
+      pub pass_plain : (n : OpState) → r ≡ Some n → Passing table line class (pass_at n w.start w.depth a) (i + 1)
+      pass_plain n k =
+          pass_on (record { ops = n; strength = strength_of a; cut = cut_of a })
+          (ops_left q.ops h (record { strength = 0; after = n }) (read_plain table s line class i h q.ops.breaks r e n k) (looser_zero (strength_of a)))
 
-      module _ (k : r.token ≡ true) (t : Token) (g : (o : Ops) → o.operand ≡ s.operand → step_with o t ≡ token_step table o (take (length line - i) (drop i line)))
-          (f : OpFound) (u : step_of f ≡ step_with (ops_of s) t) (l : Bool) (y : IsLooser f.strength a.strength l) where
+      module _ (k : r ≡ None) (t : Token) (g : (o : Ops) → o.operand ≡ s.operand → step_with o t ≡ token_step table o (take (length line - i) (drop i line)))
+          (f : OpFound) (u : step_of f ≡ step_with (ops_of s) t) (l : Bool) (y : IsLooser f.strength (strength_of a) l) where
         read : ReadAt table s line class i f
         read = read_token table s line class i h q.ops.breaks r e k t g f u
 
-        pub pass_taken : l ≡ true → (b : Break) → b ≡ broken_at i f → Passing table line class (pass_at f.after w.start w.depth b) (i + 1)
+        pub pass_taken : l ≡ true → (b : Break) → b ≡ broken_at i f → Passing table line class (pass_at f.after w.start w.depth (Some b)) (i + 1) × (b.strength ≡ 0 → ⊥)
         pass_taken z b j =
-            subst (λ (x : Break). Passing table line class (pass_at f.after w.start w.depth x) (i + 1)) (sym j)
-            (pass_on (record { ops = f.after; strength = f.strength; cut = record { place = i; after = f.after } }) (ops_taken q.ops h f read (y.taken z)))
+            subst (λ (x : Break). Passing table line class (pass_at f.after w.start w.depth (Some x)) (i + 1) × (x.strength ≡ 0 → ⊥)) (sym j) (
+              pass_on (record { ops = f.after; strength = f.strength; cut = record { place = i; after = f.after } }) (ops_taken q.ops h f read (y.taken z)),
+              (λ o. absurd (omega (arith, (y.taken z).some))),
+            )
 
         pub pass_left : l ≡ false → Passing table line class (pass_at f.after w.start w.depth a) (i + 1)
-        pass_left z = pass_on (record { ops = f.after; strength = a.strength; cut = a.cut }) (ops_left q.ops h f read (y.left z))
+        pass_left z = pass_on (record { ops = f.after; strength = strength_of a; cut = cut_of a }) (ops_left q.ops h f read (y.left z))
 
 -- the whole line was read
-module _ (line : List ℕ) (start depth : ℕ) (a : Break) where
+module _ (line : List ℕ) (start depth : ℕ) (a : code.Option Break) where
   module _ (table class : List ℕ) (s : OpState) (q : Passing table line class (pass_at s start depth a) (length line)) where
     none_left : cells_of (drop (length line) line) (drop (length line) class) ≡ []
     none_left = cells_end line class (length line) (omega arith)
@@ -513,42 +520,48 @@ module _ (line : List ℕ) (start depth : ℕ) (a : Break) where
     unfolding has_word_from
     end_words = q.words ∙ rw (none_left, reverse-reverse)
 
-    end_balance : is_balanced (cells_of line class) ≡ eqb depth 1
+    end_balance : is_balanced (cells_of line class) ≡ eqb depth 0
     end_balance = q.balance ∙ rw none_left (go depth)
       where
-        go : (d : ℕ) → is_zero (depth_as d) ≡ eqb d 1
+        go : (d : ℕ) → is_zero (some d) ≡ eqb d 0
         go zero = refl
-        go (suc zero) = refl
-        go (suc (suc d)) = sym (ne_eqb (suc (suc d)) 1 (omega arith))
+        go (suc d) = sym (ne_eqb (suc d) 0 (omega arith))
 
-    end_loosest : loosest (byte_marks table no_ops (cells_of line class)) ≡ a.strength
+    end_loosest : loosest (byte_marks table no_ops (cells_of line class)) ≡ strength_of a
     unfolding byte_marks loosest
-    end_loosest = q.ops.loosest ∙ rw none_left (looser_zero a.strength)
+    end_loosest = q.ops.loosest ∙ rw none_left (looser_zero (strength_of a))
+
+  kept : (table class : List ℕ) (b : code.Option Break) → strength_of b ≡ break_strength table (cells_of line class) → (0 < strength_of b → NextOp table (strength_of b) line class 0 line_start (cut_of b)) → Strong b
+      → BreakFound table line class b
+  kept table class None e f k = e
+  kept table class (Some b) e f k = record { strength = e; some = k; cut = f (omega arith) }
 
   module _ (r : Bool) (f : r ≡ one_of keywords (take (length line - start) (drop start line))) where
-    pub end_keyword : (b : Break) → r ≡ true → Unbroken b → PassEnd line start depth a b
+    pub end_keyword : r ≡ true → PassEnd line start depth a None
     unfolding break_strength
-    end_keyword b g u = record { found = λ table class s q. found_none b u (sym (choose_true _ _ _ (end_words table class s q ∙ sym f ∙ g))) }
+    end_keyword g = record { found = λ table class s q k. sym (choose_true _ _ _ (end_words table class s q ∙ sym f ∙ g)) }
 
-    module _ (g : r ≡ false) where
-      pub end_found : depth ≡ 1 → PassEnd line start depth a a
-      unfolding break_strength
-      end_found d =
-          record {
-            found = λ table class s q.
-                record {
-                  strength = sym (choose_false _ _ _ (end_words table class s q ∙ sym f ∙ g) ∙ choose_false _ _ _ (ap not (end_balance table class s q ∙ eq-eqb _ 1 d)) ∙ end_loosest table class s q);
-                  cut = λ n. q.ops.found (omega arith);
-                };
-          }
+    pub end_found : r ≡ false → depth ≡ 0 → PassEnd line start depth a a
+    unfolding break_strength
+    end_found g d =
+        record {
+          found = λ table class s q k.
+              kept table class a
+              (sym (choose_false _ _ _ (end_words table class s q ∙ sym f ∙ g) ∙ choose_false _ _ _ (ap not (end_balance table class s q ∙ eq-eqb _ 0 d)) ∙ end_loosest table class s q))
+              q.ops.found k;
+        }
 
-      pub end_open : (b : Break) → (depth ≡ 1 → ⊥) → Unbroken b → PassEnd line start depth a b
-      unfolding break_strength
-      end_open b d u =
-          record { found = λ table class s q. found_none b u (sym (choose_false _ _ _ (end_words table class s q ∙ sym f ∙ g) ∙ choose_true _ _ _ (ap not (end_balance table class s q ∙ ne_eqb _ 1 d)))) }
+  pub end_open : (depth ≡ 0 → ⊥) → PassEnd line start depth a None
+  unfolding break_strength
+  end_open d =
+      record {
+        found = λ table class s q k.
+            by_test (has_word keywords (cells_of line class)) (λ t. sym (choose_true _ _ _ t))
+            (λ t. sym (choose_false _ _ _ t ∙ choose_true _ _ _ (ap not (end_balance table class s q ∙ ne_eqb _ 0 d))));
+      }
 
-pub pass_end : {table line class : List ℕ} {s : OpState} {start depth : ℕ} {a : Break} {i : ℕ} (r : Break) → Passing table line class (pass_at s start depth a) i → length line ≤ i
-    → PassEnd line start depth a r → BreakFound table line class r
-pass_end {table} {line} {class} {s} {start} {depth} {a} {i} r q h e =
+pub pass_end : {table line class : List ℕ} {s : OpState} {start depth : ℕ} (a : code.Option Break) {i : ℕ} (r : code.Option Break) → Passing table line class (pass_at s start depth a) i → length line ≤ i
+    → Strong a → PassEnd line start depth a r → BreakFound table line class r
+pass_end {table} {line} {class} {s} {start} {depth} a {i} r q h k e =
     let z : i ≡ length line = omega (arith, q.ops.within) in
-    e.found table class s (subst (Passing table line class (pass_at s start depth a)) z q)
+    e.found table class s (subst (Passing table line class (pass_at s start depth a)) z q) k

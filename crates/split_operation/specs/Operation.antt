@@ -1,5 +1,6 @@
 -- What split_operation gives.
-use Rattle.std.specs.Prelude.{ℕ, suc, ◌+◌, ◌-◌, ◌*◌, ◌^◌, ◌≤◌, ◌<◌, Bool, true, false, not, List, [], ◌++◌, map, ◌≡◌, ltb, eqb, length}
+use Rattle.std.specs.Prelude.{ℕ, suc, ◌+◌, ◌-◌, ◌*◌, ◌^◌, ◌≤◌, ◌<◌, Bool, true, false, not, List, [], ◌++◌, map, ◌≡◌, ltb, eqb, length, Some, None}
+use Rattle.std.specs.Prelude as code
 use Rattle.compare.specs.Common.{Compared}
 use Rattle.utf8.specs.Unicode.{encode, decode, WellFormed, trim}
 use Rattle.rules.specs.declared.Carry.{Carry}
@@ -82,10 +83,18 @@ round_strength table ruler indent level max rounds line cells =
     choose (eqb rounds 0) 0
     (choose (ltb max (measure ruler 0 (times level indent ++ decode line))) (break_strength table cells) 0)
 
-pub record RoundBreak (table : List ℕ) (ruler : ℕ) (indent : List ℕ) (level max rounds : ℕ) (line class : List ℕ)
+-- a first line is broken so
+pub record RoundAt (table : List ℕ) (ruler : ℕ) (indent : List ℕ) (level max rounds : ℕ) (line class : List ℕ)
     (r : Break) : Type 0 where
   pub strength : r.strength ≡ round_strength table ruler indent level max rounds line (cells_of line class)
-  pub cut : (r.strength ≡ 0 → ⊥) → NextOp table r.strength line class 0 line_start r.cut
+  pub some : r.strength ≡ 0 → ⊥
+  pub cut : NextOp table r.strength line class 0 line_start r.cut
+
+abbrev pub RoundBreak : List ℕ → ℕ → List ℕ → ℕ → ℕ → ℕ → List ℕ → List ℕ → code.Option Break → Type 0
+RoundBreak table ruler indent level max rounds line class None =
+    0 ≡ round_strength table ruler indent level max rounds line (cells_of line class)
+RoundBreak table ruler indent level max rounds line class (Some r) =
+    RoundAt table ruler indent level max rounds line class r
 
 -- the lines of pieces, as bytes
 abbrev pub first_line : List ℕ → ℕ → Pieces → List ℕ

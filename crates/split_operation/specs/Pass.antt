@@ -1,5 +1,6 @@
 -- What the passes over a line's bytes find: the strength that the line is broken at, and its pieces.
-use Rattle.std.specs.Prelude.{ℕ, zero, suc, ◌+◌, ◌^◌, ◌≤◌, ◌<◌, Bool, true, false, not, ◌&&◌, ◌≡◌, ltb, length, get_or, drop}
+use Rattle.std.specs.Prelude.{ℕ, zero, suc, ◌+◌, ◌^◌, ◌≤◌, ◌<◌, Bool, true, false, not, ◌&&◌, ◌≡◌, ltb, length, get_or, drop, Some, None}
+use Rattle.std.specs.Prelude as code
 use mathlib.Core.List.{List, [], ◌∷◌, ◌++◌, foldl, reverse}
 use Rattle.std.proofs.Math.Option.{Option, none, some}
 use Rattle.buffer.specs.Buffer.{part}
@@ -13,7 +14,6 @@ use Rattle.top_level_ops.specs.Steps.{ops_of}
 use Rattle.top_level_ops.specs.declared.OpFound.{OpFound}
 use Rattle.top_level_ops.specs.declared.OpState.{OpState}
 use Rattle.split_operation.specs.declared.pass.Span.{Span}
-use Rattle.split_operation.specs.declared.pass.Word.{Word}
 use Rattle.split_operation.specs.declared.pass.Break.{Break}
 use Rattle.split_operation.specs.declared.pass.Cut.{Cut}
 
@@ -106,27 +106,43 @@ break_strength table cells =
     (choose (not (is_balanced cells)) 0
     (loosest (byte_marks table no_ops cells)))
 
--- the depth of brackets as the code holds it: 1 more, or 0 once it fell below 0
-abbrev pub depth_as : ℕ → Option ℕ
-depth_as zero = none
-depth_as (suc d) = some d
+-- the depth of brackets as the code holds it
+abbrev pub depth_as : code.Option ℕ → Option ℕ
+depth_as None = none
+depth_as (Some d) = some d
 
-pub record Balances (depth : ℕ) (x : Cell) (r : ℕ) : Type 0 where
-  pub is : depth_as r ≡ balance_step (depth_as depth) x
-  pub small : r ≤ depth + 1
+-- that depth, or 0 where there is none
+abbrev pub depth_of : code.Option ℕ → ℕ
+depth_of None = 0
+depth_of (Some d) = d
 
--- `was` is where the word that ends at i starts; r says it at i + 1, and whether that word is a keyword that ends
-pub record WordStep (line : List ℕ) (was i : ℕ) (x : Cell) (r : Word) : Type 0 where
-  pub start : r.start ≤ i + 1
-  pub word : reverse (part line r.start (i + 1)) ≡ word_on (reverse (part line was i)) x
-  pub found : r.found ≡ (not (in_word x) && one_of keywords (part line was i))
+pub record Balances (depth : ℕ) (x : Cell) (r : code.Option ℕ) : Type 0 where
+  pub is : depth_as r ≡ balance_step (some depth) x
+  pub small : depth_of r ≤ depth + 1
 
--- both, of a word that starts at `was` and brackets `old` deep: the depth is 0 after a keyword
-pub record SpanStep (line : List ℕ) (was old i : ℕ) (x : Cell) (r : Span) : Type 0 where
-  pub keyword : Bool
-  pub word : WordStep line was i x (record { start = r.start; found = keyword })
-  pub hit : keyword ≡ true → r.depth ≡ 0
-  pub miss : keyword ≡ false → Balances old x r.depth
+-- at x a keyword ends that starts at `was`
+abbrev pub keyword_ends : List ℕ → ℕ → ℕ → Cell → Bool
+keyword_ends line was i x = not (in_word x) && one_of keywords (part line was i)
+
+-- `was` is where the word that ends at i starts, and it is no keyword that ends; r says it at i + 1
+pub record WordOn (line : List ℕ) (was i : ℕ) (x : Cell) (r : ℕ) : Type 0 where
+  pub start : r ≤ i + 1
+  pub word : reverse (part line r (i + 1)) ≡ word_on (reverse (part line was i)) x
+  pub other : keyword_ends line was i x ≡ false
+
+abbrev pub WordStep : List ℕ → ℕ → ℕ → Cell → code.Option ℕ → Type 0
+WordStep line was i x None = keyword_ends line was i x ≡ true
+WordStep line was i x (Some r) = WordOn line was i x r
+
+-- both, of a word that starts at `was` and brackets `old` deep
+pub record SpanOn (line : List ℕ) (was old i : ℕ) (x : Cell) (r : Span) : Type 0 where
+  pub word : WordOn line was i x r.start
+  pub balance : Balances old x (Some r.depth)
+
+-- none after a keyword, and where the depth falls below 0
+abbrev pub SpanStep : List ℕ → ℕ → ℕ → ℕ → Cell → code.Option Span → Type 0
+SpanStep line was old i x None = keyword_ends line was i x ≡ false → Balances old x None
+SpanStep line was old i x (Some r) = SpanOn line was old i x r
 
 -- a is the strength of an operator, and it is looser than b
 pub record TakesOver (a b : ℕ) : Type 0 where
@@ -154,16 +170,29 @@ pub record OpsAt (table line class : List ℕ) (b : Loosest) (i : ℕ) : Type 0 
   pub clear : (p : ℕ) → 0 < p → (0 < b.strength → p < b.strength) → Seeking table p line class 0 line_start b.ops i
   pub found : 0 < b.strength → NextOp table b.strength line class 0 line_start b.cut
 
--- what a pass knows before a byte: the operators, where the word that ends there starts, and the depth of brackets and
--- 1
+-- what a pass knows before a byte: the operators, where the word that ends there starts, and the depth of brackets
 pub record Pass : Type 0 where
   pub ops : Loosest
   pub start : ℕ
   pub depth : ℕ
 
-abbrev pub pass_at : OpState → ℕ → ℕ → Break → Pass
+-- the strength of what was found so far, 0 for nothing, and its cut, any for nothing
+abbrev pub strength_of : code.Option Break → ℕ
+strength_of None = 0
+strength_of (Some b) = b.strength
+
+abbrev pub cut_of : code.Option Break → Cut
+cut_of None = record { place = 0; after = line_start }
+cut_of (Some b) = b.cut
+
+abbrev pub pass_at : OpState → ℕ → ℕ → code.Option Break → Pass
 pass_at s start depth b =
-    record { ops = record { ops = s; strength = b.strength; cut = b.cut }; start = start; depth = depth }
+    record { ops = record { ops = s; strength = strength_of b; cut = cut_of b }; start = start; depth = depth }
+
+-- what is found has a strength
+abbrev pub Strong : code.Option Break → Type 0
+Strong None = Unit {0}
+Strong (Some b) = b.strength ≡ 0 → ⊥
 
 -- a line broken at what was found at i
 abbrev pub broken_at : ℕ → OpFound → Break
@@ -173,20 +202,23 @@ broken_at i f = record { strength = f.strength; cut = record { place = i; after 
 pub record Passing (table line class : List ℕ) (p : Pass) (i : ℕ) : Type 0 where
   pub ops : OpsAt table line class p.ops i
   pub start : p.start ≤ i
-  pub deep : p.depth ≤ i + 1
+  pub deep : p.depth ≤ i
   pub words : has_word keywords (cells_of line class)
       ≡ has_word_from keywords (reverse (part line p.start i)) (cells_of (drop i line) (drop i class))
   pub balance : is_balanced (cells_of line class)
-      ≡ is_zero (foldl balance_step (depth_as p.depth) (cells_of (drop i line) (drop i class)))
+      ≡ is_zero (foldl balance_step (some p.depth) (cells_of (drop i line) (drop i class)))
 
-pub record Unbroken (r : Break) : Type 0 where
-  pub none : r.strength ≡ 0
-
-pub record BreakFound (table line class : List ℕ) (r : Break) : Type 0 where
+-- a line is broken so
+pub record BreakAt (table line class : List ℕ) (r : Break) : Type 0 where
   pub strength : r.strength ≡ break_strength table (cells_of line class)
-  pub cut : (r.strength ≡ 0 → ⊥) → NextOp table r.strength line class 0 line_start r.cut
+  pub some : r.strength ≡ 0 → ⊥
+  pub cut : NextOp table r.strength line class 0 line_start r.cut
+
+abbrev pub BreakFound : List ℕ → List ℕ → List ℕ → code.Option Break → Type 0
+BreakFound table line class None = 0 ≡ break_strength table (cells_of line class)
+BreakFound table line class (Some r) = BreakAt table line class r
 
 -- what a pass over the whole line says
-pub record PassEnd (line : List ℕ) (start depth : ℕ) (b r : Break) : Type 0 where
+pub record PassEnd (line : List ℕ) (start depth : ℕ) (b r : code.Option Break) : Type 0 where
   pub found : (table class : List ℕ) (s : OpState) → Passing table line class (pass_at s start depth b) (length line)
-      → BreakFound table line class r
+      → Strong b → BreakFound table line class r

@@ -19,7 +19,7 @@ use Rattle.rules.specs.declared.Mode.{Mode}
 use Rattle.rules.proofs.Choose.{choose_case}
 use Rattle.rules.proofs.CellsLaws.{class_of_byte, length_class_bytes, length_classify}
 use Rattle.scan.specs.CodeEnd.{code_length}
-use Rattle.step.specs.declared.Marker.{Marker}
+use Rattle.std.specs.Prelude.{None}
 use Rattle.step.specs.Going.{marker_in, EndsOutside}
 use Rattle.step.proofs.MarkerLaws.{marker_none}
 
@@ -119,7 +119,7 @@ unfolding is_marker_text starts_with chars
 nothing_marks = refl
 
 pub outside_none : (line class : List ℕ) (r : Bool) → WellFormed line → class ≡ class_bytes (classify Carry.Code line) → EndsOutside class r → r ≡ true
-    → Marker.Nothing ≡ marker_in (decode line)
+    → None ≡ marker_in (decode line)
 outside_none line class r well k o t =
     let n = o.some t in
     let q = o.last t in

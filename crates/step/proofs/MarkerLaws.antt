@@ -27,6 +27,7 @@ use Rattle.rules.proofs.ScanBytes.{encode_cells, chars_classify, chars_encode_ce
 use Rattle.rules.proofs.SpacingLaws.{like_spacing}
 use Rattle.scan.specs.CodeEnd.{code_length}
 use Rattle.scan.proofs.CodeEnd.{code_part_law, comment_part_law, code_length_le}
+use Rattle.std.specs.Prelude.{Option, Some, None}
 use Rattle.step.specs.declared.Marker.{Marker}
 use Rattle.step.specs.Going.{marker_in}
 
@@ -90,15 +91,15 @@ module _ (line class : List ℕ) (e : ℕ) (well : WellFormed line) (k : class �
   unfolding is_marker
   marks_is h = h ∙ ap is_marker_text (ap decode (part_from line e ∙ comment_bytes) ∙ decode_encode (comment_chars (decode line)) (scalars_right (code_chars (decode line)) (comment_chars (decode line)) both))
 
-  pub marker_none : (r : Bool) → r ≡ is_marker_text (decode (take (length line - e) (drop e line))) → r ≡ false → Marker.Nothing ≡ marker_in (decode line)
+  pub marker_none : (r : Bool) → r ≡ is_marker_text (decode (take (length line - e) (drop e line))) → r ≡ false → None ≡ marker_in (decode line)
   marker_none r h f = sym (choose_false _ _ _ (sym (marks_is h) ∙ f))
 
   pub marker_after : (r s : Bool) → r ≡ is_marker_text (decode (take (length line - e) (drop e line))) → r ≡ true
-      → s ≡ not (is_empty (trim_start (decode (take e line)))) → s ≡ true → Marker.AfterCode ≡ marker_in (decode line)
+      → s ≡ not (is_empty (trim_start (decode (take e line)))) → s ≡ true → (Some Marker.AfterCode) ≡ marker_in (decode line)
   marker_after r s h f i t = sym (choose_true _ _ _ (sym (marks_is h) ∙ f) ∙ choose_true _ _ _ (sym (code_is_law i) ∙ t))
 
   pub marker_alone : (r s : Bool) → r ≡ is_marker_text (decode (take (length line - e) (drop e line))) → r ≡ true
-      → s ≡ not (is_empty (trim_start (decode (take e line)))) → s ≡ false → Marker.Alone ≡ marker_in (decode line)
+      → s ≡ not (is_empty (trim_start (decode (take e line)))) → s ≡ false → (Some Marker.Alone) ≡ marker_in (decode line)
   marker_alone r s h f i t = sym (choose_true _ _ _ (sym (marks_is h) ∙ f) ∙ choose_false _ _ _ (sym (code_is_law i) ∙ t))
 
 -- ---- what a marker says of its line
@@ -107,25 +108,25 @@ pub record Found (l : List ℕ) (m d : Bool) : Type 0 where
   pub marks : is_marker (classify Carry.Code l) ≡ m
   pub code : is_marker (classify Carry.Code l) ≡ true → has_code (classify Carry.Code l) ≡ d
 
-abbrev marks_of : Marker → Bool
-marks_of Marker.Nothing = false
-marks_of Marker.Alone = true
-marks_of Marker.AfterCode = true
+abbrev marks_of : Option Marker → Bool
+marks_of None = false
+marks_of (Some Marker.Alone) = true
+marks_of (Some Marker.AfterCode) = true
 
-abbrev code_in : Marker → Bool
-code_in Marker.Nothing = false
-code_in Marker.Alone = false
-code_in Marker.AfterCode = true
+abbrev code_in : Option Marker → Bool
+code_in None = false
+code_in (Some Marker.Alone) = false
+code_in (Some Marker.AfterCode) = true
 
-pub found : (l : List ℕ) (m : Marker) → m ≡ marker_in l → Found l (marks_of m) (code_in m)
+pub found : (l : List ℕ) (m : Option Marker) → m ≡ marker_in l → Found l (marks_of m) (code_in m)
 unfolding choose
 found l m e = go (is_marker (classify Carry.Code l)) (has_code (classify Carry.Code l)) refl refl
   where
     go : (a b : Bool) → is_marker (classify Carry.Code l) ≡ a → has_code (classify Carry.Code l) ≡ b → Found l (marks_of m) (code_in m)
-    go true true p q = let k : m ≡ Marker.AfterCode = e ∙ rw (p, q) in record { marks = rw k p; code = λ h. rw k q }
-    go true false p q = let k : m ≡ Marker.Alone = e ∙ rw (p, q) in record { marks = rw k p; code = λ h. rw k q }
+    go true true p q = let k : m ≡ (Some Marker.AfterCode) = e ∙ rw (p, q) in record { marks = rw k p; code = λ h. rw k q }
+    go true false p q = let k : m ≡ (Some Marker.Alone) = e ∙ rw (p, q) in record { marks = rw k p; code = λ h. rw k q }
     go false b p q =
-        let k : m ≡ Marker.Nothing = e ∙ rw p in
+        let k : m ≡ None = e ∙ rw p in
         record { marks = rw k p; code = λ h. let z : ◌≡◌ {A = Bool} true false = sym h ∙ p in let y : ◌≡◌ {A = ℕ} 0 1 = cc in absurd (omega arith) }
 
 -- ---- a plain else starts with `e`, a marker that stands alone with `/`

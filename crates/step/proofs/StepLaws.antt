@@ -42,6 +42,7 @@ use Rattle.line.proofs.HoldsLaws.{ready_as, stepped_as, carry_bytes, classes_fro
 use Rattle.line.proofs.LoneLaws.{lone_of}
 use Rattle.place.specs.Placing.{spaced_by}
 use Rattle.step.specs.declared.Going.{Going}
+use Rattle.std.specs.Prelude.{Option, Some, None}
 use Rattle.step.specs.declared.Marker.{Marker}
 use Rattle.step.specs.declared.Put.{Put}
 use Rattle.step.specs.declared.Scanned.{Scanned}
@@ -135,11 +136,11 @@ unfolding code_line
 code_kept o f raw l e q = rw (← e) (sym (choose_true _ _ _ q))
 
 -- whether it is kept as written, by its marker
-keeps : (l : List ℕ) (i : Ignore) (m : Marker) → m ≡ marker_in l → is_kept i m ≡ true → (protects i || (is_marker (classify Carry.Code l) && has_code (classify Carry.Code l))) ≡ true
-keeps l i Marker.Nothing d e = rw e
-keeps l i Marker.Alone d e = rw e
-keeps l i Marker.AfterCode d e =
-    let x = found l Marker.AfterCode d in
+keeps : (l : List ℕ) (i : Ignore) (m : Option Marker) → m ≡ marker_in l → is_kept i m ≡ true → (protects i || (is_marker (classify Carry.Code l) && has_code (classify Carry.Code l))) ≡ true
+keeps l i None d e = rw e
+keeps l i (Some Marker.Alone) d e = rw e
+keeps l i (Some Marker.AfterCode) d e =
+    let x = found l (Some Marker.AfterCode) d in
     ap (λ (b : Bool). protects i || b) (rw x.marks (x.code x.marks)) ∙ or-true (protects i)
 
 record Opens (l : List ℕ) (i : Ignore) (alone : Bool) : Type 0 where
@@ -147,10 +148,10 @@ record Opens (l : List ℕ) (i : Ignore) (alone : Bool) : Type 0 where
   marks : is_marker (classify Carry.Code l) ≡ alone
   none : (is_marker (classify Carry.Code l) && has_code (classify Carry.Code l)) ≡ false
 
-opens : (l : List ℕ) (i : Ignore) (m : Marker) → m ≡ marker_in l → is_kept i m ≡ false → Opens l i (is_alone m)
-opens l i Marker.Nothing d e = let x = found l Marker.Nothing d in record { free = e; marks = x.marks; none = rw x.marks }
-opens l i Marker.Alone d e = let x = found l Marker.Alone d in record { free = e; marks = x.marks; none = rw x.marks (x.code x.marks) }
-opens l i Marker.AfterCode d e = absurd (true≢false e)
+opens : (l : List ℕ) (i : Ignore) (m : Option Marker) → m ≡ marker_in l → is_kept i m ≡ false → Opens l i (is_alone m)
+opens l i None d e = let x = found l None d in record { free = e; marks = x.marks; none = rw x.marks }
+opens l i (Some Marker.Alone) d e = let x = found l (Some Marker.Alone) d in record { free = e; marks = x.marks; none = rw x.marks (x.code x.marks) }
+opens l i (Some Marker.AfterCode) d e = absurd (true≢false e)
 
 -- what scanning it asks, and what it gives: its class bytes stand at the front of scratch
 pub scan_room : (line s₀ : List ℕ) → length line ≤ length s₀ → length line ≤ max_source
@@ -158,7 +159,7 @@ pub scan_room : (line s₀ : List ℕ) → length line ≤ length s₀ → lengt
 scan_room line s₀ h k = (omega (arith, length-take-le (length line) s₀ h), omega (arith, k))
 
 module _ (line s₀ w : List ℕ) {after : Carry} (h : length line ≤ length s₀) (c : Classified Carry.Code line (take (length line) s₀) w after) where
-  pub scanned : (m : Marker) → m ≡ marker_in (decode line) → LineScanned line s₀ (w ++ drop (length line) s₀) (record { after = after; marker = m })
+  pub scanned : (m : Option Marker) → m ≡ marker_in (decode line) → LineScanned line s₀ (w ++ drop (length line) s₀) (record { after = after; marker = m })
   scanned m e = record { classes = classes_front line s₀ w h c; marker = e; only = front_only line s₀ w h c }
 
   pub scanned_front : length line ≡ length (take (length line) (w ++ drop (length line) s₀))
@@ -226,13 +227,13 @@ code_lone {s₀} {raw = raw} {line = line} {st = st} t b e q o v =
 pub solid : (raw line : List ℕ) → TrimmedLine raw line → is_empty (decode line) ≡ false → SolidLine line
 solid raw line t e = record { well = t.well; trimmed = ap trim_end t.text ∙ trim_trim_end (decode raw) ∙ sym t.text; some = e }
 
-pub marks_of_law : (line : List ℕ) (m : Marker) (a : Bool) → m ≡ marker_in (decode line) → a ≡ is_alone m → Marks a line
+pub marks_of_law : (line : List ℕ) (m : Option Marker) (a : Bool) → m ≡ marker_in (decode line) → a ≡ is_alone m → Marks a line
 marks_of_law line m a d k = record { other = λ h. go m d (sym k ∙ h) }
   where
-    go : (m : Marker) → m ≡ marker_in (decode line) → is_alone m ≡ true → is_plain_else (respaced (decode line)) ≡ false
-    go Marker.Nothing d h = absurd (false≢true h)
-    go Marker.Alone d h = let x = found (decode line) Marker.Alone d in alone_other (decode line) x.marks (x.code x.marks)
-    go Marker.AfterCode d h = absurd (false≢true h)
+    go : (m : Option Marker) → m ≡ marker_in (decode line) → is_alone m ≡ true → is_plain_else (respaced (decode line)) ≡ false
+    go None d h = absurd (false≢true h)
+    go (Some Marker.Alone) d h = let x = found (decode line) (Some Marker.Alone) d in alone_other (decode line) x.marks (x.code x.marks)
+    go (Some Marker.AfterCode) d h = absurd (false≢true h)
 
 -- ---- any line
 

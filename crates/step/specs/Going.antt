@@ -1,5 +1,5 @@
 -- A line of code on its way: whether it holds a marker, how it goes on after spacing, and what it leaves.
-use Rattle.std.specs.Prelude.{ℕ, ◌+◌, ◌-◌, ◌*◌, ◌≤◌, Bool, true, false, List, ◌≡◌, length, drop, get_or}
+use Rattle.std.specs.Prelude.{ℕ, ◌+◌, ◌-◌, ◌*◌, ◌≤◌, Bool, true, false, List, ◌≡◌, length, drop, get_or, Option, Some, None}
 use Rattle.utf8.specs.Unicode.{encode, decode, trim_end, WellFormed}
 use Rattle.buffer.specs.Buffer.{part}
 use Rattle.rules.specs.Basics.{choose, is_empty}
@@ -31,11 +31,11 @@ use Rattle.step.specs.declared.Put.{Put}
 use Rattle.step.specs.declared.Scanned.{Scanned}
 
 -- the marker of a line, and whether code stands before it
-abbrev pub marker_of : Bool → Bool → Marker
-marker_of marks code = choose marks (choose code Marker.AfterCode Marker.Alone) Marker.Nothing
+abbrev pub marker_of : Bool → Bool → Option Marker
+marker_of marks code = choose marks (choose code (Some Marker.AfterCode) (Some Marker.Alone)) None
 
 -- of the line of characters l
-abbrev pub marker_in : List ℕ → Marker
+abbrev pub marker_in : List ℕ → Option Marker
 marker_in l = marker_of (is_marker (classify Carry.Code l)) (has_code (classify Carry.Code l))
 
 -- if r, the last class byte is none of a `//` comment
@@ -44,15 +44,15 @@ pub record EndsOutside (ks : List ℕ) (r : Bool) : Type 0 where
   pub last : r ≡ true → get_or ks (length ks - 1) 0 ≡ 2 → ⊥
 
 -- whether a line with this marker is kept as written, where `pending` is pending
-abbrev pub is_kept : Ignore → Marker → Bool
-is_kept pending Marker.Nothing = protects pending
-is_kept pending Marker.Alone = protects pending
-is_kept pending Marker.AfterCode = true
+abbrev pub is_kept : Ignore → Option Marker → Bool
+is_kept pending None = protects pending
+is_kept pending (Some Marker.Alone) = protects pending
+is_kept pending (Some Marker.AfterCode) = true
 
-abbrev pub is_alone : Marker → Bool
-is_alone Marker.Nothing = false
-is_alone Marker.Alone = true
-is_alone Marker.AfterCode = false
+abbrev pub is_alone : Option Marker → Bool
+is_alone None = false
+is_alone (Some Marker.Alone) = true
+is_alone (Some Marker.AfterCode) = false
 
 -- a line of code that is not blank, trimmed at its end
 pub record SolidLine (line : List ℕ) : Type 0 where

@@ -29,16 +29,17 @@ use line::style::{Setup, Style};
 use place::Placing;
 use rules::{Carry, Ignore};
 
-// A marker in the line's comment: none, one that stands alone, one with code before it.
+// A marker in the line's comment: one that stands alone, or one with code before it.
 #[derive(Clone, Copy)]
 pub enum Marker {
-    Nothing,
     Alone,
     AfterCode,
 }
 
 // The line that goes on: the source's own, or the respaced one, `len` bytes in scratch; where its class bytes start,
 // and what it leaves open.
+// kept: the new form is no plainer: of both lines all of `len`, `class_at` and `carry` are used, so that an enum would
+// hold the three twice
 #[derive(Clone, Copy)]
 pub struct Going {
     pub own: bool,
@@ -51,7 +52,7 @@ pub struct Going {
 #[derive(Clone, Copy)]
 pub struct Scanned {
     pub after: Carry,
-    pub marker: Marker,
+    pub marker: Option<Marker>,
 }
 
 // What a line of code is formatted with: the style, the unit of the scratch's regions, whether the line is a marker,
@@ -120,14 +121,13 @@ fn count_going(
     ensures { BracketsCounted (respaced (decode line.now)) scratch.old
         scratch.new (stack_at unit) left (length line.now) result }
 {
-    let len = g.len;
-    let class_at = g.class_at;
     let base = STACK * unit;
     if g.own {
-        return brackets::scan_brackets(line, scratch, class_at, base, left, closers);
+        brackets::scan_brackets(line, scratch, g.class_at, base, left, closers)
+    } else {
+        let at = RESPACED * unit;
+        brackets::scan_brackets_at(scratch, at, g.len, g.class_at, base, left, closers)
     }
-    let at = RESPACED * unit;
-    brackets::scan_brackets_at(scratch, at, len, class_at, base, left, closers)
 }
 
 // The line that goes on, put into the text.
@@ -149,21 +149,15 @@ fn put_going<'a>(
         out.new }
 {
     let g = k.going;
-    let own = g.own;
-    let len = g.len;
-    let class_at = g.class_at;
-    let end = class_at + len;
     let at = RESPACED * k.unit;
-    let l = spacing::line_that_goes_on(line, scratch, own, at, len);
-    let class = &scratch[class_at..end];
+    let l = spacing::line_that_goes_on(line, scratch, g.own, at, g.len);
+    let class = &scratch[g.class_at..g.class_at + g.len];
     let closers = brackets::leading_closers(l);
-    let nesting = st.nesting;
     let base = STACK * k.unit;
-    let left = brackets::pop_closers(scratch, base, nesting, closers);
+    let left = brackets::pop_closers(scratch, base, st.nesting, closers);
     let own = prev_of(l);
-    let style = k.style;
     let how = Placing {
-        style,
+        style: k.style,
         closers,
         levels: left.levels,
         own,
@@ -183,9 +177,10 @@ fn ignore_of(marker: bool) -> Ignore
     ensures { result ≡ ignore_of marker }
 {
     if marker {
-        return Ignore::NextLine;
+        Ignore::NextLine
+    } else {
+        Ignore::Nothing
     }
-    Ignore::Nothing
 }
 
 // The record after a line that was put into the text, with the brackets `deep` open, that protects `ignore` and leaves
@@ -193,18 +188,13 @@ fn ignore_of(marker: bool) -> Ignore
 fn after_line(p: Put, deep: Nesting, ignore: Ignore, carry: Carry) -> Formatter
     ensures { result ≡ after_line p deep ignore carry }
 {
-    let st = p.st;
-    let text = st.text;
-    let prev = p.own;
     Formatter {
-        text,
         nesting: deep,
         blank: false,
-        prev,
+        prev: p.own,
         ignore,
         carry,
-        imports: st.imports,
-        blanks: st.blanks,
+        ..p.st
     }
 }
 
@@ -229,11 +219,8 @@ fn spaced_line(
         out.new scratch.new }
 {
     let p = put_going(line, scratch, k, indent, model, out, st);
-    let g = k.going;
-    let left = p.left;
-    let deep = count_going(line, scratch, k.unit, g, p.closers, left);
-    let carry = g.carry;
-    after_line(p, deep, ignore_of(k.marker), carry)
+    let deep = count_going(line, scratch, k.unit, k.going, p.closers, p.left);
+    after_line(p, deep, ignore_of(k.marker), k.going.carry)
 }
 
 // Whether a line ends in no `//` comment, which would go on to its end; so it has none. Of an empty line it is not
@@ -242,62 +229,47 @@ fn ends_outside(class: &[u8]) -> bool
     ensures { EndsOutside class.now result }
 {
     let n = class.len();
-    if n == 0 {
-        return false;
-    }
-    class[n - 1] != scan::LINE_COMMENT
+    n != 0 && class[n - 1] != scan::LINE_COMMENT
 }
 
 // The marker of a line with its class bytes.
-fn marker_in(line: &[u8], class: &[u8]) -> Marker
+fn marker_in(line: &[u8], class: &[u8]) -> Option<Marker>
     requires well_formed { WellFormed line.now }
     requires class_value { class.now ≡ class_bytes (classify Carry.Code line.now) }
     ensures { result ≡ marker_in (decode line.now) }
 {
     if ends_outside(class) {
-        return Marker::Nothing;
+        return None;
     }
     let e = scan::code_end(class);
-    if format::marker::is_marker(&line[e..]) {
-        if format::marker::has_code(&line[..e]) {
-            return Marker::AfterCode;
-        }
-        return Marker::Alone;
+    if !format::marker::is_marker(&line[e..]) {
+        None
+    } else if format::marker::has_code(&line[..e]) {
+        Some(Marker::AfterCode)
+    } else {
+        Some(Marker::Alone)
     }
-    Marker::Nothing
 }
 
 // Whether a marker is pending.
 fn protects_next(ignore: Ignore) -> bool
     ensures { result ≡ protects ignore }
 {
-    match ignore {
-        Ignore::Nothing => false,
-        Ignore::NextLine => true,
-        Ignore::Block(_) => true,
-    }
+    !matches!(ignore, Ignore::Nothing)
 }
 
 // Whether the line is kept as written: a marker is pending, or one stands after its code.
-fn is_kept(pending: Ignore, marker: Marker) -> bool
+fn is_kept(pending: Ignore, marker: Option<Marker>) -> bool
     ensures { result ≡ is_kept pending marker }
 {
-    match marker {
-        Marker::Nothing => protects_next(pending),
-        Marker::Alone => protects_next(pending),
-        Marker::AfterCode => true,
-    }
+    matches!(marker, Some(Marker::AfterCode)) || protects_next(pending)
 }
 
 // Whether a marker stands alone.
-fn is_alone(marker: Marker) -> bool
+fn is_alone(marker: Option<Marker>) -> bool
     ensures { result ≡ is_alone marker }
 {
-    match marker {
-        Marker::Nothing => false,
-        Marker::Alone => true,
-        Marker::AfterCode => false,
-    }
+    matches!(marker, Some(Marker::Alone))
 }
 
 // The line's class bytes go to the front of scratch.
@@ -317,10 +289,7 @@ fn scan_line(line: &[u8], scratch: &mut [u8]) -> Scanned
 fn goes_alone(line: &[u8], pending: Ignore) -> bool
     ensures { result ≡ (is_lone line.now && not (protects pending)) }
 {
-    if line::lone::is_lone(line) {
-        return !protects_next(pending);
-    }
-    false
+    line::lone::is_lone(line) && !protects_next(pending)
 }
 
 // A line that starts in code and is not one of a protected block.
@@ -345,39 +314,31 @@ fn code_line(
 {
     let tail = utf8::trim_end(raw);
     let start = utf8::trim_start(&raw[..tail]);
-    let style = setup.style;
-    let unit = setup.unit;
-    let ending = style.ending;
     if start == tail {
-        return line::kept::blank_line(model, out, ending, st);
+        return line::kept::blank_line(model, out, setup.style.ending, st);
     }
     let line = &raw[start..tail];
-    let pending = st.ignore;
-    if goes_alone(line, pending) {
+    if goes_alone(line, st.ignore) {
         return line::lone::lone_line(line, indent, setup, model, out, scratch, st);
     }
     let s = scan_line(line, scratch);
-    let after = s.after;
-    let marker = s.marker;
-    if is_kept(pending, marker) {
+    if is_kept(st.ignore, s.marker) {
         let k = Kept {
             shown: raw.len(),
-            after,
-            ending,
-            unit,
+            after: s.after,
+            ending: setup.style.ending,
+            unit: setup.unit,
         };
         // A copy for the call: st itself is then never lent, and is not copied in memory on the other ways.
         let before = st;
         let kept = line::kept::kept_line(raw, line, k, model, out, scratch, before);
         return kept;
     }
-    let alone = is_alone(marker);
-    let going = go_on(line, scratch, unit, after);
     let k = LineSetup {
-        style,
-        unit,
-        marker: alone,
-        going,
+        style: setup.style,
+        unit: setup.unit,
+        marker: is_alone(s.marker),
+        going: go_on(line, scratch, setup.unit, s.after),
     };
     spaced_line(line, k, indent, model, out, scratch, st)
 }
@@ -400,23 +361,15 @@ pub fn line_step(
         (as_str setup.style.ending) st out.old scratch.old result out.new
         scratch.new }
 {
-    let pending = st.ignore;
-    let carry = st.carry;
-    let guarded = line::kept::in_block(pending);
-    if line::kept::is_raw(guarded, carry) {
-        let style = setup.style;
-        let ending = style.ending;
+    if line::kept::is_raw(line::kept::in_block(st.ignore), st.carry) {
         // A copy, as in `code_line`.
         let before = st;
+        let ending = setup.style.ending;
         let after = line::kept::raw_line(raw, ending, model, out, scratch, setup.unit, before);
         return after;
     }
-    if raw.len() == 0 {
-        let text = st.text;
-        let last = text.last;
-        if line::kept::adds_nothing(st.blank, last) {
-            return st;
-        }
+    if raw.is_empty() && line::kept::adds_nothing(st.blank, st.text.last) {
+        return st;
     }
     code_line(raw, indent, setup, model, out, scratch, st)
 }

@@ -17,7 +17,7 @@ use rules::LineEnding;
 use utf8::ByteOffset;
 
 // The newest line of the text: none, an empty one, one that can take an else, any other.
-#[derive(Clone, Copy)]
+#[derive(Clone, Copy, PartialEq, Eq)]
 pub enum Last {
     Nothing,
     Empty,
@@ -59,23 +59,13 @@ impl Written {
 pub fn is_first(last: Last) -> bool
     ensures { result ≡ is_first last }
 {
-    match last {
-        Last::Nothing => true,
-        Last::Empty => false,
-        Last::Joinable => false,
-        Last::Other => false,
-    }
+    last == Last::Nothing
 }
 
 pub fn is_joinable(last: Last) -> bool
     ensures { result ≡ is_joinable last }
 {
-    match last {
-        Last::Nothing => false,
-        Last::Empty => false,
-        Last::Joinable => true,
-        Last::Other => false,
-    }
+    last == Last::Joinable
 }
 
 // The line ending, from the place at on.
@@ -96,9 +86,10 @@ fn separate(model: &[u8], out: &mut [u8], at: usize, ending: LineEnding, first: 
         result }
 {
     if first {
-        return at;
+        at
+    } else {
+        append_ending(model, out, at, ending)
     }
-    append_ending(model, out, at, ending)
 }
 
 // The length of the line ending before a line: 0 before the first.
@@ -118,61 +109,44 @@ fn stem_at(t: Written, drops: bool) -> usize
     requires { t.below ≤ t.at.0 }
     ensures { From drops t result }
 {
-    if drops {
-        return t.below;
-    }
-    let at = t.at;
-    at.0
+    if drops { t.below } else { t.at.0 }
 }
 
 fn stem_first(t: Written, drops: bool) -> bool
     ensures { result ≡ choose drops t.alone (is_first t.last) }
 {
-    if drops {
-        return t.alone;
-    }
-    let last = t.last;
-    is_first(last)
+    if drops { t.alone } else { is_first(t.last) }
 }
 
 fn alone_of(long: usize, first: bool) -> bool
     ensures { result ≡ alone_after long first }
 {
-    if long == 0 {
-        return first;
-    }
-    false
+    long == 0 && first
 }
 
 fn tail_of(pad: usize, tail: usize) -> usize
     requires { pad + tail < 2 ^ 64 }
     ensures { result ≡ tail_of pad tail }
 {
-    if tail == 0 {
-        return 0;
-    }
-    pad + tail
+    if tail == 0 { 0 } else { pad + tail }
 }
 
 fn kind_of(long: usize, joins: bool) -> Last
     ensures { result ≡ newest_by long joins }
 {
     if joins {
-        return Last::Joinable;
+        Last::Joinable
+    } else if long == 0 {
+        Last::Empty
+    } else {
+        Last::Other
     }
-    if long == 0 {
-        return Last::Empty;
-    }
-    Last::Other
 }
 
 fn full_of(long: usize, full: usize, at: usize) -> usize
     ensures { result ≡ full_of long full at }
 {
-    if long == 0 {
-        return full;
-    }
-    at
+    if long == 0 { full } else { at }
 }
 
 // How a line is added: the ending before it; whether an empty newest line goes first; the levels of its indent; its
@@ -203,29 +177,22 @@ pub fn push_line(
         (times how.levels indent.now ++ decode line.now) model.now
         out.old t out.new result }
 {
-    let full = t.full;
-    let settled = t.settled;
-    let ending = how.ending;
-    let drops = how.drops;
-    let levels = how.levels;
-    let tail = how.tail;
-    let joins = how.joins;
-    let from = stem_at(t, drops);
-    let first = stem_first(t, drops);
-    let sep = sep_len(ending, first);
-    let next = compare::append_line(model, out, from, sep, indent, levels, line);
+    let from = stem_at(t, how.drops);
+    let first = stem_first(t, how.drops);
+    let sep = sep_len(how.ending, first);
+    let next = compare::append_line(model, out, from, sep, indent, how.levels, line);
     let start = from + sep;
     let long = next - start;
     let pad = long - line.len();
-    let kept = tail_of(pad, tail);
+    let kept = tail_of(pad, how.tail);
     Written {
         at: ByteOffset(next),
         cut: start + kept,
-        full: full_of(long, full, next),
+        full: full_of(long, t.full, next),
         below: full_of(long, from, next),
         alone: alone_of(long, first),
-        last: kind_of(long, joins),
-        settled: full_of(tail, settled, start),
+        last: kind_of(long, how.joins),
+        settled: full_of(how.tail, t.settled, start),
     }
 }
 
@@ -236,19 +203,9 @@ pub fn join_else(model: &[u8], out: &mut [u8], t: Written, line: &[u8], joins: b
     requires line_bound { t.at.0 + 1 + length line.now < 2 ^ 64 }
     ensures { Joins (decode line.now) model.now out.old t out.new result }
 {
-    let cut = t.cut;
-    let settled = t.settled;
-    let start = compare::append(model, out, cut, b" ");
+    let start = compare::append(model, out, t.cut, b" ");
     let next = compare::append(model, out, start, line);
-    Written {
-        at: ByteOffset(next),
-        cut: next,
-        full: next,
-        below: next,
-        alone: false,
-        last: kind_of(1, joins),
-        settled,
-    }
+    after_lines(t.settled, next, joins)
 }
 
 // The line ending before several new lines. Gives the place where the first of them starts.
@@ -296,8 +253,7 @@ pub fn end_text(
     ensures { Ended (as_str ending) (choose newline (as_str ending) []) model.now out.old t
         out.new result }
 {
-    let full = t.full;
-    separate(model, out, full, ending, !newline)
+    separate(model, out, t.full, ending, !newline)
 }
 
 // The same in an output: zeros after the text, or all zeros where it does not fit.

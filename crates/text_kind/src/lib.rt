@@ -6,50 +6,34 @@ ghost use Rattle.std.specs.Prelude.{◌≡◌, ◌+◌, ◌<◌, ◌^◌, length
 ghost use Rattle.utf8.specs.Unicode.{decode};
 ghost use Rattle.rules.specs.Scan.{begin};
 ghost use Rattle.rules.specs.Refusals.{tested};
-ghost use Rattle.rules.specs.TextKind.{kind_tests, in_interpolation, class_kind, text_kind_at, kind_outcome_of, kind_number};
-ghost use Rattle.rules.specs.TextKind.{kind_answer};
+ghost use Rattle.rules.specs.TextKind.{kind_tests, in_interpolation, class_kind, text_kind_at, kind_outcome_of, kind_answer};
 ghost use Rattle.basics.specs.Depth.{carry_depth};
 ghost use Rattle.line_ends.specs.LineEnds.{LineEnd};
 ghost use Rattle.text_kind.specs.Kind.{byte_kinds, line_at, SourceFits};
 
-use answer::{number_of, place_of};
 use line_ends::{line_end, without_cr};
-use rules::{Carry, Class, Kind, KindOutcome, Mode, TextKind, Verdict};
+use rules::{Carry, Class, Kind, Mode, Refusal, TextKind};
 use utf8::CharColumn;
 
 // The bytes of scratch for each of the source's, beside 256.
 pub const KIND_SCRATCH: usize = 8;
 
 // Whether a character before which the mode is m is inside `${..}`.
+#[tactic(auto, unfolding(rules::specs::TextKind::in_interpolation))]
 pub fn in_interpolation(m: Mode) -> bool
     ensures { result ≡ in_interpolation m }
 {
-    match m {
-        Mode::Code => false,
-        Mode::Quoted(_) => false,
-        Mode::Interp(_, _) => true,
-        Mode::Inner(_, _, _) => true,
-        Mode::Line => false,
-        Mode::Block(_) => false,
-        Mode::Prefab => false,
-    }
+    matches!(m, Mode::Interp(..) | Mode::Inner(..))
 }
 
+#[tactic(auto, unfolding(rules::specs::TextKind::class_kind, rules::specs::Basics::choose))]
 pub fn class_kind(class: Class, inside: bool) -> TextKind
     ensures { result ≡ class_kind class inside }
 {
-    match class {
-        Class::Code => TextKind::Code,
-        Class::Str => {
-            if inside {
-                TextKind::Code
-            } else {
-                TextKind::Str
-            }
-        }
-        Class::LineComment => TextKind::Comment,
-        Class::BlockComment => TextKind::Comment,
-        Class::Prefab => TextKind::Code,
+    match (class, inside) {
+        (Class::Str, false) => TextKind::Str,
+        (Class::LineComment | Class::BlockComment, _) => TextKind::Comment,
+        _ => TextKind::Code,
     }
 }
 
@@ -64,20 +48,16 @@ fn kind_in_line(line: &[u8], carry: Carry, column: CharColumn) -> TextKind
     }
     let mut t = marks::begin(carry);
     let mut left = column.0;
-    let mut i = 0;
-    while i < line.len() {
+    for i in 0..line.len() {
         let before = t.mode;
         t = marks::next_mark(&line[i..], t);
         if utf8::is_tail(line[i]) {
-            i += 1;
             continue;
         }
         if left == 0 {
-            let class = t.class;
-            return class_kind(class, in_interpolation(before));
+            return class_kind(t.class, in_interpolation(before));
         }
         left -= 1;
-        i += 1;
     }
     TextKind::Code
 }
@@ -88,9 +68,10 @@ pub fn line_at(source: &[u8], at: usize, end: usize) -> &[u8]
     ensures { result.now ≡ line_at (drop at source.now) }
 {
     if end < source.len() {
-        return without_cr(&source[at..end]);
+        without_cr(&source[at..end])
+    } else {
+        &source[at..]
     }
-    &source[at..]
 }
 
 // What the character at a line and a column of a well-formed source is part of. A place past the end is code.
@@ -100,66 +81,37 @@ pub fn text_kind_at(source: &[u8], line: usize, column: CharColumn, scratch: &mu
 {
     let mut carry = Carry::Code;
     let mut at = 0;
-    let mut left = line;
-    while 0 < left {
+    for _ in 0..line {
         let end = line_end(source, at);
         if source.len() <= end {
             return TextKind::Code;
         }
         carry = scan::classify(without_cr(&source[at..end]), carry, scratch);
         at = end + 1;
-        left -= 1;
     }
     let end = line_end(source, at);
     kind_in_line(line_at(source, at, end), carry, column)
 }
 
 // Refusals 1, 3 and 4.
-pub fn test(source: &[u8], scratch: usize) -> Verdict
+pub fn test(source: &[u8], scratch: usize) -> Result<(), Refusal>
     ensures { result ≡ tested (kind_tests source.now scratch) }
 {
-    match answer::test_length(source) {
-        Verdict::Refused(why) => Verdict::Refused(why),
-        Verdict::Accepted => answer::test_bytes(source, KIND_SCRATCH, scratch),
-    }
+    answer::test_length(source)?;
+    answer::test_bytes(source, KIND_SCRATCH, scratch)
 }
 
 // The kind, or the first refusal that applies.
-fn outcome_of(source: &[u8], line: usize, column: CharColumn, scratch: &mut [u8]) -> KindOutcome
+fn outcome_of(
+    source: &[u8],
+    line: usize,
+    column: CharColumn,
+    scratch: &mut [u8],
+) -> Result<TextKind, Refusal>
     ensures { result ≡ kind_outcome_of source.now line column.0 (length scratch.old) }
 {
-    match test(source, scratch.len()) {
-        Verdict::Refused(why) => KindOutcome::Refused(why),
-        Verdict::Accepted => KindOutcome::Found(text_kind_at(source, line, column, scratch)),
-    }
-}
-
-fn kind_number(k: TextKind) -> u64
-    ensures { result ≡ kind_number k }
-{
-    match k {
-        TextKind::Code => 0,
-        TextKind::Str => 1,
-        TextKind::Comment => 2,
-    }
-}
-
-// The outcome in numbers.
-fn kind_answer(o: KindOutcome) -> Kind
-    ensures { result ≡ kind_answer o }
-{
-    match o {
-        KindOutcome::Found(k) => Kind {
-            refusal: 0,
-            place: 0,
-            kind: kind_number(k),
-        },
-        KindOutcome::Refused(r) => Kind {
-            refusal: number_of(r),
-            place: place_of(r),
-            kind: 0,
-        },
-    }
+    test(source, scratch.len())?;
+    Ok(text_kind_at(source, line, column, scratch))
 }
 
 // What a host is told.
@@ -167,5 +119,5 @@ pub fn answer(source: &[u8], line: usize, column: CharColumn, scratch: &mut [u8]
     ensures { result ≡ kind_answer (kind_outcome_of source.now line column.0
         (length scratch.old)) }
 {
-    kind_answer(outcome_of(source, line, column, scratch))
+    outcome_of(source, line, column, scratch).into()
 }

@@ -7,6 +7,7 @@ use mathlib.Core.List.{List, [], ◌∷◌}
 use mathlib.Core.Logic.{◌⊎◌, inl, inr}
 use mathlib.Core.Path.{◌≡◌, refl, sym, ap, subst, ◌∙◌}
 use borrow.Author.Tests.{ltb-false, le-ltb, ne_eqb}
+use Rattle.std.specs.Prelude.{Some, None}
 use lib.Dec.{T, eqb}
 use lib.ListN.{length, get_or, take, length-take}
 use lib.Seq.{get_or-take, take_at}
@@ -27,7 +28,7 @@ use Rattle.scan.specs.Classified.{Classified}
 use Rattle.text_kind.specs.Kind.{byte_kinds}
 use Rattle.text_kind.proofs.KindBytes.{bytes_first}
 use Rattle.text_kind.proofs.KindMarks.{past_line}
-use Rattle.text_kinds.specs.Reading.{kind_number_at, Without, dollar_at, ClassesIn, class_number, Tells, KindTold}
+use Rattle.text_kinds.specs.Reading.{kind_number_at, Without, dollar_at, ClassesIn, kind_of_class, Tells, KindTold}
 
 -- ---- no `${..}` is opened but at a `$`
 
@@ -101,7 +102,7 @@ by_class t (b ∷ s) (suc c) h a =
     }
 
 -- a class byte that is no string's
-other_number : (b : ℕ) (x : Bool) → (b ≡ 1 → ⊥) → class_number b ≡ kind_number (class_kind (class_of b) x)
+other_number : (b : ℕ) (x : Bool) → (b ≡ 1 → ⊥) → kind_number (kind_of_class b) ≡ kind_number (class_kind (class_of b) x)
 unfolding class_kind
 other_number zero x n = refl
 other_number (suc zero) x n = absurd (n refl)
@@ -109,9 +110,16 @@ other_number (suc (suc zero)) x n = refl
 other_number (suc (suc (suc zero))) x n = refl
 other_number (suc (suc (suc (suc b)))) x n = refl
 
+only : (k : TextKind) (n : ℕ) → kind_number k ≡ n → (j : TextKind) → Some k ≡ Some j → kind_number j ≡ n
+only k n e j s = let z : k ≡ j = cc in subst (λ (x : TextKind). kind_number x ≡ n) z e
+
 module _ {line class : List ℕ} {ascii clear : ℕ} (w : Tells line class ascii clear) (column : ℕ) where
-  pub told_past : length line ≤ column → KindTold line class column 0 clear
-  told_past h = record { told = λ _ y _. ap kind_number (past_line line y column h); clear = w.clear }
+  pub told_past : length line ≤ column → KindTold line class column (Some TextKind.Code) clear
+  told_past h =
+      record { told = λ k s y _. only TextKind.Code _ (ap kind_number (past_line line y column h)) k s; clear = w.clear }
+
+  pub told_none : KindTold line class column None clear
+  told_none = record { told = λ k s. absurd (cc); clear = w.clear }
 
   joined : (past : ℕ) → Without (dollar_at line) clear past → Without (dollar_at line) 0 past
   joined past n = record { none = λ j l m. go j m (split j clear) }
@@ -120,8 +128,8 @@ module _ {line class : List ℕ} {ascii clear : ℕ} (w : Tells line class ascii
       go j m (inl x) = w.clear.none j zero-le x
       go j m (inr x) = n.none j x m
 
-  pub told_not : (past : ℕ) → Without (dollar_at line) clear past → KindTold line class column 3 past
-  told_not past n = record { told = λ m. absurd (m refl); clear = joined past n }
+  pub told_not : (past : ℕ) → Without (dollar_at line) clear past → KindTold line class column None past
+  told_not past n = record { told = λ k s. absurd (cc); clear = joined past n }
 
   module _ (h : column < length line) (a : column < ascii) where
     here : (y : Carry) → ClassesIn y line class → ByClass (begin y) line column
@@ -134,47 +142,56 @@ module _ {line class : List ℕ} {ascii clear : ℕ} (w : Tells line class ascii
     at_column : (y : Carry) (k : ClassesIn y line class) → kind_number_at y line column ≡ kind_number (class_kind (class_of (get_or class column 0)) (here y k).inside)
     at_column y k = ap kind_number ((here y k).is ∙ ap (λ (b : ℕ). class_kind (class_of b) (here y k).inside) (same_byte y k))
 
-    pub told_other : (kind : ℕ) → (get_or class column 0 ≡ 1 → ⊥) → kind ≡ class_number (get_or class column 0) → KindTold line class column kind clear
+    pub told_other : (kind : TextKind) → (get_or class column 0 ≡ 1 → ⊥) → kind ≡ kind_of_class (get_or class column 0)
+        → KindTold line class column (Some kind) clear
     told_other kind n e =
-        record { told = λ _ y k. e ∙ other_number (get_or class column 0) (here y k).inside n ∙ sym (at_column y k); clear = w.clear }
+        record {
+          told = λ j s y k.
+              only kind _ (ap kind_number e ∙ other_number (get_or class column 0) (here y k).inside n ∙ sym (at_column y k))
+              j s;
+          clear = w.clear;
+        }
 
-    pub told_string : (past : ℕ) → get_or class column 0 ≡ 1 → Without (dollar_at line) clear past → column ≤ past → KindTold line class column 1 past
+    pub told_string : (past : ℕ) → get_or class column 0 ≡ 1 → Without (dollar_at line) clear past → column ≤ past → KindTold line class column (Some TextKind.Str) past
     unfolding class_kind choose
     told_string past e n l =
         let z = joined past n in
         record {
-          told = λ _ y k.
+          told = λ j s y k.
               let o : (here y k).inside ≡ false = (here y k).outside (record { none = λ j i m. z.none j i (omega arith) }) (outside_begin y) in
-              sym (at_column y k ∙ rw (e, o));
+              only TextKind.Str _ (sym (at_column y k ∙ rw (e, o))) j s;
           clear = z;
         }
 
--- ---- the number of a class byte
+-- ---- the kind of a class byte
 
-pub number_string : (b : ℕ) → b ≡ 1 → 1 ≡ class_number b
+pub kind_string : (b : ℕ) → b ≡ 1 → TextKind.Str ≡ kind_of_class b
 unfolding class_kind choose
-number_string b e = rw e
+kind_string b e = rw e
 
-pub number_line : (b : ℕ) → b ≡ 2 → 2 ≡ class_number b
+pub kind_line : (b : ℕ) → b ≡ 2 → TextKind.Comment ≡ kind_of_class b
 unfolding class_kind
-number_line b e = rw e
+kind_line b e = rw e
 
-pub number_block : (b : ℕ) → b ≡ 3 → 2 ≡ class_number b
+pub kind_block : (b : ℕ) → b ≡ 3 → TextKind.Comment ≡ kind_of_class b
 unfolding class_kind
-number_block b e = rw e
+kind_block b e = rw e
 
-pub number_other : (b : ℕ) → (b ≡ 1 → ⊥) → (b ≡ 2 → ⊥) → (b ≡ 3 → ⊥) → 0 ≡ class_number b
+pub kind_other : (b : ℕ) → (b ≡ 1 → ⊥) → (b ≡ 2 → ⊥) → (b ≡ 3 → ⊥) → TextKind.Code ≡ kind_of_class b
 unfolding class_kind
-number_other zero l m n = refl
-number_other (suc zero) l m n = absurd (l refl)
-number_other (suc (suc zero)) l m n = absurd (m refl)
-number_other (suc (suc (suc zero))) l m n = absurd (n refl)
-number_other (suc (suc (suc (suc b)))) l m n = refl
+kind_other zero l m n = refl
+kind_other (suc zero) l m n = absurd (l refl)
+kind_other (suc (suc zero)) l m n = absurd (m refl)
+kind_other (suc (suc (suc zero))) l m n = absurd (n refl)
+kind_other (suc (suc (suc (suc b)))) l m n = refl
 
 -- ---- the loop of `past_clear`
 
 pub without_none : (p : ℕ → Bool) (at : ℕ) → Without p at at
 without_none p at = record { none = λ j l m. absurd (omega arith) }
+
+pub without_end : (p : ℕ → Bool) (at i to : ℕ) → Without p at i → to ≤ i → Without p at to
+without_end p at i to w h = record { none = λ j l m. w.none j l (omega arith) }
 
 pub without_more : (line : List ℕ) (at i : ℕ) → Without (dollar_at line) at i → (get_or line i 0 ≡ 36 → ⊥) → Without (dollar_at line) at (i + 1)
 without_more line at i w n = record { none = λ j l m. go j l (split j i) m }

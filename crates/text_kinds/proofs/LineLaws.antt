@@ -21,6 +21,7 @@ use Rattle.marks.proofs.NextLaws.{next_shallow}
 use Rattle.text_kind.specs.Kind.{byte_kinds}
 use Rattle.text_kind.proofs.KindBytes.{bytes_tail, bytes_first}
 use Rattle.text_kinds.specs.Places.{Place, place_at}
+use Rattle.std.specs.Prelude.{Option, Some}
 use Rattle.text_kinds.specs.Reading.{column_of, IsOn, Ahead, Filled, Listed, Answered, PassedOver, LineAnswered, Without, dollar_at, ClassesIn, Tells, KindTold, PartAnswered}
 use Rattle.text_kinds.proofs.PlaceLaws.{from_line, from_next, from_trans}
 use Rattle.text_kinds.proofs.FillLaws.{filled_set}
@@ -157,17 +158,17 @@ module _ {line class : List ℕ} {number : ℕ} {list : List ℕ} {k : ℕ} {kin
     pub telling_tells : (ascii : ℕ) → Tells line class ascii 0 → Tells line class ascii clear
     telling_tells ascii w = record { room = w.room; ascii = w.ascii; clear = r.clear }
 
-    pub telling_more : (b : Bool) (kind clear' : ℕ) → Listed list kinds₀ → IsOn list to number b → b ≡ true
-        → KindTold line class (column_of list to) kind clear' → (kind ≡ 3 → ⊥)
-        → Telling line class number list k kinds₀ (to + 1) clear' (set kinds to kind)
-    telling_more b kind clear' w o t e n =
+    pub telling_more : (b : Bool) (told : Option TextKind) (found : TextKind) (kind clear' : ℕ) → Listed list kinds₀
+        → IsOn list to number b → b ≡ true → KindTold line class (column_of list to) told clear' → told ≡ Some found
+        → kind ≡ kind_number found → Telling line class number list k kinds₀ (to + 1) clear' (set kinds to kind)
+    telling_more b told found kind clear' w o t e n z' =
         let l = o.same_line t in
         record {
           part = record {
             long = length-set kinds to kind ∙ r.part.long;
             filled = λ y c f m z.
                 filled_set (r.part.filled y c f m z) (o.there t) kind
-                (rw l (m (column_of list to)) ∙ sym (e.told n y c)) (omega arith);
+                (rw l (m (column_of list to)) ∙ sym (z' ∙ e.told found n y c)) (omega arith);
             ahead = λ a. record { from = λ h. from_trans ((r.part.ahead a).from (o.there t)) (from_next list to w.order h) };
           };
           clear = e.clear;

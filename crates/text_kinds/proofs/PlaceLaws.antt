@@ -6,13 +6,14 @@ use mathlib.Core.Bool.{Bool, true, false, ◌&&◌, ◌||◌}
 use mathlib.Core.List.{List, [], ◌∷◌}
 use mathlib.Core.Logic.{◌⊎◌, inl, inr}
 use mathlib.Core.Path.{◌≡◌, refl, sym, ap, ◌∙◌}
-use borrow.Author.Tests.{lt-ltb, le-ltb, eq-eqb, ne_eqb, ltb-true, leb-true, eqb-true, eqb-false}
+use borrow.Author.Tests.{eq-eqb, ne_eqb, ltb-true, leb-true, eqb-true, eqb-false}
+use Rattle.std.specs.Prelude.{Some, None}
 use lib.Dec.{eqb, leb, ltb}
 use lib.ListN.{length, get_or, drop, length-drop}
 use lib.Seq.{drop-cons}
 use Rattle.utf8.proofs.Tests.{split, and_left, and_right}
 use Rattle.text_kinds.specs.Places.{Place, place_at, places_in, not_after, ascending}
-use Rattle.text_kinds.specs.Reading.{line_of, column_of, place_count, From, IsPlace, IsOn}
+use Rattle.text_kinds.specs.Reading.{line_of, column_of, place_count, From, EntryAt, IsPlace, IsOn}
 
 -- ---- entries by number
 
@@ -35,18 +36,6 @@ place_at_law (l ∷ c ∷ list) (suc k) d h =
     ∙ ap (λ (n : ℕ). place_at (line_of (l ∷ c ∷ list) (suc k)) (get_or (l ∷ c ∷ list) n 0)) (sym f)
 
 -- ---- order
-
-pub not_after_less : (line column l c : ℕ) → line < l → true ≡ not_after (place_at line column) (place_at l c)
-unfolding not_after
-not_after_less line column l c h = rw (lt-ltb line l h)
-
-pub not_after_same : (line column l c : ℕ) → l ≤ line → line ≡ l → leb column c ≡ not_after (place_at line column) (place_at l c)
-unfolding not_after
-not_after_same line column l c h e = rw (le-ltb line l h, eq-eqb line l e)
-
-pub not_after_other : (line column l c : ℕ) → l ≤ line → (line ≡ l → ⊥) → false ≡ not_after (place_at line column) (place_at l c)
-unfolding not_after
-not_after_other line column l c h e = rw (le-ltb line l h, ne_eqb line l e)
 
 pub not_after_from : (p q : Place) → not_after p q ≡ true → From p.line p.column q.line q.column
 unfolding not_after
@@ -103,41 +92,69 @@ from_line (inr h) n = absurd (n (sym h.0))
 never : false ≡ true → ⊥
 never e = let z : ◌≡◌ {A = ℕ} 0 1 = cc in omega arith
 
-module _ (list : List ℕ) (k line column : ℕ) where
-  pub is_place_same : k < length list / 2 → line_of list k ≡ line → IsPlace list k line column (eqb (column_of list k) column)
-  is_place_same h e =
+module _ (list : List ℕ) (k : ℕ) where
+  pub entry_there : k < length list / 2 → EntryAt list k (Some (place_at (line_of list k) (column_of list k)))
+  entry_there h =
       record {
-        there = λ _. omega (arith, count_half list);
-        same_line = λ _. e;
-        same_column = λ f. eqb-true (column_of list k) column f;
-        other = λ f _ _ g. eqb-false (column_of list k) column f g;
+        some = λ p e. let y : place_at (line_of list k) (column_of list k) ≡ p = cc in (omega (arith, count_half list), sym y);
+        none = λ e. absurd (cc);
       }
 
-  pub is_place_other : (line_of list k ≡ line → ⊥) → IsPlace list k line column false
-  is_place_other n =
-      record { there = λ e. absurd (never e); same_line = λ e. absurd (never e); same_column = λ e. absurd (never e); other = λ _ _ f _. n f }
+  pub entry_past : length list / 2 ≤ k → EntryAt list k None
+  entry_past h = record { some = λ p e. absurd (cc); none = λ e. omega (arith, count_half list) }
 
-  pub is_place_past : length list / 2 ≤ k → IsPlace list k line column false
-  is_place_past h =
-      record {
-        there = λ e. absurd (never e);
-        same_line = λ e. absurd (never e);
-        same_column = λ e. absurd (never e);
-        other = λ _ l _ _. omega (arith, count_half list);
-      }
+  module _ (p : Place) (q : EntryAt list k (Some p)) where
+    line_is : p.line ≡ line_of list k
+    line_is = ap (λ (x : Place). x.line) (q.some p refl).1
 
-module _ (list : List ℕ) (k line : ℕ) where
-  pub is_on_there : k < length list / 2 → IsOn list k line (eqb (line_of list k) line)
-  is_on_there h =
-      record {
-        there = λ _. omega (arith, count_half list);
-        same_line = λ f. eqb-true (line_of list k) line f;
-        other = λ f _ g. eqb-false (line_of list k) line f g;
-      }
+    column_is : p.column ≡ column_of list k
+    column_is = ap (λ (x : Place). x.column) (q.some p refl).1
 
-  pub is_on_past : length list / 2 ≤ k → IsOn list k line false
-  is_on_past h =
-      record { there = λ e. absurd (never e); same_line = λ e. absurd (never e); other = λ _ l _. omega (arith, count_half list) }
+    pub is_on_some : (line : ℕ) → IsOn list k line (eqb p.line line)
+    is_on_some line =
+        record {
+          there = λ f. (q.some p refl).0;
+          same_line = λ f. sym line_is ∙ eqb-true p.line line f;
+          other = λ f h e. eqb-false p.line line f (line_is ∙ e);
+        }
+
+    is_place_some : (line column : ℕ) → IsPlace list k line column (eqb p.line line && eqb p.column column)
+    is_place_some line column =
+        record {
+          there = λ f. (q.some p refl).0;
+          same_line = λ f. sym line_is ∙ eqb-true p.line line (and_left (eqb p.line line) (eqb p.column column) f);
+          same_column = λ f. sym column_is ∙ eqb-true p.column column (and_right (eqb p.line line) (eqb p.column column) f);
+          other = λ f h e d.
+              let x : eqb p.line line ≡ true = eq-eqb p.line line (line_is ∙ e) in
+              let y : eqb p.column column ≡ true = eq-eqb p.column column (column_is ∙ d) in
+              never (sym f ∙ rw (x, y));
+        }
+
+    pub is_place_same : (line column : ℕ) → p.line ≡ line → IsPlace list k line column (eqb p.column column)
+    is_place_same line column e = rw (eq-eqb p.line line e) at (is_place_some line column)
+
+    pub is_place_other : (line column : ℕ) → (p.line ≡ line → ⊥) → IsPlace list k line column (eqb p.line line)
+    is_place_other line column n =
+        let z : (eqb p.line line && eqb p.column column) ≡ eqb p.line line = rw (ne_eqb p.line line n) refl in
+        rw z at (is_place_some line column)
+
+  module _ (q : EntryAt list k None) where
+    pub is_on_none : (line : ℕ) → IsOn list k line false
+    is_on_none line =
+        record {
+          there = λ e. absurd (never e);
+          same_line = λ e. absurd (never e);
+          other = λ _ l _. let m = q.none refl in omega arith;
+        }
+
+    pub is_place_none : (line column : ℕ) → IsPlace list k line column false
+    is_place_none line column =
+        record {
+          there = λ e. absurd (never e);
+          same_line = λ e. absurd (never e);
+          same_column = λ e. absurd (never e);
+          other = λ _ l _ _. let m = q.none refl in omega arith;
+        }
 
 -- ---- the loop of `is_ascending`: the places from entry k - 1 on are still to be compared
 

@@ -1,17 +1,13 @@
 -- text_kinds: the text kinds of a list of places, how many lines are classified for it, and the refusals.
-use Rattle.std.specs.Prelude.{ℕ, suc, min, max, Bool, true, ◌&&◌, ◌||◌, List, [], ◌∷◌, ◌++◌, map, eqb, leb, ltb, length, replicate}
+use Rattle.std.specs.Prelude.{ℕ, suc, min, max, Bool, true, ◌&&◌, ◌||◌, List, [], ◌∷◌, ◌++◌, map, eqb, leb, ltb, length, replicate, Result, Ok, Err}
 use Rattle.utf8.specs.Unicode.{decode}
 use Rattle.rules.specs.Basics.{pieces, split_on}
-use Rattle.rules.specs.Refusals.{number_of, place_of, tested, unordered, short_kinds}
+use Rattle.rules.specs.Refusals.{Verdict, number_of, place_of, tested, unordered, short_kinds}
 use Rattle.rules.specs.Call.{filled}
 use Rattle.rules.specs.TextKind.{rust_lines, kind_tests, text_kind_at, kind_number}
-use Rattle.rules.specs.declared.Verdict.{Verdict}
+use Rattle.rules.specs.declared.Refusal.{Refusal}
 use Rattle.text_kinds.specs.declared.Kinds.{Kinds}
-
--- a line and a character column, both from 0
-pub record Place : Type 0 where
-  pub line : ℕ
-  pub column : ℕ
+pub use Rattle.text_kinds.specs.declared.Place.{Place}
 
 abbrev pub place_at : ℕ → ℕ → Place
 place_at line column = record { line = line; column = column }
@@ -52,15 +48,20 @@ list_tests list room = unordered (ascending (places_in list)) ∷ short_kinds (l
 unfoldable pub kinds_verdict : List ℕ → List ℕ → ℕ → ℕ → Verdict
 kinds_verdict source list room scratch = tested (kind_tests source scratch ++ list_tests list room)
 
+-- what the call comes to: how many lines were classified, or a refusal
+abbrev pub kinds_after : Verdict → ℕ → Result ℕ Refusal
+kinds_after (Ok _) lines = Ok lines
+kinds_after (Err r) lines = Err r
+
 -- refused, every other field is 0
-abbrev pub kinds_answer : Verdict → ℕ → Kinds
-kinds_answer Verdict.Accepted lines = record { refusal = 0; place = 0; lines_classified = lines }
-kinds_answer (Verdict.Refused r) lines = record { refusal = number_of r; place = place_of r; lines_classified = 0 }
+abbrev pub kinds_answer : Result ℕ Refusal → Kinds
+kinds_answer (Ok lines) = record { refusal = 0; place = 0; lines_classified = lines }
+kinds_answer (Err r) = record { refusal = number_of r; place = place_of r; lines_classified = 0 }
 
 -- a byte for each place, zeros after the last; refused, all zeros
 abbrev pub kinds_left : Verdict → ℕ → List ℕ → List ℕ
-kinds_left Verdict.Accepted room kinds = filled room kinds
-kinds_left (Verdict.Refused r) room kinds = replicate room 0
+kinds_left (Ok _) room kinds = filled room kinds
+kinds_left (Err r) room kinds = replicate room 0
 
 unfoldable pub kinds_of : List ℕ → List ℕ → List ℕ
 kinds_of source list = map (kind_of_place (decode source)) (places_in list)

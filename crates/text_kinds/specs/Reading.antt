@@ -1,11 +1,10 @@
 -- How far a list of places is answered, and what each step of the reading does.
-use Rattle.std.specs.Prelude.{ℕ, suc, ◌+◌, ◌-◌, ◌*◌, ◌≤◌, ◌<◌, ◌^◌, Bool, true, false, List, map, ◌⊎◌, ◌≡◌, eqb, length, get_or, take, drop, replicate}
+use Rattle.std.specs.Prelude.{ℕ, suc, ◌+◌, ◌-◌, ◌*◌, ◌≤◌, ◌<◌, ◌^◌, Bool, true, false, List, map, ◌⊎◌, ◌≡◌, eqb, length, get_or, take, drop, replicate, Option, Some, None, Result}
 use Rattle.rules.specs.declared.Carry.{Carry}
 use Rattle.rules.specs.declared.TextKind.{TextKind}
 use Rattle.rules.specs.Scan.{begin, classify}
 use Rattle.rules.specs.ClassBytes.{class_of, class_bytes}
 use Rattle.rules.specs.Basics.{pieces, split_on}
-use Rattle.rules.specs.Refusals.{number_of, place_of}
 use Rattle.rules.specs.Call.{filled}
 use Rattle.rules.specs.declared.Refusal.{Refusal}
 use Rattle.rules.specs.TextKind.{rust_lines, text_kind_at, class_kind, kind_number}
@@ -14,7 +13,7 @@ use Rattle.utf8.specs.Unicode.{decode}
 use Rattle.utf8.specs.Places.{high_at}
 use Rattle.text_kind.specs.Kind.{byte_kinds, kind_from}
 use Rattle.text_kinds.specs.Places.{Place, place_at, places_in, ascending, kind_of_place, lines_asked, lines_classified}
-use Rattle.text_kinds.specs.Places.{kinds_verdict, kinds_answer, kinds_left, kinds_of}
+use Rattle.text_kinds.specs.Places.{kinds_verdict, kinds_after, kinds_answer, kinds_left, kinds_of}
 use Rattle.text_kinds.specs.declared.Progress.{Progress}
 use Rattle.text_kinds.specs.declared.Kinds.{Kinds}
 
@@ -27,6 +26,11 @@ column_of list k = get_or list (2 * k + 1) 0
 
 abbrev pub place_count : List ℕ → ℕ
 place_count list = length (places_in list)
+
+-- entry k of the list, or None past its last
+pub record EntryAt (list : List ℕ) (k : ℕ) (r : Option Place) : Type 0 where
+  pub some : (p : Place) → r ≡ Some p → (k < place_count list) × (p ≡ place_at (line_of list k) (column_of list k))
+  pub none : r ≡ None → place_count list ≤ k
 
 -- r tells whether entry k is this place
 pub record IsPlace (list : List ℕ) (k line column : ℕ) (r : Bool) : Type 0 where
@@ -108,9 +112,9 @@ dollar_at s i = eqb (get_or s i 0) 36
 pub record ClassesIn (y : Carry) (line class : List ℕ) : Type 0 where
   pub bytes : take (length line) class ≡ class_bytes (classify y line)
 
--- the number of the kind that a class byte stands for outside `${..}`
-abbrev pub class_number : ℕ → ℕ
-class_number b = kind_number (class_kind (class_of b) false)
+-- the kind that a class byte stands for outside `${..}`
+abbrev pub kind_of_class : ℕ → TextKind
+kind_of_class b = class_kind (class_of b) false
 
 -- what is known of a line with its class bytes: the first a bytes are ASCII, and the first d are no `$`
 pub record Tells (line class : List ℕ) (a d : ℕ) : Type 0 where
@@ -118,9 +122,10 @@ pub record Tells (line class : List ℕ) (a d : ℕ) : Type 0 where
   pub ascii : Without (high_at line) 0 a
   pub clear : Without (dollar_at line) 0 d
 
--- `kind` is the kind at a column, or 3; the line's first d bytes are no `$`
-pub record KindTold (line class : List ℕ) (column kind d : ℕ) : Type 0 where
-  pub told : (kind ≡ 3 → ⊥) → (y : Carry) → ClassesIn y line class → kind ≡ kind_number_at y line column
+-- `kind` is the kind at a column, or None; the line's first d bytes are no `$`
+pub record KindTold (line class : List ℕ) (column : ℕ) (kind : Option TextKind) (d : ℕ) : Type 0 where
+  pub told : (k : TextKind) → kind ≡ Some k → (y : Carry) → ClassesIn y line class
+      → kind_number k ≡ kind_number_at y line column
   pub clear : Without (dollar_at line) 0 d
 
 -- the places of a line from entry k up to `next` are answered, if the buffer has the line's class bytes
@@ -153,12 +158,12 @@ pub record KindsFound (source list : List ℕ) (n r : ℕ) (kinds : List ℕ) : 
   pub lines : r ≡ lines_classified (decode source) (places_in list)
   pub answers : kinds ≡ filled n (kinds_of source list)
 
--- a refusal: n answer bytes are cleared
-pub record RefusedKinds (why : Refusal) (n : ℕ) (r : Kinds) (kinds : List ℕ) : Type 0 where
-  pub answer : r ≡ record { refusal = number_of why; place = place_of why; lines_classified = 0 }
-  pub zeros : kinds ≡ replicate n 0
+-- the outcome r, and the answer bytes
+pub record KindsRan (source list : List ℕ) (room scratch : ℕ) (r : Result ℕ Refusal) (kinds : List ℕ) : Type 0 where
+  pub outcome : r ≡ kinds_after (kinds_verdict source list room scratch) (lines_classified (decode source) (places_in list))
+  pub answers : kinds ≡ kinds_left (kinds_verdict source list room scratch) room (kinds_of source list)
 
 -- the answer r, and the answer bytes
 pub record KindsGiven (source list : List ℕ) (room scratch : ℕ) (r : Kinds) (kinds : List ℕ) : Type 0 where
-  pub answer : r ≡ kinds_answer (kinds_verdict source list room scratch) (lines_classified (decode source) (places_in list))
+  pub answer : r ≡ kinds_answer (kinds_after (kinds_verdict source list room scratch) (lines_classified (decode source) (places_in list)))
   pub answers : kinds ≡ kinds_left (kinds_verdict source list room scratch) room (kinds_of source list)

@@ -3,17 +3,15 @@
 
 ghost use Rattle.std.specs.Prelude.{◌≡◌, true, ◌<◌, ◌≤◌, length};
 ghost use Rattle.utf8.specs.Places.{high_at};
-ghost use Rattle.rules.specs.TextKind.{kind_number};
-ghost use Rattle.text_kinds.specs.Places.{place_at, places_in, not_after, ascending, list_tests, kinds_verdict};
-ghost use Rattle.text_kinds.specs.Reading.{IsPlace, IsOn, Listed, Answered, PassedOver, Ahead, Shallow, Without};
-ghost use Rattle.text_kinds.specs.Reading.{dollar_at, class_number, ClassesIn, Tells, KindTold, PartAnswered};
-ghost use Rattle.text_kinds.specs.Reading.{LineAnswered, place_count, Read, KindsFound, RefusedKinds, KindsGiven};
+ghost use Rattle.text_kinds.specs.Places.{places_in, not_after, ascending, list_tests, kinds_verdict, kinds_answer};
+ghost use Rattle.text_kinds.specs.Reading.{EntryAt, IsPlace, IsOn, Listed, Answered, PassedOver, Ahead, Shallow, Without};
+ghost use Rattle.text_kinds.specs.Reading.{dollar_at, kind_of_class, ClassesIn, Tells, KindTold, PartAnswered};
+ghost use Rattle.text_kinds.specs.Reading.{LineAnswered, place_count, Read, KindsFound, KindsRan, KindsGiven};
 ghost use Rattle.rules.specs.Refusals.{tested};
 ghost use Rattle.text_kind.specs.Kind.{SourceFits};
 
-use answer::{number_of, place_of};
 use line_ends::line_end;
-use rules::{Carry, Refusal, TextKind, Verdict};
+use rules::{Carry, Refusal, TextKind};
 use text_kind::{class_kind, in_interpolation, line_at};
 
 // What a host is told.
@@ -23,6 +21,25 @@ pub struct Kinds {
     pub refusal: u64,
     pub place: u64,
     pub lines_classified: u64,
+}
+
+impl From<Result<u64, Refusal>> for Kinds {
+    ghost from_gives = { λ o k. k ≡ kinds_answer o };
+
+    fn from(outcome: Result<u64, Refusal>) -> Kinds {
+        match outcome {
+            Ok(lines_classified) => Kinds {
+                refusal: 0,
+                place: 0,
+                lines_classified,
+            },
+            Err(why) => Kinds {
+                refusal: why.number(),
+                place: why.place(),
+                lines_classified: 0,
+            },
+        }
+    }
 }
 
 // How far a source is read: where the next line starts, how many lines stand before it, what is open there, the first
@@ -36,78 +53,80 @@ pub struct Progress {
     pub ascii: usize,
 }
 
-// A kind that class bytes don't tell.
-const UNTOLD: u8 = 3;
+// A line and a character column, both from 0.
+#[derive(Clone, Copy)]
+pub struct Place {
+    pub line: u64,
+    pub column: u64,
+}
 
-// The kind at a place, or UNTOLD, and how many bytes at the line's front are known to be no `$`.
+// The kind at a place, if the class bytes tell it, and how many bytes at the line's front are known to be no `$`.
 #[derive(Clone, Copy)]
 struct Told {
-    kind: u8,
+    kind: Option<TextKind>,
     clear: usize,
 }
 
 // Whether the first place is not after the second.
-fn not_after(line: u64, column: u64, l: u64, c: u64) -> bool
-    ensures { result ≡ not_after (place_at line column) (place_at l c) }
+#[tactic(auto, unfolding(crate::specs::Places::not_after))]
+fn not_after(p: Place, q: Place) -> bool
+    ensures { result ≡ not_after p q }
 {
-    if line < l {
-        return true;
-    }
-    if line == l {
-        return column <= c;
-    }
-    false
+    p.line < q.line || (p.line == q.line && p.column <= q.column)
 }
 
 // Whether the list is in order: no place is before the one in front of it.
 fn is_ascending(places: &[u64]) -> bool
     ensures { result ≡ ascending (places_in places.now) }
 {
-    let n = places.len() / 2;
-    let mut k = 1;
-    while k < n {
+    for k in 1..places.len() / 2 {
         let i = 2 * k;
-        if not_after(places[i - 2], places[i - 1], places[i], places[i + 1]) {
-            k += 1;
-        } else {
+        let before = Place {
+            line: places[i - 2],
+            column: places[i - 1],
+        };
+        let here = Place {
+            line: places[i],
+            column: places[i + 1],
+        };
+        if !not_after(before, here) {
             return false;
         }
     }
     true
 }
 
+// Entry k of the list, if there is one.
+fn entry(places: &[u64], k: usize) -> Option<Place>
+    ensures { EntryAt places.now k result }
+{
+    if k < places.len() / 2 {
+        Some(Place {
+            line: places[2 * k],
+            column: places[2 * k + 1],
+        })
+    } else {
+        None
+    }
+}
+
 // Whether entry k is this place.
 fn is_place(places: &[u64], k: usize, line: u64, column: u64) -> bool
     ensures { IsPlace places.now k line column result }
 {
-    if k < places.len() / 2 {
-        let i = 2 * k;
-        if places[i] == line {
-            return places[i + 1] == column;
-        }
-        return false;
+    match entry(places, k) {
+        Some(p) => p.line == line && p.column == column,
+        None => false,
     }
-    false
 }
 
 // Whether entry k is on this line.
 fn is_on(places: &[u64], k: usize, line: u64) -> bool
     ensures { IsOn places.now k line result }
 {
-    if k < places.len() / 2 {
-        let i = 2 * k;
-        return places[i] == line;
-    }
-    false
-}
-
-fn kind_byte(k: TextKind) -> u8
-    ensures { result ≡ kind_number k }
-{
-    match k {
-        TextKind::Code => 0,
-        TextKind::Str => 1,
-        TextKind::Comment => 2,
+    match entry(places, k) {
+        Some(p) => p.line == line,
+        None => false,
     }
 }
 
@@ -124,6 +143,7 @@ fn answer_place(
     ensures { Answered places.now line column kind k kinds.old result kinds.new }
 {
     let mut next = k;
+    // kept: a range is no plainer, since the loop ends at the first entry of another place
     while is_place(places, next, line, column) {
         kinds[next] = kind;
         next += 1;
@@ -137,6 +157,7 @@ fn pass_line(places: &[u64], k: usize, line: u64) -> usize
     ensures { PassedOver places.now line k result }
 {
     let mut next = k;
+    // kept: a range is no plainer, since the loop ends at the first entry of another line
     while is_on(places, next, line) {
         next += 1;
     }
@@ -161,23 +182,18 @@ fn kinds_in_line(
     let mut t = marks::begin(carry);
     let mut next = k;
     let mut column = 0;
-    let mut i = 0;
-    while i < line.len() {
+    for i in 0..line.len() {
         let before = t.mode;
         t = marks::next_mark(&line[i..], t);
         if utf8::is_tail(line[i]) {
-            i += 1;
             continue;
         }
-        let class = t.class;
-        let kind = kind_byte(class_kind(class, in_interpolation(before)));
+        let kind = class_kind(t.class, in_interpolation(before)).number();
         next = answer_place(places, next, number, column, kind, kinds);
-        if is_on(places, next, number) {
-            column += 1;
-            i += 1;
-            continue;
+        if !is_on(places, next, number) {
+            return next;
         }
-        return next;
+        column += 1;
     }
     pass_line(places, next, number)
 }
@@ -187,30 +203,24 @@ fn past_clear(line: &[u8], at: usize, to: usize) -> usize
     requires { to ≤ length line.now }
     ensures { Without (dollar_at line.now) at result }
 {
-    let mut i = at;
-    while i < to {
+    for i in at..to {
         if line[i] == b'$' {
             return i;
         }
-        i += 1;
     }
-    i
+    to
 }
 
-// The number of the kind that a class byte stands for outside `${..}`.
-fn class_number(class: u8) -> u8
-    ensures { result ≡ class_number class }
+// The kind that a class byte stands for outside `${..}`.
+#[tactic(auto, unfolding(rules::specs::TextKind::class_kind, rules::specs::Basics::choose))]
+fn kind_of_class(class: u8) -> TextKind
+    ensures { result ≡ kind_of_class class }
 {
-    if class == scan::STR {
-        return 1;
+    match class {
+        scan::STR => TextKind::Str,
+        scan::LINE_COMMENT | scan::BLOCK_COMMENT => TextKind::Comment,
+        _ => TextKind::Code,
     }
-    if class == scan::LINE_COMMENT {
-        return 2;
-    }
-    if class == scan::BLOCK_COMMENT {
-        return 2;
-    }
-    0
 }
 
 // The kind at a column of a line whose first `ascii` bytes are ASCII and whose first `clear` are no `$`, by the class
@@ -220,32 +230,32 @@ fn told_kind(line: &[u8], class: &[u8], ascii: usize, clear: usize, column: u64)
     ensures { KindTold line.now class.now column result.kind result.clear }
 {
     if line.len() as u64 <= column {
-        return Told { kind: 0, clear };
-    }
-    let i = column as usize;
-    if ascii <= i {
         return Told {
-            kind: UNTOLD,
+            kind: Some(TextKind::Code),
             clear,
         };
     }
-    let k = class[i];
-    if k == scan::STR {
-        let past = past_clear(line, clear, i);
-        if past < i {
-            return Told {
-                kind: UNTOLD,
-                clear: past,
-            };
-        }
+    let i = column as usize;
+    if ascii <= i {
+        return Told { kind: None, clear };
+    }
+    if class[i] != scan::STR {
         return Told {
-            kind: 1,
-            clear: past,
+            kind: Some(kind_of_class(class[i])),
+            clear,
         };
     }
-    Told {
-        kind: class_number(k),
-        clear,
+    let past = past_clear(line, clear, i);
+    if past < i {
+        Told {
+            kind: None,
+            clear: past,
+        }
+    } else {
+        Told {
+            kind: Some(TextKind::Str),
+            clear: past,
+        }
     }
 }
 
@@ -267,13 +277,14 @@ fn kinds_by_class(
 {
     let mut next = k;
     let mut clear = 0;
+    // kept: a range is no plainer, since the loop ends at the first entry of another line
     while is_on(places, next, number) {
         let told = told_kind(line, class, ascii, clear, places[2 * next + 1]);
-        if told.kind == UNTOLD {
+        let Some(kind) = told.kind else {
             return next;
-        }
+        };
         clear = told.clear;
-        kinds[next] = told.kind;
+        kinds[next] = kind.number();
         next += 1;
     }
     next
@@ -305,13 +316,12 @@ fn answer_line(
     ensures { LineAnswered line.now b.carry b.number places.now k
         kinds.old result kinds.new }
 {
-    let number = b.number;
-    let carry = b.carry;
-    let next = kinds_by_class(line, class, b.ascii, number, places, k, kinds);
-    if is_on(places, next, number) {
-        return kinds_in_line(line, carry, number, places, next, kinds);
+    let next = kinds_by_class(line, class, b.ascii, b.number, places, k, kinds);
+    if is_on(places, next, b.number) {
+        kinds_in_line(line, b.carry, b.number, places, next, kinds)
+    } else {
+        next
     }
-    next
 }
 
 // Up to where a source is ASCII from `at` on: `ascii`, or, if that is before `end`, as far as a search finds.
@@ -321,9 +331,10 @@ fn ascii_to(source: &[u8], at: usize, end: usize, ascii: usize) -> usize
     ensures { Without (high_at source.now) at result × (at ≤ result) }
 {
     if end <= ascii {
-        return ascii;
+        ascii
+    } else {
+        utf8::past_blocks(source, at)
     }
-    utf8::past_blocks(source, at)
 }
 
 // One line more. A line that no place is on is only read for what it leaves open.
@@ -340,35 +351,29 @@ fn read_line(
     requires at_in_bounds { (p.at < length source.now) × (p.next < place_count places.now) }
     ensures { Read source.now places.now kinds.new result × (p.at < result.at) }
 {
-    let at = p.at;
-    let lines = p.lines;
-    let carry = p.carry;
-    let next = p.next;
-    let end = line_end(source, at);
-    let line = line_at(source, at, end);
-    let after = scan::classify(line, carry, scratch);
-    if is_on(places, next, lines) {
-        let ascii = ascii_to(source, at, end, p.ascii);
-        let b = Before {
-            number: lines,
-            carry,
-            ascii: ascii - at,
-        };
-        let to = answer_line(line, scratch, b, places, next, kinds);
-        return Progress {
-            at: end + 1,
-            lines: lines + 1,
-            carry: after,
-            next: to,
-            ascii,
-        };
-    }
-    Progress {
+    let end = line_end(source, p.at);
+    let line = line_at(source, p.at, end);
+    let after = scan::classify(line, p.carry, scratch);
+    let read = Progress {
         at: end + 1,
-        lines: lines + 1,
+        lines: p.lines + 1,
         carry: after,
+        ..p
+    };
+    if !is_on(places, p.next, p.lines) {
+        return read;
+    }
+    let ascii = ascii_to(source, p.at, end, p.ascii);
+    let before = Before {
+        number: p.lines,
+        carry: p.carry,
+        ascii: ascii - p.at,
+    };
+    let next = answer_line(line, scratch, before, places, p.next, kinds);
+    Progress {
         next,
-        ascii: p.ascii,
+        ascii,
+        ..read
     }
 }
 
@@ -388,61 +393,57 @@ pub fn text_kinds(source: &[u8], places: &[u64], kinds: &mut [u8], scratch: &mut
         next: 0,
         ascii: 0,
     };
-    while p.at < source.len() {
-        if n <= p.next {
-            return p.lines;
-        }
+    // kept: a range is no plainer, since a step takes a line, however long
+    while p.at < source.len() && p.next < n {
         p = read_line(source, places, kinds, scratch, p);
     }
     p.lines
 }
 
 // Refusals 9 and 10.
-fn test_list(places: &[u64], room: usize) -> Verdict
+#[tactic(auto, using(crate::proofs::PlaceLaws::count_half))]
+fn test_list(places: &[u64], room: usize) -> Result<(), Refusal>
     ensures { result ≡ tested (list_tests places.now room) }
 {
-    if is_ascending(places) {
-        if room < places.len() / 2 {
-            return Verdict::Refused(Refusal::KindsShort);
-        }
-        return Verdict::Accepted;
+    if !is_ascending(places) {
+        return Err(Refusal::PlacesUnordered);
     }
-    Verdict::Refused(Refusal::PlacesUnordered)
+    if room < places.len() / 2 {
+        return Err(Refusal::KindsShort);
+    }
+    Ok(())
 }
 
 // Refusals 1, 3 and 4, then 9 and 10.
-fn test(source: &[u8], places: &[u64], room: usize, scratch: usize) -> Verdict
+fn test(source: &[u8], places: &[u64], room: usize, scratch: usize) -> Result<(), Refusal>
     ensures { result ≡ kinds_verdict source.now places.now room scratch }
 {
-    match text_kind::test(source, scratch) {
-        Verdict::Refused(why) => Verdict::Refused(why),
-        Verdict::Accepted => test_list(places, room),
-    }
+    text_kind::test(source, scratch)?;
+    test_list(places, room)
 }
 
-// A refused call.
-fn refuse(kinds: &mut [u8], why: Refusal) -> Kinds
-    ensures { RefusedKinds why (length kinds.old) result kinds.new }
+// The kinds of all places and the number of lines classified, or the first refusal that applies and no kinds.
+fn run_kinds(
+    source: &[u8],
+    places: &[u64],
+    kinds: &mut [u8],
+    scratch: &mut [u8],
+) -> Result<u64, Refusal>
+    ensures { KindsRan source.now places.now (length kinds.old) (length scratch.old) result kinds.new }
 {
-    buffer::zero(kinds);
-    Kinds {
-        refusal: number_of(why),
-        place: place_of(why),
-        lines_classified: 0,
+    match test(source, places, kinds.len(), scratch.len()) {
+        Err(why) => {
+            buffer::zero(kinds);
+            Err(why)
+        },
+        Ok(()) => Ok(text_kinds(source, places, kinds, scratch)),
     }
 }
 
-// The kinds of all places, or the first refusal that applies.
+// The same in numbers.
 pub fn answer(source: &[u8], places: &[u64], kinds: &mut [u8], scratch: &mut [u8]) -> Kinds
     ensures { KindsGiven source.now places.now (length kinds.old)
         (length scratch.old) result kinds.new }
 {
-    match test(source, places, kinds.len(), scratch.len()) {
-        Verdict::Refused(why) => refuse(kinds, why),
-        Verdict::Accepted => Kinds {
-            refusal: 0,
-            place: 0,
-            lines_classified: text_kinds(source, places, kinds, scratch),
-        },
-    }
+    run_kinds(source, places, kinds, scratch).into()
 }

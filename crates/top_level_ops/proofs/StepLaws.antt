@@ -2,12 +2,13 @@
 use Prim.Native.Nat.{ℕ, zero, suc, ◌+◌, ◌-◌, ◌≤◌, ◌<◌}
 use mathlib.Core.Bool.{Bool, true, false, not, ◌&&◌, ◌||◌, and-true, and-false}
 use mathlib.Core.List.{List, [], ◌∷◌}
+use Rattle.std.specs.Prelude.{Option}
 use mathlib.Core.Path.{◌≡◌, refl, sym, ap, ◌∙◌}
 use native.Mathlib.Omega.{arith}
 use native.Mathlib.Numerals.{add-one}
 use lib.Dec.{eqb, ltb}
 use lib.ListN.{length, get_or, take, drop, length-drop}
-use borrow.Author.Tests.{ne_eqb, eq-eqb, eqb-true, le-ltb, lt-ltb}
+use borrow.Author.Tests.{ne_eqb, eq-eqb, eqb-true, lt-ltb}
 use Rattle.rules.specs.Basics.{choose, is, codes, at, same, starts_with, first_is}
 use Rattle.rules.specs.ClassBytes.{class_of}
 use Rattle.rules.specs.Scan.{Cell, is_str}
@@ -21,14 +22,15 @@ use Rattle.rules.proofs.Leading.{Passing, passing_start, passing_more, passing_s
 use Rattle.utf8.specs.Unicode.{tail}
 use Rattle.utf8.proofs.Tests.{by_test, and_left}
 use Rattle.buffer.proofs.RegionLaws.{part_from}
-use Rattle.operators.proofs.OperatorLaws.{strength_index, one_of_index, is_operator, no_operator}
+use Rattle.operators.specs.Places.{place_of}
+use Rattle.operators.specs.declared.Operator.{Operator}
+use Rattle.operators.proofs.OperatorLaws.{strength_index, one_of_index, place_below, is_operator, no_operator}
 use Rattle.top_level_ops.specs.Steps.{AtomLen, AtomAt, sign_step, token_step, step_with, ops_of, step_or, passed_in, bracket_in, code_or, fresh_or, skip_or, byte_or}
 use Rattle.top_level_ops.specs.declared.OpState.{OpState}
-use Rattle.top_level_ops.specs.declared.PlainStep.{PlainStep}
 
 -- ---- an operator of two characters at the head of l, by the place that was found
 
-abbrev Two : List ℕ → ℕ → Type 0
+abbrev pub Two : List ℕ → ℕ → Type 0
 Two l k = k ≡ choose (eqb (length (take 2 l)) 2) (index_in operators (take 2 l)) 21
 
 two_cases : (l : List ℕ) (k : ℕ) → Two l k → (starts_pair l ≡ ltb k 21) × (k < 21 → k ≡ index_in operators (take 2 l))
@@ -50,12 +52,12 @@ two_long [] k h e = absurd (omega arith)
 two_long (a ∷ []) k h e = absurd (omega arith)
 two_long (a ∷ b ∷ l) k h e = e
 
-module _ (x y z : OpStep) (l : List ℕ) (k : ℕ) (e : Two l k) where
-  pub pick_two : k < 21 → x ≡ y → x ≡ choose (starts_pair l) y z
-  pick_two h f = f ∙ sym (choose_true (starts_pair l) y z ((two_cases l k e).0 ∙ lt-ltb k 21 h))
+module _ (l : List ℕ) where
+  pub pick_two : (o : Operator) → Two l (place_of o) → (x y z : OpStep) → x ≡ y → x ≡ choose (starts_pair l) y z
+  pick_two o e x y z f = f ∙ sym (choose_true (starts_pair l) y z ((two_cases l (place_of o) e).0 ∙ lt-ltb (place_of o) 21 (place_below o)))
 
-  pub pick_one : 21 ≤ k → x ≡ z → x ≡ choose (starts_pair l) y z
-  pick_one h f = f ∙ sym (choose_false (starts_pair l) y z ((two_cases l k e).0 ∙ le-ltb k 21 h))
+  pub pick_one : Two l 21 → (x y z : OpStep) → x ≡ z → x ≡ choose (starts_pair l) y z
+  pick_one e x y z f = f ∙ sym (choose_false (starts_pair l) y z (two_cases l 21 e).0)
 
 -- `<<=` and `>>=`
 factor : (p q r s e : Bool) → (p && (q && (e && true))) || (r && (s && (e && true))) ≡ ((p && (q && true)) || (r && (s && true))) && e
@@ -77,21 +79,21 @@ module _ (table : List ℕ) (s : Ops) (l : List ℕ) (x : OpStep) where
   unfolding two_char_step
   two_token r p q f = f ∙ sym (choose_true _ _ _ (sym (shift_assign l) ∙ sym p ∙ q))
 
-  pub two_operator : (r : Bool) (k n : ℕ) → r ≡ (at l "<<=" || at l ">>=") → r ≡ false → Two l k → k < 21 → n ≡ get_or table k 0 → x ≡ operator s n 1
-      → x ≡ two_char_step table s (take 2 l) (drop 2 l)
-  unfolding two_char_step
-  two_operator r k n p q e h g f =
-      f ∙ ap (λ (m : ℕ). operator s m 1) (g ∙ strength_index table (take 2 l) k ((two_cases l k e).1 h))
-      ∙ sym (choose_false _ _ _ (sym (shift_assign l) ∙ sym p ∙ q))
+pub two_operator : (table : List ℕ) (s : Ops) (l : List ℕ) (o : Operator) → Two l (place_of o) → (x : OpStep) (r : Bool) (n : ℕ) → r ≡ (at l "<<=" || at l ">>=") → r ≡ false → n ≡ get_or table (place_of o) 0
+    → x ≡ operator s n 1 → x ≡ two_char_step table s (take 2 l) (drop 2 l)
+unfolding two_char_step
+two_operator table s l o e x r n p q g f =
+    f ∙ ap (λ (m : ℕ). operator s m 1) (g ∙ strength_index table (take 2 l) (place_of o) ((two_cases l (place_of o) e).1 (place_below o)))
+    ∙ sym (choose_false _ _ _ (sym (shift_assign l) ∙ sym p ∙ q))
 
 -- ---- an operator of one character
 
-module _ (table : List ℕ) (s : Ops) (l : List ℕ) (x : OpStep) (k : ℕ) (e : k ≡ index_in operators (get_or l 0 0 ∷ [])) where
-  pub one_token : (b : Bool) → 21 ≤ k → b ≡ ends_operand (get_or l 0 0) → x ≡ token s b 0 → x ≡ one_char_step table s (get_or l 0 0) (drop 1 l)
+module _ (table : List ℕ) (s : Ops) (l : List ℕ) (x : OpStep) where
+  pub one_token : (b : Bool) → 21 ≡ index_in operators (get_or l 0 0 ∷ []) → b ≡ ends_operand (get_or l 0 0) → x ≡ token s b 0 → x ≡ one_char_step table s (get_or l 0 0) (drop 1 l)
   unfolding one_char_step
-  one_token b h g f =
+  one_token b e g f =
       f ∙ ap (λ (v : Bool). token s v 0) g
-      ∙ sym (choose_true _ _ _ (ap not (no_operator (get_or l 0 0 ∷ []) k e h)))
+      ∙ sym (choose_true _ _ _ (ap not (no_operator (get_or l 0 0 ∷ []) e)))
 
   abbrev signed : OpStep
   signed =
@@ -99,12 +101,12 @@ module _ (table : List ℕ) (s : Ops) (l : List ℕ) (x : OpStep) (k : ℕ) (e :
       (choose (is_sign (get_or l 0 0) && not s.operand) (token s false 0)
       (operator s (precedence table (get_or l 0 0 ∷ [])) 0))
 
-  pub one_operator : k < 21 → x ≡ signed → x ≡ one_char_step table s (get_or l 0 0) (drop 1 l)
+  pub one_operator : (o : Operator) → place_of o ≡ index_in operators (get_or l 0 0 ∷ []) → x ≡ signed → x ≡ one_char_step table s (get_or l 0 0) (drop 1 l)
   unfolding one_char_step
-  one_operator h f = f ∙ sym (choose_false _ _ _ (ap not (is_operator (get_or l 0 0 ∷ []) k e h)))
+  one_operator o e f = f ∙ sym (choose_false _ _ _ (ap not (is_operator (get_or l 0 0 ∷ []) o e)))
 
-pub operator_strength : (table : List ℕ) (s : Ops) (w : List ℕ) (x : OpStep) (k n m : ℕ) → k ≡ index_in operators w → k < 21 → n ≡ get_or table k 0 → x ≡ operator s n m → x ≡ operator s (precedence table w) m
-operator_strength table s w x k n m e h g f = f ∙ ap (λ (i : ℕ). operator s i m) (g ∙ strength_index table w k e)
+pub operator_strength : (table : List ℕ) (s : Ops) (w : List ℕ) (x : OpStep) (k n m : ℕ) → k ≡ index_in operators w → n ≡ get_or table k 0 → x ≡ operator s n m → x ≡ operator s (precedence table w) m
+operator_strength table s w x k n m e g f = f ∙ ap (λ (i : ℕ). operator s i m) (g ∙ strength_index table w k e)
 
 pub assign_short : (l : List ℕ) → length l < 2 → false ≡ first_is (is "=") (drop 1 l)
 unfolding first_is
@@ -198,20 +200,20 @@ pub closes : (x : OpStep) (m n c : ℕ) (b : Bool) → b ≡ ends_operand c → 
 closes x m n c b g e = rw (← g, ← add-one n) e
 
 -- the steps as the code gives them
-module _ (r : PlainStep) (s : OpState) (t : OpStep) where
-  pub passed_token : (operand : Bool) (n : ℕ) → r ≡ passed_in s operand false n → step_or r.token t r.after ≡ token (ops_of s) operand n
+module _ (r : Option OpState) (s : OpState) (t : OpStep) where
+  pub passed_token : (operand : Bool) (n : ℕ) → r ≡ passed_in s operand false n → step_or t r ≡ token (ops_of s) operand n
   unfolding token
   passed_token operand n e = rw e
 
-  pub passed_escape : (esc : Bool) → r ≡ passed_in s s.operand esc 0 → step_or r.token t r.after ≡ escape (ops_of s) esc
+  pub passed_escape : (esc : Bool) → r ≡ passed_in s s.operand esc 0 → step_or t r ≡ escape (ops_of s) esc
   unfolding escape
   passed_escape esc e = rw e
 
   pub passed_string : r ≡ passed_in s true s.esc 0
-      → step_or r.token t r.after ≡ record { strength = 0; after = record { opened = s.opened; closed = s.closed; operand = true; esc = s.esc; skip = 0 } }
+      → step_or t r ≡ record { strength = 0; after = record { opened = s.opened; closed = s.closed; operand = true; esc = s.esc; skip = 0 } }
   passed_string e = rw e
 
-pub passed_bracket : (r : PlainStep) (t : OpStep) (m n : ℕ) (operand : Bool) → r ≡ bracket_in m n operand → step_or r.token t r.after ≡ bracket m n operand
+pub passed_bracket : (r : Option OpState) (t : OpStep) (m n : ℕ) (operand : Bool) → r ≡ bracket_in m n operand → step_or t r ≡ bracket m n operand
 unfolding bracket
 passed_bracket r t m n operand e = rw e
 

@@ -1,5 +1,5 @@
 -- The state and the step of top_level_ops as the code holds them.
-use Rattle.std.specs.Prelude.{ℕ, zero, suc, ◌<◌, ◌≤◌, ◌^◌, Bool, true, false, not, ◌&&◌, ◌||◌, List, ◌≡◌, eqb, length, take, drop, get_or}
+use Rattle.std.specs.Prelude.{ℕ, zero, suc, ◌<◌, ◌≤◌, ◌^◌, Bool, true, false, not, ◌&&◌, ◌||◌, List, ◌≡◌, eqb, length, take, drop, get_or, Option, Some, None}
 use Rattle.utf8.specs.Unicode.{tail}
 use Rattle.rules.specs.Basics.{choose, is, at, is_blank, is_opener, is_closer}
 use Rattle.rules.specs.Scan.{Cell, is_str}
@@ -8,7 +8,6 @@ use Rattle.rules.specs.SplitOperation.{two_char_step, one_char_step}
 use Rattle.top_level_ops.specs.declared.OpState.{OpState}
 use Rattle.top_level_ops.specs.declared.OpFound.{OpFound}
 use Rattle.top_level_ops.specs.declared.Token.{Token}
-use Rattle.top_level_ops.specs.declared.PlainStep.{PlainStep}
 
 abbrev pub ops_of : OpState → Ops
 ops_of s = record { opened = s.opened; closed = s.closed; operand = s.operand; esc = s.esc; skip = s.skip }
@@ -52,24 +51,18 @@ step_with s t =
 
 -- ---- a byte, where t is the step of the token that may start there
 
--- t if the code says so, else no operator and the state r
-abbrev pub step_or : Bool → OpStep → OpState → OpStep
-step_or true t r = t
-step_or false t r = record { strength = 0; after = ops_of r }
+-- t if the code gives no state, else no operator and the state r
+abbrev pub step_or : OpStep → Option OpState → OpStep
+step_or t None = t
+step_or t (Some r) = record { strength = 0; after = ops_of r }
 
-abbrev pub passed_in : OpState → Bool → Bool → ℕ → PlainStep
+abbrev pub passed_in : OpState → Bool → Bool → ℕ → Option OpState
 passed_in s operand esc skip =
-    record {
-      token = false;
-      after = record { opened = s.opened; closed = s.closed; operand = operand; esc = esc; skip = skip };
-    }
+    Some (record { opened = s.opened; closed = s.closed; operand = operand; esc = esc; skip = skip })
 
-abbrev pub bracket_in : ℕ → ℕ → Bool → PlainStep
+abbrev pub bracket_in : ℕ → ℕ → Bool → Option OpState
 bracket_in opened closed operand =
-    record {
-      token = false;
-      after = record { opened = opened; closed = closed; operand = operand; esc = false; skip = 0 };
-    }
+    Some (record { opened = opened; closed = closed; operand = operand; esc = false; skip = 0 })
 
 unfoldable pub code_or : OpStep → Ops → ℕ → OpStep
 code_or t s c =

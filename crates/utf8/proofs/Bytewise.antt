@@ -14,16 +14,11 @@ use lib.ListN.{length, get_or, drop}
 use lib.Seq.{drop-cons, drop-length}
 use lib.Dec.{T}
 use Rattle.utf8.specs.Unicode.{is_scalar, Scalars, encode_char, encode, decode, WellFormed, units, width}
-use Rattle.utf8.specs.Places.{units_of, lead_of}
+use Rattle.utf8.specs.Places.{units_of, lead_of, total}
 use Rattle.utf8.proofs.Table.{Shape, one, two, three, four, shape}
 use Rattle.utf8.proofs.Decode.{decode_scalars}
 
 -- ---- sums
-
--- the sum of f over a list
-abbrev pub total : (ℕ → ℕ) → List ℕ → ℕ
-total f [] = 0
-total f (x ∷ xs) = f x + total f xs
 
 pub total_append : (f : ℕ → ℕ) (a b : List ℕ) → total f (a ++ b) ≡ total f a + total f b
 total_append f [] b = omega arith

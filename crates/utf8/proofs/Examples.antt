@@ -2,10 +2,9 @@
 use Prim.Native.Nat.{ℕ, zero, suc, ◌<◌}
 use mathlib.Core.Bool.{true, false, cond}
 use mathlib.Core.List.{List, [], ◌∷◌, map}
-use mathlib.Core.Path.{◌≡◌, refl, ◌∙◌}
+use mathlib.Core.Path.{◌≡◌, refl}
 use native.Mathlib.Omega.{arith}
 use borrow.Author.Tests.{le-leb, lt-leb, ne_eqb}
-use Rattle.utf8.proofs.TrimScan.{high_white}
 use Rattle.utf8.specs.Unicode.{is_scalar, encode_char, encode, tail, second, seq_len, code_of, chars, decode, prefix_len, well_formed, units, width, is_white, trim_start, cons_trimmed, trim_end, trim}
 
 -- ---- UTF-8
@@ -87,9 +86,15 @@ unfolding white is_white
 twenty_five = refl
 
 no_more : (c : ℕ) → 0x3000 < c → is_white c ≡ false
+unfolding is_white
 no_more c h =
-    high_white c (omega arith)
-    ∙ simp (
+    simp (
+      le-leb 0x09 c (omega arith),
+      lt-leb c 0x0D (omega arith),
+      ne_eqb c 0x20 (omega arith),
+      ne_eqb c 0x85 (omega arith),
+      ne_eqb c 0xA0 (omega arith),
+      ne_eqb c 0x1680 (omega arith),
       le-leb 0x2000 c (omega arith),
       lt-leb c 0x200A (omega arith),
       ne_eqb c 0x2028 (omega arith),

@@ -15,8 +15,10 @@ use native.Mathlib.Nat.{le_refl, add-zero}
 use borrow.Author.Tests.{ltb-false}
 use lib.ListN.{length, get_or, drop, length-drop, length-append}
 use lib.Seq.{drop-drop, drop-length, get_or-drop}
+use Rattle.std.specs.Prelude.{Option, Some, None}
 use Rattle.utf8.specs.Unicode.{encode_char, encode, size, seq_len, code_of, seq_at, code_at, chars, decode, prefix_len, WellFormed}
-use Rattle.utf8.specs.Places.{Step, SeqAt, NoneAmong, high_at, AsciiRun}
+use Rattle.blocks.specs.Blocks.{NoneAmong, NoneFrom, FirstFrom}
+use Rattle.utf8.specs.Places.{Step, nonzero, SeqAt, high_at, AsciiRun}
 use Rattle.utf8.proofs.Tests.{split}
 use Rattle.utf8.proofs.Table.{encode_char_1, len_1, code_1, lead_2, lead_3, lead_4}
 use Rattle.utf8.proofs.Decode.{decode_step, decode_stop, Read, read, wf_step}
@@ -90,17 +92,21 @@ module _ (s : List ℕ) (i : ℕ) (h : i < length s) (w : WellFormed (drop i s))
 
 -- ---- what a call that reads a sequence tells its caller, and the scan for the longest well-formed prefix
 
-pub seq_at_law : (s : List ℕ) (i r : ℕ) → i < length s → r ≡ seq_at (drop i s) → SeqAt s i r
-seq_at_law s i zero h e = record { is = e; fits = omega arith }
-seq_at_law s i (suc r) h e = record { is = e; fits = (step s i (suc r) h e (omega arith)).fits }
+pub seq_at_law : (s : List ℕ) (i n : ℕ) → i < length s → n ≡ seq_at (drop i s) → SeqAt s i (nonzero n)
+seq_at_law s i zero h e = record { none = λ q. sym e; some = λ m q. absurd cc }
+seq_at_law s i (suc n) h e =
+    record {
+      none = λ q. absurd cc;
+      some = λ m q. let k : suc n ≡ m = cc in subst (λ (r : ℕ). (r ≡ seq_at (drop i s)) × (0 < r) × (i + r ≤ length s)) k (e, omega arith, (step s i (suc n) h e (omega arith)).fits);
+    }
 
 -- the four bytes at i, as calls and a read return them
-module _ (s : List ℕ) (i b1 b2 b3 r : ℕ) (e1 : b1 ≡ get_or s (i + 1) 0) (e2 : b2 ≡ get_or s (i + 2) 0) (e3 : b3 ≡ get_or s (i + 3) 0) where
-  pub seq_at_bytes : i < length s → r ≡ seq_len (get_or s i 0) b1 b2 b3 → SeqAt s i r
-  seq_at_bytes h e = seq_at_law s i r h (e ∙ simp (e1, e2, e3, get_or-drop, add-zero))
+module _ (s : List ℕ) (i b1 b2 b3 : ℕ) (e1 : b1 ≡ get_or s (i + 1) 0) (e2 : b2 ≡ get_or s (i + 2) 0) (e3 : b3 ≡ get_or s (i + 3) 0) where
+  pub seq_at_bytes : (r : Option ℕ) → i < length s → r ≡ nonzero (seq_len (get_or s i 0) b1 b2 b3) → SeqAt s i r
+  seq_at_bytes r h e = let q = seq_at_law s i (seq_len (get_or s i 0) b1 b2 b3) h (simp (e1, e2, e3, get_or-drop, add-zero)) in subst (SeqAt s i) (sym e) q
 
-  pub code_at_bytes : r ≡ code_of (get_or s i 0) b1 b2 b3 → r ≡ code_at (drop i s)
-  code_at_bytes e = e ∙ simp (e1, e2, e3, get_or-drop, add-zero)
+  pub code_at_bytes : (r : ℕ) → r ≡ code_of (get_or s i 0) b1 b2 b3 → r ≡ code_at (drop i s)
+  code_at_bytes r e = e ∙ simp (e1, e2, e3, get_or-drop, add-zero)
 
 pub record PrefixScan (s : List ℕ) (i : ℕ) : Type 0 where
   pub fits : i ≤ length s
@@ -109,14 +115,14 @@ pub record PrefixScan (s : List ℕ) (i : ℕ) : Type 0 where
 pub prefix_begin : (s : List ℕ) → PrefixScan s 0
 prefix_begin s = record { fits = omega arith; sum = omega arith }
 
-pub prefix_on : (s : List ℕ) (i n : ℕ) → PrefixScan s i → i < length s → SeqAt s i n → (n ≡ 0 → ⊥) → PrefixScan s (i + n)
-prefix_on s i n q h r z = let t : Step s i n = step s i n h r.is (omega arith) in record { fits = omega arith; sum = omega arith }
+pub prefix_on : (s : List ℕ) (i n : ℕ) → PrefixScan s i → i < length s → (r : Option ℕ) → SeqAt s i r → r ≡ Some n → PrefixScan s (i + n)
+prefix_on s i n q h r a e = let k = a.some n e in let t : Step s i n = step s i n h k.0 k.1 in record { fits = omega arith; sum = omega arith }
 
 pub prefix_ascii : (s : List ℕ) (i : ℕ) → PrefixScan s i → i < length s → get_or s i 0 < 0x80 → PrefixScan s (i + 1)
 prefix_ascii s i q h b = let t : Step s i 1 = ascii_step s i h b in record { fits = omega arith; sum = omega arith }
 
-pub prefix_stop : (s : List ℕ) (i n : ℕ) → PrefixScan s i → SeqAt s i n → n ≡ 0 → i ≡ prefix_len s
-prefix_stop s i n q r z = omega (arith, stops (drop i s) (sym z ∙ r.is))
+pub prefix_stop : (s : List ℕ) (i : ℕ) (r : Option ℕ) → PrefixScan s i → SeqAt s i r → r ≡ None → i ≡ prefix_len s
+prefix_stop s i r q a z = omega (arith, stops (drop i s) (sym (a.none z)))
 
 pub prefix_end : (s : List ℕ) (i : ℕ) → PrefixScan s i → length s ≤ i → i ≡ prefix_len s
 prefix_end s i q h = let e : i ≡ length s = omega arith in omega (arith, at_end s i e)
@@ -126,31 +132,25 @@ prefix_end s i q h = let e : i ≡ length s = omega arith in omega (arith, at_en
 pub run_start : (s : List ℕ) (at : ℕ) → at ≤ length s → AsciiRun s at at
 run_start s at h = record { from = le_refl at; within = h; ascii = λ j l. absurd (omega arith) }
 
-module _ {s : List ℕ} {at i : ℕ} (r : AsciiRun s at i) where
-  run_more : (n : ℕ) → i + n ≤ length s → ((j : ℕ) → j < n → get_or s (i + j) 0 < 0x80) → AsciiRun s at (i + n)
-  run_more n h a =
-      record {
-        from = omega (arith, r.from);
-        within = h;
-        ascii = λ j l. go j l (split (at + j) i);
-      }
-    where
-      go : (j : ℕ) → at + j < i + n → (at + j < i) ⊎ (i ≤ at + j) → get_or s (at + j) 0 < 0x80
-      go j l (inl h') = r.ascii j h'
-      go j l (inr h') = let e : i + (at + j - i) ≡ at + j = omega arith in rw e at (a (at + j - i) (omega arith))
-
-  pub run_one : i < length s → get_or s i 0 ≤ 127 → AsciiRun s at (i + 1)
-  run_one h b = run_more 1 (omega arith) (λ j l. let e : i + j ≡ i = omega arith in rw e (omega arith))
-
-  pub run_block : (n : ℕ) {any : Bool} → i + n ≤ length s → NoneAmong (high_at s) i n any → any ≡ false → AsciiRun s at (i + n)
-  run_block n h a e = run_more n h (λ j l. let b = ltb-false 127 (get_or s (i + j) 0) (a.none e j l) in omega arith)
-
 pub run_then_law : {s : List ℕ} {at i r : ℕ} → AsciiRun s at i → AsciiRun s i r → AsciiRun s at r
 run_then_law {s} {at} {i} {r} a b = record { from = omega (arith, a.from, b.from); within = b.within; ascii = λ j l. go j l (split (at + j) i) }
   where
     go : (j : ℕ) → at + j < r → (at + j < i) ⊎ (i ≤ at + j) → get_or s (at + j) 0 < 0x80
     go j l (inl h) = a.ascii j h
     go j l (inr h) = let e : i + (at + j - i) ≡ at + j = omega arith in rw e at (b.ascii (at + j - i) (omega arith))
+
+-- what a search for a byte that is not ASCII has passed
+low : (s : List ℕ) (j : ℕ) → high_at s j ≡ false → get_or s j 0 < 0x80
+low s j e = let b = ltb-false 127 (get_or s j 0) e in omega arith
+
+module _ {s : List ℕ} {at i r : ℕ} (a : AsciiRun s at i) where
+  pub run_block : {any : Bool} → i + 16 ≤ length s → NoneAmong (high_at s) i 16 any → any ≡ false → NoneFrom (high_at s) (i + 16) (length s) r → AsciiRun s at r
+  run_block h b e n =
+      run_then_law a (run_then_law {i = i + 16} (record { from = omega arith; within = h; ascii = λ j l. low s (i + j) (b.none e j (omega arith)) })
+      (record { from = n.from; within = n.within; ascii = λ j l. low s (i + 16 + j) (n.none (i + 16 + j) (omega arith) l) }))
+
+  pub run_first : FirstFrom (high_at s) i (length s) r → AsciiRun s at r
+  run_first f = run_then_law a (record { from = f.from; within = f.within; ascii = λ j l. low s (i + j) (f.none (i + j) (omega arith) l) })
 
 -- the prefix goes on past it
 prefix_past : (s : List ℕ) (i n : ℕ) → PrefixScan s i → i + n ≤ length s → ((j : ℕ) → j < n → get_or s (i + j) 0 < 0x80) → PrefixScan s (i + n)

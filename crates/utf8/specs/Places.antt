@@ -1,16 +1,18 @@
 -- What the contracts say of places in a list s of bytes.
-use Rattle.std.specs.Prelude.{ℕ, ◌+◌, ◌-◌, ◌<◌, ◌≤◌, Bool, true, false, cond, List, [], ◌∷◌, ◌++◌, ◌≡◌, length, get_or, take, drop, T, ltb}
+use Rattle.std.specs.Prelude.{ℕ, zero, suc, ◌+◌, ◌-◌, ◌<◌, ◌≤◌, Bool, true, false, cond, List, [], ◌∷◌, ◌++◌, ◌≡◌, length, get_or, take, drop, T, ltb, Option, None, Some, is_some}
 use Rattle.utf8.specs.Unicode.{is_scalar, encode_char, seq_at, code_at, decode, prefix_len, WellFormed, is_white}
 use Rattle.utf8.specs.Unicode.{trim_start, trim_end}
+pub use Rattle.blocks.specs.Blocks.{NoneAmong}
+
+-- a length that is no sequence's where it is 0
+abbrev pub nonzero : ℕ → Option ℕ
+nonzero zero = None
+nonzero (suc n) = Some (suc n)
 
 -- the well-formed sequence at i takes r bytes, or there is none and r is 0
-pub record SeqAt (s : List ℕ) (i r : ℕ) : Type 0 where
-  pub is : r ≡ seq_at (drop i s)
-  pub fits : i + r ≤ length s
-
--- any is false only where none of the n places from `at` on passes the test p
-pub record NoneAmong (p : ℕ → Bool) (at n : ℕ) (any : Bool) : Type 0 where
-  pub none : any ≡ false → (j : ℕ) → j < n → p (at + j) ≡ false
+pub record SeqAt (s : List ℕ) (i : ℕ) (r : Option ℕ) : Type 0 where
+  pub none : r ≡ None → seq_at (drop i s) ≡ 0
+  pub some : (n : ℕ) → r ≡ Some n → (n ≡ seq_at (drop i s)) × (0 < n) × (i + n ≤ length s)
 
 -- the byte at i is not ASCII
 abbrev pub high_at : List ℕ → ℕ → Bool
@@ -41,16 +43,14 @@ pub record Back (s : List ℕ) (e r : ℕ) : Type 0 where
   pub text : decode (take e s) ≡ decode (take (e - r) s) ++ (code_at (drop (e - r) s) ∷ [])
 
 -- the character at i is white space and takes r bytes, or it is none and r is 0
-pub record WhiteAt (s : List ℕ) (i r : ℕ) : Type 0 where
-  pub fits : i + r ≤ length s
-  pub is : is_white (code_at (drop i s)) ≡ ltb 0 r
-  pub step : 0 < r → Step s i r
+pub record WhiteAt (s : List ℕ) (i : ℕ) (r : Option ℕ) : Type 0 where
+  pub is : is_white (code_at (drop i s)) ≡ is_some r
+  pub step : (n : ℕ) → r ≡ Some n → Step s i n
 
--- the character before e is white space and takes r bytes, or it is none and r is 0
-pub record WhiteBefore (s : List ℕ) (e r : ℕ) : Type 0 where
-  pub fits : r ≤ e
-  pub white : 0 < r → Back s e r × (is_white (code_at (drop (e - r) s)) ≡ true)
-  pub other : r ≡ 0 → (n : ℕ) × Back s e n × (is_white (code_at (drop (e - n) s)) ≡ false)
+-- the character before e is white space and takes r bytes, or it is none
+pub record WhiteBefore (s : List ℕ) (e : ℕ) (r : Option ℕ) : Type 0 where
+  pub white : (n : ℕ) → r ≡ Some n → Back s e n × (is_white (code_at (drop (e - n) s)) ≡ true)
+  pub other : r ≡ None → (n : ℕ) × Back s e n × (is_white (code_at (drop (e - n) s)) ≡ false)
 
 -- from r on, s is its characters trimmed at their start
 pub record TrimmedStart (s : List ℕ) (r : ℕ) : Type 0 where
@@ -79,3 +79,8 @@ units_of b = cond (ltb b 0x80) 1 (cond (ltb b 0xC0) 0 (cond (ltb b 0xF0) 1 2))
 -- 1 where it starts a character
 unfoldable pub lead_of : ℕ → ℕ
 lead_of b = cond (ltb b 0x80) 1 (cond (ltb b 0xC0) 0 1)
+
+-- the sum of f over a list
+abbrev pub total : (ℕ → ℕ) → List ℕ → ℕ
+total f [] = 0
+total f (x ∷ xs) = f x + total f xs

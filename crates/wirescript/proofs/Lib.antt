@@ -1,3 +1,2 @@
 -- The laws that this crate's proofs share.
-pub mod ConfigLaws
 pub mod SettingLaws

@@ -1,71 +1,78 @@
 -- A setting step over numbers and bytes: what a call comes to, its answer, and what it writes.
-use Rattle.std.specs.Prelude.{ℕ, zero, suc, Bool, true, false, not, ◌&&◌, List, length, replicate}
-use Rattle.std.proofs.Math.Option.{Option, none, some, get_or}
-use Rattle.rules.specs.Options.{Options, SettingStep, indent_with}
+use Rattle.std.specs.Prelude.{ℕ, zero, suc, Bool, true, false, not, ◌&&◌, List, length, replicate, Option, Some, None, is_some, unwrap_or, ok_or, Result, Ok, Err}
+use Rattle.rules.specs.Options.{Options, SettingStep, indent_with, PrintWidth, EndOfLine}
 use Rattle.rules.specs.EditorConfig.{with_editor_config}
-use Rattle.rules.specs.Refusals.{number_of, place_of, bad_option, short_output}
-use Rattle.rules.specs.Choices.{Choices, is_named, valid_options, options_of}
+use Rattle.rules.specs.Refusals.{number_of, place_of, and_then, bad_option, short_output}
+use Rattle.rules.specs.Choices.{Choices, valid_options, options_of}
 use Rattle.rules.specs.Call.{filled}
 use Rattle.rules.specs.declared.LineEnding.{LineEnding}
-use Rattle.rules.specs.declared.EndOfLine.{EndOfLine}
-use Rattle.rules.specs.declared.PrintWidth.{PrintWidth}
 use Rattle.rules.specs.declared.FinalNewline.{FinalNewline}
 use Rattle.rules.specs.declared.Refusal.{Refusal}
-use Rattle.rules.specs.declared.Verdict.{Verdict}
-use Rattle.wirescript.specs.Config.{valid_config, resolved_of}
+use Rattle.options.specs.Held.{options_in, held_named, held_change}
+use Rattle.options.specs.declared.FormatOptions.{FormatOptions}
+use Rattle.wirescript.specs.Config.{valid_config, resolved_of, config_named}
 use Rattle.wirescript.specs.declared.config.ConfigNumbers.{ConfigNumbers}
 use Rattle.wirescript.specs.declared.settings.Settings.{Settings}
 
 -- the changed options, or a refusal
-pub data SettingOutcome : Type 0 where
-  Given : Options → SettingOutcome
-  Refused : Refusal → SettingOutcome
+abbrev pub SettingOutcome : Type 0
+SettingOutcome = Result Options Refusal
 
 -- ---- the refusals, tested in number order: 2, and 5 where the lent output is shorter than the changed indent
 
--- what comes after a test, if it lets the call pass
-abbrev pub setting_after : Verdict → SettingOutcome → SettingOutcome
-setting_after Verdict.Accepted s = s
-setting_after (Verdict.Refused r) s = SettingOutcome.Refused r
+abbrev pub given_in : Options → ℕ → SettingOutcome
+given_in o room = and_then (short_output (length o.indent) room) (λ _. Ok o)
 
-unfoldable pub given_in : Options → ℕ → SettingOutcome
-given_in o room = setting_after (short_output (length o.indent) room) (SettingOutcome.Given o)
-
-unfoldable pub step_outcome : SettingStep → ℕ → SettingOutcome
-step_outcome s room = setting_after (bad_option s.refused) (given_in s.options room)
+abbrev pub step_outcome : SettingStep → ℕ → SettingOutcome
+step_outcome s room = and_then (bad_option s.refused) (λ _. given_in s.options room)
 
 -- tabs: 0 spaces, 1 a tab
-unfoldable pub tabs_named : ℕ → Option Bool
-tabs_named zero = some false
-tabs_named (suc zero) = some true
-tabs_named (suc (suc n)) = none
+abbrev pub tabs_named : ℕ → Option Bool
+tabs_named zero = Some false
+tabs_named (suc zero) = Some true
+tabs_named (suc (suc n)) = None
 
 unfoldable pub indent_outcome : Choices → ℕ → ℕ → ℕ → SettingOutcome
 indent_outcome c tabs size room =
-    setting_after (bad_option (not (valid_options c && is_named (tabs_named tabs))))
-    (step_outcome (indent_with (options_of c) (get_or (tabs_named tabs) false) size) room)
+    and_then (bad_option (not (valid_options c && is_some (tabs_named tabs))))
+    (λ _. step_outcome (indent_with (options_of c) (unwrap_or (tabs_named tabs) false) size) room)
 
 unfoldable pub config_outcome : Choices → ConfigNumbers → ℕ → SettingOutcome
 config_outcome c v room =
-    setting_after (bad_option (not (valid_options c && valid_config v)))
-    (step_outcome (with_editor_config (options_of c) (resolved_of v)) room)
+    and_then (bad_option (not (valid_options c && valid_config v)))
+    (λ _. step_outcome (with_editor_config (options_of c) (resolved_of v)) room)
+
+-- the same as the code makes them: the options that a step over numbers gives, or refusal 2
+abbrev pub indent_made : Choices → ℕ → ℕ → Result FormatOptions Refusal
+indent_made c tabs size =
+    and_then (held_named c) (λ s. and_then (ok_or (tabs_named tabs) Refusal.BadOption)
+    (λ b. held_change (indent_with (options_in s) b size)))
+
+abbrev pub config_made : Choices → ConfigNumbers → Result FormatOptions Refusal
+config_made c v =
+    and_then (held_named c) (λ s. and_then (ok_or (config_named v) Refusal.BadOption)
+    (λ r. held_change (with_editor_config (options_in s) r)))
+
+-- what these come to
+abbrev pub handed : Result FormatOptions Refusal → ℕ → SettingOutcome
+handed s room = and_then s (λ o. given_in (options_in o) room)
 
 -- ---- the numbers of the options, as a call gives them; the width is 0 where there is none
 
-unfoldable pub width_set_number : PrintWidth → ℕ
-width_set_number PrintWidth.Off = 0
-width_set_number (PrintWidth.Columns n) = 1
+abbrev pub width_set_number : PrintWidth → ℕ
+width_set_number None = 0
+width_set_number (Some n) = 1
 
-unfoldable pub width_number : PrintWidth → ℕ
-width_number PrintWidth.Off = 0
-width_number (PrintWidth.Columns n) = n
+abbrev pub width_number : PrintWidth → ℕ
+width_number None = 0
+width_number (Some n) = n
 
-unfoldable pub line_ending_number : EndOfLine → ℕ
-line_ending_number EndOfLine.Kept = 0
-line_ending_number (EndOfLine.Set LineEnding.Lf) = 1
-line_ending_number (EndOfLine.Set LineEnding.Crlf) = 2
+abbrev pub line_ending_number : EndOfLine → ℕ
+line_ending_number None = 0
+line_ending_number (Some LineEnding.Lf) = 1
+line_ending_number (Some LineEnding.Crlf) = 2
 
-unfoldable pub final_newline_number : FinalNewline → ℕ
+abbrev pub final_newline_number : FinalNewline → ℕ
 final_newline_number FinalNewline.AsSource = 0
 final_newline_number FinalNewline.Always = 1
 final_newline_number FinalNewline.Never = 2
@@ -73,8 +80,8 @@ final_newline_number FinalNewline.Never = 2
 -- ---- what a call leaves
 
 -- a refused call gives number and place, other fields 0
-unfoldable pub settings_answer : SettingOutcome → Settings
-settings_answer (SettingOutcome.Given o) =
+abbrev pub settings_answer : SettingOutcome → Settings
+settings_answer (Ok o) =
     record {
       refusal = 0;
       place = 0;
@@ -84,7 +91,7 @@ settings_answer (SettingOutcome.Given o) =
       line_ending = line_ending_number o.end_of_line;
       final_newline = final_newline_number o.insert_final_newline;
     }
-settings_answer (SettingOutcome.Refused r) =
+settings_answer (Err r) =
     record {
       refusal = number_of r;
       place = place_of r;
@@ -96,6 +103,6 @@ settings_answer (SettingOutcome.Refused r) =
     }
 
 -- the output is the changed indent, then zeros, or all zeros
-unfoldable pub indent_written : SettingOutcome → ℕ → List ℕ
-indent_written (SettingOutcome.Given o) room = filled room o.indent
-indent_written (SettingOutcome.Refused r) room = replicate room 0
+abbrev pub indent_written : SettingOutcome → ℕ → List ℕ
+indent_written (Ok o) room = filled room o.indent
+indent_written (Err r) room = replicate room 0

@@ -3,7 +3,7 @@ ghost use Rattle.std.specs.Prelude.{length};
 ghost use Rattle.call.specs.Ran.{numbers_of};
 ghost use Rattle.check_call.specs.CheckAnswered.{choices_of, CheckAnswered};
 
-use check_rules::CheckAnswer;
+use check_call::CheckAnswer;
 use rules::OptionNumbers;
 
 // Whether the text of a source would equal it: formatted is 1 or 0, and lines_read the lines that were read to tell.

@@ -1,13 +1,9 @@
 // The resolved values of .editorconfig that numbers name.
 ghost use Rattle.std.specs.Prelude.{◌≡◌};
-ghost use Rattle.std.proofs.Math.Option.{get_or};
 ghost use Rattle.wirescript.specs.Config.{indent_style_named, indent_size_named, tab_width_named, max_line_len_named};
-ghost use Rattle.wirescript.specs.Config.{config_ending_named, insert_newline_named};
-ghost use Rattle.wirescript.specs.Config.{valid_config, resolved_of};
+ghost use Rattle.wirescript.specs.Config.{config_ending_named, insert_newline_named, config_named};
 
-use rules::{
-    ConfigEnding, IndentSize, IndentStyle, InsertFinalNewline, MaxLineLen, Resolved, TabWidth,
-};
+use rules::{ConfigEnding, IndentSize, IndentStyle, MaxLineLen, Resolved};
 
 // The values in numbers. style: 0 unset, 1 tabs, 2 spaces. size_kind: 0 unset, 1 the tab width, 2 size. tab_set: 0
 // unset, 1 tab. max_kind: 0 unset, 1 off, 2 max. ending: 0 unset, 1 LF, 2 CRLF, 3 CR. newline: 0 unset, 1 false, 2
@@ -25,117 +21,84 @@ pub struct ConfigNumbers {
     pub newline: u64,
 }
 
-// Every number names a value.
-pub fn valid(numbers: ConfigNumbers) -> bool
-    ensures { result ≡ valid_config numbers }
+// What each number names: a value, unset, or nothing.
+fn style_named(style: u64) -> Option<Option<IndentStyle>>
+    ensures { result ≡ indent_style_named style }
 {
-    if 2 < numbers.style {
-        return false;
+    match style {
+        0 => Some(None),
+        1 => Some(Some(IndentStyle::Tabs)),
+        2 => Some(Some(IndentStyle::Spaces)),
+        _ => None,
     }
-    if 2 < numbers.size_kind {
-        return false;
-    }
-    if 1 < numbers.tab_set {
-        return false;
-    }
-    if 2 < numbers.max_kind {
-        return false;
-    }
-    if 3 < numbers.ending {
-        return false;
-    }
-    numbers.newline <= 2
 }
 
-// Each value, or none where its number names none.
-fn style_named(style: u64) -> IndentStyle
-    ensures { result ≡ get_or (indent_style_named style) IndentStyle.Unset }
+fn size_named(size_kind: u64, size: u64) -> Option<Option<IndentSize>>
+    ensures { result ≡ indent_size_named size_kind size }
 {
-    if style == 1 {
-        return IndentStyle::Tabs;
+    match size_kind {
+        0 => Some(None),
+        1 => Some(Some(IndentSize::UseTabWidth)),
+        2 => Some(Some(IndentSize::Value(size as usize))),
+        _ => None,
     }
-    if style == 2 {
-        return IndentStyle::Spaces;
-    }
-    IndentStyle::Unset
 }
 
-fn size_named(size_kind: u64, size: u64) -> IndentSize
-    ensures { result ≡ get_or (indent_size_named size_kind size) IndentSize.Unset }
+fn tab_named(tab_set: u64, tab: u64) -> Option<Option<usize>>
+    ensures { result ≡ tab_width_named tab_set tab }
 {
-    if size_kind == 1 {
-        return IndentSize::UseTabWidth;
+    match tab_set {
+        0 => Some(None),
+        1 => Some(Some(tab as usize)),
+        _ => None,
     }
-    if size_kind == 2 {
-        return IndentSize::Value(size as usize);
-    }
-    IndentSize::Unset
 }
 
-fn tab_named(tab_set: u64, tab: u64) -> TabWidth
-    ensures { result ≡ get_or (tab_width_named tab_set tab) TabWidth.Unset }
+fn max_named(max_kind: u64, max: u64) -> Option<Option<MaxLineLen>>
+    ensures { result ≡ max_line_len_named max_kind max }
 {
-    if tab_set == 1 {
-        return TabWidth::Value(tab as usize);
+    match max_kind {
+        0 => Some(None),
+        1 => Some(Some(MaxLineLen::Off)),
+        2 => Some(Some(MaxLineLen::Value(max as usize))),
+        _ => None,
     }
-    TabWidth::Unset
 }
 
-fn max_named(max_kind: u64, max: u64) -> MaxLineLen
-    ensures { result ≡ get_or (max_line_len_named max_kind max) MaxLineLen.Unset }
+fn ending_named(ending: u64) -> Option<Option<ConfigEnding>>
+    ensures { result ≡ config_ending_named ending }
 {
-    if max_kind == 1 {
-        return MaxLineLen::Off;
+    match ending {
+        0 => Some(None),
+        1 => Some(Some(ConfigEnding::Lf)),
+        2 => Some(Some(ConfigEnding::CrLf)),
+        3 => Some(Some(ConfigEnding::Cr)),
+        _ => None,
     }
-    if max_kind == 2 {
-        return MaxLineLen::Value(max as usize);
-    }
-    MaxLineLen::Unset
 }
 
-fn ending_named(ending: u64) -> ConfigEnding
-    ensures { result ≡ get_or (config_ending_named ending) ConfigEnding.Unset }
+fn newline_named(newline: u64) -> Option<Option<bool>>
+    ensures { result ≡ insert_newline_named newline }
 {
-    if ending == 1 {
-        return ConfigEnding::Lf;
+    match newline {
+        0 => Some(None),
+        1 => Some(Some(false)),
+        2 => Some(Some(true)),
+        _ => None,
     }
-    if ending == 2 {
-        return ConfigEnding::CrLf;
-    }
-    if ending == 3 {
-        return ConfigEnding::Cr;
-    }
-    ConfigEnding::Unset
 }
 
-fn newline_named(newline: u64) -> InsertFinalNewline
-    ensures { result ≡ get_or (insert_newline_named newline) InsertFinalNewline.Unset }
+// The values that the numbers name, if each names one.
+#[tactic(auto, unfolding(rules::specs::Basics::choose, crate::specs::Config::valid_config, crate::specs::Config::resolved_of))]
+pub fn named(numbers: ConfigNumbers) -> Option<Resolved>
+    ensures { result ≡ config_named numbers }
 {
-    if newline == 1 {
-        return InsertFinalNewline::Value(false);
-    }
-    if newline == 2 {
-        return InsertFinalNewline::Value(true);
-    }
-    InsertFinalNewline::Unset
-}
-
-// The values that the numbers name.
-pub fn named(numbers: ConfigNumbers) -> Resolved
-    ensures { result ≡ resolved_of numbers }
-{
-    let style = style_named(numbers.style);
-    let size = size_named(numbers.size_kind, numbers.size);
-    let tab = tab_named(numbers.tab_set, numbers.tab);
-    let max = max_named(numbers.max_kind, numbers.max);
-    let ending = ending_named(numbers.ending);
-    let newline = newline_named(numbers.newline);
-    Resolved {
-        style,
-        size,
-        tab,
-        max,
-        ending,
-        newline,
-    }
+    Some(Resolved {
+        style: style_named(numbers.style)?,
+        size: size_named(numbers.size_kind, numbers.size)?,
+        tab: tab_named(numbers.tab_set, numbers.tab)?,
+        max: max_named(numbers.max_kind, numbers.max)?,
+        ending: ending_named(numbers.ending)?,
+        newline: newline_named(numbers.newline)?,
+    })
 }

@@ -23,6 +23,5 @@ pub extern "C" fn wirescript_read_editorconfig(
 {
     let near = config_read::read_near(path, text_1, text_2, text_3, text_4);
     let far = config_read::read_far(path, near, text_5, text_6, text_7, text_8);
-    let outcome = config_read::read(path, near, far, text_1, text_2, text_3, text_4);
-    config_read::numbers::answer_of(outcome)
+    config_read::read(path, near, far, text_1, text_2, text_3, text_4).into()
 }

@@ -3,14 +3,13 @@
 ghost use Rattle.std.specs.Prelude.{◌≡◌};
 ghost use Rattle.rules.specs.Strengths.{built_in};
 ghost use Rattle.call.specs.Ran.{numbers_of};
-ghost use Rattle.options.specs.Held.{options_in, held, change_in};
-ghost use Rattle.wirescript.specs.Settings.{SettingOutcome, given_in, step_outcome, indent_outcome, config_outcome};
+ghost use Rattle.options.specs.Held.{options_in};
+ghost use Rattle.wirescript.specs.Settings.{given_in, handed, tabs_named, indent_made, config_made, indent_outcome, config_outcome};
 ghost use Rattle.wirescript.specs.SettingsAnswered.{SettingsAnswered};
 
 use crate::config::ConfigNumbers;
 use crate::{config, number};
-use answer::{number_of, place_of};
-use options::{Changed, FormatOptions};
+use options::FormatOptions;
 use rules::{OptionNumbers, Refusal, Strengths};
 
 // What a setting step gives: refusal 0 and the changed options, their indent's bytes in the lent output; or a refusal
@@ -28,12 +27,12 @@ pub struct Settings {
 }
 
 fn refuse(refusal: Refusal, output: &mut [u8]) -> Settings
-    ensures { SettingsAnswered (λ _. SettingOutcome.Refused refusal) result output.old output.new }
+    ensures { SettingsAnswered (λ _. Err refusal) result output.old output.new }
 {
     buffer::zero(output);
     Settings {
-        refusal: number_of(refusal),
-        place: place_of(refusal),
+        refusal: refusal.number(),
+        place: refusal.place(),
         indent_len: 0,
         width_set: 0,
         width: 0,
@@ -43,41 +42,74 @@ fn refuse(refusal: Refusal, output: &mut [u8]) -> Settings
 }
 
 // The options as numbers, and their indent in the output.
-fn answer_options(options: FormatOptions, output: &mut [u8]) -> Settings
-    requires { options ≡ held (options_in options) }
+fn give(options: FormatOptions, output: &mut [u8]) -> Settings
     ensures { SettingsAnswered (given_in (options_in options)) result output.old output.new }
 {
-    let used = options.used;
-    if output.len() < used {
-        return refuse(Refusal::OutputShort(used), output);
+    let indent = options.indent.as_bytes();
+    let n = indent.len();
+    if output.len() < n {
+        return refuse(Refusal::OutputShort(n), output);
     }
-    let bytes = options.indent;
-    buffer::put_line(output, &bytes[..used]);
-    buffer::finish(output, used);
-    let width = options.print_width;
-    let ending = options.end_of_line;
-    let newline = options.insert_final_newline;
+    buffer::put_line(output, indent);
+    buffer::finish(output, n);
     Settings {
         refusal: 0,
         place: 0,
-        indent_len: used as u64,
-        width_set: number::width_set(width),
-        width: number::width(width),
-        line_ending: number::line_ending(ending),
-        final_newline: number::final_newline(newline),
+        indent_len: n as u64,
+        width_set: options.print_width.is_some() as u64,
+        width: options.print_width.unwrap_or(0) as u64,
+        line_ending: number::line_ending(options.end_of_line),
+        final_newline: number::final_newline(options.insert_final_newline),
     }
 }
 
-// What a step hands back.
-fn answer_step(changed: Changed, output: &mut [u8]) -> Settings
-    requires { changed.options ≡ held (options_in changed.options) }
-    ensures { SettingsAnswered (step_outcome (change_in changed)) result output.old output.new }
+// What a step made.
+fn answered(step: Result<FormatOptions, Refusal>, output: &mut [u8]) -> Settings
+    ensures { SettingsAnswered (handed step) result output.old output.new }
 {
-    let options = changed.options;
-    if changed.refused {
-        return refuse(Refusal::BadOption, output);
+    match step {
+        Ok(options) => give(options, output),
+        Err(refusal) => refuse(refusal, output),
     }
-    answer_options(options, output)
+}
+
+fn tabs_named(tabs: u64) -> Option<bool>
+    ensures { result ≡ tabs_named tabs }
+{
+    match tabs {
+        0 => Some(false),
+        1 => Some(true),
+        _ => None,
+    }
+}
+
+// `indent_with` on the options and the choice that the numbers name.
+fn indent_step(
+    indent: &[u8],
+    numbers: OptionNumbers,
+    tabs: u64,
+    size: u64,
+) -> Result<FormatOptions, Refusal>
+    ensures { result ≡ indent_made
+        (record { indent = indent.entry.now; numbers = numbers; strengths = built_in }) tabs size }
+{
+    let options = FormatOptions::from_numbers(indent, numbers, Strengths::BUILT_IN)?;
+    let tabs = tabs_named(tabs).ok_or(Refusal::BadOption)?;
+    options.indent_with(tabs, size as usize)
+}
+
+// The EditorConfig step on the options and the values that the numbers name.
+fn config_step(
+    indent: &[u8],
+    numbers: OptionNumbers,
+    values: ConfigNumbers,
+) -> Result<FormatOptions, Refusal>
+    ensures { result ≡ config_made
+        (record { indent = indent.entry.now; numbers = numbers; strengths = built_in }) values }
+{
+    let options = FormatOptions::from_numbers(indent, numbers, Strengths::BUILT_IN)?;
+    let values = config::named(values).ok_or(Refusal::BadOption)?;
+    options.with_editorconfig(values)
 }
 
 // indent_with: tabs 0 spaces, 1 a tab.
@@ -106,39 +138,7 @@ pub extern "C" fn wirescript_indent_with(
         final_newline,
         ruler_tab: 0,
     };
-    let old = FormatOptions::from_numbers(indent, numbers, Strengths::BUILT_IN);
-    let options = old.options;
-    if old.refused {
-        return refuse(Refusal::BadOption, output);
-    }
-    if 1 < tabs {
-        return refuse(Refusal::BadOption, output);
-    }
-    let changed = options.indent_with(tabs == 1, size as usize);
-    answer_step(changed, output)
-}
-
-// The EditorConfig step on the options and the values that the numbers name.
-fn configure(
-    indent: &[u8],
-    numbers: OptionNumbers,
-    values: ConfigNumbers,
-    output: &mut [u8],
-) -> Settings
-    ensures { SettingsAnswered (config_outcome
-        (record { indent = indent.entry.now; numbers = numbers; strengths = built_in }) values) result
-        output.old output.new }
-{
-    let old = FormatOptions::from_numbers(indent, numbers, Strengths::BUILT_IN);
-    let options = old.options;
-    if old.refused {
-        return refuse(Refusal::BadOption, output);
-    }
-    if config::valid(values) {
-        let changed = options.with_editorconfig(config::named(values));
-        return answer_step(changed, output);
-    }
-    refuse(Refusal::BadOption, output)
+    answered(indent_step(indent, numbers, tabs, size), output)
 }
 
 // The EditorConfig step; `ConfigNumbers` says what its numbers name.
@@ -196,5 +196,5 @@ pub extern "C" fn wirescript_editorconfig(
         ending,
         newline,
     };
-    configure(indent, numbers, values, output)
+    answered(config_step(indent, numbers, values), output)
 }

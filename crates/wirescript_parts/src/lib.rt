@@ -10,6 +10,9 @@ ghost use Rattle.basics.specs.Depth.{carry_depth};
 use brackets::{ENTRY, Nesting};
 use rules::Carry;
 
+// The greatest length and depth that these functions take.
+const MOST: usize = 0x1000_0000;
+
 // What is open: 0 code, 1 a block comment of this depth, 2 a prefab.
 #[repr(C)]
 #[derive(Clone, Copy)]
@@ -21,23 +24,23 @@ pub struct Open {
 fn carry_named(carry: u64, depth: u32) -> Carry
     ensures { carry_depth result ≤ depth }
 {
-    if carry == 0 {
-        return Carry::Code;
+    match carry {
+        0 => Carry::Code,
+        1 => Carry::Block(depth),
+        _ => Carry::Prefab,
     }
-    if carry == 1 {
-        return Carry::Block(depth);
-    }
-    Carry::Prefab
 }
 
-fn open_of(carry: Carry) -> Open {
-    match carry {
-        Carry::Code => Open { carry: 0, depth: 0 },
-        Carry::Block(d) => Open {
-            carry: 1,
-            depth: d as u64,
-        },
-        Carry::Prefab => Open { carry: 2, depth: 0 },
+impl From<Carry> for Open {
+    fn from(carry: Carry) -> Open {
+        match carry {
+            Carry::Code => Open { carry: 0, depth: 0 },
+            Carry::Block(d) => Open {
+                carry: 1,
+                depth: d as u64,
+            },
+            Carry::Prefab => Open { carry: 2, depth: 0 },
+        }
     }
 }
 
@@ -50,16 +53,10 @@ pub extern "C" fn wirescript_test_classify(
     classes: &mut [u8],
 ) -> Open {
     let n = line.len();
-    if 0x1000_0000 < n {
+    if MOST < n || MOST < depth as usize || classes.len() < n {
         return Open { carry: 0, depth: 0 };
     }
-    if 0x1000_0000 < depth {
-        return Open { carry: 0, depth: 0 };
-    }
-    if classes.len() < n {
-        return Open { carry: 0, depth: 0 };
-    }
-    open_of(scan::classify(line, carry_named(carry, depth), classes))
+    scan::classify(line, carry_named(carry, depth), classes).into()
 }
 
 // The respaced line: scratch holds the line's n class bytes, and after them takes the text, of which the length is
@@ -67,10 +64,7 @@ pub extern "C" fn wirescript_test_classify(
 #[unsafe(no_mangle)]
 pub extern "C" fn wirescript_test_normalize_spacing(line: &[u8], scratch: &mut [u8]) -> u64 {
     let n = line.len();
-    if 0x1000_0000 < n {
-        return 0;
-    }
-    if scratch.len() < 3 * n {
+    if MOST < n || scratch.len() < 3 * n {
         return 0;
     }
     spacing::normalize_spacing(line, scratch, 0, n) as u64
@@ -79,10 +73,7 @@ pub extern "C" fn wirescript_test_normalize_spacing(line: &[u8], scratch: &mut [
 // Whether the line is spaced already.
 #[unsafe(no_mangle)]
 pub extern "C" fn wirescript_test_is_spaced(line: &[u8], classes: &[u8]) -> bool {
-    if classes.len() < line.len() {
-        return false;
-    }
-    spacing::is_spaced(line, classes)
+    line.len() <= classes.len() && spacing::is_spaced(line, classes)
 }
 
 // How many of the stack's entries added a level: a call of the formatter has this as a running value.
@@ -91,14 +82,10 @@ fn levels_in(scratch: &[u8], base: usize, depth: usize) -> usize
     ensures { result ≡ levels (stacked scratch.now base depth) }
 {
     let mut levels = 0;
-    let mut i = 0;
-    while i < depth {
-        if scratch[base + ENTRY * i] % 2 == 0 {
-            i += 1;
-            continue;
+    for i in 0..depth {
+        if scratch[base + ENTRY * i] % 2 != 0 {
+            levels += 1;
         }
-        levels += 1;
-        i += 1;
     }
     levels
 }
@@ -113,13 +100,7 @@ pub extern "C" fn wirescript_test_scan_brackets(
 ) -> u64 {
     let n = line.len();
     let d = depth as usize;
-    if 0x1000_0000 < n {
-        return 0;
-    }
-    if 0x1000_0000 < d {
-        return 0;
-    }
-    if scratch.len() < n + ENTRY * (d + n) {
+    if MOST < n || MOST < d || scratch.len() < n + ENTRY * (d + n) {
         return 0;
     }
     let levels = levels_in(scratch, n, d);

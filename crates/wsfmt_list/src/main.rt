@@ -3,8 +3,6 @@
 // of rust/runs print: the Rust's texts, and the refusals that 01 names.
 #![tactic(auto)]
 
-ghost use Rattle.std.specs.Prelude.{◌≤◌, ◌<◌, length};
-
 use std::io;
 use wsfmt_run::MAX_TEXT;
 
@@ -14,26 +12,18 @@ fn put_text<P: Print>(out: &P, text: &[u8]) -> io::Result<()> {
     out.write_all(text)
 }
 
-// The source that starts at `at`; gives the place after its zero byte, and whether it could be written.
-fn print_at<P: Print>(out: &P, list: &[u8], at: usize) -> (usize, io::Result<()>)
-    requires { at ≤ length list.now }
-    ensures { at < result.0 }
-{
-    let end = match list[at..].iter().position(|b| *b == 0) {
-        Some(i) => at + i,
-        None => list.len(),
-    };
+fn print_source<P: Print>(out: &P, source: &[u8]) -> io::Result<()> {
     let mut output = [0u8; MAX_TEXT];
-    let n = wsfmt_run::print(&list[at..end], &mut output);
-    (end + 1, put_text(out, &output[..n]))
+    let n = wsfmt_run::print(source, &mut output);
+    put_text(out, &output[..n])
 }
 
 fn print_all<P: Print>(out: &P, list: &[u8]) -> io::Result<()> {
-    let mut at = 0;
-    while at < list.len() {
-        let (next, written) = print_at(out, list, at);
-        written?;
-        at = next;
+    if list.is_empty() {
+        return Ok(());
+    }
+    for source in list.strip_suffix(b"\0").unwrap_or(list).split(|b| *b == 0) {
+        print_source(out, source)?;
     }
     Ok(())
 }

@@ -10,6 +10,7 @@ use mathlib.Core.List.{List, [], ◌∷◌, ◌++◌}
 use mathlib.Core.Path.{◌≡◌, sym, ap, ◌∙◌}
 use borrow.Author.Tests.{lt-ltb, le-ltb}
 use lib.Dec.{ltb}
+use Rattle.std.specs.Prelude.{Ok, Err}
 use lib.ListN.{length, replicate, length-append}
 use Rattle.utf8.specs.Unicode.{well_formed, prefix_len}
 use Rattle.utf8.proofs.Tests.{by_test}
@@ -19,18 +20,17 @@ use Rattle.buffer.proofs.WriteLaws.{appended_append}
 use Rattle.decimal.specs.Decimal.{digits, DecimalPut}
 use Rattle.decimal.proofs.DigitLaws.{digits_short}
 use Rattle.rules.specs.Basics.{choose, codes}
-use Rattle.rules.specs.Options.{defaults, Options}
-use Rattle.rules.specs.Refusals.{max_source, scratch_needed, number_of, place_of, tested, refuse_if, wrong_length, bits_set, long_source, bad_option, wide_ruler, short_scratch, ill_formed, short_output}
+use Rattle.rules.specs.Options.{defaults, Options, max_ruler}
+use Rattle.rules.specs.Refusals.{Verdict, max_source, scratch_needed, number_of, place_of, tested, refuse_if, wrong_length, bits_set, long_source, bad_option, wide_ruler, short_scratch, ill_formed, short_output}
 use Rattle.rules.specs.Strengths.{built_in, fields_of, last_bits}
 use Rattle.rules.specs.Choices.{valid_options, options_of}
-use Rattle.rules.specs.Call.{Call, formatted, text_of, format_scratch, verdict_of, outcome_after, outcome_of, answer_of, filled, output_of}
+use Rattle.rules.specs.Call.{Call, Outcome, formatted, text_of, format_scratch, verdict_of, outcome_after, outcome_of, answer_of, filled, output_of}
 use Rattle.rules.specs.declared.Refusal.{Refusal}
-use Rattle.rules.specs.declared.Verdict.{Verdict}
-use Rattle.rules.specs.declared.Outcome.{Outcome}
+use Rattle.rules.specs.declared.Formatted.{Formatted}
 use Rattle.rules.specs.declared.Answer.{Answer}
 use Rattle.rules.proofs.RefusalLaws.{numbered, test_on, test_off, pass, stop, one_test}
 use Rattle.rules.specs.Assembly.{default_text}
-use Rattle.call.specs.FormatAnswered.{FormatAnswered}
+use Rattle.call.specs.Ran.{Ran}
 use Rattle.wsfmt_run.specs.Program.{max_input, max_text, refusal, written, Printed}
 use Rattle.wsfmt_run.specs.Steps.{Called}
 
@@ -91,7 +91,7 @@ too_long_law source h = rw (lt-ltb max_input (length source) h)
 
 -- a call with the default options, whose scratch is enough
 module _
-    (c : Call) (a : Answer) (out list work : List ℕ) (f : FormatAnswered c a out list work) (o : options_of c.choices ≡ defaults)
+    (c : Call) (r : Outcome) (out list work : List ℕ) (f : Ran c r out list work) (o : options_of c.choices ≡ defaults)
     (v : valid_options c.choices ≡ true) (t : c.choices.strengths ≡ built_in) (short : length c.source ≤ max_input)
     (room : scratch_needed format_scratch c.source ≤ c.scratch) (size : c.output ≡ max_text)
   where
@@ -107,30 +107,28 @@ module _
     ruler_none = ap (λ (p : Options). p.ruler_tab) o
 
     -- the tests: 12, 13, 1, 2, 11 and 3 let the call pass, 4 and 5 are left
-    table_length_law : wrong_length c.choices.strengths ≡ Verdict.Accepted
-    unfolding wrong_length refuse_if choose
+    table_length_law : wrong_length c.choices.strengths ≡ Ok tt
+    unfolding choose
     table_length_law = rw t
 
-    table_bits : bits_set c.choices.strengths ≡ Verdict.Accepted
-    unfolding bits_set last_bits fields_of refuse_if choose
+    table_bits : bits_set c.choices.strengths ≡ Ok tt
+    unfolding last_bits fields_of choose
     table_bits = rw t
 
     tests_left : verdict_of c ≡ tested (ill_formed source ∷ short_output (length (text_of c)) c.output ∷ [])
-    unfolding verdict_of long_source bad_option wide_ruler short_scratch
+    unfolding verdict_of
     tests_left =
         pass _ _ table_length_law ∙ pass _ _ table_bits
         ∙ pass _ _ (test_off _ _ (le-ltb max_source (length source) (omega arith)))
-        ∙ pass _ _ (test_off _ _ (rw v))
-        ∙ pass _ _ (test_off _ _ (rw ruler_none))
+        ∙ pass _ _ (test_off (not (valid_options c.choices)) _ (rw v))
+        ∙ pass _ _ (test_off (ltb max_ruler c.choices.numbers.ruler_tab) _ (rw ruler_none))
         ∙ pass _ _ (test_off _ _ (le-ltb c.scratch (scratch_needed format_scratch source) room))
 
-    not_utf8 : well_formed source ≡ false → verdict_of c ≡ Verdict.Refused (Refusal.NotUtf8 (prefix_len source))
-    unfolding ill_formed
-    not_utf8 t = tests_left ∙ stop _ _ _ (test_on _ _ (rw t))
+    not_utf8 : well_formed source ≡ false → verdict_of c ≡ Err (Refusal.NotUtf8 (prefix_len source))
+    not_utf8 t = tests_left ∙ stop _ _ _ (test_on (not (well_formed source)) _ (rw t))
 
     last_test : well_formed source ≡ true → verdict_of c ≡ short_output (length (default_text source)) max_text
-    unfolding ill_formed
-    last_test t = tests_left ∙ pass _ _ (test_off _ _ (rw t)) ∙ one_test _ ∙ rw (text_is, size)
+    last_test t = tests_left ∙ pass _ _ (test_off (not (well_formed source)) _ (rw t)) ∙ one_test _ ∙ rw (text_is, size)
 
     outcome_is : (u : Verdict) → verdict_of c ≡ u
         → outcome_of c ≡ outcome_after u (length (default_text source)) (formatted c)
@@ -142,29 +140,44 @@ module _
     unfolding written choose
     written_is = rw (le-ltb max_input (length source) short)
 
-    called_refused : (r : Refusal) → outcome_of c ≡ Outcome.Refused r → written source ≡ refusal (number_of r) (place_of r) → Called source out c.output a
+    called_refused : (why : Refusal) → outcome_of c ≡ Err why → written source ≡ refusal (number_of why) (place_of why) → Called source out c.output r
     unfolding output_of
-    called_refused r e w =
-        let i : a ≡ answer_of (Outcome.Refused r) = f.answer ∙ ap answer_of e in
+    called_refused why e w =
         record {
-          accepted = λ z. absurd (numbered r (sym (ap (λ (b : Answer). b.refusal) i) ∙ z));
-          refused = λ z. record { told = w ∙ sym (rw i); room = size; zeros = f.output ∙ rw e };
+          accepted = λ t k. absurd (no_text t (sym k ∙ f.outcome ∙ e));
+          refused = λ q k. record { told = w ∙ ap (λ (x : Refusal). refusal (number_of x) (place_of x)) (same q (sym k ∙ f.outcome ∙ e)); room = size; zeros = f.output ∙ rw e };
         }
+      where
+        no_text : (t : Formatted) → ◌≡◌ {A = Outcome} (Ok t) (Err why) → ⊥
+        no_text t k = let z : ◌≡◌ {A = ℕ} 0 1 = cc in omega arith
 
-    called_text : (imports blanks brackets : ℕ) → outcome_of c ≡ Outcome.Formatted (length (default_text source)) imports blanks brackets
-        → written source ≡ default_text source → Called source out c.output a
+        same : (q : Refusal) → ◌≡◌ {A = Outcome} (Err q) (Err why) → why ≡ q
+        same q k = cc
+
+    called_text : (imports blanks brackets : ℕ)
+        → outcome_of c ≡ Ok (record { length = length (default_text source); imports_split = imports; blank_names = blanks; open_brackets = brackets })
+        → written source ≡ default_text source → Called source out c.output r
     unfolding output_of
     called_text imports blanks brackets e w =
-        let i : a ≡ answer_of (Outcome.Formatted (length (default_text source)) imports blanks brackets) = f.answer ∙ ap answer_of e in
-        let l : a.length ≡ length (written source) = ap (λ (b : Answer). b.length) i ∙ sym (ap length w) in
         let g : out ≡ filled max_text (written source) = f.output ∙ rw (e, text_is, size, w) in
         record {
-          accepted = λ z. record { size = l; fits = omega (arith, fits_in max_text out (written source) g); is = g };
-          refused = λ z. absurd (z (ap (λ (b : Answer). b.refusal) i));
+          accepted = λ t k.
+              let l : t.length ≡ length (written source) = ap (λ (x : Formatted). x.length) (same t (sym k ∙ f.outcome ∙ e)) ∙ sym (ap length w) in
+              record { size = l; fits = omega (arith, fits_in max_text out (written source) g); is = g };
+          refused = λ why k. absurd (no_refusal why (sym k ∙ f.outcome ∙ e));
         }
+      where
+        given : Formatted
+        given = record { length = length (default_text source); imports_split = imports; blank_names = blanks; open_brackets = brackets }
 
-    pub called : Called source out c.output a
-    unfolding choose short_output
+        same : (t : Formatted) → ◌≡◌ {A = Outcome} (Ok t) (Ok given) → t ≡ given
+        same t k = cc
+
+        no_refusal : (why : Refusal) → ◌≡◌ {A = Outcome} (Err why) (Ok given) → ⊥
+        no_refusal why k = let z : ◌≡◌ {A = ℕ} 0 1 = cc in omega arith
+
+    pub called : Called source out c.output r
+    unfolding choose
     called =
         by_test (well_formed source)
         (λ t. by_test (ltb max_text (length (default_text source)))

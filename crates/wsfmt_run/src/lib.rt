@@ -6,7 +6,7 @@ ghost use Rattle.buffer.specs.Buffer.{Wrote};
 ghost use Rattle.wsfmt_run.specs.Program.{max_input, refusal, Printed};
 ghost use Rattle.wsfmt_run.specs.Steps.{Called};
 
-use rules::{Answer, OptionNumbers, Strengths};
+use rules::{Formatted, OptionNumbers, Refusal, Strengths};
 
 // The bytes that the program takes, and those that it has for the text.
 pub const MAX_INPUT: usize = 4096;
@@ -25,7 +25,7 @@ fn put_refusal(out: &mut [u8], number: u64, place: u64) -> usize
 }
 
 // The call, with the default options.
-fn format_default(source: &[u8], output: &mut [u8; MAX_TEXT]) -> Answer
+fn format_default(source: &[u8], output: &mut [u8; MAX_TEXT]) -> Result<Formatted, Refusal>
     requires { length source.now ≤ max_input }
     ensures { Called source.now output.new (length output.old) result }
 {
@@ -33,7 +33,7 @@ fn format_default(source: &[u8], output: &mut [u8; MAX_TEXT]) -> Answer
     let mut opened = [0u64; 0];
     let strengths = Strengths::BUILT_IN;
     let table = strengths.table;
-    call::format_call(
+    call::format(
         source,
         b"  ",
         OptionNumbers::DEFAULTS,
@@ -52,9 +52,8 @@ pub fn print(source: &[u8], output: &mut [u8; MAX_TEXT]) -> usize
         buffer::zero(output);
         return put_refusal(output, 1, MAX_INPUT as u64);
     }
-    let answer = format_default(source, output);
-    if answer.refusal != 0 {
-        return put_refusal(output, answer.refusal, answer.place);
+    match format_default(source, output) {
+        Ok(text) => text.length,
+        Err(why) => put_refusal(output, why.number(), why.place()),
     }
-    answer.length as usize
 }

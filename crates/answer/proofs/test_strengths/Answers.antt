@@ -1,9 +1,6 @@
 use borrow.Author.Rules.{rules}
-use Rattle.answer.proofs.TestLaws.{wrong_length_law, bits_set_law, bits_clear}
+use Rattle.answer.proofs.TestLaws.{bits_set_law, bits_clear}
 use Rattle.answer.proofs.test_strengths.Goals as goal
-
-pub returns-then-table-ne-LENGTH : goal.returns-then-table-ne-LENGTH
-returns-then-table-ne-LENGTH c = search (rules, wrong_length_law)
 
 pub returns-then-table-ne0 : goal.returns-then-table-ne0
 returns-then-table-ne0 c = search (rules, bits_set_law)

@@ -1,10 +1,6 @@
 -- `first_short` meets its contract: the invariant is `Halves`, whose laws are in proofs/StackLaws.antt.
-use Prim.Native.Nat.{◌-◌}
 use Rattle.brackets.proofs.StackLaws.{Halves}
 use Rattle.brackets.proofs.first_short.Given as goal
 
 abbrev pub invariant-loop-k : goal.invariant-loop-k
 invariant-loop-k l = Halves l.line l.last l.at l.k l.m
-
-abbrev pub decreases-loop-k : goal.decreases-loop-k
-decreases-loop-k l = 8 - l.k

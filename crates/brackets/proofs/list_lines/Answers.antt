@@ -1,10 +1,10 @@
 use borrow.Author.Rules.{rules}
+use native.Mathlib.Omega.{arith}
 use Rattle.brackets.proofs.ListLaws.{listing_start, listing_more, listing_end}
 use Rattle.brackets.proofs.list_lines.Goals as goal
 
--- first, so that a list that is left is refused for what it holds
 pub returns : goal.returns
-returns c = search (rules, listing_end)
+returns c = listing_end _ _ _ _ _ _ c.loop-i.invariant (omega arith)
 
 pub loop-i-init : goal.loop-i-init
 loop-i-init c = search (rules, listing_start)

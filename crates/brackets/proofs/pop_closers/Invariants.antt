@@ -3,8 +3,5 @@
 use Rattle.brackets.proofs.StackLaws.{Popping}
 use Rattle.brackets.proofs.pop_closers.Given as goal
 
-abbrev pub invariant-loop-depth : goal.invariant-loop-depth
-invariant-loop-depth l = Popping l.scratch l.base l.end l.depth l.levels
-
-abbrev pub decreases-loop-depth : goal.decreases-loop-depth
-decreases-loop-depth l = l.depth
+abbrev pub invariant-loop-i : goal.invariant-loop-i
+invariant-loop-i l = Popping l.scratch l.base l.depth l.i l.levels

@@ -1,18 +1,10 @@
-use borrow.Author.Rules.{rules}
-use Rattle.brackets.proofs.StackLaws.{scanning_start, idle_skip, scan_more, scan_room, scan_end}
+use mathlib.Core.Path.{refl}
+use native.Mathlib.Omega.{arith}
+use Rattle.brackets.proofs.StackLaws.{scan_fits, scan_done, front_part, front_long}
 use Rattle.brackets.proofs.scan_brackets.Goals as goal
 
-pub loop-i-init : goal.loop-i-init
-loop-i-init c = scanning_start _ _ _ _ _ _ _ c.requires.runs
-
-pub loop-i-preserved-then-is_idle : goal.loop-i-preserved-then-is_idle
-loop-i-preserved-then-is_idle c = search (rules, idle_skip)
-
-pub bracket_step-t-requires : goal.bracket_step-t-requires
-bracket_step-t-requires c = search (rules, scan_room)
-
-pub loop-i-preserved : goal.loop-i-preserved
-loop-i-preserved c = search (rules, scan_more)
+pub scan-requires : goal.scan-requires
+scan-requires c = scan_fits _ _ _ _ _ _ c.requires c.split_at_mut-front.ensures.back _ _ refl (front_long _ _ _ _ _ c.split_at_mut-front.ensures.front c.requires.classes (omega (arith, c.requires.stack)))
 
 pub returns : goal.returns
-returns c = search (rules, scan_end)
+returns c = scan_done _ _ _ _ _ (omega (arith, c.requires.stack)) c.split_at_mut-front.ensures.front c.split_at_mut-front.ensures.back _ _ _ _ _ _ _ _ refl (front_part _ _ _ _ _ c.split_at_mut-front.ensures.front c.requires.classes) refl c.scan.ensures

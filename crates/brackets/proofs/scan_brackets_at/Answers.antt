@@ -1,18 +1,9 @@
-use borrow.Author.Rules.{rules}
-use Rattle.brackets.proofs.StackLaws.{scanning_start, scan_at_skip, scan_at_more, scan_at_room, scan_at_end}
+use native.Mathlib.Omega.{arith}
+use Rattle.brackets.proofs.StackLaws.{scan_fits, scan_done, front_part, front_long}
 use Rattle.brackets.proofs.scan_brackets_at.Goals as goal
 
-pub loop-i-init : goal.loop-i-init
-loop-i-init c = scanning_start _ _ _ _ _ _ _ c.requires.0.runs
-
-pub loop-i-preserved-then-is_idle : goal.loop-i-preserved-then-is_idle
-loop-i-preserved-then-is_idle c = search (rules, scan_at_skip)
-
-pub bracket_step-t-requires : goal.bracket_step-t-requires
-bracket_step-t-requires c = search (rules, scan_at_room)
-
-pub loop-i-preserved : goal.loop-i-preserved
-loop-i-preserved c = search (rules, scan_at_more)
+pub scan-requires : goal.scan-requires
+scan-requires c = scan_fits _ _ _ _ _ _ c.requires.0 c.split_at_mut-front.ensures.back _ _ (front_long _ _ _ _ _ c.split_at_mut-front.ensures.front c.requires.1 (omega (arith, c.requires.0.stack))) (front_long _ _ _ _ _ c.split_at_mut-front.ensures.front c.requires.0.classes (omega (arith, c.requires.0.stack)))
 
 pub returns : goal.returns
-returns c = search (rules, scan_at_end)
+returns c = scan_done _ _ _ _ _ (omega (arith, c.requires.0.stack)) c.split_at_mut-front.ensures.front c.split_at_mut-front.ensures.back _ _ _ _ _ _ _ _ (front_part _ _ _ _ _ c.split_at_mut-front.ensures.front c.requires.1) (front_part _ _ _ _ _ c.split_at_mut-front.ensures.front c.requires.0.classes) (front_long _ _ _ _ _ c.split_at_mut-front.ensures.front c.requires.1 (omega (arith, c.requires.0.stack))) c.scan.ensures

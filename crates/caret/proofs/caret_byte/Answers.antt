@@ -1,20 +1,18 @@
 use borrow.Author.Rules.{rules}
-use native.Mathlib.Omega.{arith}
-use Rattle.caret.proofs.ScanLaws.{caret_end, caret_stays, caret_goes, column_from_law}
-use lib.ListN.{length-take}
+use Rattle.caret.proofs.ScanLaws.{caret_end, caret_stays, caret_goes}
 use Rattle.caret.proofs.caret_byte.Goals as goal
+use Rattle.caret.proofs.caret_byte.Goals.{else-at-source-via-then-at-source+else-is_none, else-at-source-via-else-at-source}
 
-pub slice_bounds-count_kept-end : goal.slice_bounds-count_kept-end
-slice_bounds-count_kept-end c = simp length-take (omega arith)
+pub returns-then-is_none : goal.returns-then-is_none
+returns-then-is_none c =
+    caret_goes _ _ _ _ _ c.requires c.count_chars-n.ensures c.past_nth-p.ensures.here _ _ _ c.if-at-source.true
+    c.unkept_at.ensures c.is_none.ensures c.if-is_none.true c.gap_end.ensures
 
-pub returns-then-source-at : goal.returns-then-source-at
-returns-then-source-at c = search (rules, caret_end)
-
-pub gap_end-requires : goal.gap_end-requires
-gap_end-requires c = search (rules, column_from_law)
-
-pub returns-then-next-eq0 : goal.returns-then-next-eq0
-returns-then-next-eq0 c = search (rules, caret_goes)
-
-pub returns : goal.returns
-returns c = search (rules, caret_stays)
+pub returns-else-at-source : goal.returns-else-at-source
+returns-else-at-source c =
+    elim c.else-at-source.branch [
+      | else-at-source-via-then-at-source+else-is_none w ↦
+          caret_stays _ _ _ _ _ c.requires c.count_chars-n.ensures c.past_nth-p.ensures.here _ _ w.if-at-source.true
+          w.unkept_at.ensures w.is_none.ensures w.if-is_none.false
+      | else-at-source-via-else-at-source w ↦ search (rules, caret_end)
+    ]

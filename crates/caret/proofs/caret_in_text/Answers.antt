@@ -1,12 +1,8 @@
-use borrow.Author.Rules.{rules}
-use Rattle.caret.proofs.AnswerLaws.{standing, answered, refused}
+use Rattle.caret.proofs.AnswerLaws.{standing, answered}
 use Rattle.caret.proofs.caret_in_text.Goals as goal
 
-pub move_caret-to-requires : goal.move_caret-to-requires
-move_caret-to-requires c = search (rules, standing)
-
-pub returns-then-place : goal.returns-then-place
-returns-then-place c = search (rules, answered)
+pub move_caret-requires : goal.move_caret-requires
+move_caret-requires c = standing _ _ _ _ c.requires _ c.in_ok-at.ensures
 
 pub returns : goal.returns
-returns c = search (rules, refused)
+returns c = answered _ _ _ _ c.requires _ c.in_ok-at.ensures _ c.move_caret.ensures

@@ -1,12 +1,13 @@
-use borrow.Author.Rules.{rules}
-use Rattle.changes.proofs.PassLaws.{run_begin, run_turn, run_end}
+use mathlib.Core.Path.{refl}
+use native.Mathlib.Omega.{arith}
+use Rattle.changes.proofs.PassLaws.{run_turn}
 use Rattle.changes.proofs.same_run.Goals as goal
 
-pub loop-m-init : goal.loop-m-init
-loop-m-init c = search (rules, run_begin)
+pub overflow_add-k : goal.overflow_add-k
+overflow_add-k c = let t = c.in-Some.ensures.some _ refl in omega (arith, t.1.fits_source)
 
-pub loop-m-preserved : goal.loop-m-preserved
-loop-m-preserved c = search (rules, run_turn)
+pub loop-n-smaller : goal.loop-n-smaller
+loop-n-smaller c = let t = c.in-Some.ensures.some _ refl in omega (arith, t.0, t.1.fits_source)
 
-pub returns : goal.returns
-returns c = search (rules, run_end)
+pub loop-n-preserved : goal.loop-n-preserved
+loop-n-preserved c = run_turn _ _ _ _ _ _ _ c.loop-n.invariant c.in-Some.ensures refl

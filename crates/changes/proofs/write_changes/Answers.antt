@@ -27,8 +27,5 @@ gap_end-b-requires-in-loop-a c = search (rules, walk_text_on)
 pub loop-a-preserved : goal.loop-a-preserved
 loop-a-preserved c = search (rules, walk_turn)
 
-pub note_gap-requires : goal.note_gap-requires
-note_gap-requires c = search (rules, walk_pair)
-
-pub returns : goal.returns
-returns c = search (rules, walk_end)
+pub returns-then-source-a : goal.returns-then-source-a
+returns-then-source-a c = search (rules, walk_end)

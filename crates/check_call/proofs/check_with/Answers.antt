@@ -1,3 +1,4 @@
+use Rattle.lines.specs.Lines.{Passed}
 use Rattle.check_call.proofs.CheckLaws.{found_early, found_late}
 use Rattle.compare.proofs.WriterLaws.{keeps_start}
 use native.Mathlib.Omega.{arith}
@@ -5,7 +6,7 @@ use Rattle.check_call.proofs.check_with.Goals as goal
 
 pub read_lines-lines-requires : goal.read_lines-lines-requires
 read_lines-lines-requires c =
-    record { passed = c.requires.passed; starts = record { none = keeps_start _ _ (omega arith) (omega (arith, c.requires.passed.limit)) } }
+    record { passed = rw c.as_bytes-indent.ensures c.requires.passed; starts = record { none = keeps_start _ _ (omega arith) (omega (arith, c.requires.passed.limit)) } }
 
 pub end_text-n-requires : goal.end_text-n-requires
 end_text-n-requires c =
@@ -14,9 +15,11 @@ end_text-n-requires c =
 
 pub returns-then-lines : goal.returns-then-lines
 returns-then-lines c =
-    found_late _ _ c.args.chosen _ _ _ _ c.requires.passed c.ending_of-ending.ensures _ c.read_lines-lines.ensures c.if-lines.true _ c.has_last_ending-last.ensures _ _
+    let p : Passed c.args.source.now c.as_bytes-indent.result.now c.args.scratch.now = rw c.as_bytes-indent.ensures c.requires.passed in
+    found_late _ _ c.args.options c.as_bytes-indent.ensures _ _ _ _ p c.ending_of-ending.ensures _ c.read_lines-lines.ensures c.if-lines.true _ c.has_last_ending-last.ensures _ _
     c.end_text-n.ensures _ c.equals.ensures
 
 pub returns : goal.returns
 returns c =
-    found_early _ _ c.args.chosen _ _ _ _ c.requires.passed c.ending_of-ending.ensures _ c.read_lines-lines.ensures c.if-lines.false
+    let p : Passed c.args.source.now c.as_bytes-indent.result.now c.args.scratch.now = rw c.as_bytes-indent.ensures c.requires.passed in
+    found_early _ _ c.args.options c.as_bytes-indent.ensures _ _ _ _ p c.ending_of-ending.ensures _ c.read_lines-lines.ensures c.if-lines.false

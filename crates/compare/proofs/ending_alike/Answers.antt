@@ -1,4 +1,4 @@
-use Rattle.compare.proofs.CommonLaws.{starts_untold, ending_none, ending_lf, ending_crlf}
+use Rattle.compare.proofs.CommonLaws.{ending_none, ending_lf, ending_crlf}
 use borrow.Author.Rules.{rules}
 use Rattle.compare.proofs.ending_alike.Goals as goal
 
@@ -10,6 +10,3 @@ returns-then-sep-eq1 c = search (rules, ending_lf)
 
 pub returns-then-model-at-eq13 : goal.returns-then-model-at-eq13
 returns-then-model-at-eq13 c = search (rules, ending_crlf)
-
-pub returns : goal.returns
-returns c = search (rules, starts_untold)

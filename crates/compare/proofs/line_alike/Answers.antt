@@ -16,17 +16,5 @@ overflow_add-next c = let a = c.args in omega (arith, length_times a.levels a.in
 pub returns-then-model-next : goal.returns-then-model-next
 returns-then-model-next c = search (rules, line_untold)
 
-pub returns-then-cell-lt-CELL : goal.returns-then-cell-lt-CELL
-returns-then-cell-lt-CELL c = search (rules, line_untold)
-
-pub returns-then-read_cell-next : goal.returns-then-read_cell-next
-returns-then-read_cell-next c = search (rules, line_untold)
-
 pub returns-then-pad_alike : goal.returns-then-pad_alike
 returns-then-pad_alike c = search (rules, line_on)
-
-pub returns-else-pad_alike : goal.returns-else-pad_alike
-returns-else-pad_alike c = search (rules, line_untold)
-
-pub returns-else-ending_alike : goal.returns-else-ending_alike
-returns-else-ending_alike c = search (rules, line_untold)

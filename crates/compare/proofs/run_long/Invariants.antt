@@ -1,12 +1,5 @@
--- `run_long` meets its contract: the invariant is `RunOf` of specs/Common.antt, the first i bytes are b; its laws are in
--- proofs/CommonLaws.antt.
-use Prim.Native.Nat.{◌-◌}
-use mathlib.Core.Bool.{true}
-use Rattle.compare.specs.Common.{RunOf}
+use Rattle.compare.specs.Common.{other_at}
 use Rattle.compare.proofs.run_long.Given as goal
 
-abbrev pub invariant-loop-i : goal.invariant-loop-i
-invariant-loop-i l = RunOf l.model l.b l.i true
-
-abbrev pub decreases-loop-i : goal.decreases-loop-i
-decreases-loop-i l = l.last - l.i
+abbrev pub ghost-none_before : goal.ghost-none_before
+ghost-none_before a = other_at a.test.now.0.now a.test.now.1.now

@@ -1,15 +1,11 @@
-use borrow.Author.Rules.{rules}
-use Rattle.config_lines.proofs.PartLaws.{no_start, no_more, eq_found, eq_none}
+use Rattle.std.proofs.Common.{rules, tests}
+use Rattle.std.proofs.lemmas.Iterator.{YieldsList-from_slice}
+use Rattle.std.proofs.lemmas.Iterator.Search.{position_from_yields_List}
+use Rattle.rules.specs.Basics.{is}
+use Rattle.config_lines.proofs.PartLaws.{eq_is}
 use Rattle.config_lines.proofs.eq_at.Goals as goal
 
-pub loop-i-init : goal.loop-i-init
-loop-i-init c = search (rules, no_start)
-
-pub returns-then-line-i-eq61 : goal.returns-then-line-i-eq61
-returns-then-line-i-eq61 c = search (rules, eq_found)
-
-pub loop-i-preserved : goal.loop-i-preserved
-loop-i-preserved c = search (rules, no_more)
-
 pub returns : goal.returns
-returns c = search (rules, eq_none)
+returns c =
+    eq_is c.args.line.now c.position.result
+    (position_from_yields_List (is "=") _ _ _ c.position.ensures.ran (YieldsList-from_slice c.args.line.now cc) (λ x b q k. search (rules, tests)))

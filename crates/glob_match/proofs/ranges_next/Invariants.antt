@@ -1,12 +1,7 @@
 -- `ranges_next` meets its contract: the invariant is `Ranging`, the ranges before p have read the character, those from
 -- p on haven't; its laws are in proofs/SlotsLaws.antt.
-use Prim.Native.Nat.{◌-◌}
-use lib.ListN.{length}
 use Rattle.glob_match.proofs.SlotsLaws.{Ranging}
 use Rattle.glob_match.proofs.ranges_next.Given as goal
 
 abbrev pub invariant-loop-p : goal.invariant-loop-p
 invariant-loop-p l = Ranging l.kinds l.chars l.v l.c l.initial.slots l.initial.hits l.p l.slots l.hits
-
-abbrev pub decreases-loop-p : goal.decreases-loop-p
-decreases-loop-p l = length l.kinds - l.p

@@ -1,24 +1,25 @@
-use borrow.Author.Rules.{rules}
-use Rattle.glob_pass.proofs.ValueLaws.{value_same, value_part, value_one, value_star, value_stars, value_set, rare}
+use native.Mathlib.Nat.{add-zero}
+use native.Mathlib.Omega.{arith}
+use Prim.Native.Nat.{◌+◌, ◌-◌}
+use mathlib.Core.Path.{◌≡◌}
+use lib.ListN.{length, take, drop, length-drop}
+use lib.Seq.{get_or-drop, drop-drop, take_all}
+use Rattle.glob_pass.specs.Kinds.{plain_at}
+use Rattle.glob_pass.specs.Pass.{value_at}
 use Rattle.glob_pass.proofs.value_at.Goals as goal
 
-pub returns-then-k-eq0 : goal.returns-then-k-eq0
-returns-then-k-eq0 c = search (rules, value_same)
+pub returns-in-Plain : goal.returns-in-Plain
+unfolding plain_at value_at
+returns-in-Plain c = rw (c.in-Plain.is, get_or-drop c.args.p c.args.chars.now 0 0, add-zero c.args.p)
 
-pub returns-then-k-eq4 : goal.returns-then-k-eq4
-returns-then-k-eq4 c = search (rules, value_part)
+pub returns-in-Escape : goal.returns-in-Escape
+unfolding plain_at value_at
+returns-in-Escape c = rw (c.in-Escape.is, get_or-drop c.args.p c.args.chars.now 1 0, c.code_behind.ensures)
 
-pub returns-then-k-eq5 : goal.returns-then-k-eq5
-returns-then-k-eq5 c = search (rules, value_one)
-
-pub returns-then-k-eq6 : goal.returns-then-k-eq6
-returns-then-k-eq6 c = search (rules, value_star)
-
-pub returns-then-k-eq7 : goal.returns-then-k-eq7
-returns-then-k-eq7 c = search (rules, value_stars)
-
-pub returns-then-k-eq8 : goal.returns-then-k-eq8
-returns-then-k-eq8 c = search (rules, value_set)
-
-pub rare_value-requires : goal.rare_value-requires
-rare_value-requires c = search (rules, rare)
+pub returns-in-Set : goal.returns-in-Set
+unfolding plain_at value_at
+returns-in-Set c =
+    let n = c.args.p + 1 in
+    let t : take (length c.args.chars.now - n) (drop n c.args.chars.now) ≡ drop n c.args.chars.now =
+    take_all (length c.args.chars.now - n) (drop n c.args.chars.now) (omega (arith, length-drop n c.args.chars.now)) in
+    rw (c.in-Set.is, drop-drop 1 c.args.p c.args.chars.now, c.in_set.ensures, t)

@@ -1,19 +1,15 @@
-use borrow.Author.Rules.{rules}
-use native.Mathlib.Omega.{arith}
-use Rattle.group.proofs.GroupCall.{too_long_law, scratch_short, not_utf8, passed, done}
+use Prim.Native.Nat.{ℕ}
+use mathlib.Core.Path.{ap, sym, ◌∙◌}
+use lib.ListN.{replicate}
+use Rattle.group.proofs.GroupCall.{ran_refused, ran_text}
+use Rattle.group.proofs.run_group.Goals.{then-is_err, else-is_err}
 use Rattle.group.proofs.run_group.Goals as goal
 
-pub returns-then-n-gt-MAX_SOURCE : goal.returns-then-n-gt-MAX_SOURCE
-returns-then-n-gt-MAX_SOURCE c = search (rules, too_long_law)
-
-pub returns-then-scratch-needed : goal.returns-then-scratch-needed
-returns-then-scratch-needed c = search (rules, scratch_short)
-
-pub returns-then-prefix-n : goal.returns-then-prefix-n
-returns-then-prefix-n c = search (rules, not_utf8)
-
-pub show-requires : goal.show-requires
-show-requires c = passed _ _ (omega arith) (omega arith) _ c.well_formed_prefix-prefix.ensures c.if-prefix-n.false
-
 pub returns : goal.returns
-returns c = search (rules, done)
+returns c =
+    let zeros = λ (n : ℕ). replicate n 0 in
+    let z = c.zero-2.ensures ∙ ap zeros c.write_group-outcome.auto.scratch in
+    elim c.if-is_err.branch [
+      | then-is_err w ↦ ran_refused c.write_group-outcome.ensures z w.if-is_err.ensures.value (w.output-is ∙ w.zero.ensures ∙ ap zeros c.write_group-outcome.auto.output)
+      | else-is_err w ↦ rw w.output-is (ran_text c.write_group-outcome.ensures z w.if-is_err.ensures.value)
+    ]

@@ -1,11 +1,5 @@
--- `close_end` meets its contract: the invariant is `Closing`, a `)` is written for each operation taken off the stack;
--- its laws are in proofs/ForthLaws.antt.
-use Rattle.group_rules.specs.Passes.{close_end}
-use Rattle.group_close.proofs.ForthLaws.{Closing}
+use lib.Dec.{eqb}
 use Rattle.group_close.proofs.close_end.Given as goal
 
-abbrev pub invariant-loop-k : goal.invariant-loop-k
-invariant-loop-k l = Closing l.scratch l.initial.out l.out l.len l.top l.n l.k close_end
-
-abbrev pub decreases-loop-k : goal.decreases-loop-k
-decreases-loop-k l = l.k
+abbrev pub ghost-close_until : goal.ghost-close_until
+ghost-close_until a = λ t. eqb t 0

@@ -11,5 +11,5 @@ loop-k-preserved c = search (rules, opening_more)
 pub returns-else-second_takes : goal.returns-else-second_takes
 returns-else-second_takes c = search (rules, opening_stop)
 
-pub returns : goal.returns
-returns c = search (rules, opening_end)
+pub returns-after-loop-k : goal.returns-after-loop-k
+returns-after-loop-k c = search (rules, opening_end)

@@ -17,8 +17,5 @@ returns-else-is_keyword c = search (rules, end_due, end_operator, end_keyword, e
 pub returns-in-Number : goal.returns-in-Number
 returns-in-Number c = search (rules, end_due, end_operator, end_keyword, end_name_law, end_number_law, end_after)
 
-pub returns-in-After : goal.returns-in-After
-returns-in-After c = search (rules, end_due, end_operator, end_keyword, end_name_law, end_number_law, end_after)
-
 pub returns-in-Operator : goal.returns-in-Operator
 returns-in-Operator c = search (rules, end_due, end_operator, end_keyword, end_name_law, end_number_law, end_after)

@@ -1,21 +1,24 @@
-use borrow.Author.Rules.{rules}
+use mathlib.Core.Path.{refl}
 use Rattle.group_read.proofs.OperatorLaws.{strength_small, operator_two_law, operator_none, operator_one_law, operator_room}
+use borrow.Author.Rules.{rules}
 use Rattle.group_read.proofs.operator_byte.Goals as goal
 
 pub put_two-p-requires : goal.put_two-p-requires
-put_two-p-requires c = (strength_small _ _ c.of_two-two.ensures, search rules)
+put_two-p-requires c = (strength_small _ _ (c.in-Some.ensures.some _ refl).0, search rules)
 
-pub returns-then-two-gt0 : goal.returns-then-two-gt0
-returns-then-two-gt0 c = search (rules, operator_two_law)
+pub returns-in-Some : goal.returns-in-Some
+returns-in-Some c = operator_two_law _ _ c.requires _ _ c.in-Some.ensures c.put_two-p.ensures _ c.goes.ensures
 
-pub returns-then-one-eq0 : goal.returns-then-one-eq0
-returns-then-one-eq0 c = search (rules, operator_none)
+pub returns-in_default-of_one : goal.returns-in_default-of_one
+returns-in_default-of_one c = operator_none _ _ c.requires c.in_default.ensures c.in_default-of_one.ensures _ refl
 
 pub put_one-p-requires : goal.put_one-p-requires
-put_one-p-requires c = (strength_small _ _ c.of_one-one.ensures, search rules)
+put_one-p-requires c = (strength_small _ _ (c.in-Some-of_one.ensures.some _ refl).0, search rules)
 
 pub due_byte-requires : goal.due_byte-requires
-due_byte-requires c = search (rules, operator_room)
+due_byte-requires c = operator_room _ _ c.requires c.in_default.ensures _ _ c.put_one-p.ensures
 
 pub returns : goal.returns
-returns c = search (rules, operator_one_law)
+returns c =
+    operator_one_law _ _ c.requires c.in_default.ensures _ _ c.in-Some-of_one.ensures c.put_one-p.ensures _
+    c.due_byte.ensures

@@ -5,11 +5,11 @@ use Rattle.group_read.proofs.read.Goals as goal
 pub loop-i-init : goal.loop-i-init
 loop-i-init c = search (rules, reads_start)
 
-pub read_byte-q-requires : goal.read_byte-q-requires
-read_byte-q-requires c = search (rules, reads_room)
+pub read_byte-requires : goal.read_byte-requires
+read_byte-requires c = search (rules, reads_room)
 
-pub returns-then-q-ne0 : goal.returns-then-q-ne0
-returns-then-q-ne0 c = search (rules, reads_refused)
+pub returns-in-Err : goal.returns-in-Err
+returns-in-Err c = search (rules, reads_refused)
 
 pub loop-i-preserved : goal.loop-i-preserved
 loop-i-preserved c = search (rules, reads_next)

@@ -1,11 +1,5 @@
--- `last_end` meets its contract: the invariant is `Ending`, whose laws are in proofs/LineCuts.antt.
-use Prim.Native.Nat.{◌-◌}
-use lib.ListN.{length}
-use Rattle.line_ends.specs.LineEnds.{Ending}
+use Rattle.line_ends.specs.LineEnds.{lf_at}
 use Rattle.line_ends.proofs.last_end.Given as goal
 
-abbrev pub invariant-loop-i : goal.invariant-loop-i
-invariant-loop-i l = Ending l.source l.at l.i
-
-abbrev pub decreases-loop-i : goal.decreases-loop-i
-decreases-loop-i l = length l.source - l.i
+abbrev pub ghost-first_from : goal.ghost-first_from
+ghost-first_from a = lf_at a.test.now.0.now

@@ -1,16 +1,12 @@
 use native.Mathlib.Omega.{arith}
-use lib.ListN.{length-take}
 use Rattle.line_ends.proofs.LineCuts.{cr_none, cr_goes, cr_stays}
 use Rattle.line_ends.proofs.without_cr.Goals as goal
 
-pub returns-then-n-eq0 : goal.returns-then-n-eq0
-returns-then-n-eq0 c = cr_none _ c.if-n-eq0.true
+pub returns-in-len1-up : goal.returns-in-len1-up
+returns-in-len1-up c = cr_goes _ _ (omega arith) c.if-last-eq13.true
 
-pub slice_bounds-result-length : goal.slice_bounds-result-length
-slice_bounds-result-length c = simp length-take (omega arith)
+pub returns-in_default : goal.returns-in_default
+returns-in_default c = cr_none _ (omega arith)
 
-pub returns-then-line-n-eq13 : goal.returns-then-line-n-eq13
-returns-then-line-n-eq13 c = cr_goes _ _ (omega arith) c.if-line-n-eq13.true
-
-pub returns : goal.returns
-returns c = cr_stays _ _ (omega arith) c.if-line-n-eq13.false
+pub returns-in_default-2 : goal.returns-in_default-2
+returns-in_default-2 c = cr_stays _ _ (omega arith) c.if-last-eq13.false

@@ -1,3 +1,4 @@
+use mathlib.Core.Path.{refl}
 use Rattle.lines.proofs.CheckLaws.{differs_told, differs_off}
 use borrow.Author.Rules.{rules}
 use Rattle.lines.proofs.differs.Goals as goal
@@ -5,5 +6,5 @@ use Rattle.lines.proofs.differs.Goals as goal
 pub returns-then-checks : goal.returns-then-checks
 returns-then-checks c = search (rules, differs_told)
 
-pub returns : goal.returns
-returns c = search (rules, differs_off)
+pub returns-else-checks : goal.returns-else-checks
+returns-else-checks c = rw c.if-checks.false (differs_off _ _ _ _ refl)

@@ -8,8 +8,8 @@ pub loop-at-init : goal.loop-at-init
 loop-at-init c =
     looked_start _ _ _ _ _ _ _ _ c.requires.passed c.requires.starts c.new-st.ensures
 
-pub line_step-after-requires : goal.line_step-after-requires
-line_step-after-requires c =
+pub line_step-requires : goal.line_step-requires
+line_step-requires c =
     let i = c.loop-at.invariant.reached in
     record { ready = reached_ready i c.requires.passed (omega arith) c.line_end-end.ensures c.without_cr-raw.ensures; well_formed = reached_well i c.requires.passed (omega arith) c.line_end-end.ensures c.without_cr-raw.ensures; valid_indent = c.requires.passed.indents }
 
@@ -27,7 +27,7 @@ shape_of-scratch-then-differs c =
 
 pub returns-then-differs : goal.returns-then-differs
 returns-then-differs c =
-    looked_stop c.loop-at.invariant c.requires.passed (omega arith) c.line_end-end.ensures c.without_cr-raw.ensures (as_made _ c.remade-st.ensures c.line_step-after.ensures) c.differs.ensures c.if-differs.true
+    looked_stop c.loop-at.invariant c.requires.passed (omega arith) c.line_end-end.ensures c.without_cr-raw.ensures (as_made _ c.remade-st.ensures c.line_step.ensures) c.differs.ensures c.if-differs.true
 
 pub loop-at-smaller : goal.loop-at-smaller
 loop-at-smaller c =
@@ -35,11 +35,11 @@ loop-at-smaller c =
 
 pub loop-at-preserved : goal.loop-at-preserved
 loop-at-preserved c =
-    looked_more c.loop-at.invariant c.requires.passed (omega arith) c.line_end-end.ensures c.without_cr-raw.ensures (as_made _ c.remade-st.ensures c.line_step-after.ensures) c.differs.ensures c.if-differs.false c.out-1.given c.scratch-1.given
+    looked_more c.loop-at.invariant c.requires.passed (omega arith) c.line_end-end.ensures c.without_cr-raw.ensures (as_made _ c.remade-st.ensures c.line_step.ensures) c.differs.ensures c.if-differs.false c.out-1.given c.scratch-1.given
 
-pub overflow_add-next : goal.overflow_add-next
-overflow_add-next c =
-    omega (arith, number_fits c.loop-at.invariant.reached c.requires.passed (omega arith) c.line_end-end.ensures c.without_cr-raw.ensures (as_made _ c.remade-st.ensures c.line_step-after.ensures))
+pub overflow_add-st : goal.overflow_add-st
+overflow_add-st c =
+    omega (arith, number_fits c.loop-at.invariant.reached c.requires.passed (omega arith) c.line_end-end.ensures c.without_cr-raw.ensures (as_made _ c.remade-st.ensures c.line_step.ensures))
 
 pub returns : goal.returns
 returns c = looked_end c.loop-at.invariant c.requires.passed (omega arith)

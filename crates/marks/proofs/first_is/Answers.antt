@@ -1,8 +1,8 @@
 use Rattle.basics.proofs.StartsLaws.{is_none, is_first_law}
 use Rattle.marks.proofs.first_is.Goals as goal
 
-pub returns-then-s-eq0 : goal.returns-then-s-eq0
-returns-then-s-eq0 c = is_none c.args.c c.args.s.now c.if-s-eq0.true
+pub returns-then-s-ne0 : goal.returns-then-s-ne0
+returns-then-s-ne0 c = is_first_law c.args.c c.args.s.now c.if-s-ne0.true
 
-pub returns : goal.returns
-returns c = is_first_law c.args.c c.args.s.now c.if-s-eq0.false
+pub returns-else-s-ne0 : goal.returns-else-s-ne0
+returns-else-s-ne0 c = rw c.if-s-ne0.false (is_none c.args.c c.args.s.now c.if-s-ne0.false)

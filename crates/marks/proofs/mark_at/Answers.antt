@@ -19,7 +19,7 @@ pub returns-in-Inner : goal.returns-in-Inner
 returns-in-Inner c = rw c.in-Inner.is c.in_inner.ensures
 
 pub returns-in-Line : goal.returns-in-Line
-returns-in-Line c = rw c.in-Line.is c.one_mark.ensures
+returns-in-Line c = rw c.in-Line.is c.one.ensures
 
 pub returns-in-Block : goal.returns-in-Block
 returns-in-Block c = rw c.in-Block.is c.in_block.ensures

@@ -8,13 +8,13 @@ push_one-requires c = record { valid_indent = search rules; level_le_max_source 
 
 pub break_line-requires : goal.break_line-requires
 break_line-requires c =
-    record { valid_indent = c.requires.valid_indent; level_le_max_source = c.requires.level_le_max_source; goes_on = c.requires.goes_on; ordered = c.requires.ordered; line_value = (is_broken_law _ _ _ _ (sym c.fit_of.ensures ∙ c.in-Broken.is)).1.1 }
+    record { valid_indent = c.requires.valid_indent; level_le_max_source = c.requires.level_le_max_source; goes_on = c.requires.goes_on; ordered = c.requires.ordered; line_value = (is_broken_law _ _ _ _ (sym c.fit_of.ensures ∙ c.in-Some.is)).1.1 }
 
-pub returns-in-Whole : goal.returns-in-Whole
-returns-in-Whole c =
+pub returns-in-None : goal.returns-in-None
+returns-in-None c =
     fit_whole _ _ _ _ _ _ _ _ _ _ _ _ c.requires.valid_indent c.requires.level_le_max_source c.requires.goes_on c.push_one.ensures _ c.alone.ensures _ _
-    (sym c.fit_of.ensures ∙ c.in-Whole.is)
+    (sym c.fit_of.ensures ∙ c.in-None.is)
 
-pub returns-in-Broken : goal.returns-in-Broken
-returns-in-Broken c =
-    fit_broken _ _ _ _ _ _ _ _ _ _ _ _ _ _ _ c.requires.goes_on (sym c.fit_of.ensures ∙ c.in-Broken.is) c.break_line.ensures
+pub returns-in-Some : goal.returns-in-Some
+returns-in-Some c =
+    fit_broken _ _ _ _ _ _ _ _ _ _ _ _ _ _ _ c.requires.goes_on (sym c.fit_of.ensures ∙ c.in-Some.is) c.break_line.ensures

@@ -5,10 +5,10 @@ use Rattle.place.proofs.lay_line.Goals as goal
 
 pub fit_line-requires : goal.fit_line-requires
 fit_line-requires c =
-    record { valid_indent = search rules; level_le_max_source = level_small _ _ _ c.level_of-level.ensures c.requires.asks.few; goes_on = search rules; ordered = (search rules, search rules) }
+    record { valid_indent = search rules; level_le_max_source = level_small _ _ _ c.level_of.ensures c.requires.asks.few; goes_on = search rules; ordered = (search rules, search rules) }
 
 pub returns : goal.returns
 returns c =
     lay_done _ _ _ _ _ _ _ _ _ _ _ _ _ c.requires.goes_on c.requires.heads
-    c.continues-continued.ensures c.level_of-level.ensures c.drops_blank-drops.ensures
-    c.break_width-width.ensures c.fit_line.ensures
+    c.continues-continued.ensures c.level_of.ensures c.drops_blank.ensures
+    c.break_width.ensures c.fit_line.ensures

@@ -6,6 +6,6 @@ pub returns-then-continued : goal.returns-then-continued
 unfolding choose
 returns-then-continued c = rw c.if-continued.true
 
-pub returns : goal.returns
+pub returns-else-continued : goal.returns-else-continued
 unfolding choose
-returns c = rw c.if-continued.false (omega arith)
+returns-else-continued c = rw c.if-continued.false (omega arith)

@@ -4,7 +4,4 @@ use Rattle.ranges.proofs.SlotLaws.{Moving}
 use Rattle.ranges.proofs.slots_next.Given as goal
 
 abbrev pub invariant-loop-j : goal.invariant-loop-j
-invariant-loop-j l = Moving l.chars l.p (record { first = l.first; second = l.second; width = l.initial.j }) l.c l.initial.slots l.j l.slots
-
-abbrev pub decreases-loop-j : goal.decreases-loop-j
-decreases-loop-j l = l.j
+invariant-loop-j l = Moving l.chars l.p l.range l.c l.initial.slots l.j l.slots

@@ -1,12 +1,5 @@
--- `code_end` meets its contract: the invariant is `Passed`, none of the first i class bytes is a `//` comment's; its
--- laws are in proofs/CodeEnd.antt.
-use Prim.Native.Nat.{◌-◌}
-use lib.ListN.{length}
-use Rattle.scan.proofs.CodeEnd.{Passed}
+use Rattle.scan.specs.CodeEnd.{comment_at}
 use Rattle.scan.proofs.code_end.Given as goal
 
-abbrev pub invariant-loop-i : goal.invariant-loop-i
-invariant-loop-i l = Passed l.class l.i
-
-abbrev pub decreases-loop-i : goal.decreases-loop-i
-decreases-loop-i l = length l.class - l.i
+abbrev pub ghost-first_from : goal.ghost-first_from
+ghost-first_from a = comment_at a.test.now.0.now

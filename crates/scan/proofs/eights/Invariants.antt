@@ -3,7 +3,7 @@
 use Prim.Native.Nat.{◌-◌}
 use lib.ListN.{length}
 use Rattle.rules.specs.declared.Mode.{Mode}
-use Rattle.scan.specs.Stretch.{Scanned, fresh}
+use Rattle.scan.specs.Stretch.{starts_at, Scanned, fresh}
 use Rattle.scan.proofs.eights.Given as goal
 
 abbrev pub invariant-loop-i : goal.invariant-loop-i
@@ -11,3 +11,6 @@ invariant-loop-i l = Scanned l.line (fresh Mode.Code) l.at l.initial.class (fres
 
 abbrev pub decreases-loop-i : goal.decreases-loop-i
 decreases-loop-i l = length l.line - l.i
+
+abbrev pub ghost-any_among : goal.ghost-any_among
+ghost-any_among a = starts_at a.test.now.0.now

@@ -1,5 +1,6 @@
 use native.Mathlib.Omega.{arith}
-use mathlib.Core.Path.{sym, ◌∙◌}
+use mathlib.Core.Path.{◌≡◌, sym, ◌∙◌}
+use lib.ListN.{length}
 use Rattle.scan.proofs.ScannedLaws.{scanned_start, scanned_then}
 use Rattle.scan.proofs.CodeLaws.{plain_one}
 use Rattle.scan.proofs.ones.Goals as goal
@@ -19,12 +20,6 @@ returns-then-starts_in_code c = c.loop-i.invariant
 pub bounds-class-i : goal.bounds-class-i
 bounds-class-i c = omega arith
 
-pub overflow_add-i : goal.overflow_add-i
-overflow_add-i c = omega arith
-
-pub loop-i-smaller : goal.loop-i-smaller
-loop-i-smaller c = omega arith
-
 pub loop-i-preserved : goal.loop-i-preserved
 loop-i-preserved c = scanned_then c.loop-i.invariant (plain_one _ _ _ (omega arith) (omega arith) (sym c.starts_in_code.ensures ∙ c.if-starts_in_code.false))
 
@@ -32,4 +27,4 @@ pub shape_of-class : goal.shape_of-class
 shape_of-class c = c.loop-i.invariant.moved.as_long
 
 pub returns : goal.returns
-returns c = c.loop-i.invariant
+returns c = let e : c.loop-i.i ≡ length c.args.line.now = omega arith in rw e at c.loop-i.invariant

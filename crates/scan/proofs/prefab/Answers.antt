@@ -1,5 +1,7 @@
 use native.Mathlib.Omega.{arith}
 use mathlib.Core.List.{◌∷◌, []}
+use mathlib.Core.Path.{◌≡◌}
+use lib.ListN.{length}
 use Rattle.scan.proofs.StartsLaws.{told, starts_reach}
 use Rattle.scan.proofs.CodeLaws.{prefab_begins, prefab_ends, prefab_goes_on, prefab_stops}
 use Rattle.scan.proofs.prefab.Goals as goal
@@ -22,12 +24,6 @@ returns-then-fence_at c = prefab_ends c.loop-i.invariant _ (omega arith) (told c
 pub bounds-class-i : goal.bounds-class-i
 bounds-class-i c = omega arith
 
-pub overflow_add-i : goal.overflow_add-i
-overflow_add-i c = omega arith
-
-pub loop-i-smaller : goal.loop-i-smaller
-loop-i-smaller c = omega arith
-
 pub loop-i-preserved : goal.loop-i-preserved
 loop-i-preserved c = prefab_goes_on c.loop-i.invariant (omega arith) (omega arith) (told c.fence_at.ensures c.if-fence_at.false)
 
@@ -35,4 +31,4 @@ pub shape_of-class : goal.shape_of-class
 shape_of-class c = c.loop-i.invariant.scanned.moved.as_long
 
 pub returns : goal.returns
-returns c = prefab_stops c.loop-i.invariant (omega arith) (omega arith)
+returns c = let e : c.loop-i.i ≡ length c.args.line.now = omega arith in rw e at (prefab_stops c.loop-i.invariant (omega arith) (omega arith))

@@ -1,9 +1,9 @@
-use borrow.Author.Rules.{rules}
+use native.Mathlib.Omega.{arith}
 use Rattle.spacing.proofs.KeptLaws.{blank_first, blank_last}
 use Rattle.spacing.proofs.blank_before.Goals as goal
 
-pub returns-then-i-eq0 : goal.returns-then-i-eq0
-returns-then-i-eq0 c = search (rules, blank_first)
+pub returns-then-i-gt0 : goal.returns-then-i-gt0
+returns-then-i-gt0 c = blank_last _ _ _ c.requires (λ z. absurd (omega arith)) c.is_blank.ensures
 
-pub returns : goal.returns
-returns c = search (rules, blank_last)
+pub returns-else-i-gt0 : goal.returns-else-i-gt0
+returns-else-i-gt0 c = blank_first _ _ _ (omega arith)

@@ -1,21 +1,17 @@
 use borrow.Author.Rules.{rules}
-use Rattle.spacing.proofs.KeptLaws.{kept_none, no_blank, comma_end, comma_closer}
+use Rattle.spacing.proofs.KeptLaws.{comma_end, comma_closer, no_blank}
+use Rattle.std.specs.Prelude.{false}
+use Rattle.spacing.specs.Respaced.{NoBlank}
 use Rattle.spacing.proofs.kept_comma.Goals as goal
-
-pub returns-then-blank_before : goal.returns-then-blank_before
-returns-then-blank_before c = kept_none _ _ _ (search rules)
+use Rattle.spacing.proofs.kept_comma.Goals.{then-line-j-via-then-line-j, then-line-j-via-else-line-j+then-is_closer}
 
 pub returns-then-line-j : goal.returns-then-line-j
-returns-then-line-j c = search (rules, no_blank, comma_end)
-
-pub returns-then-is_closer : goal.returns-then-is_closer
-returns-then-is_closer c = search (rules, no_blank, comma_closer)
-
-pub returns-then-line-j-ne32 : goal.returns-then-line-j-ne32
-returns-then-line-j-ne32 c = kept_none _ _ _ (search rules)
-
-pub returns-then-class-j-ne0 : goal.returns-then-class-j-ne0
-returns-then-class-j-ne0 c = kept_none _ _ _ (search rules)
+returns-then-line-j c =
+    let b : NoBlank c.args.line.now c.args.i false = c.if-blank_before.ensures in
+    elim c.then-line-j.branch [
+      | then-line-j-via-then-line-j w ↦ search (rules, comma_end)
+      | then-line-j-via-else-line-j+then-is_closer w ↦ search (rules, comma_closer)
+    ]
 
 pub kept_gap-requires : goal.kept_gap-requires
 kept_gap-requires c = search (rules, no_blank)

@@ -1,12 +1,11 @@
 use borrow.Author.Rules.{rules}
-use Rattle.spacing.proofs.KeptLaws.{kept_none, space_end, space_then}
+use Rattle.spacing.proofs.KeptLaws.{space_end, space_then}
 use Rattle.spacing.proofs.kept_space.Goals as goal
-
-pub returns-then-line-j : goal.returns-then-line-j
-returns-then-line-j c = search (rules, space_end)
-
-pub returns-then-line-j-eq32 : goal.returns-then-line-j-eq32
-returns-then-line-j-eq32 c = kept_none _ _ _ (search rules)
+use Rattle.spacing.proofs.kept_space.Goals.{else-j-line-via-then-j-line+else-line-j-eq32, else-j-line-via-else-j-line}
 
 pub returns : goal.returns
-returns c = search (rules, space_then)
+returns c =
+    elim c.else-j-line.branch [
+      | else-j-line-via-then-j-line+else-line-j-eq32 w ↦ search (rules, space_then)
+      | else-j-line-via-else-j-line w ↦ search (rules, space_end)
+    ]

@@ -5,5 +5,5 @@ use Rattle.spacing.proofs.kept_special.Goals as goal
 pub returns-then-class-i-ne0 : goal.returns-then-class-i-ne0
 returns-then-class-i-ne0 c = search (rules, kept_other)
 
-pub returns : goal.returns
-returns c = search (rules, kept_char)
+pub returns-in_default : goal.returns-in_default
+returns-in_default c = search (rules, kept_char)

@@ -5,6 +5,6 @@ pub returns-then-unchanged : goal.returns-then-unchanged
 unfolding choose
 returns-then-unchanged c = rw c.if-unchanged.true
 
-pub returns : goal.returns
+pub returns-else-unchanged : goal.returns-else-unchanged
 unfolding choose
-returns c = rw c.if-unchanged.false
+returns-else-unchanged c = rw c.if-unchanged.false

@@ -1,12 +1,5 @@
--- `past_spaces` meets its contract: the invariant is `Run` of specs/Respaced.antt, only spaces stand from `at` up to i;
--- its laws are in proofs/SpacingLaws.antt.
-use Prim.Native.Nat.{◌-◌}
-use lib.ListN.{length}
-use Rattle.spacing.specs.Respaced.{Run}
+use Rattle.spacing.specs.Respaced.{other_at}
 use Rattle.spacing.proofs.past_spaces.Given as goal
 
-abbrev pub invariant-loop-i : goal.invariant-loop-i
-invariant-loop-i l = Run l.line l.at l.i
-
-abbrev pub decreases-loop-i : goal.decreases-loop-i
-decreases-loop-i l = length l.line - l.i
+abbrev pub ghost-first_by_blocks : goal.ghost-first_by_blocks
+ghost-first_by_blocks a = other_at a.test.now.0.now

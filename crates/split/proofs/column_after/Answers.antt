@@ -8,5 +8,5 @@ returns-then-b-eq9 c = search (rules, byte_tab)
 pub overflow_sub-result : goal.overflow_sub-result
 overflow_sub-result c = stop_left _ _ c.requires.0
 
-pub returns : goal.returns
-returns c = search (rules, byte_other)
+pub returns-else-b-eq9 : goal.returns-else-b-eq9
+returns-else-b-eq9 c = search (rules, byte_other)

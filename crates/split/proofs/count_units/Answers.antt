@@ -4,7 +4,7 @@ use Rattle.split.proofs.MeasureLaws.{ascii_sum}
 use Rattle.split.proofs.count_units.Goals as goal
 
 pub loop-i-init : goal.loop-i-init
-loop-i-init c = ascii_sum _ _ c.past_blocks-i.ensures
+loop-i-init c = ascii_sum _ _ c.past_blocks-ascii.ensures
 
 pub loop-i-preserved : goal.loop-i-preserved
 loop-i-preserved c = search (rules, sum_turn)

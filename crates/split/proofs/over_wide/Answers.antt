@@ -13,5 +13,5 @@ pub overflow_mul-bytes-2 : goal.overflow_mul-bytes-2
 overflow_mul-bytes-2 c =
     record { fits = omega (arith, columns_small c.args.line.now c.requires.indent c.args.s.ruler c.requires.well_formed.1 (omega arith)) }
 
-pub returns-then-bytes-s : goal.returns-then-bytes-s
-returns-then-bytes-s c = search (rules, wide_not)
+pub returns-else-s-bytes : goal.returns-else-s-bytes
+returns-else-s-bytes c = search (rules, wide_not)

@@ -6,7 +6,7 @@ pub loop-i-init : goal.loop-i-init
 loop-i-init c = search (rules, code_begin)
 
 pub returns-then-code_is : goal.returns-then-code_is
-returns-then-code_is c = search (rules, code_found)
+returns-then-code_is c = (search (rules, code_found), search rules)
 
 pub loop-i-preserved : goal.loop-i-preserved
 loop-i-preserved c = search (rules, code_more)

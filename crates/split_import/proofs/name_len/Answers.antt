@@ -5,8 +5,8 @@ use Rattle.split_import.proofs.name_len.Goals as goal
 pub loop-i-init : goal.loop-i-init
 loop-i-init c = name_begin _
 
-pub returns-then-s-i-eq44 : goal.returns-then-s-i-eq44
-returns-then-s-i-eq44 c = search (rules, name_found)
+pub returns-then-b-eq44 : goal.returns-then-b-eq44
+returns-then-b-eq44 c = search (rules, name_found)
 
 pub loop-i-preserved : goal.loop-i-preserved
 loop-i-preserved c = search (rules, name_more)

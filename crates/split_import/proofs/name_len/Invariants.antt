@@ -1,12 +1,7 @@
 -- `name_len` meets its contract: the invariant is `NameScan`, no comma stands before i; its laws are in
 -- proofs/NameLaws.antt.
-use Prim.Native.Nat.{◌-◌}
-use lib.ListN.{length}
 use Rattle.split_import.proofs.NameLaws.{NameScan}
 use Rattle.split_import.proofs.name_len.Given as goal
 
 abbrev pub invariant-loop-i : goal.invariant-loop-i
 invariant-loop-i l = NameScan l.s l.i
-
-abbrev pub decreases-loop-i : goal.decreases-loop-i
-decreases-loop-i l = length l.s - l.i

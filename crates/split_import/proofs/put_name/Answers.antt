@@ -2,8 +2,8 @@ use borrow.Author.Rules.{rules}
 use Rattle.split_import.proofs.NameLaws.{spaced_after, spaced_within, put_as_is, put_name}
 use Rattle.split_import.proofs.put_name.Goals as goal
 
-pub overflow_sub-b : goal.overflow_sub-b
-overflow_sub-b c = search (rules, spaced_after)
+pub overflow_sub-p : goal.overflow_sub-p
+overflow_sub-p c = search (rules, spaced_after)
 
 pub slice_bounds-append-end : goal.slice_bounds-append-end
 slice_bounds-append-end c = search (rules, spaced_within)

@@ -1,31 +1,51 @@
-use Rattle.split_import.proofs.ImportLaws.{class_room, rest_room, no_import, no_brace, no_close, found_braces, given_import}
-use native.Mathlib.Omega.{arith}
 use borrow.Author.Rules.{rules}
+use native.Mathlib.Omega.{arith}
+use mathlib.Core.Path.{ap}
+use Rattle.std.proofs.Common.{◌+◌, ◌≤◌, length}
+use lib.ListN.{length-drop}
+use Rattle.buffer.proofs.RegionLaws.{part_from}
+use Rattle.split_import.proofs.ImportLaws.{class_room, rest_room, no_import, no_brace, no_close, found_braces, given_import}
 use Rattle.split_import.proofs.split_import.Goals as goal
 
-pub find_code-start-requires : goal.find_code-start-requires
-find_code-start-requires c = search (rules, class_room)
+pub returns-then-not-starts_import : goal.returns-then-not-starts_import
+returns-then-not-starts_import c = search (rules, no_import)
 
-pub returns-then-line-start : goal.returns-then-line-start
-returns-then-line-start c = search (rules, no_brace)
+pub find_code-requires : goal.find_code-requires
+find_code-requires c = class_room c.requires
 
-pub slice_bounds-find_code-count-then-starts_import : goal.slice_bounds-find_code-count-then-starts_import
-slice_bounds-find_code-count-then-starts_import c = omega (arith, class_room c.requires)
+pub returns-in_err-start : goal.returns-in_err-start
+returns-in_err-start c =
+    rw c.from_residual.ensures
+    (no_brace c.requires _ c.starts_import.ensures c.if-not-starts_import.false _ c.in_err-start.ensures _ _ _ _ (omega arith))
 
-pub slice_bounds-find_code-start-then-starts_import : goal.slice_bounds-find_code-start-then-starts_import
-slice_bounds-find_code-start-then-starts_import c = let h = class_room c.requires in search rules
+pub slice_bounds-find_code-count-2 : goal.slice_bounds-find_code-count-2
+slice_bounds-find_code-count-2 c = omega (arith, class_room c.requires, c.in_ok-start.ensures.1)
 
-pub find_code-n-requires : goal.find_code-n-requires
-find_code-n-requires c = search (rules, rest_room)
+pub slice_bounds-find_code-start-2 : goal.slice_bounds-find_code-start-2
+slice_bounds-find_code-start-2 c =
+    let h : c.in_ok-start.start + 1 ≤ length c.args.class.now = omega (arith, class_room c.requires, c.in_ok-start.ensures.1) in search rules
 
-pub returns-then-line-end : goal.returns-then-line-end
-returns-then-line-end c = search (rules, no_close)
+pub find_code-requires-2 : goal.find_code-requires-2
+find_code-requires-2 c = rest_room c.requires _
+
+pub returns-in_err-end : goal.returns-in_err-end
+returns-in_err-end c =
+    let s = c.in_ok-start.ensures in
+    rw c.from_residual-in_err-end.ensures
+    (no_close c.requires _ c.starts_import.ensures c.if-not-starts_import.false _ s.0 s.1 _ c.in_err-end.ensures _ _ _ _
+    (omega (arith, ap length (part_from c.args.line.now (c.in_ok-start.start + 1)), length-drop (c.in_ok-start.start + 1) c.args.line.now)))
 
 pub write_import-requires : goal.write_import-requires
-write_import-requires c = search (rules, found_braces)
-
-pub returns-then-starts_import : goal.returns-then-starts_import
-returns-then-starts_import c = search (rules, given_import)
+write_import-requires c =
+    let s = c.in_ok-start.ensures in
+    let e = c.in_ok-end.ensures in
+    found_braces c.requires _ c.starts_import.ensures c.if-not-starts_import.false _ s.0 s.1 _ e.0
+    (omega (arith, e.1, ap length (part_from c.args.line.now (c.in_ok-start.start + 1)), length-drop (c.in_ok-start.start + 1) c.args.line.now))
 
 pub returns : goal.returns
-returns c = search (rules, no_import)
+returns c =
+    let s = c.in_ok-start.ensures in
+    let e = c.in_ok-end.ensures in
+    given_import c.requires _ c.starts_import.ensures c.if-not-starts_import.false _ s.0 s.1 _ e.0
+    (omega (arith, e.1, ap length (part_from c.args.line.now (c.in_ok-start.start + 1)), length-drop (c.in_ok-start.start + 1) c.args.line.now))
+    _ _ _ _ _ _ c.write_import.ensures

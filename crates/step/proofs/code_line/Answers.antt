@@ -55,8 +55,8 @@ returns-then-is_kept c =
     λ o u. format_code false false (sym c.requires.ignore_value) (raw_code false _ c.requires.carry_value) _ o refl (some_trim _ _ _ te ts c.if-start-tail.false)
     (code_protected c.requires.ready (trimmed_line _ _ _ te ts) c.scan_line-s.ensures _ c.is_kept.ensures c.if-is_kept.true c.kept_line-kept.ensures o)
 
-pub go_on-going-requires : goal.go_on-going-requires
-go_on-going-requires c =
+pub go_on-requires : goal.go_on-requires
+go_on-requires c =
     let t = trimmed_line _ _ _ c.trim_end-tail.ensures c.trim_start-start.ensures in
     let k = c.scan_line-s.ensures in
     record { well_formed = t.well; line_room = ready_room _ (line_ready c.requires.ready t k) refl; classes = k.classes }
@@ -67,7 +67,7 @@ spaced_line-requires c =
     let ts = c.trim_start-start.ensures in
     let t = trimmed_line _ _ _ te ts in
     let k = c.scan_line-s.ensures in
-    record { ready = ready_as _ _ _ (line_ready c.requires.ready t k) c.go_on-going.ensures.only (le_refl _) (le_refl _); solid_line = solid _ _ t (some_line _ _ _ te ts c.if-start-tail.false); marks = marks_of_law _ _ _ k.marker c.is_alone-alone.ensures; goes = c.go_on-going.ensures.goes; valid_indent = c.requires.valid_indent }
+    record { ready = ready_as _ _ _ (line_ready c.requires.ready t k) c.go_on.ensures.only (le_refl _) (le_refl _); solid_line = solid _ _ t (some_line _ _ _ te ts c.if-start-tail.false); marks = marks_of_law _ _ _ k.marker c.is_alone.ensures; goes = c.go_on.ensures.goes; valid_indent = c.requires.valid_indent }
 
 pub shape_of-scratch : goal.shape_of-scratch
 shape_of-scratch c = c.scratch-4-1.given ∙ c.scratch-3-1.given ∙ c.scratch-2-1.given
@@ -77,4 +77,4 @@ returns c =
     let te = c.trim_end-tail.ensures in
     let ts = c.trim_start-start.ensures in
     λ o u. format_code false false (sym c.requires.ignore_value) (raw_code false _ c.requires.carry_value) _ o refl (some_trim _ _ _ te ts c.if-start-tail.false)
-    (code_open c.requires.ready (trimmed_line _ _ _ te ts) c.scan_line-s.ensures _ c.is_kept.ensures _ c.if-is_kept.false c.is_alone-alone.ensures _ c.go_on-going.ensures.only o (c.spaced_line.ensures o u))
+    (code_open c.requires.ready (trimmed_line _ _ _ te ts) c.scan_line-s.ensures _ c.is_kept.ensures _ c.if-is_kept.false c.is_alone.ensures _ c.go_on.ensures.only o (c.spaced_line.ensures o u))

@@ -17,6 +17,6 @@ scan_brackets_at-requires c =
     let s = c.requires in
     (count_room _ _ _ _ _ _ s.line_room s.goes s.line_bound s.nested refl, omega (arith, s.goes.most, s.line_room.short))
 
-pub returns : goal.returns
-returns c =
+pub returns-else-g : goal.returns-else-g
+returns-else-g c =
     counts_spaced _ _ _ _ _ _ _ _ c.requires.well_formed c.requires.goes c.requires.closers c.if-g.false c.scan_brackets_at.ensures

@@ -36,14 +36,14 @@ has_code-requires c =
 pub returns-then-has_code : goal.returns-then-has_code
 returns-then-has_code c =
     let s = c.requires in
-    marker_after _ _ _ s.well_formed s.class_value c.code_end-e.ensures _ _ c.is_marker.ensures c.if-is_marker.true c.has_code.ensures c.if-has_code.true
+    marker_after _ _ _ s.well_formed s.class_value c.code_end-e.ensures _ _ c.is_marker.ensures c.if-not-is_marker.false c.has_code.ensures c.if-has_code.true
 
-pub returns-then-is_marker : goal.returns-then-is_marker
-returns-then-is_marker c =
+pub returns-else-has_code : goal.returns-else-has_code
+returns-else-has_code c =
     let s = c.requires in
-    marker_alone _ _ _ s.well_formed s.class_value c.code_end-e.ensures _ _ c.is_marker.ensures c.if-is_marker.true c.has_code.ensures c.if-has_code.false
+    marker_alone _ _ _ s.well_formed s.class_value c.code_end-e.ensures _ _ c.is_marker.ensures c.if-not-is_marker.false c.has_code.ensures c.if-has_code.false
 
-pub returns : goal.returns
-returns c =
+pub returns-then-not-is_marker : goal.returns-then-not-is_marker
+returns-then-not-is_marker c =
     let s = c.requires in
-    marker_none _ _ _ s.well_formed s.class_value c.code_end-e.ensures _ c.is_marker.ensures c.if-is_marker.false
+    marker_none _ _ _ s.well_formed s.class_value c.code_end-e.ensures _ c.is_marker.ensures c.if-not-is_marker.true

@@ -7,5 +7,5 @@ returns-then-joins c = search picks depth 20
 pub returns-then-long-eq0 : goal.returns-then-long-eq0
 returns-then-long-eq0 c = search picks depth 20
 
-pub returns : goal.returns
-returns c = search picks depth 20
+pub returns-else-long-eq0 : goal.returns-else-long-eq0
+returns-else-long-eq0 c = search picks depth 20

@@ -5,5 +5,5 @@ use Rattle.text.proofs.separate.Goals as goal
 pub returns-then-first : goal.returns-then-first
 returns-then-first c = search (rules, sep_none)
 
-pub returns : goal.returns
-returns c = search (rules, sep_eol)
+pub returns-else-first : goal.returns-else-first
+returns-else-first c = search (rules, sep_eol)

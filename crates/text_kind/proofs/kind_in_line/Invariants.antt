@@ -1,11 +1,6 @@
 -- `text_kind::kind_in_line` meets its contract: the invariant is `Counting`, whose laws are in proofs/KindMarks.antt.
-use Prim.Native.Nat.{◌-◌}
-use lib.ListN.{length}
 use Rattle.text_kind.proofs.KindMarks.{Counting}
 use Rattle.text_kind.proofs.kind_in_line.Given as goal
 
 abbrev pub invariant-loop-i : goal.invariant-loop-i
 invariant-loop-i l = Counting l.line l.initial.t l.initial.left l.t l.left l.i
-
-abbrev pub decreases-loop-i : goal.decreases-loop-i
-decreases-loop-i l = length l.line - l.i

@@ -5,8 +5,8 @@ use Rattle.text_kind.proofs.outcome_of.Goals as goal
 pub text_kind_at-requires : goal.text_kind_at-requires
 text_kind_at-requires c = search (rules, source_fits)
 
-pub returns-in-Refused : goal.returns-in-Refused
-returns-in-Refused c = search (rules, kind_refused)
+pub returns-in_err-test : goal.returns-in_err-test
+returns-in_err-test c = search (rules, kind_refused)
 
-pub returns-in-Accepted : goal.returns-in-Accepted
-returns-in-Accepted c = search (rules, kind_found)
+pub returns : goal.returns
+returns c = search (rules, kind_found)

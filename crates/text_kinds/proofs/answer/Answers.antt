@@ -1,12 +1,6 @@
 use borrow.Author.Rules.{rules}
-use Rattle.text_kinds.proofs.KindsCall.{kinds_refused, kinds_fits, kinds_listed, kinds_found}
+use Rattle.text_kinds.proofs.KindsCall.{kinds_told}
 use Rattle.text_kinds.proofs.answer.Goals as goal
 
-pub text_kinds-requires : goal.text_kinds-requires
-text_kinds-requires c = record { source_fits = search (rules, kinds_fits); listed = search (rules, kinds_listed) }
-
-pub returns-in-Refused : goal.returns-in-Refused
-returns-in-Refused c = search (rules, kinds_refused)
-
-pub returns-in-Accepted : goal.returns-in-Accepted
-returns-in-Accepted c = search (rules, kinds_found)
+pub returns : goal.returns
+returns c = search (rules, kinds_told)

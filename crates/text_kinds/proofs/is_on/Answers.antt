@@ -1,9 +1,8 @@
-use borrow.Author.Rules.{rules}
-use Rattle.text_kinds.proofs.PlaceLaws.{is_on_there, is_on_past}
+use Rattle.text_kinds.proofs.PlaceLaws.{is_on_some, is_on_none}
 use Rattle.text_kinds.proofs.is_on.Goals as goal
 
-pub returns-then-k-places : goal.returns-then-k-places
-returns-then-k-places c = search (rules, is_on_there)
+pub returns-in-Some : goal.returns-in-Some
+returns-in-Some c = is_on_some _ _ _ c.in-Some.ensures _
 
-pub returns : goal.returns
-returns c = search (rules, is_on_past)
+pub returns-in-None : goal.returns-in-None
+returns-in-None c = is_on_none _ _ c.in-None.ensures _

@@ -1,12 +1,11 @@
-use borrow.Author.Rules.{rules}
-use Rattle.text_kinds.proofs.PlaceLaws.{is_place_same, is_place_other, is_place_past}
+use Rattle.text_kinds.proofs.PlaceLaws.{is_place_same, is_place_other, is_place_none}
 use Rattle.text_kinds.proofs.is_place.Goals as goal
 
-pub returns-then-places-i : goal.returns-then-places-i
-returns-then-places-i c = search (rules, is_place_same)
+pub returns-then-p-line : goal.returns-then-p-line
+returns-then-p-line c = is_place_same _ _ _ c.in-Some.ensures _ _ c.if-p-line.true
 
-pub returns-then-k-places : goal.returns-then-k-places
-returns-then-k-places c = search (rules, is_place_other)
+pub returns-else-p-line : goal.returns-else-p-line
+returns-else-p-line c = is_place_other _ _ _ c.in-Some.ensures _ _ c.if-p-line.false
 
-pub returns : goal.returns
-returns c = search (rules, is_place_past)
+pub returns-in-None : goal.returns-in-None
+returns-in-None c = is_place_none _ _ c.in-None.ensures _ _

@@ -15,6 +15,6 @@ pub returns-then-is_closer : goal.returns-then-is_closer
 unfolding code_or
 returns-then-is_closer c = λ t. search (picks, passed_bracket, closes) depth 20
 
-pub returns : goal.returns
+pub returns-else-is_closer : goal.returns-else-is_closer
 unfolding code_or
-returns c = λ t. search picks depth 20
+returns-else-is_closer c = λ t. search picks depth 20

@@ -15,6 +15,6 @@ pub returns-then-c-eq92 : goal.returns-then-c-eq92
 unfolding fresh_or
 returns-then-c-eq92 c = λ t. search (picks, passed_escape, pick_code) depth 20
 
-pub returns : goal.returns
+pub returns-else-c-eq92 : goal.returns-else-c-eq92
 unfolding fresh_or
-returns c = λ t. let h = c.code_step.ensures t in search (picks, pick_code) depth 20
+returns-else-c-eq92 c = λ t. let h = c.code_step.ensures t in search (picks, pick_code) depth 20

@@ -5,8 +5,8 @@ use Rattle.top_level_ops.proofs.plain_step.Goals as goal
 pub returns-then-is_tail : goal.returns-then-is_tail
 returns-then-is_tail c = λ t. search (rules, byte_stays)
 
-pub returns-then-n-gt0 : goal.returns-then-n-gt0
-returns-then-n-gt0 c = λ t. search (rules, byte_skips, passed_token)
+pub returns-then-s-gt0 : goal.returns-then-s-gt0
+returns-then-s-gt0 c = λ t. search (rules, byte_skips, passed_token)
 
-pub returns : goal.returns
-returns c = λ t. let h = c.fresh_step.ensures t in search (rules, byte_fresh)
+pub returns-else-s-gt0 : goal.returns-else-s-gt0
+returns-else-s-gt0 c = λ t. let h = c.fresh_step.ensures t in search (rules, byte_fresh)

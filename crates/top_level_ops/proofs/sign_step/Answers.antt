@@ -1,6 +1,8 @@
 use Rattle.rules.proofs.Choose.{picks}
+use Rattle.rules.specs.Strengths.{strengths_in}
+use Rattle.operators.specs.Places.{place_of}
 use Rattle.top_level_ops.specs.Steps.{sign_step}
-use Rattle.top_level_ops.proofs.StepLaws.{pick_two, pick_one, two_token, two_operator, token_operator}
+use Rattle.top_level_ops.proofs.StepLaws.{Two, pick_two, pick_one, two_token, two_operator, token_operator}
 use Rattle.top_level_ops.proofs.sign_step.Goals as goal
 
 pub returns-then-starts_with : goal.returns-then-starts_with
@@ -11,14 +13,18 @@ pub returns-then-is_arrow : goal.returns-then-is_arrow
 unfolding sign_step
 returns-then-is_arrow c = λ s e. let h = c.plain_token-then-is_arrow.ensures s in search picks depth 20
 
-pub returns-then-k-ge-COUNT : goal.returns-then-k-ge-COUNT
+pub returns-in_default : goal.returns-in_default
 unfolding sign_step
-returns-then-k-ge-COUNT c = λ s e. let h = c.one_char_step.ensures s e in search (picks, pick_one) depth 20
+returns-in_default c = λ s e. let h = c.one_char_step.ensures s e in let g : Two c.args.l.now 21 = c.in_default.ensures in search (picks, pick_one) depth 20
 
 pub returns-then-is_shift_assign : goal.returns-then-is_shift_assign
 unfolding sign_step
-returns-then-is_shift_assign c = λ s e. let h = c.plain_token-then-is_shift_assign.ensures s in search (picks, pick_two, two_token) depth 20
+returns-then-is_shift_assign c =
+    λ s e. let h = c.plain_token-then-is_shift_assign.ensures s in let g : Two c.args.l.now (place_of c.in-Some.operator) = c.in-Some.ensures in
+    search (picks, pick_two _ c.in-Some.operator g, two_token) depth 20
 
 pub returns : goal.returns
 unfolding sign_step
-returns c = λ s e. search (picks, pick_two, two_operator, token_operator) depth 20
+returns c =
+    λ s e. let g : Two c.args.l.now (place_of c.in-Some.operator) = c.in-Some.ensures in
+    search (picks, pick_two _ c.in-Some.operator g, two_operator (strengths_in c.args.table.now) s _ c.in-Some.operator g, token_operator) depth 20

@@ -1,11 +1,12 @@
--- `utf8::first_is_white` meets its contract: the first character is the one at place 0.
--- Assumes nothing.
+use Rattle.std.proofs.Common.{sym, ap, ◌∙◌, not}
+use borrow.Author.Tests.{eqb-true, eqb-false}
 use Rattle.utf8.proofs.TrimScan.{first_none, first_some}
-use borrow.Author.Rules.{rules}
 use Rattle.utf8.proofs.first_is_white.Goals as goal
 
-pub returns-then-s-eq0 : goal.returns-then-s-eq0
-returns-then-s-eq0 c = search (rules, first_none)
+pub returns-then-not-is_empty : goal.returns-then-not-is_empty
+returns-then-not-is_empty c =
+    c.is_some.ensures ∙ first_some _ _ c.requires (eqb-false _ _ (sym c.is_empty.ensures ∙ c.if-not-is_empty.true)) c.white_at.ensures
 
-pub returns : goal.returns
-returns c = search (rules, first_some)
+pub returns-else-not-is_empty : goal.returns-else-not-is_empty
+returns-else-not-is_empty c =
+    ap not c.if-not-is_empty.false ∙ first_none _ (eqb-true _ _ (sym c.is_empty.ensures ∙ c.if-not-is_empty.false))

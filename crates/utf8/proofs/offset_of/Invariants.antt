@@ -1,11 +1,6 @@
--- `utf8::offset_of` meets its contract: the invariant is `ColumnScan`, whose laws, one for each way through a turn,
--- are in proofs/Column.antt. Assumes nothing.
-use Prim.Native.Nat.{◌-◌}
+-- The invariant is `ColumnScan`, whose laws, one for each way through a turn, are in proofs/Column.antt.
 use Rattle.utf8.proofs.Column.{ColumnScan}
 use Rattle.utf8.proofs.offset_of.Given as goal
 
-abbrev pub invariant-loop-k : goal.invariant-loop-k
-invariant-loop-k l = ColumnScan l.s l.column.0 l.k l.i
-
-abbrev pub decreases-loop-k : goal.decreases-loop-k
-decreases-loop-k l = l.column.0 - l.k
+abbrev pub invariant-loop : goal.invariant-loop
+invariant-loop l = ColumnScan l.s l.fn.column.0 l.counter l.i

@@ -7,17 +7,17 @@ use Rattle.utf8.proofs.size_before.Goals as goal
 pub returns-then-s-e-lt128 : goal.returns-then-s-e-lt128
 returns-then-s-e-lt128 c = search (rules, back_1)
 
-pub overflow_sub-e-2 : goal.overflow_sub-e-2
-overflow_sub-e-2 c = search (rules, beyond_1)
+pub overflow_sub-e-else-s-e-lt128 : goal.overflow_sub-e-else-s-e-lt128
+overflow_sub-e-else-s-e-lt128 c = search (rules, beyond_1)
 
 pub returns-then-s-e-ge192 : goal.returns-then-s-e-ge192
 returns-then-s-e-ge192 c = search (rules, back_2)
 
-pub overflow_sub-e-3 : goal.overflow_sub-e-3
-overflow_sub-e-3 c = search (rules, beyond_2)
+pub overflow_sub-e-else-s-e-ge192 : goal.overflow_sub-e-else-s-e-ge192
+overflow_sub-e-else-s-e-ge192 c = search (rules, beyond_2)
 
 pub returns-then-s-e-ge192-2 : goal.returns-then-s-e-ge192-2
 returns-then-s-e-ge192-2 c = search (rules, back_3)
 
-pub returns : goal.returns
-returns c = search (rules, back_4)
+pub returns-else-s-e-ge192-2 : goal.returns-else-s-e-ge192-2
+returns-else-s-e-ge192-2 c = search (rules, back_4)

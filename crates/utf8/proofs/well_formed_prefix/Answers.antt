@@ -6,14 +6,17 @@ use Rattle.utf8.proofs.well_formed_prefix.Goals as goal
 pub loop-i-init : goal.loop-i-init
 loop-i-init c = prefix_run _ _ _ (prefix_begin _) c.past_ascii-i.ensures
 
-pub returns-then-n-eq0 : goal.returns-then-n-eq0
-returns-then-n-eq0 c = search (rules, prefix_stop)
+pub returns-in_default : goal.returns-in_default
+returns-in_default c = search (rules, prefix_stop)
+
+pub overflow_add-i : goal.overflow_add-i
+overflow_add-i c = omega (arith, c.seq_at.ensures.some _ c.in-Some.is)
 
 pub loop-i-smaller : goal.loop-i-smaller
-loop-i-smaller c = omega (arith, c.past_ascii-i-in-loop-i.ensures.from, c.if-n-eq0.false)
+loop-i-smaller c = omega (arith, c.past_ascii-i-in-loop-i.ensures.from, c.seq_at.ensures.some _ c.in-Some.is)
 
 pub loop-i-preserved : goal.loop-i-preserved
-loop-i-preserved c = prefix_run _ _ _ (prefix_on _ _ _ c.loop-i.invariant (omega arith) c.seq_at-n.ensures c.if-n-eq0.false) c.past_ascii-i-in-loop-i.ensures
+loop-i-preserved c = prefix_run _ _ _ (prefix_on _ _ _ c.loop-i.invariant (omega arith) _ c.seq_at.ensures c.in-Some.is) c.past_ascii-i-in-loop-i.ensures
 
 pub returns : goal.returns
 returns c = search (rules, prefix_end)

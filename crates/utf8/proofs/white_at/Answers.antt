@@ -7,11 +7,11 @@ use Rattle.utf8.proofs.white_at.Goals as goal
 pub returns-then-is_white : goal.returns-then-is_white
 returns-then-is_white c = search (rules, white_ascii)
 
-pub returns-then-b-lt128 : goal.returns-then-b-lt128
-returns-then-b-lt128 c = search (rules, other_ascii)
+pub returns-else-is_white : goal.returns-else-is_white
+returns-else-is_white c = search (rules, other_ascii)
 
 pub returns-then-is_white-2 : goal.returns-then-is_white-2
 returns-then-is_white-2 c = search (rules, white_more)
 
-pub returns : goal.returns
-returns c = search (rules, other_more)
+pub returns-else-is_white-2 : goal.returns-else-is_white-2
+returns-else-is_white-2 c = search (rules, other_more)

@@ -7,11 +7,11 @@ use Rattle.utf8.proofs.white_before.Goals as goal
 pub returns-then-is_white : goal.returns-then-is_white
 returns-then-is_white c = search (rules, before_ascii)
 
-pub returns-then-b-lt128 : goal.returns-then-b-lt128
-returns-then-b-lt128 c = search (rules, before_ascii_other)
+pub returns-else-is_white : goal.returns-else-is_white
+returns-else-is_white c = search (rules, before_ascii_other)
 
 pub returns-then-is_white-2 : goal.returns-then-is_white-2
 returns-then-is_white-2 c = search (rules, before_more)
 
-pub returns : goal.returns
-returns c = search (rules, before_other)
+pub returns-else-is_white-2 : goal.returns-else-is_white-2
+returns-else-is_white-2 c = search (rules, before_other)

@@ -5,7 +5,7 @@ use borrow.Author.Rules.{rules}
 use Rattle.call.proofs.assembly.format_with.Goals as goal
 
 pub read_lines-read-requires : goal.read_lines-read-requires
-read_lines-read-requires c = record { passed = c.requires.passed; starts = record { none = keeps_out _ } }
+read_lines-read-requires c = record { passed = rw c.as_bytes-indent.ensures c.requires.passed; starts = record { none = keeps_out _ } }
 
 pub has_last_ending-last-requires : goal.has_last_ending-last-requires
 has_last_ending-last-requires c = c.requires.passed.well
@@ -17,7 +17,7 @@ finish_text-n-requires c =
 
 pub returns-then-output-n : goal.returns-then-output-n
 returns-then-output-n c =
-    text_short _ _ c.args.chosen _ _ _ c.args.output.now c.args.opened.now c.args.scratch.now _ _ _ _ _ _ _
+    text_short _ _ c.args.options c.as_bytes-indent.ensures _ _ _ c.args.output.now c.args.opened.now c.args.scratch.now _ _ _ _ _ _ _
     c.ending_of-ending.ensures (all_done c.read_lines-read.ensures) c.has_last_ending-last.ensures c.finish_text-n.ensures
     c.output-1.given c.scratch-1.given c.output-2-1.given c.if-output-n.true c.list_open.ensures
 
@@ -29,6 +29,6 @@ list_open-count-requires c = let d = (all_done c.read_lines-read.ensures).stack 
 
 pub returns : goal.returns
 returns c =
-    text_fits _ _ c.args.chosen _ _ _ c.args.output.now c.args.opened.now c.args.scratch.now _ _ _ _ _ _ _
+    text_fits _ _ c.args.options c.as_bytes-indent.ensures _ _ _ c.args.output.now c.args.opened.now c.args.scratch.now _ _ _ _ _ _ _
     c.ending_of-ending.ensures (all_done c.read_lines-read.ensures) c.has_last_ending-last.ensures c.finish_text-n.ensures
     c.output-1.given c.scratch-1.given c.output-2-1.given c.if-output-n.false c.list_open-count.ensures

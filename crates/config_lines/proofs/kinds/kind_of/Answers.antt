@@ -1,21 +1,22 @@
-use borrow.Author.Rules.{rules}
-use Rattle.config_lines.proofs.KindLaws.{kind_empty, kind_semicolon, kind_hash, kind_header, kind_pair, kind_other}
+use Rattle.std.proofs.Common.{rules}
+use Rattle.config_lines.proofs.KindLaws.{kind_skipped, kind_header, kind_other, kind_pair, key_well, value_well}
 use Rattle.config_lines.proofs.kinds.kind_of.Goals as goal
 
-pub returns-then-line-eq0 : goal.returns-then-line-eq0
-returns-then-line-eq0 c = search (rules, kind_empty)
+pub returns-then-is_skipped : goal.returns-then-is_skipped
+returns-then-is_skipped c = search (rules, kind_skipped)
 
-pub returns-then-line-eq59 : goal.returns-then-line-eq59
-returns-then-line-eq59 c = search (rules, kind_semicolon)
+pub returns-in-Some : goal.returns-in-Some
+returns-in-Some c = kind_header _ c.requires _ c.is_skipped.ensures c.if-is_skipped.false _ c.in-Some.ensures
 
-pub returns-then-line-eq35 : goal.returns-then-line-eq35
-returns-then-line-eq35 c = search (rules, kind_hash)
+pub returns-in_err-i : goal.returns-in_err-i
+returns-in_err-i c = rw c.from_residual.ensures (kind_other _ c.requires _ c.is_skipped.ensures c.if-is_skipped.false c.in_default.ensures c.in_err-i.ensures)
 
-pub returns-then-is_header : goal.returns-then-is_header
-returns-then-is_header c = search (rules, kind_header)
+pub trimmed-key-requires : goal.trimmed-key-requires
+trimmed-key-requires c = key_well _ c.requires _ c.in_ok-i.ensures
 
-pub returns-then-i-line : goal.returns-then-i-line
-returns-then-i-line c = search (rules, kind_pair)
+pub trimmed-value-requires : goal.trimmed-value-requires
+trimmed-value-requires c = value_well _ c.requires _ c.in_ok-i.ensures
 
 pub returns : goal.returns
-returns c = search (rules, kind_other)
+returns c =
+    kind_pair _ c.requires _ c.is_skipped.ensures c.if-is_skipped.false c.in_default.ensures _ c.in_ok-i.ensures _ _ c.trimmed-key.ensures c.trimmed-value.ensures

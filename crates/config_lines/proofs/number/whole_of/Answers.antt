@@ -1,24 +1,23 @@
-use borrow.Author.Rules.{rules}
-use Rattle.config_lines.proofs.WholeLaws.{adding_start, adding_more, whole_empty, whole_below, whole_above, whole_large, whole_end}
+use Rattle.std.proofs.Common.{rules}
+use mathlib.Core.Path.{sym, ◌∙◌}
+use borrow.Author.Tests.{eqb-true, eqb-false}
+use Rattle.config_lines.proofs.WholeLaws.{adding_start, adding_more, whole_empty, not_digit, whole_large, whole_end}
 use Rattle.config_lines.proofs.number.whole_of.Goals as goal
 
-pub returns-then-v-eq0 : goal.returns-then-v-eq0
-returns-then-v-eq0 c = search (rules, whole_empty)
+pub returns-then-is_empty : goal.returns-then-is_empty
+returns-then-is_empty c = whole_empty _ (eqb-true _ _ (sym c.is_empty.ensures ∙ c.if-is_empty.true))
 
-pub loop-i-init : goal.loop-i-init
-loop-i-init c = search (rules, adding_start)
+pub loop-c-init : goal.loop-c-init
+loop-c-init c = adding_start _ (eqb-false _ _ (sym c.is_empty.ensures ∙ c.if-is_empty.false))
 
-pub returns-then-c-lt48 : goal.returns-then-c-lt48
-returns-then-c-lt48 c = search (rules, whole_below)
-
-pub returns-then-c-gt57 : goal.returns-then-c-gt57
-returns-then-c-gt57 c = search (rules, whole_above)
+pub returns-then-not-is_ascii_digit : goal.returns-then-not-is_ascii_digit
+returns-then-not-is_ascii_digit c = not_digit _ _ _ c.loop-c.invariant c.loop-c-test.true (sym c.is_ascii_digit.ensures.value ∙ c.if-not-is_ascii_digit.true)
 
 pub returns-then-n-gt4294967295 : goal.returns-then-n-gt4294967295
 returns-then-n-gt4294967295 c = search (rules, whole_large)
 
-pub loop-i-preserved : goal.loop-i-preserved
-loop-i-preserved c = search (rules, adding_more)
+pub loop-c-preserved : goal.loop-c-preserved
+loop-c-preserved c = adding_more _ _ _ c.loop-c.invariant c.loop-c-test.true (sym c.is_ascii_digit.ensures.value ∙ c.if-not-is_ascii_digit.false) c.if-n-gt4294967295.false
 
 pub returns : goal.returns
 returns c = search (rules, whole_end)

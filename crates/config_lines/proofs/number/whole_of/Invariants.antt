@@ -1,12 +1,7 @@
--- `whole_of` meets its contract: the invariant is `Adding`, the first i characters are digits that spell n; its laws
--- are in proofs/WholeLaws.antt.
-use Prim.Native.Nat.{◌-◌}
-use lib.ListN.{length}
+-- `whole_of` meets its contract: the invariant is `Adding`, the characters so far are digits that spell n; its laws are
+-- in proofs/WholeLaws.antt.
 use Rattle.config_lines.proofs.WholeLaws.{Adding}
 use Rattle.config_lines.proofs.number.whole_of.Given as goal
 
-abbrev pub invariant-loop-i : goal.invariant-loop-i
-invariant-loop-i l = Adding l.v l.i l.n
-
-abbrev pub decreases-loop-i : goal.decreases-loop-i
-decreases-loop-i l = length l.v - l.i
+abbrev pub invariant-loop-c : goal.invariant-loop-c
+invariant-loop-c l = Adding l.v l.c-index l.n

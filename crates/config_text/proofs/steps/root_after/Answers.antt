@@ -1,19 +1,10 @@
-use borrow.Author.Rules.{rules}
-use Rattle.config_text.specs.Steps.{root_after}
-use Rattle.config_lines.specs.Kinds.{line_in}
-use Rattle.config_text.proofs.StepLaws.{pair_parts, root_pair_is}
+use Rattle.std.proofs.Common.{rules}
+use Rattle.config_text.proofs.StepLaws.{root_set, root_kept}
 use Rattle.config_text.proofs.steps.root_after.Goals as goal
 
-pub root_pair-requires : goal.root_pair-requires
-root_pair-requires c = pair_parts _ _ _ c.in-Pair.is c.requires
+pub returns-in-Some-Pair : goal.returns-in-Some-Pair
+returns-in-Some-Pair c =
+    root_set c.args.line c.in-Some-Pair.key c.in-Some-Pair.value (search rules) c.requires _ c.is_word.ensures c.if-is_word.true _ _ c.is_word-in-Some-Pair.ensures
 
-pub returns-in-Nothing : goal.returns-in-Nothing
-unfolding root_after line_in
-returns-in-Nothing c = rw c.in-Nothing.is
-
-pub returns-in-Header : goal.returns-in-Header
-unfolding root_after line_in
-returns-in-Header c = rw c.in-Header.is
-
-pub returns-in-Pair : goal.returns-in-Pair
-returns-in-Pair c = search (rules, root_pair_is)
+pub returns-in_default : goal.returns-in_default
+returns-in_default c = root_kept c.args.line c.in-Some-Pair.key c.in-Some-Pair.value (search rules) c.requires _ c.is_word.ensures c.if-is_word.false _

@@ -14,5 +14,5 @@ is_plain_rest-requires c = search (rules, else_well)
 pub returns-then-starts_with : goal.returns-then-starts_with
 returns-then-starts_with c = search (rules, else_rest)
 
-pub returns : goal.returns
-returns c = search (rules, else_no)
+pub returns-else-starts_with : goal.returns-else-starts_with
+returns-else-starts_with c = search (rules, else_no)

@@ -5,5 +5,5 @@ use Rattle.format.proofs.else_line.starts_if.Goals as goal
 pub returns-then-first_is_white : goal.returns-then-first_is_white
 returns-then-first_is_white c = search (rules, white_if)
 
-pub returns : goal.returns
-returns c = search (rules, no_white)
+pub returns-else-first_is_white : goal.returns-else-first_is_white
+returns-else-first_is_white c = search (rules, no_white)

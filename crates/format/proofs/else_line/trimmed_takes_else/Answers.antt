@@ -5,5 +5,5 @@ use Rattle.format.proofs.else_line.trimmed_takes_else.Goals as goal
 pub returns-then-ends_in_brace : goal.returns-then-ends_in_brace
 returns-then-ends_in_brace c = search (rules, takes_brace)
 
-pub returns : goal.returns
-returns c = search (rules, takes_none)
+pub returns-else-ends_in_brace : goal.returns-else-ends_in_brace
+returns-else-ends_in_brace c = search (rules, takes_none)

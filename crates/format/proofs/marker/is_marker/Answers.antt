@@ -15,5 +15,5 @@ slice_bounds-is_marker_word-start c = search (rules, slashes_long)
 pub is_marker_word-requires : goal.is_marker_word-requires
 is_marker_word-requires c = search (rules, slashes_well)
 
-pub returns : goal.returns
-returns c = search (rules, marker_no)
+pub returns-else-starts_with : goal.returns-else-starts_with
+returns-else-starts_with c = search (rules, marker_no)

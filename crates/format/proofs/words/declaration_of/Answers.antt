@@ -14,6 +14,6 @@ pub returns-then-starts_with-3 : goal.returns-then-starts_with-3
 unfolding declaration_of
 returns-then-starts_with-3 c = search picks depth 10
 
-pub returns : goal.returns
+pub returns-else-starts_with-3 : goal.returns-else-starts_with-3
 unfolding declaration_of
-returns c = search picks depth 10
+returns-else-starts_with-3 c = search picks depth 10

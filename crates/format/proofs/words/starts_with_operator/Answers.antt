@@ -9,5 +9,5 @@ starts_white_or-requires c = (search (rules, after_one), search rules)
 pub returns-then-is_one : goal.returns-then-is_one
 returns-then-is_one c = search (rules, one_follows)
 
-pub returns : goal.returns
-returns c = search (rules, bools)
+pub returns-else-is_one : goal.returns-else-is_one
+returns-else-is_one c = search (rules, bools)

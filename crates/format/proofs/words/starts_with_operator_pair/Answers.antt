@@ -9,5 +9,5 @@ starts_white_or-requires c = (search (rules, after_pair), search rules)
 pub returns-then-is_two : goal.returns-then-is_two
 returns-then-is_two c = search (rules, pair_follows)
 
-pub returns : goal.returns
-returns c = search (rules, bools)
+pub returns-else-is_two : goal.returns-else-is_two
+returns-else-is_two c = search (rules, bools)

@@ -1,12 +1,7 @@
 -- `mark_left` meets its contract: the invariant is `FromLeft`, the first i kinds are marked and the braces open there
 -- have their flags; its laws are in proofs/MarkLaws.antt.
-use Prim.Native.Nat.{◌-◌}
-use lib.ListN.{length}
 use Rattle.glob_name.proofs.MarkLaws.{FromLeft}
 use Rattle.glob_name.proofs.braces.mark_left.Given as goal
 
 abbrev pub invariant-loop-i : goal.invariant-loop-i
-invariant-loop-i l = FromLeft l.initial.kinds l.i l.kinds l.flags l.depth
-
-abbrev pub decreases-loop-i : goal.decreases-loop-i
-decreases-loop-i l = length l.initial.kinds - l.i
+invariant-loop-i l = FromLeft l.initial.kinds l.i l.kinds l.open

@@ -4,7 +4,4 @@ use Rattle.glob_name.proofs.MarkLaws.{FromRight}
 use Rattle.glob_name.proofs.braces.mark_right.Given as goal
 
 abbrev pub invariant-loop-p : goal.invariant-loop-p
-invariant-loop-p l = FromRight l.initial.kinds l.p l.kinds l.flags l.depth
-
-abbrev pub decreases-loop-p : goal.decreases-loop-p
-decreases-loop-p l = l.p
+invariant-loop-p l = FromRight l.initial.kinds l.p l.kinds l.open

@@ -5,6 +5,3 @@ use Rattle.glob_name.proofs.read.set_ends.Given as goal
 
 abbrev pub invariant-loop-i : goal.invariant-loop-i
 invariant-loop-i l = Ending l.chars l.i l.plain l.escaped l.ends
-
-abbrev pub decreases-loop-i : goal.decreases-loop-i
-decreases-loop-i l = l.i

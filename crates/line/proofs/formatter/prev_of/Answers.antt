@@ -3,4 +3,4 @@ use Rattle.line.proofs.formatter.prev_of.Goals as goal
 
 pub returns : goal.returns
 returns c =
-    prev_by _ _ _ c.declaration_of-declares.ensures c.ends_in_brace-brace.ensures
+    prev_by _ _ _ c.declaration_of.ensures c.ends_in_brace.ensures

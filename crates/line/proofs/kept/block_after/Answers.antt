@@ -7,6 +7,6 @@ pub returns-then-earlier-now : goal.returns-then-earlier-now
 unfolding block_after choose
 returns-then-earlier-now c = rw (lt-ltb _ _ c.if-earlier-now.true)
 
-pub returns : goal.returns
+pub returns-else-earlier-now : goal.returns-else-earlier-now
 unfolding block_after choose
-returns c = rw (le-ltb _ _ c.if-earlier-now.false)
+returns-else-earlier-now c = rw (le-ltb _ _ c.if-earlier-now.false)

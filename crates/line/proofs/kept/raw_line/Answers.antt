@@ -37,10 +37,10 @@ kept_line-requires c =
     let t = trimmed_line _ _ _ c.trim_end-tail.ensures c.trim_start-start.ensures in
     let k = c.classify-after.ensures in
     let p = c.scanned_part-part.ensures in
-    record { ready = raw_ready _ _ _ _ _ _ _ _ c.requires.ready t p k; well_formed = c.requires.well_formed; trimmed_line = t; classes = raw_classes _ _ _ _ _ _ _ _ c.requires.ready t p k; shown_part = (shown c.in_block-guarded.result c.args.st.carry _ _ _ c.requires.well_formed c.trim_end-tail.ensures c.shown_len-shown.ensures).part }
+    record { ready = raw_ready _ _ _ _ _ _ _ _ c.requires.ready t p k; well_formed = c.requires.well_formed; trimmed_line = t; classes = raw_classes _ _ _ _ _ _ _ _ c.requires.ready t p k; shown_part = (shown c.in_block.result c.args.st.carry _ _ _ c.requires.well_formed c.trim_end-tail.ensures c.shown_len-shown.ensures).part }
 
 pub returns : goal.returns
 returns c =
     let t = trimmed_line _ _ _ c.trim_end-tail.ensures c.trim_start-start.ensures in
     raw_step _ _ _ _ _ _ _ _ _ _ _ _ _ _ _ _ _ _ c.requires.ready c.requires.well_formed t c.trim_end-tail.ensures c.scanned_part-part.ensures c.classify-after.ensures
-    c.in_block-guarded.ensures c.shown_len-shown.ensures c.kept_line.ensures
+    c.in_block.ensures c.shown_len-shown.ensures c.kept_line.ensures

@@ -5,5 +5,5 @@ use Rattle.line.proofs.lone.turn.Goals as goal
 pub returns-then-is_closer : goal.returns-then-is_closer
 returns-then-is_closer c = search (rules, closed_done)
 
-pub returns : goal.returns
-returns c = search (rules, opened_done)
+pub returns-else-is_closer : goal.returns-else-is_closer
+returns-else-is_closer c = search (rules, opened_done)

@@ -26,9 +26,6 @@ loop-i-preserved-then-passes c =
 pub next_mark-t-requires : goal.next_mark-t-requires
 next_mark-t-requires c = omega (arith, c.loop-i.invariant.within.reached.depth, c.requires.small, ap (λ (x : Mark). depth_of x.mode) c.begin-t.ensures)
 
-pub class_byte-byte-requires : goal.class_byte-byte-requires
-class_byte-byte-requires c = tt
-
 pub at_rest-rests-requires : goal.at_rest-rests-requires
 at_rest-rests-requires c = tt
 
@@ -36,16 +33,13 @@ pub loop-i-preserved : goal.loop-i-preserved
 loop-i-preserved c =
     let w = c.loop-i.invariant in
     record {
-      within = within_more c.requires w.within c.next_mark-t.result c.class_byte-byte.result c.loop-i-test.true c.next_mark-t.ensures c.class_byte-byte.ensures;
+      within = within_more c.requires w.within c.next_mark-t.result c.from-byte.result c.loop-i-test.true c.next_mark-t.ensures c.from-byte.ensures;
       resting = c.at_rest-rests.ensures;
-      labelled = c.class_byte-byte.ensures;
+      labelled = c.from-byte.ensures;
     }
-
-pub open_after-requires : goal.open_after-requires
-open_after-requires c = tt
 
 pub shape_of-buf : goal.shape_of-buf
 shape_of-buf c = c.loop-i.invariant.within.long
 
 pub returns : goal.returns
-returns c = within_end c.requires c.loop-i.invariant.within _ c.loop-i-test.false c.begin-t.ensures c.open_after.ensures
+returns c = within_end c.requires c.loop-i.invariant.within _ c.loop-i-test.false c.begin-t.ensures c.from.ensures

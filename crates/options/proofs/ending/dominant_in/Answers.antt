@@ -11,5 +11,5 @@ loop-i-preserved c = search (rules, counted_more)
 pub returns-then-lf-crlf : goal.returns-then-lf-crlf
 returns-then-lf-crlf c = search (rules, dominant_crlf)
 
-pub returns : goal.returns
-returns c = search (rules, dominant_lf)
+pub returns-else-lf-crlf : goal.returns-else-lf-crlf
+returns-else-lf-crlf c = search (rules, dominant_lf)

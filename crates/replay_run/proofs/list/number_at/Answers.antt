@@ -1,18 +1,16 @@
 use borrow.Author.Rules.{rules}
-use Rattle.replay_run.proofs.ListLaws.{reading_start, reading_low, reading_high, reading_full, reading_more, reading_end}
+use Rattle.replay_run.proofs.ListLaws.{reading_low, reading_high, reading_full, reading_more, reading_end}
 use Rattle.replay_run.proofs.list.number_at.Goals as goal
-
-pub loop-i-init : goal.loop-i-init
-loop-i-init c = search (rules, reading_start)
+use Rattle.replay_run.proofs.list.number_at.Goals.{then-c-lt48-via-then-c-lt48, then-c-lt48-via-else-c-lt48+then-c-gt57}
+use Rattle.replay_run.proofs.list.number_at.Goals.{then-c-lt48-via-else-c-lt48+else-c-gt57+then-n-ge100000000}
 
 pub returns-then-c-lt48 : goal.returns-then-c-lt48
-returns-then-c-lt48 c = search (rules, reading_low)
-
-pub returns-then-c-gt57 : goal.returns-then-c-gt57
-returns-then-c-gt57 c = search (rules, reading_high)
-
-pub returns-then-n-ge100000000 : goal.returns-then-n-ge100000000
-returns-then-n-ge100000000 c = search (rules, reading_full)
+returns-then-c-lt48 c =
+    elim c.then-c-lt48.branch [
+      | then-c-lt48-via-then-c-lt48 w ↦ search (rules, reading_low)
+      | then-c-lt48-via-else-c-lt48+then-c-gt57 w ↦ search (rules, reading_high)
+      | then-c-lt48-via-else-c-lt48+else-c-gt57+then-n-ge100000000 w ↦ search (rules, reading_full)
+    ]
 
 pub loop-i-preserved : goal.loop-i-preserved
 loop-i-preserved c = search (rules, reading_more)

@@ -8,26 +8,23 @@ use Rattle.short_sources.proofs.page.fill.Goals as goal
 pub loop-page-init : goal.loop-page-init
 loop-page-init c = search (rules, filling_start)
 
-pub returns-then-most-n : goal.returns-then-most-n
-returns-then-most-n c = search (rules, filling_out)
+pub returns-in_default : goal.returns-in_default
+returns-in_default c = filling_end _ _ _ _ _ _ c.loop-page.invariant c.requires.most_bound c.in_default.ensures
 
-pub slice_bounds-text-end : goal.slice_bounds-text-end
-slice_bounds-text-end c = search (rules, given_fits)
+pub returns-then-most-g : goal.returns-then-most-g
+returns-then-most-g c = filling_out _ _ _ _ _ _ c.loop-page.invariant _ c.in-Some.ensures c.if-most-g.true
 
 pub slice_bounds-add_source-end : goal.slice_bounds-add_source-end
-slice_bounds-add_source-end c = sym (length-take-le _ _ (search (rules, given_fits)))
+slice_bounds-add_source-end c = sym (length-take-le _ _ (given_fits c.args.most _ _ c.in-Some.ensures))
 
 pub add_source-size-requires : goal.add_source-size-requires
-add_source-size-requires c = record { short = search (rules, given_short); at_in_bounds = search rules }
+add_source-size-requires c = record { short = given_short c.args.most _ _ c.in-Some.ensures; at_in_bounds = search rules }
 
 pub loop-page-smaller : goal.loop-page-smaller
-loop-page-smaller c = search (rules, given_less)
+loop-page-smaller c = given_less c.args.most _ _ c.in-Some.ensures
 
 pub loop-page-preserved : goal.loop-page-preserved
-loop-page-preserved c = search (rules, filling_more)
-
-pub returns-else-g : goal.returns-else-g
-returns-else-g c = search (rules, filling_end)
+loop-page-preserved c = filling_more _ _ _ _ _ _ c.loop-page.invariant _ c.in-Some.ensures (search rules) (search rules) _ _ c.add_source-size.ensures
 
 pub returns : goal.returns
 returns c = search (rules, filling_full)

@@ -5,8 +5,8 @@ use Rattle.wirescript.proofs.editorconfig.wirescript_read_editorconfig.Goals as 
 pub read_far-far-requires : goal.read_far-far-requires
 read_far-far-requires c = c.read_near-near.ensures.start
 
-pub read-outcome-requires : goal.read-outcome-requires
-read-outcome-requires c = c.read_near-near.ensures
+pub read-requires : goal.read-requires
+read-requires c = c.read_near-near.ensures
 
 pub returns : goal.returns
-returns c = record { answer = c.answer_of.ensures ∙ ap answer_of (c.read-outcome.ensures.is _ c.read_far-far.ensures) }
+returns c = record { answer = c.into.ensures ∙ ap answer_of (c.read.ensures.is _ c.read_far-far.ensures) }

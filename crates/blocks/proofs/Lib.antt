@@ -1,0 +1,2 @@
+-- Laws of the tests of many places.
+pub mod Laws

@@ -1,0 +1,2 @@
+-- Tests of many places at once: the definitions that the contracts cite.
+pub mod Blocks

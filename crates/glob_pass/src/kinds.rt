@@ -1,0 +1,46 @@
+// What stands at a place of a name, as it is held beside the place's character.
+ghost use Rattle.std.specs.Prelude.{◌≡◌};
+ghost use Rattle.glob_pass.specs.Kinds.{code_of};
+
+// A brace or a comma.
+#[derive(Clone, Copy, PartialEq, Eq)]
+pub enum Brace {
+    Closes,
+    Comma,
+    Opens,
+}
+
+// What matches by itself: a character, the rest of a token of several characters, `?`, `*`, `**`, a set, a range, a
+// backslash before a character, the first slash of a `/**/`, and a brace or a comma that stands for itself.
+#[derive(Clone, Copy, PartialEq, Eq)]
+pub enum ItemKind {
+    Plain,
+    Covered,
+    One,
+    Star,
+    Stars,
+    Set,
+    Range,
+    Escape,
+    Ahead,
+    Lone(Brace),
+}
+
+// An item, or a brace or a comma between alternatives.
+#[derive(Clone, Copy, PartialEq, Eq)]
+pub enum Kind {
+    Item(ItemKind),
+    Brace(Brace),
+}
+
+impl Brace {
+    pub fn code(self) -> u32
+        ensures { result ≡ code_of self }
+    {
+        match self {
+            Brace::Closes => '}' as u32,
+            Brace::Comma => ',' as u32,
+            Brace::Opens => '{' as u32,
+        }
+    }
+}

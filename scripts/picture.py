@@ -25,9 +25,9 @@ COLOURS = {
 # What the functions of a crate are proved against, the one that says most; of a crate without code, what its laws are
 # about. docs/ARCHITECTURE.md has the others.
 PROVED = {
-    "blocks": "FirstFrom", "utf8": "WellFormed", "buffer": "Appended", "decimal": "DecimalPut", "lists": "Finishes",
+    "blocks": "FirstFrom", "utf8": "WellFormed", "buffer": "Appended", "decimal": "DecimalPut",
     "basics": "starts_with", "rules": "Kept (demand 3)", "quoted": "QuotedKept", "check_rules": "is_formatted",
-    "group_rules": "Groups", "config_rules": "read_editor_config", "scan": "Classified", "marks": "ClassifiedAt",
+    "group_rules": "Groups", "config_rules": "read_editor_config", "scan": "Classified", "marks": "mark_at",
     "spacing": "Normalized", "brackets": "BracketsDone", "format": "Continues", "operators": "strengths_in",
     "top_level_ops": "OpStep", "split": "Measured", "split_import": "Given", "split_operation": "Broken",
     "options": "with_editor_config", "compare": "Compared", "text": "Finished", "line": "Stepped", "place": "Puts",

@@ -3,3 +3,4 @@ pub mod StartsLaws
 pub mod OnlyLaws
 pub mod ClassPicks
 pub mod ScanSteps
+pub mod SplitLaws

@@ -1,5 +1,5 @@
 -- The library's test of what a list starts with is `starts_with`; a list that starts with one character.
-use Prim.Native.Nat.{ℕ}
+use Prim.Native.Nat.{ℕ, ◌≤◌}
 use native.Mathlib.Omega.{arith}
 use mathlib.Core.Bool.{Bool, false, ◌&&◌, and-true}
 use mathlib.Core.List.{List, [], ◌∷◌}
@@ -20,6 +20,13 @@ starts_as_list [] [] = refl
 starts_as_list (c ∷ l) [] = refl
 starts_as_list [] (d ∷ w) = refl
 starts_as_list (c ∷ l) (d ∷ w) = ap₂ (λ (x y : Bool). x && y) (eqb_swap d c) (starts_as_list l w)
+
+-- another first character
+pub other_first : (l w : List ℕ) → (get_or l 0 0 ≡ get_or w 0 0 → ⊥) → 1 ≤ length l → 1 ≤ length w → false ≡ starts_with l w
+unfolding starts_with
+other_first [] w h m n = absurd (omega arith)
+other_first (c ∷ l) [] h m n = absurd (omega arith)
+other_first (c ∷ l) (d ∷ w) h m n = rw (ne_eqb c d h)
 
 -- a list that starts with one character
 pub is_none : (c : ℕ) (s : List ℕ) → length s ≡ 0 → false ≡ starts_with s (c ∷ [])

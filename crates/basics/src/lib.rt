@@ -38,9 +38,12 @@ pub fn quote_of(double: bool) -> u8
     if double { b'"' } else { b'\'' }
 }
 
-// Whether line starts with word.
+// Whether line starts with word. Most lines are told by their first byte.
 pub fn starts_with(line: &[u8], word: &[u8]) -> bool
     ensures { result ≡ starts_with line.now word.now }
 {
-    line.starts_with(word)
+    match (line, word) {
+        ([c, ..], [w, ..]) if c != w => false,
+        _ => line.starts_with(word),
+    }
 }

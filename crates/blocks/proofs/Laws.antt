@@ -24,6 +24,11 @@ module _ (p : ℕ → Bool) where
   none_last end i n false f h l a =
       record { none = λ e j m. joined 0 (end - n) i n f.none l (a.none refl) j (omega arith) (omega arith) }
 
+  -- the same of the places from `at` on
+  pub none_rest : (at end i n : ℕ) (any : Bool) → NoneFrom p at end i → n ≤ end → end - n ≤ i → NoneAmong p (end - n) n any → any ≡ false → NoneFrom p at end end
+  none_rest at end i n any f h l a e =
+      record { from = omega (arith, f.from, f.within); within = omega arith; none = λ j k m. joined at (end - n) i n f.none l (a.none e) j k (omega arith) }
+
   -- four blocks, which may overlap
   pub none_four : (n w u v : ℕ) (a b c d : Bool) → (w ≤ n) × (n ≤ 4 * w) → u ≡ min w (n - w) → v ≡ min (w + w) (n - w)
       → NoneAmong p 0 w a → NoneAmong p u w b → NoneAmong p v w c → NoneAmong p (n - w) w d → NoneBefore p n (not ((a || b) || (c || d)))

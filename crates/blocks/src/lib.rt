@@ -37,6 +37,22 @@ pub fn past_blocks<const N: usize, F: Fn(usize) -> bool>(at: usize, end: usize, 
     i
 }
 
+// The same up to `end`: the last block ends there, and may overlap the one before it.
+pub fn past_all<const N: usize, F: Fn(usize) -> bool>(at: usize, end: usize, test: &F) -> usize
+    ghost meets: { ℕ → Bool }
+    requires some { 0 < N }
+    requires in_bounds { at + N ≤ end }
+    requires tells { Tells (F.pre test.now) (F.post test.now) meets at end }
+    ensures { NoneFrom meets at end result }
+{
+    let passed = past_blocks::<N, F>(at, end, test);
+    if end - passed < N && !any_among::<N, F>(end - N, test) {
+        end
+    } else {
+        passed
+    }
+}
+
 // The first place from `at` on that passes the test, or `end`.
 pub fn first_from<F: Fn(usize) -> bool>(at: usize, end: usize, test: &F) -> usize
     ghost meets: { ℕ → Bool }

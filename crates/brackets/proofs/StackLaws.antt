@@ -8,11 +8,10 @@ use native.Mathlib.Numerals.{add-one}
 use native.Mathlib.Omega.{arith}
 use borrow.Author.Tests.{eqb-true, le-leb, lt-leb, leb-true, leb-false, ltb-true, ltb-false}
 use lib.Dec.{eqb, leb, ltb}
-use lib.ListN.{length, get_or, take, drop, set, length-set, length-take, length-drop, length-append, drop_of_length-le}
-use lib.Seq.{get_or-set_same, get_or-set_other, get_or-drop, drop-cons, drop-append_seam, take-append_seam, drop-append-add, drop-drop, take-take}
-use Rattle.blocks.specs.Blocks.{NoneFrom, FirstFrom}
+use lib.ListN.{length, get_or, take, drop, set, length-set, length-drop, drop_of_length-le}
+use lib.Seq.{get_or-set_same, get_or-set_other, get_or-drop, drop-cons}
+use Rattle.blocks.specs.Blocks.{NoneFrom}
 use Rattle.std.specs.Int.{from_bool}
-use Rattle.buffer.specs.Buffer.{part}
 use Rattle.utf8.specs.Unicode.{within}
 use Rattle.utf8.proofs.Tests.{by_test, in_range_law}
 use Rattle.rules.specs.Basics.{choose, is_closer, leading}
@@ -26,8 +25,8 @@ use Rattle.basics.specs.Closers.{Closers}
 use Rattle.brackets.specs.Stack.{entry_size, adds_of, entry_at, stacked, EntryRoom, EntryPut, Nested, Popped, Tallies, may_turn, turns_at, Apart, TurnKey, TurnPlace, NoTurn, StackRoom, Turned, StackFits, ScanFits, BracketsDone, opened_by}
 use Rattle.brackets.specs.declared.Nesting.{Nesting}
 use Rattle.brackets.specs.declared.Tally.{Tally}
+use Rattle.basics.proofs.SplitLaws.{after_back, only_from}
 use Rattle.basics.proofs.OnlyLaws.{only_same, only_set, only_wider, only_then, only_at, only_past}
-use Rattle.buffer.proofs.RegionLaws.{length_part, drop_take}
 
 -- ---- leading closers
 
@@ -457,33 +456,15 @@ stacked_from buf base (suc n) = rw (entry_from buf base (0 + entry_size * n) (ba
 
 -- scratch after a change of the stack
 module _ (buf front x y : List ℕ) (base : ℕ) (fits : base ≤ length buf) (f : front ≡ take base buf) (g : x ≡ drop base buf) where
-  after_back : drop base (front ++ y) ≡ y
-  after_back =
-      let l : base ≡ length front = omega (arith, ap length f, length-take base buf) in
-      rw l (drop-append_seam front y)
-
-  only_from : (m : ℕ) → Only x y 0 (0 + m) → Only buf (front ++ y) base (base + m)
-  only_from m w =
-      let l : length front ≡ base = omega (arith, ap length f, length-take base buf) in
-      record {
-        long = omega (arith, length-append front y, w.long, ap length g, length-drop base buf);
-        front = rw (← l) (take-append_seam front y) ∙ f;
-        back =
-            (let a : drop (base + m) (front ++ y) ≡ drop m y = rw (← l) (drop-append-add front y m) in
-            let b : drop (base + m) buf ≡ drop m (drop base buf) = rw (drop-drop m base buf) in
-            let z : 0 + m ≡ m = omega arith in
-            a ∙ rw z at w.back ∙ ap (drop m) g ∙ sym b);
-      }
-
   scratch_done : (b : Nesting) (n : ℕ) (s : List Entry) (r : Nesting) → BracketsDone x y 0 b n s r → BracketsDone buf (front ++ y) base b n s r
   scratch_done b n s r w =
-      let e : stacked (front ++ y) base r.depth ≡ stacked y 0 r.depth = sym (stacked_from (front ++ y) base r.depth) ∙ ap (λ l. stacked l 0 r.depth) after_back in
+      let e : stacked (front ++ y) base r.depth ≡ stacked y 0 r.depth = sym (stacked_from (front ++ y) base r.depth) ∙ ap (λ l. stacked l 0 r.depth) (after_back _ _ _ _ _ fits f g) in
       record {
         is = e ∙ w.is;
         runs = rw e w.runs;
         most = w.most;
         line = w.line;
-        only = only_from (entry_size * (b.depth + n)) w.only;
+        only = only_from _ _ _ _ _ fits f g (entry_size * (b.depth + n)) w.only;
       }
 
   -- the stack itself
@@ -526,20 +507,7 @@ module _ (buf x : List ℕ) (class n base : ℕ) (b : Nesting) (f : StackFits bu
   pub scan_fits : (line ks : List ℕ) → length line ≡ n → length ks ≡ n → ScanFits line ks x b
   scan_fits line ks e k = record { classes = omega arith; stack = omega (arith, tail_long, f.stack); runs = tail_runs; line = f.line }
 
--- what stands before the stack
-module _ (buf front : List ℕ) (base a n : ℕ) (f : front ≡ take base buf) (h : a + n ≤ base) where
-  pub front_part : part front a (a + n) ≡ part buf a (a + n)
-  front_part =
-      let e : a + n - a ≡ n = omega arith in
-      rw (f, e, drop_take a base buf) (take-take n (base - a) (drop a buf) (omega arith))
-
-  pub front_long : base ≤ length buf → length (part front a (a + n)) ≡ n
-  front_long k = length_part front a n (omega (arith, ap length f, length-take base buf))
-
 -- ---- the first of them in a block
-
-pub apart_none : (c low more d : ℕ) → c < 256 → d ≡ (c + (256 - low)) % 256 → Apart c low more (d - more)
-apart_none c low more d h e = record { zero = λ l k. omega arith }
 
 -- a byte that may be one stands in one of the three ranges
 pub turn_key : (c x y z m r : ℕ) → Apart c 40 1 x → Apart c 91 2 y → Apart c 123 2 z → m ≡ min y z → r ≡ min x m → TurnKey c r
@@ -551,12 +519,6 @@ turn_key c x y z m r u v w p q =
           (λ a. by_test (within 91 93 c) (λ b. (let l = in_range_law 91 93 c b in let k = v.zero l.0 l.1 in omega arith))
           (λ b. (let l = in_range_law 123 125 c (rw (a, b) at e) in let k = w.zero l.0 l.1 in omega arith)));
     }
-
-pub place_turn : (c k at key r : ℕ) → k < 256 → TurnKey c key → key ≡ 0 → r ≡ (k + (256 - at)) % 256 → TurnPlace c k at r
-place_turn c k at key r m w e l = record { none = λ h n. absurd (omega arith) }
-
-pub place_none : (c k at key : ℕ) → TurnKey c key → (key ≡ 0 → ⊥) → TurnPlace c k at 255
-place_none c k at key w n = record { none = λ h l. by_test (may_turn c) (λ e. absurd (n (w.zero e))) (λ e. e) }
 
 module _ (p : ℕ → Bool) (from a at : ℕ) where
   pub no_turn_start : (m : ℕ) → NoTurn p from a a at m
@@ -573,33 +535,10 @@ pub first_more : (line : List ℕ) (from at k m r n : ℕ) → NoTurn (turns_at 
     → NoTurn (turns_at line) from 0 (k + 1) at n
 first_more line from at k m r n w t e = no_turn_more (turns_at line) from 0 at k m r n w t.none (omega arith) (omega arith)
 
-pub first_all : (line : List ℕ) (from at k m : ℕ) → NoTurn (turns_at line) from 0 k at m → 16 ≤ k → NoTurn (turns_at line) from 0 16 at m
-first_all line from at k m w h = record { none = λ j x y u v. w.none j x (omega arith) u v }
-
 -- of the loop over the first eight and the last eight bytes
 pub record Halves (line : List ℕ) (last at k m : ℕ) : Type 0 where
   pub front : NoTurn (turns_at line) 0 0 k at m
   pub back : NoTurn (turns_at line) 0 last (last + k) at m
-
-pub halves_start : (line : List ℕ) (last at : ℕ) → Halves line last at 0 255
-halves_start line last at =
-    record { front = no_turn_start (turns_at line) 0 0 at 255; back = rw (add-zero last) (no_turn_start (turns_at line) 0 last at 255) }
-
-pub halves_more : (line : List ℕ) (last at k m r s q n : ℕ) → Halves line last at k m → TurnPlace (get_or line k 0) k at r → TurnPlace (get_or line (last + k) 0) (last + k) at s
-    → q ≡ min r s → n ≡ min m q → Halves line last at (k + 1) n
-halves_more line last at k m r s q n w t u f g =
-    let e : last + k + 1 ≡ last + (k + 1) = omega arith in
-    record {
-      front = no_turn_more (turns_at line) 0 0 at k m r n w.front (rw (zero-add k) t.none) (omega arith) (omega arith);
-      back = rw e at (no_turn_more (turns_at line) 0 last at (last + k) m s n w.back (rw (zero-add (last + k)) u.none) (omega arith) (omega arith));
-    }
-
-pub halves_all : (line : List ℕ) (last at k m : ℕ) → (last + 8 ≡ length line) × (last ≤ 8) → Halves line last at k m → 8 ≤ k → NoTurn (turns_at line) 0 0 (length line) at m
-halves_all line last at k m h w l =
-    record {
-      none = λ j x y u v. by_test (ltb j 8) (λ e. w.front.none j x (let z = ltb-true j 8 e in omega arith) u v)
-          (λ e. (let z = ltb-false j 8 e in w.back.none j (omega (arith, h.1)) (omega (arith, h.0)) u v));
-    }
 
 pub turn_next : (line : List ℕ) (at from m n : ℕ) → (16 ≤ length line) × (at ≤ length line) → from ≡ min at (length line - 16)
     → NoTurn (turns_at line) from 0 16 (at - from) m → n ≡ min m (16 - (at - from)) → NoneFrom (turns_at line) at (length line) (at + n)
@@ -619,19 +558,3 @@ short_next line at m n h w f =
       within = omega arith;
       none = λ j k l. rw (zero-add j) at (w.none j (omega arith) (omega arith) k (omega arith));
     }
-
--- runs of such bytes
-module _ (s : List ℕ) where
-  pub idle_none : (at : ℕ) → at ≤ length s → NoneFrom (turns_at s) at (length s) at
-  idle_none at h = record { from = omega arith; within = h; none = λ j k l. absurd (omega arith) }
-
-  pub idle_first : (at r : ℕ) → FirstFrom (turns_at s) at (length s) r → NoneFrom (turns_at s) at (length s) r
-  idle_first at r w = record { from = w.from; within = w.within; none = w.none }
-
-  pub idle_then : (at i r : ℕ) → NoneFrom (turns_at s) at (length s) i → NoneFrom (turns_at s) i (length s) r → NoneFrom (turns_at s) at (length s) r
-  idle_then at i r w v =
-      record {
-        from = omega (arith, w.from, v.from);
-        within = v.within;
-        none = λ j k l. by_test (ltb j i) (λ e. w.none j k (ltb-true j i e)) (λ e. v.none j (ltb-false j i e) l);
-      }

@@ -1,15 +1,14 @@
 -- What the loops keep: a record for each, and the laws of its start, its turn and its end.
 use mathlib.Core.Path.{◌≡◌, refl, sym, ap, ◌∙◌}
 use mathlib.Core.List.{List, ◌++◌}
-use Prim.Native.Nat.{ℕ, suc, ◌+◌, ◌-◌, ◌*◌, ◌≤◌, ◌<◌, zero-le}
-use native.Mathlib.Nat.{suc-mul, mul-le-mul_right}
+use Prim.Native.Nat.{ℕ, ◌+◌, ◌-◌, ◌≤◌, ◌<◌, zero-le}
 use native.Mathlib.Omega.{arith}
 use lib.ListN.{length, take, drop, length-append}
 use Rattle.buffer.specs.Buffer.{over, Wrote}
 use Rattle.buffer.specs.Repeat.{times}
 use Rattle.buffer.proofs.RegionLaws.{part_from, back_from}
 use Rattle.buffer.proofs.OverLaws.{over_nil, over_full, over_next, length_over}
-use Rattle.buffer.proofs.RepeatLaws.{length_times, times_snoc, times_split}
+use Rattle.buffer.proofs.RepeatLaws.{times_snoc, times_split}
 
 -- ---- `put_levels`: the indent stands over the front i times, and at is its length so far
 
@@ -24,11 +23,6 @@ unfolding times
 indenting_start out indent levels = record { within = zero-le; is = sym (over_nil out); reached = refl; long = refl }
 
 module _ (out₀ indent : List ℕ) (levels : ℕ) (out : List ℕ) (i at : ℕ) (r : Indenting out₀ indent levels out i at) where
-  pub indenting_room : i < levels → at + length indent ≤ length (times levels indent)
-  indenting_room h =
-      let k : suc i * length indent ≤ levels * length indent = mul-le-mul_right (length indent) h in
-      omega (arith, length_times i indent, length_times levels indent, suc-mul i (length indent))
-
   pub indenting_more : (y : List ℕ) (k : ℕ) → i < levels → Wrote (take (length out - at) (drop at out)) y indent k
       → Indenting out₀ indent levels (take at out ++ (y ++ drop (length out - at) (drop at out))) (i + 1) (at + length indent)
   indenting_more y k h w =
@@ -41,12 +35,7 @@ module _ (out₀ indent : List ℕ) (levels : ℕ) (out : List ℕ) (i at : ℕ)
         long = ap length e ∙ length_over out₀ (times (i + 1) indent);
       }
 
-  pub indenting_full : (n : ℕ) → length out ≤ at → n ≡ levels * length indent → Wrote out₀ out (times levels indent) n
+  pub indenting_full : (n : ℕ) → length out ≤ at → n ≡ length (times levels indent) → Wrote out₀ out (times levels indent) n
   indenting_full n h e =
       let k : length out₀ ≤ length (times i indent) = omega (arith, r.reached, r.long) in
-      record { size = e ∙ sym (length_times levels indent); is = r.is ∙ sym (rw (times_split i levels indent r.within, over_full out₀ (times i indent) (times (levels - i) indent) k)) }
-
-  pub indenting_end : (n : ℕ) → levels ≤ i → n ≡ levels * length indent → Wrote out₀ out (times levels indent) n
-  indenting_end n h e =
-      let k : i ≡ levels = omega (arith, r.within) in
-      record { size = e ∙ sym (length_times levels indent); is = rw k at r.is }
+      record { size = e; is = r.is ∙ sym (rw (times_split i levels indent r.within, over_full out₀ (times i indent) (times (levels - i) indent) k)) }

@@ -7,7 +7,7 @@ use native.Mathlib.Nat.{add-zero}
 use native.Mathlib.Numerals.{add-one}
 use native.Mathlib.Omega.{arith}
 use lib.ListN.{length, get_or, take, drop, set, length-append, length-drop, take-append-drop, drop_of_length-le}
-use lib.Seq.{length-take-le, take-add, take_all, take-nil, take_at, drop_at, set_at, drop-cons, append_snoc, drop-drop, set_split, take-suc, get_or-drop}
+use lib.Seq.{length-take-le, take-add, take_all, take-nil, take_at, drop_at, append_snoc, drop-drop, set_split, take-suc, get_or-drop}
 use Rattle.buffer.specs.Buffer.{part, put}
 
 -- a part that runs to the end, `&s[a..]`
@@ -42,16 +42,6 @@ length_put d at x h =
     let k = head_length d at x (omega arith) in
     let m = length-drop (at + length x) d in
     omega arith
-
--- one more element
-pub put_more : (d : List ℕ) (at : ℕ) (x : List ℕ) (v : ℕ) → at + length x < length d → set (put d at x) (at + length x) v ≡ put d at (x ++ v ∷ [])
-unfolding put
-put_more d at x v h =
-    let k = at + length x in
-    let e : at + length (x ++ v ∷ []) ≡ suc k = omega (arith, length-append x (v ∷ [])) in
-    ap (λ (r : List ℕ). set (take at d ++ x ++ r) k v) (drop-cons d k 0 h)
-    ∙ set_at (take at d ++ x) (get_or d k 0) (drop (suc k) d) v k (head_length d at x (omega arith))
-    ∙ sym (rw (e, ← append_assoc, append_snoc))
 
 -- a second region that starts where the first ends
 pub put_put : (d : List ℕ) (at : ℕ) (x y : List ℕ) → at + length x ≤ length d → put (put d at x) (at + length x) y ≡ put d at (x ++ y)

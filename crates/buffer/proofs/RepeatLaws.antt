@@ -1,10 +1,12 @@
 -- Laws on a text several times over.
 use Prim.Native.Nat.{ℕ, zero, suc, ◌+◌, ◌-◌, ◌*◌, ◌≤◌}
-use mathlib.Core.Path.{◌≡◌, refl, sym, ◌∙◌}
+use mathlib.Core.Path.{◌≡◌, refl, sym, ap, ◌∙◌}
+use mathlib.Core.Bool.{Bool, true}
 use mathlib.Core.List.{List, [], ◌++◌, append_assoc, append-nil}
 use native.Mathlib.Nat.{zero-mul, suc-mul, zero-add, suc-add, mul-le-mul}
 use native.Mathlib.Omega.{arith}
 use lib.ListN.{length, replicate, length-append, replicate-append-replicate}
+use Rattle.buffer.specs.Buffer.{AllAre}
 use Rattle.buffer.specs.Repeat.{times}
 
 pub length_times : (n : ℕ) (w : List ℕ) → length (times n w) ≡ n * length w
@@ -37,3 +39,7 @@ pub times_run : (n k b : ℕ) → times n (replicate k b) ≡ replicate (n * k) 
 unfolding times
 times_run zero k b = rw zero-mul
 times_run (suc n) k b = let m : suc n * k ≡ k + n * k = omega (arith, suc-mul n k) in rw (m, ← replicate-append-replicate, times_run n k b)
+
+-- a text of one kind of byte
+pub times_alike : (w : List ℕ) (n b k : ℕ) (same : Bool) → AllAre w b same → same ≡ true → k ≡ length (times n w) → times n w ≡ replicate k b
+times_alike w n b k same h e l = ap (times n) (h.yes e) ∙ times_run n (length w) b ∙ ap (λ (i : ℕ). replicate i b) (sym (l ∙ length_times n w))

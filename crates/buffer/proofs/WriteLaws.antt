@@ -2,7 +2,7 @@
 use mathlib.Core.Path.{◌≡◌, refl, sym, ap, ◌∙◌}
 use mathlib.Core.Bool.{Bool, true}
 use mathlib.Core.List.{List, [], ◌∷◌, ◌++◌}
-use Prim.Native.Nat.{ℕ, zero, suc, ◌+◌, ◌-◌, ◌*◌, min}
+use Prim.Native.Nat.{ℕ, zero, suc, ◌+◌, ◌-◌, min}
 use native.Mathlib.Nat.{zero-add, suc-add}
 use native.Mathlib.Omega.{arith, min_cases}
 use lib.ListN.{length, take, drop, replicate, length-append, length-drop, length-replicate, drop_of_length-le, take-append-drop}
@@ -11,7 +11,7 @@ use Rattle.buffer.specs.Buffer.{over, Wrote, Appended, Finishes, AllAre}
 use Rattle.buffer.specs.Repeat.{times}
 use Rattle.buffer.proofs.RegionLaws.{part_from, back_from}
 use Rattle.buffer.proofs.OverLaws.{over_nil, over_next, over_run}
-use Rattle.buffer.proofs.RepeatLaws.{times_nil, times_run}
+use Rattle.buffer.proofs.RepeatLaws.{times_nil, times_alike}
 
 -- nothing is written
 pub appended_nil : (x : List ℕ) (at : ℕ) → Appended x x at [] at
@@ -64,5 +64,5 @@ pub wrote_none : (x w : List ℕ) (n : ℕ) → length w ≡ 0 → Wrote x x (ti
 wrote_none x [] n h = record { size = sym (ap length (times_nil n)); is = sym (rw times_nil (over_nil x)) }
 wrote_none x (a ∷ w) n h = absurd (omega arith)
 
-pub wrote_times : (x y w : List ℕ) (n b r : ℕ) (same : Bool) → AllAre w b same → same ≡ true → Wrote x y (replicate (n * length w) b) r → Wrote x y (times n w) r
-wrote_times x y w n b r same h e k = rw (ap (times n) (h.yes e) ∙ times_run n (length w) b) k
+pub wrote_times : (x y w : List ℕ) (n b k r : ℕ) (same : Bool) → AllAre w b same → same ≡ true → k ≡ length (times n w) → Wrote x y (replicate k b) r → Wrote x y (times n w) r
+wrote_times x y w n b k r same h e l v = rw (times_alike w n b k same h e l) v

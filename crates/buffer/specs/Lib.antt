@@ -2,3 +2,4 @@
 pub mod Buffer
 pub mod Repeat
 pub mod Copy
+pub mod Pad

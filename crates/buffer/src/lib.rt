@@ -4,7 +4,11 @@
 ghost use Rattle.std.specs.Prelude.{◌≡◌, ◌+◌, ◌≤◌, ◌<◌, ◌^◌, min, ◌++◌, length, replicate};
 ghost use Rattle.buffer.specs.Buffer.{Wrote, Appended, Finishes, AllAre};
 ghost use Rattle.buffer.specs.Copy.{Copies};
-ghost use Rattle.buffer.specs.Repeat.{times};
+ghost use Rattle.buffer.specs.Pad.{spelled};
+
+pub mod pad;
+
+use pad::Pad;
 
 // Sets every byte of s to b.
 pub fn fill(s: &mut [u8], b: u8)
@@ -81,6 +85,7 @@ fn copy(out: &mut [u8], line: &[u8], n: usize)
 }
 
 // Writes as much of line as fits over the front of out, and gives the line's whole length.
+#[tactic(auto, using(crate::proofs::CopyLaws::copied))]
 pub fn put_line(out: &mut [u8], line: &[u8]) -> usize
     ensures { Wrote out.old out.new line.now result }
 {
@@ -116,18 +121,17 @@ fn put_run(out: &mut [u8], b: u8, n: usize) -> usize
 }
 
 // put_indent for an indent of several kinds of byte, level by level: no more turns than out has bytes.
-fn put_levels(out: &mut [u8], indent: &[u8], levels: usize) -> usize
-    requires { length (times levels indent.now) < 2 ^ 64 }
-    ensures { Wrote out.old out.new (times levels indent.now) result }
+fn put_levels(out: &mut [u8], pad: Pad<'_>) -> usize
+    ensures { Wrote out.old out.new (spelled pad.entry) result }
 {
-    let n = indent.len();
-    let all = levels * n;
+    let n = pad.indent.len();
+    let all = pad.len();
     let mut at = 0;
-    for _ in 0..levels {
+    for _ in 0..pad.levels {
         if out.len() <= at {
             return all;
         }
-        put_line(&mut out[at..], indent);
+        put_line(&mut out[at..], pad.indent);
         at += n;
     }
     all
@@ -135,34 +139,26 @@ fn put_levels(out: &mut [u8], indent: &[u8], levels: usize) -> usize
 
 // Writes the indent, levels times over, over the front of out, and gives the whole length. An indent of one kind of
 // byte is one fill.
-pub fn put_indent(out: &mut [u8], indent: &[u8], levels: usize) -> usize
-    requires { length (times levels indent.now) < 2 ^ 64 }
-    ensures { Wrote out.old out.new (times levels indent.now) result }
+pub fn put_indent(out: &mut [u8], pad: Pad<'_>) -> usize
+    ensures { Wrote out.old out.new (spelled pad.entry) result }
 {
-    if indent.is_empty() {
+    if pad.indent.is_empty() {
         return 0;
     }
-    let b = indent[0];
-    if all_are(indent, b) {
-        return put_run(out, b, levels * indent.len());
+    let b = pad.indent[0];
+    if all_are(pad.indent, b) {
+        return put_run(out, b, pad.len());
     }
-    put_levels(out, indent, levels)
+    put_levels(out, pad)
 }
 
 // Writes the indent, levels times over, and the line from the place at on, and gives the next place.
-pub fn append_indented(
-    out: &mut [u8],
-    at: usize,
-    indent: &[u8],
-    levels: usize,
-    line: &[u8],
-) -> usize
-    requires { at + (length (times levels indent.now) + length line.now) < 2 ^ 64 }
-    ensures { Appended out.old out.new at
-        (times levels indent.now ++ line.now) result }
+pub fn append_indented(out: &mut [u8], at: usize, pad: Pad<'_>, line: &[u8]) -> usize
+    requires { at + (length (spelled pad) + length line.now) < 2 ^ 64 }
+    ensures { Appended out.old out.new at (spelled pad.entry ++ line.now) result }
 {
     let p = at.min(out.len());
-    let n = put_indent(&mut out[p..], indent, levels);
+    let n = put_indent(&mut out[p..], pad);
     append(out, at + n, line)
 }
 

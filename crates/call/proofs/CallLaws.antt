@@ -1,5 +1,5 @@
 -- The finish, and what a call comes to, by its tests in their order.
---     ending_kept, ending_set, last_always, last_source     the ending, and the last one
+--     ending_made, last_always, last_source                 the ending, and the last one
 --     text_short, text_fits                                 the text in the output
 --     ran_refused, ran_formatted                            the outcome of a call; answered the answer
 --     text_delivered, text_taken, text_within               the text that a call gave
@@ -22,7 +22,8 @@ use Rattle.rules.specs.Brackets.{open_lines}
 use Rattle.rules.specs.Line.{Formatter, start}
 use Rattle.rules.specs.Assembly.{ending_of, drop_empty, joined, last_ending, finish, format_lines, format_with}
 use Rattle.std.specs.Prelude.{Some, None, Result, Ok, Err}
-use Rattle.rules.specs.Refusals.{Verdict, max_source, scratch_needed, refuse_if, tested, and_then, long_source, bad_option, wide_ruler, short_scratch, ill_formed, short_output, wrong_length, bits_set}
+use Rattle.std.specs.Option.{MatchOption}
+use Rattle.rules.specs.Refusals.{Verdict, scratch_needed, refuse_if, tested, and_then, long_source, wide_ruler, short_scratch, ill_formed, short_output, wrong_length, bits_set}
 use Rattle.rules.specs.Strengths.{table_length}
 use Rattle.rules.specs.Choices.{Choices, valid_options, options_of}
 use Rattle.rules.specs.Call.{Call, Outcome, formatted, text_of, format_scratch, format_tests, verdict_of, outcome_after, outcome_of, answer_of, filled, listed, output_of, opened_of}
@@ -35,7 +36,7 @@ use Rattle.rules.specs.declared.Strengths.{Strengths}
 use Rattle.rules.specs.declared.Answer.{Answer}
 use Rattle.rules.proofs.StartsBytes.{on_decode}
 use Rattle.rules.proofs.LinesBytes.{dominant_encode, ends_lf_encode}
-use Rattle.rules.proofs.RefusalLaws.{test_on, test_off, pass, stop, one_test, goes_on_law, ends, head_passed, then_passed, then_value, then_refused}
+use Rattle.rules.proofs.RefusalLaws.{test_on, one_test, goes_on_law, ends, head_passed, then_passed, then_value, then_refused}
 use Rattle.rules.proofs.CallLaws.{Admitted, admitted, indent_valid, Delivered, delivered, answer_well, answer_kept}
 use Rattle.quoted.proofs.C22.{c22_call}
 use Rattle.options.specs.Held.{options_in, held_named, held}
@@ -55,13 +56,10 @@ use Rattle.call.specs.FormatAnswered.{FormatAnswered}
 -- ---- the ending of the lines, and whether one more follows
 
 module _ (source : List ℕ) (w : WellFormed source) where
-  pub ending_kept : (k : EndOfLine) (r : LineEnding) → k ≡ None → r ≡ dominant_in source → r ≡ ending_of k (decode source)
+  pub ending_made : (k : EndOfLine) (r : LineEnding) {P : Type 0} → MatchOption k P (λ v. r ≡ v) → (P → r ≡ dominant_in source) → r ≡ ending_of k (decode source)
   unfolding ending_of
-  ending_kept k r e h = rw e (h ∙ on_decode dominant_in dominant_in dominant_encode source w)
-
-  pub ending_set : (k : EndOfLine) (r : LineEnding) → k ≡ Some r → r ≡ ending_of k (decode source)
-  unfolding ending_of
-  ending_set k r e = rw e
+  ending_made None r m f = f m ∙ on_decode dominant_in dominant_in dominant_encode source w
+  ending_made (Some e) r m f = m
 
   pub last_source : (k : FinalNewline) (r : Bool) → k ≡ FinalNewline.AsSource → r ≡ ends_in_lf source → (eol : List ℕ) → choose r eol [] ≡ last_ending k (decode source) eol
   unfolding last_ending

@@ -1,7 +1,9 @@
 -- A call from its arguments, and what it comes to before its answer is put into numbers.
 use Rattle.std.specs.Prelude.{ℕ, List, ◌≡◌}
+use Rattle.rules.specs.Choices.{Choices}
 use Rattle.rules.specs.Call.{Call, Outcome, outcome_of, output_of, opened_of, scratch_of}
 use Rattle.rules.specs.declared.OptionNumbers.{OptionNumbers}
+use Rattle.call.specs.declared.Request.{Request}
 
 -- the bytes lent, the numbers, and how long the output, the list of open brackets and the scratch are
 abbrev pub call_of : List ℕ → List ℕ → OptionNumbers → List ℕ → ℕ → ℕ → ℕ → Call
@@ -13,6 +15,13 @@ call_of source indent numbers strengths output opened scratch =
       opened = opened;
       scratch = scratch;
     }
+
+-- a request's, and its options
+abbrev pub asked : Request → ℕ → ℕ → ℕ → Call
+asked r output opened scratch = call_of r.source.now r.indent.now r.numbers r.strengths.now output opened scratch
+
+abbrev pub choices_in : Request → Choices
+choices_in r = record { indent = r.indent.now; numbers = r.numbers; strengths = r.strengths.now }
 
 -- the numbers of the options
 abbrev pub numbers_of : ℕ → ℕ → ℕ → ℕ → ℕ → OptionNumbers

@@ -16,14 +16,12 @@ use options::FormatOptions;
 use rules::{FinalNewline, Formatted, LineEnding, Refusal};
 
 // The ending that the text's lines get: set, or the one that most of the source's lines have.
+#[tactic(auto, using(crate::proofs::CallLaws::ending_made))]
 pub fn ending_of(end_of_line: Option<LineEnding>, source: &[u8]) -> LineEnding
     requires { WellFormed source.now }
     ensures { result ≡ ending_of end_of_line (decode source.now) }
 {
-    match end_of_line {
-        None => options::ending::dominant_in(source),
-        Some(ending) => ending,
-    }
+    end_of_line.unwrap_or_else(|| options::ending::dominant_in(source))
 }
 
 // Whether one more ending follows the text: always, if the source ends in LF, or never.

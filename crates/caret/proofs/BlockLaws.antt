@@ -1,5 +1,5 @@
 -- Sixteen bytes at a time.
---     counted_start, counted_more, block_told   the loop over a block
+--     counted_start, counted_more   the loop over a block
 --     count_more, past_block                    the scans of ScanLaws.antt, a block further
 --     column_last                               the column of a place, by the line that it stands in
 use Prim.Native.Nat.{ℕ, zero, suc, ◌+◌, ◌-◌, ◌≤◌, ◌<◌}
@@ -76,14 +76,6 @@ module _ (p : ℕ → Bool) (s : List ℕ) (at : ℕ) where
 
   pub block_none : BlockAt p s at None
   block_none = record { few = λ n e. absurd (cc); fits = λ n e. absurd (cc); counted = λ n e. absurd (cc) }
-
-  pub block_told : (n : ℕ) → at ≤ length s → 16 ≤ length s - at → Counted p s at 16 false n → BlockAt p s at (Some n)
-  block_told n a h q =
-      record {
-        few = λ m e. let y : n ≡ m = cc in subst (λ (x : ℕ). x ≤ 16) y q.few;
-        fits = λ m e. omega arith;
-        counted = λ m e. let y : n ≡ m = cc in subst (Counted p s at 16 false) y q;
-      }
 
 -- ---- the scans, a block further
 

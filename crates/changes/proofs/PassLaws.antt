@@ -1,6 +1,5 @@
 -- Bytes that are the same in a source and its text, up to a kept one, have no change among them.
---     same_start, same_more, same_end  the loop of `differ_among`
---     last_start, last_more            the loop of `last_kept`
+--     Same, same_told                  what `differ_among` gives
 --     passed_none, passed_block        what `same_block` gives
 --     passed_on                        one block after another
 use Prim.Native.Nat.{ℕ, zero, suc, ◌+◌, ◌-◌, ◌≤◌, ◌<◌}
@@ -8,80 +7,48 @@ use native.Mathlib.Nat.{add-zero}
 use native.Mathlib.Omega.{arith}
 use mathlib.Core.Bool.{Bool, true, false, not, ◌||◌}
 use mathlib.Core.List.{List, [], ◌∷◌, ◌++◌, append_assoc, append_cancel_left}
-use mathlib.Core.Logic.{◌⊎◌, inl, inr}
 use mathlib.Core.Path.{◌≡◌, refl, sym, ap, ◌∙◌, subst}
-use borrow.Author.Count.{below_more}
 use borrow.Author.Tests.{ltb-false, eqb-true, not-false}
 use Rattle.std.specs.Prelude.{Option, None, Some}
 use lib.Dec.{ltb, eqb}
-use lib.ListN.{length, get_or, drop, length-append}
+use Rattle.std.proofs.lemmas.List.{get_or-drop}
+use lib.ListN.{length, get_or, take, drop, length-append, length-drop}
+use lib.Seq.{take_all}
 use Rattle.utf8.specs.Unicode.{encode_char, encode, size, decode, WellFormed, code_at}
 use Rattle.utf8.specs.Places.{Step}
 use Rattle.utf8.proofs.Scan.{ascii, ascii_step}
 use Rattle.utf8.proofs.Tests.{by_test, neither_left, neither_right}
 use Rattle.rules.specs.Demand3.{is_kept, strike}
 use Rattle.rules.proofs.Struck.{strike_append}
-use Rattle.gaps.specs.Gaps.{gap, after, Unkept, GapByte}
+use Rattle.gaps.specs.Gaps.{gap, after, Unkept}
 use Rattle.gaps.proofs.GapLaws.{gap_kept, gap_other, after_kept, after_other, strike_kept, strike_unkept}
 use Rattle.changes.specs.Changes.{changes_from}
-use Rattle.changes.specs.Passing.{SameBytes, KeptByte, Behind, LastKept, Passed, BlockPassed}
+use Rattle.blocks.specs.Blocks.{NoneAmong}
+use Rattle.changes.specs.Passing.{differ_at, KeptByte, LastKept, Passed, BlockPassed}
 use Rattle.changes.proofs.WalkLaws.{change_none, changes_step}
 
--- ---- the loops over a block
+-- ---- the tests of a block
 
-module _ (s : List ℕ) (i : ℕ) (t : List ℕ) (j : ℕ) where
-  pub same_start : SameBytes s i t j 0 false
-  same_start = record { same = λ e k h. absurd (omega arith); ascii = λ e k h. absurd (omega arith) }
+-- 16 bytes are the same in both, and ASCII
+record Same (s : List ℕ) (i : ℕ) (t : List ℕ) (j : ℕ) : Type 0 where
+  bytes : (k : ℕ) → k < 16 → get_or s (i + k) 0 ≡ get_or t (j + k) 0
+  ascii : (k : ℕ) → k < 16 → get_or s (i + k) 0 < 0x80
 
-  pub same_more : (k : ℕ) (any : Bool) → SameBytes s i t j k any
-      → SameBytes s i t j (k + 1) (any || not (eqb (get_or s (i + k) 0) (get_or t (j + k) 0)) || ltb 127 (get_or s (i + k) 0))
-  same_more k any q =
-      record {
-        same = λ e. below_more (λ (m : ℕ). get_or s (i + m) 0 ≡ get_or t (j + m) 0) k (q.same (first e)) (here e);
-        ascii = λ e. below_more (λ (m : ℕ). get_or s (i + m) 0 < 0x80) k (q.ascii (first e)) (low e);
-      }
-    where
-      x : ℕ
-      x = get_or s (i + k) 0
+same_told : (s : List ℕ) (i : ℕ) (t : List ℕ) (j : ℕ) (any : Bool) → NoneAmong (differ_at (drop i s) (drop j t)) 0 16 any → any ≡ false → Same s i t j
+same_told s i t j any q e =
+    record {
+      bytes = λ k h. sym (get_or-drop i s k 0) ∙ eqb-true (x k) (y k) (not-false (eqb (x k) (y k)) (neither_left (not (eqb (x k) (y k))) (ltb 127 (x k)) (here k h))) ∙ get_or-drop j t k 0;
+      ascii = λ k h. let l = ltb-false 127 (x k) (neither_right (not (eqb (x k) (y k))) (ltb 127 (x k)) (here k h)) in omega (arith, get_or-drop i s k 0);
+    }
+  where
+    x : ℕ → ℕ
+    x k = get_or (drop i s) k 0
 
-      y : ℕ
-      y = get_or t (j + k) 0
+    y : ℕ → ℕ
+    y k = get_or (drop j t) k 0
 
-      first : (any || not (eqb x y) || ltb 127 x) ≡ false → any ≡ false
-      first e = neither_left any (not (eqb x y)) (neither_left (any || not (eqb x y)) (ltb 127 x) e)
-
-      here : (any || not (eqb x y) || ltb 127 x) ≡ false → x ≡ y
-      here e =
-          eqb-true x y (not-false (eqb x y) (neither_right any (not (eqb x y)) (neither_left (any || not (eqb x y)) (ltb 127 x) e)))
-
-      low : (any || not (eqb x y) || ltb 127 x) ≡ false → x < 0x80
-      low e = let l = ltb-false 127 x (neither_right (any || not (eqb x y)) (ltb 127 x) e) in omega arith
-
-  pub same_end : (k : ℕ) (any : Bool) → SameBytes s i t j k any → 16 ≤ k → SameBytes s i t j 16 any
-  same_end k any q h =
-      record { same = λ e m l. q.same e m (omega arith); ascii = λ e m l. q.ascii e m (omega arith) }
-
-pub behind_gap : (b n k : ℕ) → Behind b n k n
-behind_gap b n k = record { is = inl refl }
-
-pub behind_kept : (b n k : ℕ) (r : Bool) → GapByte b r → r ≡ false → Behind b n k k
-behind_kept b n k r g e = record { is = inr (refl, λ h. g.is h ∙ ap not e) }
-
-module _ (s : List ℕ) (at : ℕ) where
-  pub last_start : LastKept s at 0
-  last_start = record { within = omega arith; last = λ h. absurd (omega arith) }
-
-  pub last_more : (k n r : ℕ) → LastKept s at n → k < 16 → Behind (get_or s (at + k) 0) n (k + 1) r → LastKept s at r
-  last_more k n r q l v = go v.is
-    where
-      go : (r ≡ n) ⊎ ((r ≡ k + 1) × KeptByte (get_or s (at + k) 0)) → LastKept s at r
-      go (inl e) = subst (LastKept s at) (sym e) q
-      go (inr e) =
-          let m : k ≡ r - 1 = omega (arith, e.0) in
-          record {
-            within = omega (arith, e.0);
-            last = λ h. subst (λ (x : ℕ). KeptByte (get_or s (at + x) 0)) m e.1;
-          }
+    here : (k : ℕ) → k < 16 → (not (eqb (x k) (y k)) || ltb 127 (x k)) ≡ false
+    here k h = let z : 0 + k ≡ k = omega arith in subst (λ (m : ℕ). differ_at (drop i s) (drop j t) m ≡ false) z (q.none e k h)
 
 -- ---- characters that are the same in both
 
@@ -247,14 +214,14 @@ module _ (s : List ℕ) (i : ℕ) (t : List ℕ) (j : ℕ) where
             ∙ ap (λ (y : ℕ). changes_from (strike l) (i + y) (j + y) l m) z;
       }
 
-  pub passed_block : (r : ℕ) (any : Bool) → i ≤ length s → j ≤ length t → 16 ≤ length s - i → 16 ≤ length t - j
-      → SameBytes s i t j 16 any → any ≡ false → LastKept s i r → Passed s i t j r
-  passed_block zero any h k a b q e v = passed_none s i t j h k
-  passed_block (suc n) any h k a b q e v =
+  passed_block : (r : ℕ) → i ≤ length s → j ≤ length t → 16 ≤ length s - i → 16 ≤ length t - j
+      → Same s i t j → LastKept s i r → Passed s i t j r
+  passed_block zero h k a b q v = passed_none s i t j h k
+  passed_block (suc n) h k a b q v =
       let m : suc n - 1 ≡ n = omega arith in
       let kept : KeptByte (get_or s (i + n) 0) = subst (λ (x : ℕ). KeptByte (get_or s (i + x) 0)) m (v.last (omega arith)) in
-      passed_some n (omega (arith, v.within)) (omega (arith, v.within)) (λ x y. q.same e x (omega (arith, v.within)))
-      (λ x y. q.ascii e x (omega (arith, v.within))) (kept (q.ascii e n (omega (arith, v.within))))
+      passed_some n (omega (arith, v.within)) (omega (arith, v.within)) (λ x y. q.bytes x (omega (arith, v.within)))
+      (λ x y. q.ascii x (omega (arith, v.within))) (kept (q.ascii n (omega (arith, v.within))))
 
   pub passed_on : (k m : ℕ) → Passed s i t j k → Passed s (i + k) t (j + k) m → Passed s i t j (k + m)
   passed_on k m p q =
@@ -269,19 +236,19 @@ module _ (s : List ℕ) (i : ℕ) (t : List ℕ) (j : ℕ) where
         same = p.same ∙ (rw (ei, ej) at q.same);
       }
 
+  rest : (l : List ℕ) (k : ℕ) → take (length l - k) (drop k l) ≡ drop k l
+  rest l k = take_all (length l - k) (drop k l) (omega (arith, length-drop k l))
+
   pub block_none : BlockPassed s i t j None
   block_none = record { some = λ n e. absurd (cc) }
 
   pub block_some : (r : ℕ) (any : Bool) → i ≤ length s → j ≤ length t → 16 ≤ length s - i → 16 ≤ length t - j
-      → SameBytes s i t j 16 any → any ≡ false → LastKept s i r → (r ≡ 0 → ⊥) → BlockPassed s i t j (Some r)
+      → NoneAmong (differ_at (take (length s - i) (drop i s)) (take (length t - j) (drop j t))) 0 16 any → any ≡ false → LastKept s i r → (r ≡ 0 → ⊥) → BlockPassed s i t j (Some r)
   block_some r any h k a b q e v f =
       record {
         some = λ n y. let z : r ≡ n = cc in
-            subst (λ (x : ℕ). (0 < x) × Passed s i t j x) z (omega arith, passed_block r any h k a b q e v);
+            subst (λ (x : ℕ). (0 < x) × Passed s i t j x) z (omega arith, passed_block r h k a b (same_told s i t j any (rw (rest s i, rest t j) at q) e) v);
       }
-
-  pub run_begin : i ≤ length s → j ≤ length t → Passed s i t j 0
-  run_begin h k = passed_none s i t j h k
 
   pub run_turn : (k m : ℕ) (r : Option ℕ) → Passed s i t j k → BlockPassed s (i + k) t (j + k) r → r ≡ Some m
       → Passed s i t j (k + m)

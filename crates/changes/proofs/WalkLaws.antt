@@ -44,9 +44,6 @@ noted x y n k c h e f =
     let m : put_mid (n * 4) k x y ≡ put x (n * 4) l = rw f (put_part x l (n * 4) k e) in
     record { long = ap length m ∙ length_put x (n * 4) l h; fits = λ q. m }
 
-pub noted_none : (x : List ℕ) (n : ℕ) (c : Change) → length x < n * 4 + 4 → Noted x x n c
-noted_none x n c h = record { long = refl; fits = λ l. absurd (omega arith) }
-
 -- ---- one gap
 
 pub gap_size : (s : List ℕ) (i a : ℕ) → GapEnd s i a → size (gap (decode (drop i s))) ≡ a - i
@@ -167,17 +164,6 @@ walk_begin s t x a b q g h =
       gap_text = h;
     }
 
-pub walk_pair : (s t x₀ x : List ℕ) (n i j a b : ℕ) → Walk s t x₀ x n i j a b
-    → GapPair s t n (change i (a - i) j (b - j))
-walk_pair s t x₀ x n i j a b q =
-    let ea : a ≡ i + (a - i) = omega (arith, q.gap_source.from) in
-    let eb : b ≡ j + (b - j) = omega (arith, q.gap_text.from) in
-    record {
-      few = omega (arith, q.few, q.bound, q.gap_source.from, q.gap_source.fits);
-      gap_source = subst (GapEnd s i) ea q.gap_source;
-      gap_text = subst (GapEnd t j) eb q.gap_text;
-    }
-
 -- the kept character at which both gaps end
 pub record Both (s t : List ℕ) (i j a b z : ℕ) : Type 0 where
   pub step : Step t b z
@@ -227,17 +213,7 @@ pub walk_both : (s t x₀ x : List ℕ) (n i j a b z : ℕ) → Walk s t x₀ x 
     → Both s t i j a b z
 walk_both s t x₀ x n i j a b z q h v = both_at s t i j a b z q.gap_source q.gap_text q.struck h v
 
--- where the next gaps start
-pub walk_source : (s t : List ℕ) → Alike s t → From s 0
-walk_source s t q = record { fits = omega arith; well = q.well_source }
-
-pub walk_text : (s t : List ℕ) → Alike s t → From t 0
-walk_text s t q = record { fits = omega arith; well = q.well_text }
-
 module _ (s t x₀ x : List ℕ) (n i j a b z : ℕ) (q : Walk s t x₀ x n i j a b) (h : a < length s) (v : Step s a z) where
-  next_source : From s (a + z)
-  next_source = record { fits = v.fits; well = v.well q.gap_source.well }
-
   next_text : From t (b + z)
   next_text =
       let o = walk_both s t x₀ x n i j a b z q h v in
@@ -247,9 +223,6 @@ module _ (s t x₀ x : List ℕ) (n i j a b z : ℕ) (q : Walk s t x₀ x n i j 
   walk_text_fits = next_text.fits
 
   module _ (k : ℕ) (u : Passed s (a + z) t (b + z) k) where
-    pub walk_source_on : From s (a + z + k)
-    walk_source_on = record { fits = u.fits_source; well = u.well_source next_source.well }
-
     pub walk_text_on : From t (b + z + k)
     walk_text_on = record { fits = u.fits_text; well = u.well_text next_text.well }
 

@@ -1,13 +1,12 @@
 -- Bytes that are the same in a source and its text are passed together.
-use Rattle.std.specs.Prelude.{ℕ, ◌+◌, ◌-◌, ◌≤◌, ◌<◌, Bool, true, false, List, ◌⊎◌, ◌≡◌, Option, Some, length, get_or, drop}
+use Rattle.std.specs.Prelude.{ℕ, ◌+◌, ◌-◌, ◌≤◌, ◌<◌, Bool, true, not, ◌||◌, eqb, ltb, List, ◌⊎◌, ◌≡◌, Option, Some, length, get_or, drop}
 use Rattle.utf8.specs.Unicode.{decode, WellFormed}
 use Rattle.rules.specs.Demand3.{is_kept, strike}
 use Rattle.changes.specs.Changes.{changes_from}
 
--- unless any is true, n bytes are the same in both, and ASCII
-pub record SameBytes (s : List ℕ) (i : ℕ) (t : List ℕ) (j n : ℕ) (any : Bool) : Type 0 where
-  pub same : any ≡ false → (k : ℕ) → k < n → get_or s (i + k) 0 ≡ get_or t (j + k) 0
-  pub ascii : any ≡ false → (k : ℕ) → k < n → get_or s (i + k) 0 < 0x80
+-- the bytes at k are not the same, or not ASCII
+abbrev pub differ_at : List ℕ → List ℕ → ℕ → Bool
+differ_at s t k = not (eqb (get_or s k 0) (get_or t k 0)) || ltb 127 (get_or s k 0)
 
 abbrev pub KeptByte : ℕ → Type 0
 KeptByte b = b < 0x80 → is_kept b ≡ true

@@ -5,7 +5,8 @@ ghost use Rattle.std.specs.Prelude.{◌+◌, ◌<◌, ◌≤◌, ◌^◌, length
 ghost use Rattle.utf8.specs.Unicode.{decode};
 ghost use Rattle.gaps.specs.Gaps.{gap, Alike};
 ghost use Rattle.changes.specs.Changes.{change_at};
-ghost use Rattle.changes.specs.Passing.{SameBytes, Behind, LastKept, Passed, BlockPassed};
+ghost use Rattle.blocks.specs.Blocks.{NoneAmong};
+ghost use Rattle.changes.specs.Passing.{differ_at, Behind, LastKept, Passed, BlockPassed};
 ghost use Rattle.changes.specs.Writing.{Noted, GapPair, NotedGap, Written};
 
 // At the byte `at` of the source, `removed` bytes give way to the `put` bytes at the byte `from` of the text.
@@ -50,18 +51,13 @@ fn note_gap(source: &[u8], text: &[u8], list: &mut [u64], n: usize, c: Change) -
     n + 1
 }
 
-// Whether the 16 bytes from i of the source and from j of the text on differ, or one is not ASCII. It makes no branch,
-// so that the 16 are tested at once.
-fn differ_among(source: &[u8], i: usize, text: &[u8], j: usize) -> bool
-    requires i_in_bounds { i + 16 ≤ length source.now }
-    requires j_in_bounds { j + 16 ≤ length text.now }
-    ensures { SameBytes source.now i text.now j 16 result }
+// Whether the first 16 bytes of both differ, or one is not ASCII.
+fn differ_among(source: &[u8], text: &[u8]) -> bool
+    requires source_bound { 16 ≤ length source.now }
+    requires text_bound { 16 ≤ length text.now }
+    ensures { NoneAmong (differ_at source.now text.now) 0 16 result }
 {
-    let mut any = false;
-    for k in 0..16 {
-        any |= (source[i + k] != text[j + k]) | (127 < source[i + k]);
-    }
-    any
+    blocks::any_among::<16, _>(0, &|k| (source[k] != text[k]) | (127 < source[k]))
 }
 
 // k behind a kept byte, else n.
@@ -84,12 +80,13 @@ fn last_kept(s: &[u8], at: usize) -> u8
 }
 
 // How many of the next 16 bytes are the same in both, up to and with a kept one; None if they differ, or none is kept.
+#[tactic(auto, using(crate::proofs::PassLaws::block_some))]
 fn same_block(source: &[u8], i: usize, text: &[u8], j: usize) -> Option<usize>
     requires i_in_bounds { i ≤ length source.now }
     requires j_in_bounds { j ≤ length text.now }
     ensures { BlockPassed source.now i text.now j result }
 {
-    if source.len() - i < 16 || text.len() - j < 16 || differ_among(source, i, text, j) {
+    if source.len() - i < 16 || text.len() - j < 16 || differ_among(&source[i..], &text[j..]) {
         return None;
     }
     match last_kept(source, i) {

@@ -6,13 +6,15 @@ ghost use Rattle.std.specs.Prelude.{◌≡◌, ◌≤◌, length};
 ghost use Rattle.rules.specs.Options.{max_ruler};
 ghost use Rattle.options.specs.Held.{options_in};
 ghost use Rattle.lines.specs.Lines.{Passed};
+ghost use Rattle.call.specs.Ran.{choices_in};
 ghost use Rattle.check_call.specs.CheckCall.{Compares, Found, answer_of, checked_options, CheckedWith};
 ghost use Rattle.check_call.specs.CheckAnswered.{choices_of, CheckAnswered};
 
+use call::Request;
 use compare::CELL;
 use line::style::Style;
 use options::FormatOptions;
-use rules::{OptionNumbers, Refusal, Strengths};
+use rules::{Refusal, Strengths};
 
 // What a check finds: whether the text would equal the source, and how many lines were read.
 #[derive(Clone, Copy, PartialEq, Eq, Debug)]
@@ -21,8 +23,8 @@ pub struct Finding {
     pub read: usize,
 }
 
-// What a check comes to, in numbers for a host: whether the text would equal the source, 1 or 0, and how many lines were
-// read.
+// What a check comes to, in numbers for a host: whether the text would equal the source, 1 or 0, and how many lines
+// were read.
 #[repr(C)]
 #[derive(Clone, Copy)]
 pub struct CheckAnswer {
@@ -93,50 +95,33 @@ fn check_with(source: &[u8], options: FormatOptions, scratch: &mut [u8]) -> Find
     Finding { yes: false, read }
 }
 
-// The options that the numbers name; an ending that is kept is a bad option.
+// The options that a request's numbers name, with this table; an ending that is kept is a bad option.
 #[tactic(auto, unfolding(rules::specs::Basics::choose))]
-fn options_of(
-    indent: &[u8],
-    numbers: OptionNumbers,
-    strengths: Strengths,
-) -> Result<FormatOptions, Refusal>
-    ensures { result ≡ checked_options (choices_of indent.entry.now numbers strengths.table) }
+fn options_of(request: Request<'_>, table: Strengths) -> Result<FormatOptions, Refusal>
+    ensures { result ≡ checked_options (choices_of request.entry.indent.now request.entry.numbers table.table) }
 {
-    if numbers.line_ending == 0 {
+    if request.numbers.line_ending == 0 {
         return Err(Refusal::BadOption);
     }
-    FormatOptions::from_numbers(indent, numbers, strengths)
+    FormatOptions::from_numbers(request.indent, request.numbers, table)
 }
 
 // The tests, then the lines.
-fn run_check(
-    source: &[u8],
-    indent: &[u8],
-    numbers: OptionNumbers,
-    strengths: &[u8],
-    scratch: &mut [u8],
-) -> Result<Finding, Refusal>
-    ensures { Found (choices_of indent.now numbers strengths.now) source.now
-        (length scratch.old) result }
+fn run_check(request: Request<'_>, scratch: &mut [u8]) -> Result<Finding, Refusal>
+    ensures { Found (choices_in request.entry) request.entry.source.now (length scratch.old) result }
 {
-    let table = options::strengths::read(strengths);
-    let named = options_of(indent, numbers, table);
-    let options = call::test(strengths, source, named, scratch.len())?;
-    Ok(check_with(source, options, scratch))
+    let table = options::strengths::read(request.strengths);
+    let named = options_of(request, table);
+    let options = call::test(request, named, scratch.len())?;
+    Ok(check_with(request.source, options, scratch))
 }
 
 // The whole call. The scratch is cleared.
-pub fn check_call(
-    source: &[u8],
-    indent: &[u8],
-    numbers: OptionNumbers,
-    strengths: &[u8],
-    scratch: &mut [u8],
-) -> CheckAnswer
-    ensures { CheckAnswered (choices_of indent.now numbers strengths.now)
-        source.now (length scratch.old) result scratch.new }
+pub fn check_call(request: Request<'_>, scratch: &mut [u8]) -> CheckAnswer
+    ensures { CheckAnswered (choices_in request.entry) request.entry.source.now (length scratch.old)
+        result scratch.new }
 {
-    let outcome = run_check(source, indent, numbers, strengths, scratch);
+    let outcome = run_check(request, scratch);
     buffer::zero(scratch);
     outcome.into()
 }

@@ -5,7 +5,7 @@ use mathlib.Core.List.{List}
 use mathlib.Core.Path.{◌≡◌, refl, ◌∙◌}
 use lib.ListN.{length, get_or, set, length-set}
 use lib.Seq.{get_or-set_same, get_or-set_other}
-use Rattle.compare.specs.Common.{cell_size, cell_of, CellPut, CellKept}
+use Rattle.compare.specs.Common.{cell_size, cell_of, CellPut}
 
 pub cell_read : (x : List ℕ) (a b c : ℕ) → a ≡ get_or x 0 0 → b ≡ get_or x 1 0 → c ≡ get_or x 2 0 → a + b * 256 + c * 65536 ≡ cell_of x
 unfolding cell_of
@@ -37,15 +37,3 @@ module _ (x : List ℕ) (n : ℕ) (h : cell_size ≤ length x) where
     where
       whole : n < 2 ^ 24 → n % 256 + n / 256 % 256 * 256 + n / 256 / 256 % 256 * 65536 ≡ n
       whole s = omega arith
-
--- ---- how far a text that reaches up to next agrees
-
-module _ (x : List ℕ) (m n next : ℕ) where
-  pub kept_short : (x' : List ℕ) → n < next → CellPut x n x' → CellKept x m n next x'
-  kept_short x' h p = record { size = p.size; is = λ s b c. let e = p.is (omega arith) in omega (arith, e) }
-
-  pub kept_more : (x' : List ℕ) (c : ℕ) → next ≤ n → c ≡ cell_of x → c < next → CellPut x m x' → CellKept x m n next x'
-  kept_more x' c h q l p = record { size = p.size; is = λ s b d. let e = p.is s in omega (arith, e) }
-
-  pub kept_same : (c : ℕ) → next ≤ n → c ≡ cell_of x → next ≤ c → CellKept x m n next x
-  kept_same c h q l = record { size = refl; is = λ s b d. omega arith }

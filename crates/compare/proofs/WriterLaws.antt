@@ -1,8 +1,7 @@
 -- The writer's loops and pieces.
-use Prim.Native.Nat.{ℕ, zero, suc, ◌+◌, ◌-◌, ◌*◌, ◌≤◌, ◌<◌, ◌^◌, min, zero-le}
-use native.Mathlib.Nat.{add-zero, mul-zero}
+use Prim.Native.Nat.{ℕ, zero, suc, ◌+◌, ◌-◌, ◌≤◌, ◌<◌, ◌^◌, min, zero-le}
 use native.Mathlib.Omega.{arith}
-use mathlib.Core.Bool.{Bool, true, false, true≢false}
+use mathlib.Core.Bool.{Bool, true, false}
 use mathlib.Core.List.{List, [], ◌∷◌, ◌++◌, append_assoc, append-nil}
 use mathlib.Core.Path.{◌≡◌, refl, sym, ap, ◌∙◌}
 use mathlib.Core.Logic.{◌⊎◌, inl, inr}
@@ -14,12 +13,12 @@ use Rattle.utf8.proofs.Tests.{split}
 use Rattle.buffer.specs.Buffer.{over, Appended, AllAre}
 use Rattle.buffer.specs.Repeat.{times}
 use Rattle.buffer.proofs.RegionLaws.{part_from}
-use Rattle.buffer.proofs.RepeatLaws.{times_snoc, times_split, times_nil, times_run, length_times}
+use Rattle.buffer.proofs.RepeatLaws.{times_snoc, times_split, times_nil, times_alike}
 use Rattle.buffer.proofs.AgreeLaws.{agree_nil, agree_cut, appended_agree}
 use Rattle.buffer.proofs.OverLaws.{length_over, over_run}
 use Rattle.rules.specs.Basics.{starts_with}
-use Rattle.compare.specs.Common.{common, Agreeing, EndsAlike, StartsAlike, ending_of, cell_size, cell_of, CellKept, Tracks, Keeps, Compared, LineAlike, Tells}
-use Rattle.compare.proofs.CommonLaws.{common_nil, common_text, common_model, common_short, common_full, common_cut, starts_common, agreeing_end, ending_size}
+use Rattle.compare.specs.Common.{common, Agreeing, EndsAlike, StartsAlike, cell_size, cell_of, CellKept, Tracks, Keeps, Compared, LineAlike, Tells}
+use Rattle.compare.proofs.CommonLaws.{common_nil, common_text, common_model, common_short, common_full, common_cut, starts_common, agreeing_end}
 
 -- ---- `agree_levels`: the indent agrees level times over, and at is its length so far
 
@@ -114,60 +113,43 @@ unfolding Keeps
 grows c m x x' l at r e s f = record { next = e; size = s; holds = f }
 
 -- there is no room to compare
-pub compared_none : (m x l : List ℕ) (at r : ℕ) → 0 < length m → r ≡ at + length l → length x < cell_size → Compared m x x at l r
-compared_none [] x l at r some e h = absurd (omega arith)
-compared_none (c ∷ m) x l at r some e h = grows c m x x l at r e refl (λ text k t. absurd (omega (arith, t.room)))
+pub compared_none : (m x l : List ℕ) (at n : ℕ) → 0 < length m → n ≡ length l → length x < cell_size → Compared m x x at l (at + n)
+compared_none [] x l at n some e h = absurd (omega arith)
+compared_none (c ∷ m) x l at n some e h = grows c m x x l at (at + n) (omega arith) refl (λ text k t. absurd (omega (arith, t.room)))
 
 -- the text differs already
-pub compared_short : (m x l : List ℕ) (at n r : ℕ) → 0 < length m → r ≡ at + length l → n ≡ cell_of x → n < at → Compared m x x at l r
-compared_short [] x l at n r some e c h = absurd (omega arith)
-compared_short (a ∷ m) x l at n r some e c h =
-    grows a m x x l at r e refl
+pub compared_short : (m x l : List ℕ) (at n c : ℕ) → 0 < length m → n ≡ length l → c ≡ cell_of x → c < at → Compared m x x at l (at + n)
+compared_short [] x l at n c some e f h = absurd (omega arith)
+compared_short (a ∷ m) x l at n c some e f h =
+    grows a m x x l at (at + n) (omega arith) refl
     (λ text k t. record { room = t.room; small = t.small; same = grow text (omega arith) t.same })
   where
     grow : (text : List ℕ) → cell_of x < length text → min (cell_of x) (length text) ≡ common (a ∷ m) text → min (cell_of x) (length (text ++ l)) ≡ common (a ∷ m) (text ++ l)
     grow text b e = omega (arith, common_short (a ∷ m) text l (omega arith), length-append text l)
 
 -- it agrees as far as it goes
-pub compared_on : (m x x' l : List ℕ) (at c p n r : ℕ) → 0 < length m → r ≡ at + length l → c ≡ cell_of x → at ≤ c → p ≡ min at (length m)
-    → n ≡ common (take (length m - p) (drop p m)) l → CellKept x (length m) (at + n) r x' → Compared m x x' at l r
-compared_on [] x x' l at c p n r some e k b q f w = absurd (omega arith)
-compared_on (a ∷ m) x x' l at c p n r some e k b q f w =
-    grows a m x x' l at r e w.size
+pub compared_on : (m x x' l : List ℕ) (at n c p k : ℕ) → 0 < length m → n ≡ length l → c ≡ cell_of x → at ≤ c → p ≡ min at (length m)
+    → k ≡ common (take (length m - p) (drop p m)) l → CellKept x (length m) (at + k) (at + n) x' → Compared m x x' at l (at + n)
+compared_on [] x x' l at n c p k some e b o q f w = absurd (omega arith)
+compared_on (a ∷ m) x x' l at n c p k some e b o q f w =
+    grows a m x x' l at (at + n) (omega arith) w.size
     (λ text h t.
     let s = common_model (a ∷ m) text in
     let i : p ≡ length text = omega (arith, t.same) in
-    let g : n ≡ common (drop (length text) (a ∷ m)) l = f ∙ rw (part_from, i) in
+    let g : k ≡ common (drop (length text) (a ∷ m)) l = f ∙ rw (part_from, i) in
     let j = common_text (drop (length text) (a ∷ m)) l in
-    let o = common_full (a ∷ m) text l (omega (arith, t.same)) in
+    let u = common_full (a ∷ m) text l (omega (arith, t.same)) in
     let v = common_model (a ∷ m) (text ++ l) in
-    let y : min (cell_of x') r ≡ at + n = w.is t.small (omega (arith, g, o, v)) (omega (arith, g, j)) in
-    record { room = omega (arith, t.room, w.size); small = t.small; same = omega (arith, y, g, o, length-append text l) })
-
--- in the terms of `track_levels`
-module _ (m x w : List ℕ) (levels at : ℕ) (some : 0 < length m) where
-  long : at + levels * length w ≡ at + length (times levels w)
-  long = ap (λ (n : ℕ). at + n) (sym (length_times levels w))
-
-  pub levels_none : length x < cell_size → Compared m x x at (times levels w) (at + levels * length w)
-  levels_none = compared_none m x (times levels w) at (at + levels * length w) some long
-
-  pub levels_short : (n : ℕ) → n ≡ cell_of x → n < at → Compared m x x at (times levels w) (at + levels * length w)
-  levels_short n = compared_short m x (times levels w) at n (at + levels * length w) some long
-
-  pub levels_on : (x' : List ℕ) (c p n : ℕ) → c ≡ cell_of x → at ≤ c → p ≡ min at (length m)
-      → n ≡ common (take (length m - p) (drop p m)) (times levels w)
-      → CellKept x (length m) (at + n) (at + levels * length w) x'
-      → Compared m x x' at (times levels w) (at + levels * length w)
-  levels_on x' c p n = compared_on m x x' (times levels w) at c p n (at + levels * length w) some long
+    let y : min (cell_of x') (at + n) ≡ at + k = w.is t.small (omega (arith, g, u, v)) (omega (arith, g, j)) in
+    record { room = omega (arith, t.room, w.size); small = t.small; same = omega (arith, y, g, u, length-append text l) })
 
 -- a line is an indent of one level
 once : (l : List ℕ) → times 1 l ≡ l
 unfolding times
 once l = append-nil l
 
-pub once_small : (l : List ℕ) (at n : ℕ) → at + length l < n → at + length (times 1 l) < n
-once_small l at n h = rw once h
+pub length_once : (l : List ℕ) → length (times 1 l) ≡ length l
+length_once l = ap length (once l)
 
 pub once_tracked : (m x y l : List ℕ) (at r : ℕ) → Compared m x y at (times 1 l) r → Compared m x y at l r
 once_tracked m x y l at r w = rw once at w
@@ -197,10 +179,6 @@ compared_nil m x at = record { next = omega arith; size = refl; holds = λ text 
 
 -- ---- a line with its ending and its indent is written
 
-pub compared_model : {x y l : List ℕ} {at r : ℕ} (m : List ℕ) → length m ≡ 0 → Compared [] x y at l r → Compared m x y at l r
-compared_model [] e w = w
-compared_model (c ∷ m) e w = absurd (omega arith)
-
 pub run_put : (x y : List ℕ) (at n b : ℕ) → at + n ≤ length x → y ≡ replicate (length (take (at + n - at) (drop at x))) b
     → Compared [] x (take at x ++ (y ++ drop (at + n - at) (drop at x))) at (replicate n b) (at + n)
 run_put x y at n b h e =
@@ -213,60 +191,27 @@ run_put x y at n b h e =
       is = rw (k, e, k, length-take-le n (drop at x) s) (ap (λ (l : List ℕ). take at x ++ l) (sym (over_run (drop at x) n b ∙ rw f refl)));
     })
 
-module _ (x y : List ℕ) (at sep : ℕ) where
-  pub put_none : sep ≡ 0 → Compared [] x x at (ending_of sep) (at + sep)
-  unfolding ending_of
-  put_none e = rw (e, add-zero) (compared_nil [] x at)
+pub pad_some : (w : List ℕ) (levels n : ℕ) → n ≡ length (times levels w) → (n ≡ 0 → ⊥) → 0 < length w
+pad_some [] levels n e h = absurd (h (e ∙ ap length (times_nil levels)))
+pad_some (c ∷ w) levels n e h = omega arith
 
-  pub put_lf : sep ≡ 1 → Compared [] x y at (replicate 1 10) (at + 1) → Compared [] x y at (ending_of sep) (at + sep)
-  unfolding ending_of
-  put_lf e w = rw e w
+pub pad_run : (x y w : List ℕ) (at levels n b k : ℕ) (same : Bool) → n ≡ length (times levels w) → n ≤ k → AllAre w b same → same ≡ true
+    → Compared [] x y at (replicate k b) (at + k) → Compared [] x y at (times levels w) (at + length (times levels w))
+pad_run x y w at levels n b k same e h a t v =
+    let s : n + (k - n) ≡ k = omega arith in
+    let g : replicate k b ≡ replicate n b ++ replicate (k - n) b = sym (replicate-append-replicate n (k - n) b ∙ ap (λ (i : ℕ). replicate i b) s) in
+    rw (times_alike w levels b n same a t e) (compared_cut (replicate (k - n) b) (rw g at v))
 
-  pub put_crlf : (z : List ℕ) → sep ≤ 2 → (sep ≡ 0 → ⊥) → (sep ≡ 1 → ⊥) → Compared [] x y at (replicate 1 13) (at + 1)
-      → Compared [] y z (at + 1) (replicate 1 10) (at + 1 + 1) → Compared [] x z at (ending_of sep) (at + sep)
-  unfolding ending_of
-  put_crlf z h n o v w =
-      let e : sep ≡ 2 = omega arith in
-      let f : at + 1 + 1 ≡ at + 2 = omega arith in
-      rw e (rw f at (compared_append v w))
+pub pad_long : (x y l : List ℕ) (at r : ℕ) → Appended x y at (l ++ []) r → Compared [] x y at l (at + length l)
+pad_long x y l at r v = compared_cut [] (compared_out [] refl v)
 
-pub pad_some : (w : List ℕ) (levels : ℕ) → (levels * length w ≡ 0 → ⊥) → 0 < length w
-pad_some [] levels h = absurd (h (mul-zero levels))
-pad_some (c ∷ w) levels h = omega arith
+-- in the terms of the calls: a line's ending, its indent, and the line
+pub parts_written : (x y z b e p : List ℕ) (at start r : ℕ) → b ≡ e → Appended x y at b start → Appended y z start p r → Compared [] x z at (e ++ p) r
+parts_written x y z b e p at start r f v w = compared_append (compared_out [] refl (rw f at v)) (compared_out [] refl w)
 
-module _ (x y w : List ℕ) (at levels : ℕ) where
-  none : (l : List ℕ) → length l ≡ 0 → Compared [] x x at l (at + length l)
-  none [] e = rw add-zero (compared_nil [] x at)
-  none (c ∷ l) e = absurd (omega arith)
-
-  pub pad_none : levels * length w ≡ 0 → Compared [] x x at (times levels w) (at + length (times levels w))
-  pad_none e = none (times levels w) (length_times levels w ∙ e)
-
-  pub pad_run : (b k : ℕ) (same : Bool) → levels * length w ≤ k → AllAre w b same → same ≡ true → Compared [] x y at (replicate k b) (at + k)
-      → Compared [] x y at (times levels w) (at + length (times levels w))
-  pad_run b k same h a e v =
-      let n = levels * length w in
-      let f : times levels w ≡ replicate n b = ap (times levels) (a.yes e) ∙ times_run levels (length w) b in
-      let s : n + (k - n) ≡ k = omega arith in
-      let g : replicate k b ≡ replicate n b ++ replicate (k - n) b = sym (replicate-append-replicate n (k - n) b ∙ ap (λ (i : ℕ). replicate i b) s) in
-      rw f (compared_cut (replicate (k - n) b) (rw g at v))
-
-  pub pad_long : (r : ℕ) → Appended x y at (times levels w ++ []) r → Compared [] x y at (times levels w) (at + length (times levels w))
-  pad_long r v = compared_cut [] (compared_out [] refl v)
-
-ending_part : (sep : ℕ) → take (2 - (2 - sep)) (drop (2 - sep) (13 ∷ 10 ∷ [])) ≡ ending_of sep
-unfolding ending_of
-ending_part sep = part_from (13 ∷ 10 ∷ []) (2 - sep)
-
-pub parts_written : (x y z p : List ℕ) (at sep start r : ℕ) → Appended x y at (take (2 - (2 - sep)) (drop (2 - sep) (13 ∷ 10 ∷ []))) start
-    → Appended y z start p r → Compared [] x z at (ending_of sep ++ p) r
-parts_written x y z p at sep start r v w = compared_append (compared_out [] refl (rw (ending_part sep) at v)) (compared_out [] refl w)
-
-pub line_written : (x y z u w line : List ℕ) (at sep levels r : ℕ) → Compared [] x y at (ending_of sep) (at + sep)
-    → Compared [] y z (at + sep) (times levels w) (at + sep + length (times levels w))
-    → Appended z u (at + sep + levels * length w) line r → Compared [] x u at (ending_of sep ++ (times levels w ++ line)) r
-line_written x y z u w line at sep levels r a b c =
-    compared_append a (compared_append b (compared_out [] refl (rw (← length_times levels w) at c)))
+pub line_written : (x y z u e p l : List ℕ) (at n k r : ℕ) → n ≡ length e → k ≡ length p → Compared [] x y at e (at + length e)
+    → Compared [] y z (at + n) p (at + n + length p) → Appended z u (at + n + k) l r → Compared [] x u at (e ++ (p ++ l)) r
+line_written x y z u e p l at n k r f g a b c = compared_append (rw (← f) at a) (compared_append (rw (← g) at b) (compared_out [] refl c))
 
 -- ---- it is compared
 
@@ -284,51 +229,28 @@ on (a ∷ m) x l at c some e h k =
 common_both : (m a b : List ℕ) → length a ≤ common m a → length b ≤ common (drop (length a) m) b → length (a ++ b) ≤ common m (a ++ b)
 common_both m a b h k = omega (arith, common_full m a b h, length-append a b)
 
-pub line_on : (m x w l : List ℕ) (at sep levels c : ℕ) (e p r : Bool) → sep ≤ 2 → 0 < length m → at + sep + levels * length w + length l ≤ length m
-    → c ≡ cell_of x → at + sep + levels * length w + length l ≤ c → StartsAlike (drop at m) (ending_of sep) e → e ≡ true
-    → StartsAlike (take (length m - (at + sep)) (drop (at + sep) m)) (times levels w) p → p ≡ true
-    → EndsAlike (take (length m - (at + sep + levels * length w)) (drop (at + sep + levels * length w) m)) l (length l) r
-    → LineAlike m x at (ending_of sep ++ (times levels w ++ l)) r
-line_on m x w l at sep levels c e p r small some fits kept far he te hp tp hl =
+pub line_on : (m x s p l : List ℕ) (at n k c : ℕ) (e h r : Bool) → n ≡ length s → k ≡ length p → 0 < length m → at + n + k + length l ≤ length m
+    → c ≡ cell_of x → at + n + k + length l ≤ c → StartsAlike (drop at m) s e → e ≡ true
+    → StartsAlike (take (length m - (at + n)) (drop (at + n) m)) p h → h ≡ true
+    → EndsAlike (take (length m - (at + n + k)) (drop (at + n + k) m)) l (length l) r → LineAlike m x at (s ++ (p ++ l)) r
+line_on m x s p l at n k c e h r en ek some fits kept far he te hp tp hl =
     record {
       is = λ t.
-          on m x (ending_of sep ++ (times levels w ++ l)) at c some kept (omega (arith, size))
-          (common_both (drop at m) (ending_of sep) (times levels w ++ l) (he.is te)
-          (rw s1 (common_both (drop (at + sep) m) (times levels w) l (rw part_from at (hp.is tp)) (rw s2 (whole t)))));
+          on m x (s ++ (p ++ l)) at c some kept (omega (arith, length-append s (p ++ l), length-append p l))
+          (common_both (drop at m) s (p ++ l) (he.is te)
+          (rw s1 (common_both (drop (at + n) m) p l (rw part_from at (hp.is tp)) (rw s2 (whole t)))));
     }
   where
-    size : length (ending_of sep ++ (times levels w ++ l)) ≡ sep + (levels * length w + length l)
-    size = omega (arith, length-append (ending_of sep) (times levels w ++ l), length-append (times levels w) l, length_times levels w, ending_size sep small)
+    s1 : drop (length s) (drop at m) ≡ drop (at + n) m
+    s1 = drop-drop (length s) at m ∙ rw (← en)
 
-    s1 : drop (length (ending_of sep)) (drop at m) ≡ drop (at + sep) m
-    s1 = drop-drop (length (ending_of sep)) at m ∙ rw (ending_size sep small)
+    s2 : drop (length p) (drop (at + n) m) ≡ drop (at + n + k) m
+    s2 = drop-drop (length p) (at + n) m ∙ rw (← ek)
 
-    s2 : drop (length (times levels w)) (drop (at + sep) m) ≡ drop (at + sep + levels * length w) m
-    s2 = drop-drop (length (times levels w)) (at + sep) m ∙ rw (length_times levels w)
-
-    whole : r ≡ true → length l ≤ common (drop (at + sep + levels * length w) m) l
+    whole : r ≡ true → length l ≤ common (drop (at + n + k) m) l
     whole t =
-        let n = at + sep + levels * length w in
-        let g : Agreeing (drop n m) l (length l) (length l) = rw part_from at (hl.is t) in
-        omega (arith, agreeing_end (drop n m) l (length l) (length l) (omega (arith, length-drop n m)) g (omega arith))
-
-pub line_untold : (m x l : List ℕ) (at : ℕ) → LineAlike m x at l false
-line_untold m x l at = record { is = λ h. absurd (true≢false (sym h)) }
-
-pub line_told : (m x w l : List ℕ) (at sep levels : ℕ) (r : Bool) → sep ≤ 2 → LineAlike m x at (ending_of sep ++ (times levels w ++ l)) r → r ≡ true
-    → Compared m x x at (ending_of sep ++ (times levels w ++ l)) (at + sep + (levels * length w + length l))
-line_told m x w l at sep levels r small a t =
-    let s : at + length (ending_of sep ++ (times levels w ++ l)) ≡ at + sep + (levels * length w + length l) =
-    omega (arith, length-append (ending_of sep) (times levels w ++ l), length-append (times levels w) l, length_times levels w, ending_size sep small) in
-    rw s at (a.is t)
-
-pub line_tracked : (m x y z u p line : List ℕ) (at sep start from r : ℕ) → Compared m x y at (take (2 - (2 - sep)) (drop (2 - sep) (13 ∷ 10 ∷ []))) start
-    → Compared m y z start p from → Compared m z u from line r → Compared m x u at (ending_of sep ++ (p ++ line)) r
-line_tracked m x y z u p line at sep start from r a b c = compared_append (rw (ending_part sep) at a) (compared_append b c)
-
-pub without_ending : (m x y l : List ℕ) (at r : ℕ) → Compared m x y at (ending_of 0 ++ l) r → Compared m x y at l r
-unfolding ending_of
-without_ending m x y l at r w = w
+        let g : Agreeing (drop (at + n + k) m) l (length l) (length l) = rw part_from at (hl.is t) in
+        omega (arith, agreeing_end (drop (at + n + k) m) l (length l) (length l) (omega (arith, length-drop (at + n + k) m)) g (omega arith))
 
 -- ---- nothing is there yet
 

@@ -1,7 +1,7 @@
 -- How long a beginning of a text agrees with a model, and where a text goes.
-use Rattle.std.specs.Prelude.{ℕ, suc, ◌+◌, ◌-◌, ◌*◌, ◌≤◌, ◌<◌, ◌^◌, min, Bool, true, not, List, [], ◌∷◌, ◌++◌, ◌≡◌, eqb, length, take, drop, get_or}
+use Rattle.std.specs.Prelude.{ℕ, suc, ◌+◌, ◌*◌, ◌≤◌, ◌<◌, ◌^◌, min, Bool, true, not, List, [], ◌∷◌, ◌++◌, ◌≡◌, eqb, length, take, drop, get_or}
 use Rattle.buffer.specs.Buffer.{Agree}
-use Rattle.rules.specs.Basics.{choose, codes, starts_with}
+use Rattle.rules.specs.Basics.{choose, starts_with}
 
 -- how many of the first elements of t are those of the model
 unfoldable pub common : List ℕ → List ℕ → ℕ
@@ -31,10 +31,6 @@ other_at m b i = not (eqb (get_or m i 0) b)
 -- r tells that the first n elements are b
 pub record RunOf (m : List ℕ) (b n : ℕ) (r : Bool) : Type 0 where
   pub is : r ≡ true → (j : ℕ) → j < n → get_or m j 0 ≡ b
-
--- a line ending of n characters: none, LF or CRLF
-unfoldable pub ending_of : ℕ → List ℕ
-ending_of n = drop (2 - n) (codes "\r\n")
 
 -- a number below 2 ^ 24 in three bytes
 abbrev pub cell_size : ℕ

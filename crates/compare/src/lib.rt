@@ -4,10 +4,17 @@
 #![tactic(auto)]
 
 ghost use Rattle.std.specs.Prelude.{◌≡◌, [], ◌++◌, ◌+◌, ◌*◌, ◌<◌, ◌≤◌, ◌^◌, min, length, drop, replicate};
-ghost use Rattle.buffer.specs.Repeat.{times};
+ghost use Rattle.buffer.specs.Pad.{spelled};
 ghost use Rattle.compare.specs.Common.{common, Agreeing, EndsAlike, StartsAlike};
-ghost use Rattle.compare.specs.Common.{RunOf, ending_of, cell_size, cell_of, CellPut, CellKept, Compared};
+ghost use Rattle.compare.specs.Common.{RunOf, cell_size, cell_of, CellPut, CellKept, Compared};
 ghost use Rattle.compare.specs.Common.{LineAlike, Tells};
+ghost use Rattle.compare.specs.Rows.{ending_of, written};
+
+pub mod ending;
+
+use buffer::pad::Pad;
+use ending::{ending_bytes, ending_len};
+use rules::LineEnding;
 
 // The bytes that keep how far the text agrees.
 pub const CELL: usize = 3;
@@ -16,6 +23,7 @@ pub const CELL: usize = 3;
 const BLOCK: usize = 32;
 
 // Past the blocks of 16 bytes that agree, of the n that both have.
+#[tactic(auto, using(crate::proofs::CommonLaws::agreeing_blocks))]
 fn agree_blocks(model: &[u8], line: &[u8], n: usize) -> usize
     requires { n ≡ min (length line.now) (length model.now) }
     ensures { Agreeing model.now line.now n result }
@@ -24,6 +32,7 @@ fn agree_blocks(model: &[u8], line: &[u8], n: usize) -> usize
 }
 
 // Whether fewer than 16 bytes agree, told by their first 8 and their last 8. It is not told of fewer than 8.
+#[tactic(auto, using(crate::proofs::CommonLaws::alike_blocks))]
 fn alike_short(model: &[u8], line: &[u8], n: usize) -> bool
     requires n_value { n ≡ min (length line.now) (length model.now) }
     requires n_bound { n < 16 }
@@ -64,6 +73,7 @@ fn agree(model: &[u8], line: &[u8]) -> usize
 }
 
 // Whether the first n bytes, at most 16, are b. It makes no branch: indents differ from line to line.
+#[tactic(auto, using(crate::proofs::MaskLaws::run_told))]
 fn run_of(model: &[u8], b: u8, n: usize) -> bool
     requires in_bounds { 16 ≤ length model.now }
     requires n_bound { n ≤ 16 }
@@ -82,6 +92,7 @@ fn run_long(model: &[u8], b: u8, n: usize) -> bool
 }
 
 // Whether the model, of at least 16 bytes, starts with n times b.
+#[tactic(auto, using(crate::proofs::CommonLaws::starts_run))]
 fn run_alike(model: &[u8], b: u8, n: usize) -> bool
     requires { 16 ≤ length model.now }
     ensures { StartsAlike model.now (replicate n b) result }
@@ -97,36 +108,35 @@ fn run_alike(model: &[u8], b: u8, n: usize) -> bool
 
 // Whether the model starts with the indent, levels times over. It is told where that is of one kind of byte, and the
 // model has 16.
-fn pad_alike(model: &[u8], indent: &[u8], levels: usize) -> bool
-    requires { length (times levels indent.now) < 2 ^ 64 }
-    ensures { StartsAlike model.now (times levels indent.now) result }
+#[tactic(auto, using(crate::proofs::WriterLaws::pad_some, crate::proofs::CommonLaws::starts_times))]
+fn pad_alike(model: &[u8], pad: Pad<'_>) -> bool
+    ensures { StartsAlike model.now (spelled pad.entry) result }
 {
-    let n = levels * indent.len();
+    let n = pad.len();
     if n == 0 {
         return true;
     }
     if model.len() < 16 {
         return false;
     }
-    let b = indent[0];
-    if buffer::all_are(indent, b) {
+    let b = pad.indent[0];
+    if buffer::all_are(pad.indent, b) {
         return run_alike(model, b, n);
     }
     false
 }
 
 // The same of the indent, levels times over; no more turns than the model has bytes.
-fn agree_levels(model: &[u8], indent: &[u8], levels: usize) -> usize
-    requires { length (times levels indent.now) < 2 ^ 64 }
-    ensures { result ≡ common model.now (times levels indent.now) }
+fn agree_levels(model: &[u8], pad: Pad<'_>) -> usize
+    ensures { result ≡ common model.now (spelled pad.entry) }
 {
-    let n = indent.len();
+    let n = pad.indent.len();
     if n == 0 {
         return 0;
     }
     let mut at = 0;
-    for _ in 0..levels {
-        let k = agree(&model[at..], indent);
+    for _ in 0..pad.levels {
+        let k = agree(&model[at..], pad.indent);
         if k < n {
             return at + k;
         }
@@ -135,6 +145,7 @@ fn agree_levels(model: &[u8], indent: &[u8], levels: usize) -> usize
     at
 }
 
+#[tactic(auto, using(crate::proofs::CellLaws::cell_read))]
 fn read_cell(cell: &[u8]) -> usize
     requires { cell_size ≤ length cell.now }
     ensures { result ≡ cell_of cell.now }
@@ -168,6 +179,7 @@ fn keep(cell: &mut [u8], model: usize, n: usize, next: usize)
 }
 
 // Whether n bytes agree, by blocks of which some may overlap.
+#[tactic(auto, using(crate::proofs::CommonLaws::alike_blocks))]
 fn alike(model: &[u8], line: &[u8], n: usize) -> bool
     requires { n ≡ min (length line.now) (length model.now) }
     ensures { EndsAlike model.now line.now n result }
@@ -186,29 +198,26 @@ fn alike(model: &[u8], line: &[u8], n: usize) -> bool
     }
 }
 
-// Whether the model has the line ending of sep bytes at the place at.
-fn ending_alike(model: &[u8], at: usize, sep: usize) -> bool
-    requires sep_bound { sep ≤ 2 }
-    requires sep_in_bounds { at + sep ≤ length model.now }
-    ensures { StartsAlike (drop at model.now) (ending_of sep) result }
+// Whether the model has the line ending at the place at.
+#[tactic(auto, unfolding(rules::specs::Lines::as_str))]
+fn ending_alike(model: &[u8], at: usize, ending: Option<LineEnding>) -> bool
+    requires { at + length (ending_of ending) ≤ length model.now }
+    ensures { StartsAlike (drop at model.now) (ending_of ending) result }
 {
-    if sep == 0 {
-        return true;
+    match ending {
+        None => true,
+        Some(LineEnding::Lf) => model[at] == b'\n',
+        Some(LineEnding::Crlf) => model[at] == b'\r' && model[at + 1] == b'\n',
     }
-    if sep == 1 {
-        return model[at] == b'\n';
-    }
-    model[at] == b'\r' && model[at + 1] == b'\n'
 }
 
 // Compares the indent, levels times over, where all of the text before it agrees.
-fn track_levels(model: &[u8], cell: &mut [u8], at: usize, indent: &[u8], levels: usize) -> usize
-    requires indent_bound { at + length (times levels indent.now) < 2 ^ 64 }
+fn track_levels(model: &[u8], cell: &mut [u8], at: usize, pad: Pad<'_>) -> usize
+    requires pad_bound { at + length (spelled pad) < 2 ^ 64 }
     requires model_nonzero { 0 < length model.now }
-    ensures { Compared model.now cell.old cell.new at
-        (times levels indent.now) result }
+    ensures { Compared model.now cell.old cell.new at (spelled pad.entry) result }
 {
-    let next = at + levels * indent.len();
+    let next = at + pad.len();
     if cell.len() < CELL {
         return next;
     }
@@ -216,74 +225,74 @@ fn track_levels(model: &[u8], cell: &mut [u8], at: usize, indent: &[u8], levels:
         return next;
     }
     let p = at.min(model.len());
-    let n = agree_levels(&model[p..], indent, levels);
+    let n = agree_levels(&model[p..], pad);
     keep(cell, model.len(), at + n, next);
     next
 }
 
 // Compares line in the same way.
+#[tactic(auto, using(crate::proofs::WriterLaws::length_once))]
 fn track(model: &[u8], cell: &mut [u8], at: usize, line: &[u8]) -> usize
     requires line_bound { at + length line.now < 2 ^ 64 }
     requires model_nonzero { 0 < length model.now }
     ensures { Compared model.now cell.old cell.new at line.now result }
 {
-    track_levels(model, cell, at, line, 1)
+    let once = Pad {
+        indent: line,
+        levels: 1,
+    };
+    track_levels(model, cell, at, once)
 }
 
 // Whether all goes on as the model does: then nothing is to be kept.
+#[tactic(auto, using(crate::proofs::WriterLaws::line_on))]
 fn line_alike(
     model: &[u8],
     cell: &[u8],
     at: usize,
-    sep: usize,
-    indent: &[u8],
-    levels: usize,
+    ending: Option<LineEnding>,
+    pad: Pad<'_>,
     line: &[u8],
 ) -> bool
-    requires sep_bound { sep ≤ 2 }
     requires model_nonzero { 0 < length model.now }
-    requires line_bound { at + sep + (length (times levels indent.now) + length line.now) < 2 ^ 64 }
-    ensures { LineAlike model.now cell.now at
-        (ending_of sep ++ (times levels indent.now ++ line.now)) result }
+    requires line_bound { at + length (written ending pad line.now) < 2 ^ 64 }
+    ensures { LineAlike model.now cell.now at (written ending pad.entry line.now) result }
 {
-    let start = at + sep;
-    let from = start + levels * indent.len();
+    let start = at + ending_len(ending);
+    let from = start + pad.len();
     let next = from + line.len();
     if model.len() < next || cell.len() < CELL || read_cell(cell) < next {
         return false;
     }
-    if ending_alike(model, at, sep) && pad_alike(&model[start..], indent, levels) {
+    if ending_alike(model, at, ending) && pad_alike(&model[start..], pad) {
         return alike(&model[from..], line, line.len());
     }
     false
 }
 
-// Compares a line ending of sep bytes, the indent, levels times over, and the line.
+// Compares the line ending, the indent and the line.
 fn track_line(
     model: &[u8],
     cell: &mut [u8],
     at: usize,
-    sep: usize,
-    indent: &[u8],
-    levels: usize,
+    ending: Option<LineEnding>,
+    pad: Pad<'_>,
     line: &[u8],
 ) -> usize
-    requires sep_bound { sep ≤ 2 }
     requires model_nonzero { 0 < length model.now }
-    requires line_bound { at + sep + (length (times levels indent.now) + length line.now) < 2 ^ 64 }
-    ensures { Compared model.now cell.old cell.new at
-        (ending_of sep ++ (times levels indent.now ++ line.now)) result }
+    requires line_bound { at + length (written ending pad line.now) < 2 ^ 64 }
+    ensures { Compared model.now cell.old cell.new at (written ending pad.entry line.now) result }
 {
-    if line_alike(model, cell, at, sep, indent, levels, line) {
-        return at + sep + (levels * indent.len() + line.len());
+    if line_alike(model, cell, at, ending, pad, line) {
+        return at + (ending_len(ending) + pad.len() + line.len());
     }
-    let ending: &[u8] = b"\r\n";
-    let start = track(model, cell, at, &ending[2 - sep..]);
-    let from = track_levels(model, cell, start, indent, levels);
+    let start = track(model, cell, at, ending_bytes(ending));
+    let from = track_levels(model, cell, start, pad);
     track(model, cell, from, line)
 }
 
 // Writes n times the byte b from the place at on.
+#[tactic(auto, using(crate::proofs::WriterLaws::run_put))]
 fn put_run(out: &mut [u8], at: usize, n: usize, b: u8)
     requires { at + n ≤ length out.old }
     ensures { Compared [] out.old out.new at (replicate n b) (at + n) }
@@ -291,87 +300,83 @@ fn put_run(out: &mut [u8], at: usize, n: usize, b: u8)
     buffer::fill(&mut out[at..at + n], b);
 }
 
-// Writes a line ending of sep bytes, for which there is room.
-fn put_ending(out: &mut [u8], at: usize, sep: usize)
-    requires sep_bound { sep ≤ 2 }
-    requires sep_in_bounds { at + sep ≤ length out.old }
-    ensures { Compared [] out.old out.new at (ending_of sep) (at + sep) }
+// Writes a line ending, for which there is room.
+#[tactic(auto, unfolding(rules::specs::Lines::as_str))]
+fn put_ending(out: &mut [u8], at: usize, ending: Option<LineEnding>)
+    requires { at + length (ending_of ending) ≤ length out.old }
+    ensures { Compared [] out.old out.new at (ending_of ending)
+        (at + length (ending_of ending)) }
 {
-    if sep == 0 {
-        return;
+    match ending {
+        None => {}
+        Some(LineEnding::Lf) => put_run(out, at, 1, b'\n'),
+        Some(LineEnding::Crlf) => {
+            put_run(out, at, 1, b'\r');
+            put_run(out, at + 1, 1, b'\n');
+        }
     }
-    if sep == 1 {
-        put_run(out, at, 1, b'\n');
-        return;
-    }
-    put_run(out, at, 1, b'\r');
-    put_run(out, at + 1, 1, b'\n');
 }
 
 // Writes the indent, levels times over. A short one of one kind of byte is one block, what of it is not needed is
 // written over later.
-fn put_pad(out: &mut [u8], at: usize, indent: &[u8], levels: usize)
-    requires { at + length (times levels indent.now) ≤ length out.old }
-    ensures { Compared [] out.old out.new at (times levels indent.now)
-        (at + length (times levels indent.now)) }
+fn put_pad(out: &mut [u8], at: usize, pad: Pad<'_>)
+    requires { at + length (spelled pad) ≤ length out.old }
+    ensures { Compared [] out.old out.new at (spelled pad.entry)
+        (at + length (spelled pad.entry)) }
 {
-    let n = levels * indent.len();
+    let n = pad.len();
     if n == 0 {
         return;
     }
-    let b = indent[0];
-    if n <= BLOCK && out.len() - at >= BLOCK && buffer::all_are(indent, b) {
+    let b = pad.indent[0];
+    if n <= BLOCK && out.len() - at >= BLOCK && buffer::all_are(pad.indent, b) {
         put_run(out, at, BLOCK, b);
         return;
     }
-    buffer::append_indented(out, at, indent, levels, b"");
+    buffer::append_indented(out, at, pad, b"");
 }
 
-// Writes what of a line ending, the indent and the line fits.
+// Writes what of the line ending, the indent and the line fits.
 fn write_parts(
     out: &mut [u8],
     at: usize,
-    sep: usize,
-    indent: &[u8],
-    levels: usize,
+    ending: Option<LineEnding>,
+    pad: Pad<'_>,
     line: &[u8],
 ) -> usize
-    requires sep_bound { sep ≤ 2 }
-    requires line_bound { at + sep + (length (times levels indent.now) + length line.now) < 2 ^ 64 }
-    ensures { Compared [] out.old out.new at
-        (ending_of sep ++ (times levels indent.now ++ line.now)) result }
+    requires { at + length (written ending pad line.now) < 2 ^ 64 }
+    ensures { Compared [] out.old out.new at (written ending pad.entry line.now) result }
 {
-    let ending: &[u8] = b"\r\n";
-    let start = buffer::append(out, at, &ending[2 - sep..]);
-    buffer::append_indented(out, start, indent, levels, line)
+    let start = buffer::append(out, at, ending_bytes(ending));
+    buffer::append_indented(out, start, pad, line)
 }
 
-// Writes a line ending of sep bytes, the indent, levels times over, and the line.
+// Writes the line ending, the indent and the line.
 fn write_line(
     out: &mut [u8],
     at: usize,
-    sep: usize,
-    indent: &[u8],
-    levels: usize,
+    ending: Option<LineEnding>,
+    pad: Pad<'_>,
     line: &[u8],
 ) -> usize
-    requires sep_bound { sep ≤ 2 }
-    requires line_bound { at + sep + (length (times levels indent.now) + length line.now) < 2 ^ 64 }
-    ensures { Compared [] out.old out.new at
-        (ending_of sep ++ (times levels indent.now ++ line.now)) result }
+    requires { at + length (written ending pad line.now) < 2 ^ 64 }
+    ensures { Compared [] out.old out.new at (written ending pad.entry line.now) result }
 {
-    let start = at + sep;
-    let from = start + levels * indent.len();
+    let start = at + ending_len(ending);
+    let from = start + pad.len();
     let next = from + line.len();
     if out.len() < next {
-        return write_parts(out, at, sep, indent, levels, line);
+        return write_parts(out, at, ending, pad, line);
     }
-    put_ending(out, at, sep);
-    put_pad(out, start, indent, levels);
+    put_ending(out, at, ending);
+    put_pad(out, start, pad);
     buffer::append(out, from, line)
 }
 
 // The line goes behind a text that reaches up to at. Gives the next place.
+// kept: (model, out, at) as three parameters: a struct of them with methods is no plainer. The text is cut back by going
+// on from a smaller place, which text's own record keeps, so that the struct's place would be set anew for each line; and
+// each method would also have to say that the model and the reference to out stay what they were
 pub fn append(model: &[u8], out: &mut [u8], at: usize, line: &[u8]) -> usize
     requires { at + length line.now < 2 ^ 64 }
     ensures { Compared model.now out.old out.new at line.now result }
@@ -383,43 +388,31 @@ pub fn append(model: &[u8], out: &mut [u8], at: usize, line: &[u8]) -> usize
 }
 
 // The indent, levels times over, and the line go behind a text that reaches up to at. Gives the next place.
-pub fn append_indented(
-    model: &[u8],
-    out: &mut [u8],
-    at: usize,
-    indent: &[u8],
-    levels: usize,
-    line: &[u8],
-) -> usize
-    requires { at + (length (times levels indent.now) + length line.now) < 2 ^ 64 }
-    ensures { Compared model.now out.old out.new at
-        (times levels indent.now ++ line.now) result }
+pub fn append_indented(model: &[u8], out: &mut [u8], at: usize, pad: Pad<'_>, line: &[u8]) -> usize
+    requires { at + (length (spelled pad) + length line.now) < 2 ^ 64 }
+    ensures { Compared model.now out.old out.new at (spelled pad.entry ++ line.now) result }
 {
-    if model.len() == 0 {
-        return write_line(out, at, 0, indent, levels, line);
-    }
-    track_line(model, out, at, 0, indent, levels, line)
+    append_line(model, out, at, None, pad, line)
 }
 
-// The same with a line ending of sep bytes before it: none, LF or CRLF.
+// The same with a line ending before it, if there is one.
+// kept: (ending, pad, line) as three parameters: tried as one struct, which goes through memory: 2.2 to 7.2 % more
+// instructions of a call (declarations 4.5 %, deep nesting 7.2 %)
 pub fn append_line(
     model: &[u8],
     out: &mut [u8],
     at: usize,
-    sep: usize,
-    indent: &[u8],
-    levels: usize,
+    ending: Option<LineEnding>,
+    pad: Pad<'_>,
     line: &[u8],
 ) -> usize
-    requires sep_bound { sep ≤ 2 }
-    requires line_bound { at + sep + (length (times levels indent.now) + length line.now) < 2 ^ 64 }
-    ensures { Compared model.now out.old out.new at
-        (ending_of sep ++ (times levels indent.now ++ line.now)) result }
+    requires { at + length (written ending pad line.now) < 2 ^ 64 }
+    ensures { Compared model.now out.old out.new at (written ending pad.entry line.now) result }
 {
     if model.len() == 0 {
-        return write_line(out, at, sep, indent, levels, line);
+        return write_line(out, at, ending, pad, line);
     }
-    track_line(model, out, at, sep, indent, levels, line)
+    track_line(model, out, at, ending, pad, line)
 }
 
 // Whether the first k bytes of a compared text are a beginning of the model.

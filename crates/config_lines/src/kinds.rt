@@ -9,7 +9,8 @@ ghost use Rattle.config_lines.specs.Kinds.{Named, KindOf};
 use crate::{eq_at, trimmed};
 
 // A header has its name; a pair its key and its value, both trimmed.
-#[derive(Clone, Copy)]
+// kept: the new form is no plainer: neither is the absence of the other, and a line of no kind is `None`
+#[derive(Clone, Copy, PartialEq, Eq, Debug)]
 pub enum LineKind<'a> {
     Header(&'a [u8]),
     Pair(&'a [u8], &'a [u8]),

@@ -1,19 +1,20 @@
 -- The refusals of all texts, by the worst rank.
-use Prim.Native.Nat.{ℕ, ◌≤◌, ◌<◌, max}
+use Prim.Native.Nat.{ℕ, ◌+◌, ◌≤◌, ◌<◌, max}
 use mathlib.Core.Bool.{Bool, true, false, not}
 use mathlib.Core.List.{List, [], ◌∷◌, ◌++◌, map}
-use mathlib.Core.Path.{◌≡◌, refl, sym, ap, ◌∙◌, subst}
+use mathlib.Core.Path.{◌≡◌, refl, sym, ap, ◌∙◌}
 use native.Mathlib.Omega.{arith}
 use borrow.Author.Tests.{lt-ltb, le-ltb, ltb-true, ltb-false, not-false}
 use lib.Dec.{ltb}
-use lib.ListN.{length, drop}
-use Rattle.std.specs.Prelude.{Option, Some, None, Result, Ok, Err, IsErr, IsErrAnd}
-use Rattle.std.specs.Result.{result_err}
+use denote.Ref.{Bor}
+use native.Mathlib.Numerals.{add-one}
+use lib.ListN.{length, take, get_or}
+use lib.Seq.{take-suc}
+use Rattle.std.proofs.lemmas.List.{map-append}
+use Rattle.std.specs.Prelude.{Some, Ok, Err}
 use Rattle.utf8.specs.Unicode.{prefix_len, decode, WellFormed, well_formed}
 use Rattle.utf8.proofs.Tests.{by_test}
 use Rattle.utf8.proofs.Decode.{test_wf, test_whole, test_part, wf_whole}
-use Rattle.buffer.specs.Buffer.{part}
-use Rattle.buffer.proofs.RegionLaws.{part_from}
 use Rattle.rules.specs.Basics.{choose}
 use Rattle.rules.specs.declared.Resolved.{Resolved}
 use Rattle.rules.proofs.Choose.{choose_true, choose_false}
@@ -24,16 +25,9 @@ use Rattle.config_rules.specs.Call.{any_of, too_long, ill_formed, has_long_name,
 use Rattle.config_rules.specs.declared.ConfigRefusal.{ConfigRefusal}
 use Rattle.config_text.specs.Walk.{Readable}
 use Rattle.config_text.specs.Steps.{Accepted}
-use Rattle.config_read.specs.Levels.{Nearest, TopOf, Outward, OutwardFrom, Inward, Resolving}
-use Rattle.config_read.specs.Refusals.{rank_number, rank_of, path_rank, worst, AllAccepted}
-use Rattle.config_read.specs.Halves.{path_of, rank_in, FarStart, NearRead, FarRead, AllRead}
-use Rattle.config_read.specs.declared.levels.Level.{Level}
-use Rattle.config_read.specs.declared.levels.Levels.{Levels}
-use Rattle.config_read.specs.declared.Near.{Near}
-use Rattle.config_read.proofs.LevelLaws.{resolves_all, rels_decode, relatives_top}
-
-abbrev given : Resolved → ConfigOutcome
-given v = Ok v
+use Rattle.config_read.specs.Levels.{Unslashed, Nearest, resolved_at}
+use Rattle.config_read.specs.Refusals.{bytes_of, rank_number, rank_of, path_rank, worst, AllAccepted}
+use Rattle.config_read.proofs.LevelLaws.{rels_decode, relatives_of}
 
 abbrev Texts : Type 0
 Texts = List (List ℕ)
@@ -86,17 +80,25 @@ worst_nil : worst [] ≡ 0
 unfolding worst
 worst_nil = refl
 
-pub worst_append : (xs ys : Texts) → worst (xs ++ ys) ≡ max (worst xs) (worst ys)
+worst_append : (xs ys : Texts) → worst (xs ++ ys) ≡ max (worst xs) (worst ys)
 worst_append [] ys = omega (arith, worst_nil)
 worst_append (x ∷ xs) ys = omega (arith, worst_cons x (xs ++ ys), worst_cons x xs, worst_append xs ys)
 
-worst_two : (a b : List ℕ) → worst (a ∷ b ∷ []) ≡ max (rank_of a) (rank_of b)
-worst_two a b = omega (arith, worst_cons a (b ∷ []), worst_cons b [], worst_nil)
+pub worst_start : (m r : ℕ) → r ≡ m → r ≡ max m (worst [])
+worst_start m r e = omega (arith, worst_nil)
 
-pub worst_four : (a b c d : List ℕ) (i j k l m n o : ℕ) → i ≡ rank_of a → j ≡ rank_of b → m ≡ max i j → k ≡ rank_of c → l ≡ rank_of d → n ≡ max k l → o ≡ max m n
-    → o ≡ worst (a ∷ b ∷ c ∷ d ∷ [])
-worst_four a b c d i j k l m n o ei ej em ek el en eo =
-    eo ∙ rw (em, en, ei, ej, ek, el) (sym (worst_append (a ∷ b ∷ []) (c ∷ d ∷ []) ∙ rw (worst_two a b, worst_two c d)))
+-- one text more
+pub worst_more : (ts : List (Bor (List ℕ))) (i : ℕ) (d : Bor (List ℕ)) (m r s : ℕ) → i < length ts → s ≡ max m (worst (bytes_of (take i ts)))
+    → r ≡ max s (rank_of (get_or ts i d).now) → r ≡ max m (worst (bytes_of (take (i + 1) ts)))
+worst_more ts i d m r s h e f =
+    omega (
+      arith,
+      ap (λ (l : List (Bor (List ℕ))). worst (bytes_of l)) (ap (λ (n : ℕ). take n ts) (add-one i) ∙ take-suc ts i d h)
+          ∙ ap worst (map-append (λ (t : Bor (List ℕ)). t.now) (take i ts) (get_or ts i d ∷ [])),
+      worst_append (bytes_of (take i ts)) ((get_or ts i d).now ∷ []),
+      worst_cons (get_or ts i d).now [],
+      worst_nil,
+    )
 
 -- the rank of one text, and its tests
 data Ranked (t : List ℕ) : Type 0 where
@@ -152,7 +154,7 @@ rank_top t = go (ranked t)
     go (name a b c r) = omega arith
     go (fine a b c r) = omega arith
 
-pub worst_top : (ts : Texts) → worst ts ≤ 3
+worst_top : (ts : Texts) → worst ts ≤ 3
 worst_top [] = omega (arith, worst_nil)
 worst_top (t ∷ ts) = omega (arith, worst_cons t ts, rank_top t, worst_top ts)
 
@@ -186,7 +188,7 @@ any_name (t ∷ ts) h = go (ranked t) (any_name ts (omega (arith, worst_cons t t
     go (name a b c r) i = any_yes has_long_name t ts c ∙ sym (over_yes 0 t ts (omega arith))
     go (fine a b c r) i = any_no has_long_name t ts c ∙ i ∙ sym (over_no 0 t ts (omega arith))
 
-pub all_accepted : (ts : Texts) → worst ts ≤ 0 → AllAccepted ts
+all_accepted : (ts : Texts) → worst ts ≤ 0 → AllAccepted ts
 all_accepted [] h = tt
 all_accepted (t ∷ ts) h = (go (ranked t), all_accepted ts (omega (arith, worst_cons t ts)))
   where
@@ -205,9 +207,6 @@ all_accepted (t ∷ ts) h = (go (ranked t), all_accepted ts (omega (arith, worst
 -- r is the worst rank of the path and the texts
 pub record WorstOf (path : List ℕ) (ts : Texts) (r : ℕ) : Type 0 where
   pub is : r ≡ max (path_rank path) (worst ts)
-
-worst_of_all : (path : List ℕ) (xs ys : Texts) (i r : ℕ) → i ≡ max (path_rank path) (worst xs) → r ≡ max i (worst ys) → WorstOf path (xs ++ ys) r
-worst_of_all path xs ys i r ei er = record { is = omega (arith, worst_append xs ys) }
 
 data PathRanked (path : List ℕ) : Type 0 where
   bad : ill_formed path ≡ true → path_rank path ≡ 2 → PathRanked path
@@ -256,147 +255,34 @@ module _ (path : List ℕ) (ts : Texts) (r : ℕ) (w : WorstOf path ts r) where
       go (bad a p) = absurd (omega (arith, w.is))
       go (good a p) = omega (arith, w.is)
 
-  read_given : r ≡ 0 → (top : ℕ) → TopOf path top → (v : Resolved) → v ≡ resolved (map decode ts) (map decode (below_slashes (part path top (length path)) ++ (part path top (length path) ∷ [])))
+  read_given : r ≡ 0 → (p : List ℕ) → Unslashed path p → (v : Resolved) → v ≡ resolved (map decode ts) (map decode (below_slashes p ++ (p ∷ [])))
       → Ok v ≡ read_editor_config path ts
-  read_given e top t v s =
+  read_given e p t v s =
       sym (readable_all (omega arith) ∙ choose_false _ _ _ (any_name ts (omega (arith, w.is)) ∙ le-ltb 0 (worst ts) (omega (arith, w.is)))
-      ∙ ap (λ (x : Texts). given (resolved (map decode ts) x)) (relatives_top path top t ∙ sym (rels_decode (drop top path) t.well))
-      ∙ ap (λ (x : List ℕ). given (resolved (map decode ts) (map decode (below_slashes x ++ (x ∷ []))))) (sym (part_from path top))
+      ∙ ap (λ (x : Texts). given (resolved (map decode ts) x)) (relatives_of path p t ∙ sym (rels_decode p t.well))
       ∙ ap given (sym s))
-
--- ---- in two halves
-
-well_path : (path : List ℕ) → path_rank path ≡ 0 → WellFormed path
-well_path path e = go (path_ranked path)
-  where
-    go : PathRanked path → WellFormed path
-    go (bad a p) = absurd (omega arith)
-    go (good a p) = test_wf path (not-false (well_formed path) a)
-
--- what `?` hands on of a refusal, and of what was read before
-pub handed_refusal : (r : ConfigOutcome) (why : ConfigRefusal) → IsErr r × IsErrAnd r (λ e. e ≡ why) → r ≡ Err why
-handed_refusal (Ok v) why h = absurd h.1
-handed_refusal (Err w) why h = rw h.1
-
--- the rank of what refuses, if anything does
-pub rank_some : (why : ConfigRefusal) → 0 < rank_number (Some why)
-rank_some ConfigRefusal.LongName = omega arith
-rank_some ConfigRefusal.NotUtf8 = omega arith
-rank_some ConfigRefusal.LongText = omega arith
-
-module _ (path a b c d : List ℕ) where
-  abbrev near_texts : Texts
-  near_texts = a ∷ b ∷ c ∷ d ∷ []
-
-  module _ (i j : ℕ) (r : Option ConfigRefusal) (ei : i ≡ path_rank path) (ej : j ≡ worst near_texts) (er : rank_number r ≡ max i j) where
-    near_rank : rank_number r ≡ max (path_rank path) (worst near_texts)
-    near_rank = omega arith
-
-    module _ (e : r ≡ None) where
-      zero_rank : max (path_rank path) (worst near_texts) ≡ 0
-      zero_rank = sym near_rank ∙ ap rank_number e
-
-      pub near_well : WellFormed path
-      near_well = well_path path (omega (arith, zero_rank))
-
-      pub near_accepted : AllAccepted near_texts
-      near_accepted = all_accepted near_texts (omega (arith, zero_rank))
-
-      pub near_levels : (top : ℕ) (l : Level) (ls : Levels) → TopOf path top → Nearest (part path top (length path)) l → OutwardFrom (part path top (length path)) a b c d l ls
-          → NearRead path a b c d (Ok (record { top = top; levels = ls }))
-      near_levels top l ls t n o =
-          record {
-            rank = sym zero_rank;
-            start = λ m k. subst (FarStart path) (same m k) (record { top = t; at = o.levels.beyond.at });
-            nearest = λ m k. subst (λ (x : Near). Nearest (path_of path x) x.levels.first) (same m k) (subst (Nearest (part path top (length path))) (sym o.first) n);
-            levels = λ m k. subst (λ (x : Near). Outward (path_of path x) a b c d x.levels) (same m k) o.levels;
-          }
-        where
-          here : Near
-          here = record { top = top; levels = ls }
-
-          same : (m : Near) → ◌≡◌ {A = Result Near ConfigRefusal} (Ok here) (Ok m) → here ≡ m
-          same m k = cc
-
-    pub near_refused : (why : ConfigRefusal) → r ≡ Some why → NearRead path a b c d (Err why)
-    near_refused why e =
-        record {
-          rank = sym (ap rank_number e) ∙ near_rank;
-          start = λ m k. absurd (no_near m k);
-          nearest = λ m k. absurd (no_near m k);
-          levels = λ m k. absurd (no_near m k);
-        }
-      where
-        no_near : (m : Near) → ◌≡◌ {A = Result Near ConfigRefusal} (Err why) (Ok m) → ⊥
-        no_near m k = let z : ◌≡◌ {A = ℕ} 0 1 = cc in omega arith
-
--- w refuses the farther texts or what was read before, r is the worse of both
-module _ (path : List ℕ) (n : Result Near ConfigRefusal) (ts : Texts) (e w r : Option ConfigRefusal) (first : e ≡ result_err n)
-    (texts : rank_number w ≡ worst ts) (m : rank_number r ≡ max (rank_number e) (rank_number w)) where
-  far_rank : rank_number r ≡ max (rank_in n) (worst ts)
-  far_rank = omega (arith, ap rank_number first)
-
-  pub far_refused : (why : ConfigRefusal) → r ≡ Some why → FarRead path n ts (Err why)
-  far_refused why k = record { rank = sym (ap rank_number k) ∙ far_rank; values = λ p v i j. absurd (no_values v j) }
     where
-      no_values : (v : Resolved) → ◌≡◌ {A = ConfigOutcome} (Err why) (Ok v) → ⊥
-      no_values v j = let z : ◌≡◌ {A = ℕ} 0 1 = cc in omega arith
+      given : Resolved → ConfigOutcome
+      given v = Ok v
 
-  module _ (k : r ≡ None) where
-    zero_far : max (rank_in n) (worst ts) ≡ 0
-    zero_far = sym far_rank ∙ ap rank_number k
+-- the worst refusal, r, is told
+pub read_refused : (path : List ℕ) (ts : Texts) (why : ConfigRefusal) → rank_number (Some why) ≡ max (path_rank path) (worst ts) → Err why ≡ read_editor_config path ts
+read_refused path ts ConfigRefusal.LongName e = read_name path ts 1 (record { is = e }) refl
+read_refused path ts ConfigRefusal.NotUtf8 e = read_ill path ts 2 (record { is = e }) refl
+read_refused path ts ConfigRefusal.LongText e = read_long path ts 3 (record { is = e }) refl
 
-    pub far_accepted : AllAccepted ts
-    far_accepted = all_accepted ts (omega (arith, zero_far))
-
-    -- what was read before was not refused
-    pub far_near : (why : ConfigRefusal) → n ≡ Err why → ⊥
-    far_near why i = omega (arith, zero_far, ap rank_in i, rank_some why)
-
-    pub far_values : (p : Near) (v : Resolved) → n ≡ Ok p → Resolving (path_of path p) p.levels.beyond ts v → FarRead path n ts (Ok v)
-    far_values p v i h = record { rank = sym zero_far; values = λ q u j l. subst (λ (x : Near). Resolving (path_of path x) x.levels.beyond ts u) (same_near q j) (subst (Resolving (path_of path p) p.levels.beyond ts) (same_values u l) h) }
-      where
-        same_near : (q : Near) → n ≡ Ok q → p ≡ q
-        same_near q j = cc
-
-        same_values : (u : Resolved) → ◌≡◌ {A = ConfigOutcome} (Ok v) (Ok u) → v ≡ u
-        same_values u l = cc
-
--- the nearer texts, where nothing is refused
-module _ (path a b c d : List ℕ) (n : Result Near ConfigRefusal) (q : NearRead path a b c d n) (m : Near) (e : n ≡ Ok m) where
-  near_zero : max (path_rank path) (worst (a ∷ b ∷ c ∷ d ∷ [])) ≡ 0
-  near_zero = sym q.rank ∙ ap rank_in e
-
-  pub all_accept : AllAccepted (a ∷ b ∷ c ∷ d ∷ [])
-  all_accept = all_accepted (a ∷ b ∷ c ∷ d ∷ []) (omega (arith, near_zero))
-
-  pub all_top : TopOf path m.top
-  all_top = (q.start m e).top
-
-  pub all_outward : Outward (path_of path m) a b c d m.levels
-  all_outward = q.levels m e
-
-module _ (path a b c d : List ℕ) (n : Result Near ConfigRefusal) (f : ConfigOutcome) (q : NearRead path a b c d n) where
-  all_worst : (ts : Texts) → FarRead path n ts f → WorstOf path (a ∷ b ∷ c ∷ d ∷ ts) (rank_in f)
-  all_worst ts w = worst_of_all path (a ∷ b ∷ c ∷ d ∷ []) ts (rank_in n) (rank_in f) q.rank w.rank
-
-  pub all_refused : (why : ConfigRefusal) → f ≡ Err why → AllRead path a b c d n f (Err why)
-  all_refused why e = record { is = λ ts w. go why ts (subst (WorstOf path (a ∷ b ∷ c ∷ d ∷ ts)) (ap rank_in e) (all_worst ts w)) }
+-- nothing is refused
+module _ (path : List ℕ) (ts : Texts) (e : ◌≡◌ {A = ℕ} 0 (max (path_rank path) (worst ts))) where
+  pub path_fine : WellFormed path
+  path_fine = go (path_ranked path)
     where
-      go : (why : ConfigRefusal) (ts : Texts) → WorstOf path (a ∷ b ∷ c ∷ d ∷ ts) (rank_number (Some why)) → Err why ≡ read_editor_config path (a ∷ b ∷ c ∷ d ∷ ts)
-      go ConfigRefusal.LongName ts w = read_name path (a ∷ b ∷ c ∷ d ∷ ts) 1 w refl
-      go ConfigRefusal.NotUtf8 ts w = read_ill path (a ∷ b ∷ c ∷ d ∷ ts) 2 w refl
-      go ConfigRefusal.LongText ts w = read_long path (a ∷ b ∷ c ∷ d ∷ ts) 3 w refl
+      go : PathRanked path → WellFormed path
+      go (bad a p) = absurd (omega arith)
+      go (good a p) = test_wf path (not-false (well_formed path) a)
 
-  module _ (old : Resolved) (e : f ≡ Ok old) where
-    -- the nearer texts were not refused, since nothing was
-    pub all_near : (why : ConfigRefusal) → n ≡ Err why → AllRead path a b c d n f (Err why)
-    all_near why k = record { is = λ ts w. absurd (omega (arith, w.rank, ap rank_in e, ap rank_in k, rank_some why)) }
+  pub texts_fine : AllAccepted ts
+  texts_fine = all_accepted ts (omega (arith, e))
 
-    pub all_given : (m : Near) → n ≡ Ok m → (v : Resolved) → Inward (path_of path m) a b c d m.levels old v → AllRead path a b c d n f (Ok v)
-    all_given m k v i =
-        record {
-          is = λ ts w.
-              read_given path (a ∷ b ∷ c ∷ d ∷ ts) (rank_in f) (all_worst ts w) (ap rank_in e) m.top (q.start m k).top v
-              (resolves_all (path_of path m) m.levels.first (a ∷ b ∷ c ∷ d ∷ ts) v (q.nearest m k) (i.all ts (w.values m old k e)));
-        }
+  pub read_values : (p : List ℕ) (r : ℕ) (v : Resolved) → Unslashed path p → Nearest p r → v ≡ resolved_at p r ts → Ok v ≡ read_editor_config path ts
+  read_values p r v u n q =
+      read_given path ts 0 (record { is = e }) refl p u v (q ∙ ap (λ (x : Texts). resolved (map decode ts) (map decode x)) n.is)

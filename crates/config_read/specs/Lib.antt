@@ -1,5 +1,4 @@
 -- What the contracts cite besides the definitions.
 pub mod Levels
 pub mod Refusals
-pub mod Halves
 pub mod ConfigAnswered

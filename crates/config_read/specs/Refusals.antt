@@ -1,9 +1,14 @@
 -- The refusals of all texts at once: the worst of each.
-use Rattle.std.specs.Prelude.{ℕ, max, List, [], ◌∷◌, Option, Some, None}
+use Rattle.std.specs.Prelude.{ℕ, max, List, [], ◌∷◌, map, Option, Some, None}
+use denote.Ref.{Bor}
 use Rattle.rules.specs.Basics.{choose}
 use Rattle.config_rules.specs.Call.{too_long, ill_formed, has_long_name}
 use Rattle.config_rules.specs.declared.ConfigRefusal.{ConfigRefusal}
 use Rattle.config_text.specs.Steps.{Accepted}
+
+-- the bytes of lent texts
+abbrev pub bytes_of : List (Bor (List ℕ)) → List (List ℕ)
+bytes_of texts = map (λ (t : Bor (List ℕ)). t.now) texts
 
 -- 3 for refusal 7, 2 for 4, 1 for 8, 0 for none: the one that comes first is the largest
 abbrev pub rank_number : Option ConfigRefusal → ℕ

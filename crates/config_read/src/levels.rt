@@ -1,33 +1,21 @@
-// The directories of a path, and the text that belongs to each.
-ghost use Rattle.std.specs.Prelude.{[], ◌∷◌, ◌≤◌, length};
+// The directories of a path, and the values that the texts in them set.
+ghost use Rattle.std.specs.Prelude.{◌≡◌, ◌≤◌, length};
 ghost use Rattle.utf8.specs.Unicode.{WellFormed};
 ghost use Rattle.config_text.specs.Walk.{Readable};
-ghost use Rattle.config_text.specs.Steps.{Accepted};
-ghost use Rattle.config_read.specs.Levels.{LevelAt, LevelFrom, Nearest, Above, Applied, TopOf};
-ghost use Rattle.config_read.specs.Levels.{Outward, OutwardFrom, Inward};
-ghost use Rattle.config_read.specs.Refusals.{AllAccepted};
+ghost use Rattle.config_read.specs.Levels.{Unslashed, LevelFrom, LevelAt, Nearest, Above, resolved_at};
+ghost use Rattle.config_read.specs.Refusals.{bytes_of, AllAccepted};
 
 use rules::Resolved;
 
-// Whether a directory's text counts, and where the path relative to the directory starts.
-#[derive(Clone, Copy)]
-pub struct Level {
-    pub used: bool,
-    pub from: usize,
-}
-
-// Where the path starts: a leading slash is dropped.
-pub fn top(path: &[u8]) -> usize
+// The path without its leading slash.
+pub fn unslashed(path: &[u8]) -> &[u8]
     requires { WellFormed path.now }
-    ensures { TopOf path.now result }
+    ensures { Unslashed path.now result.now }
 {
-    if path.len() == 0 {
-        return 0;
+    match path {
+        [b'/', rest @ ..] => rest,
+        _ => path,
     }
-    if path[0] == b'/' {
-        return 1;
-    }
-    0
 }
 
 // Where what follows the last slash before e starts: behind it, or at the path's start.
@@ -36,118 +24,46 @@ fn level_from(p: &[u8], e: usize) -> usize
     requires e_in_bounds { e ≤ length p.now }
     ensures { LevelFrom p.now e result }
 {
-    let mut i = e;
-    while 0 < i {
-        if p[i - 1] == b'/' {
-            return i;
+    for i in (0..e).rev() {
+        if p[i] == b'/' {
+            return i + 1;
         }
-        i -= 1;
     }
-    i
+    0
 }
 
-// The file's own directory.
-pub fn nearest(p: &[u8]) -> Level
+// Where the path relative to the file's own directory starts.
+pub fn nearest(p: &[u8]) -> usize
     requires { WellFormed p.now }
     ensures { Nearest p.now result }
 {
-    let from = level_from(p, p.len());
-    Level { used: true, from }
+    level_from(p, p.len())
 }
 
-// One directory up: none above the top, and none that counts above a root.
-pub fn above(p: &[u8], l: Level, text: &[u8]) -> Level
-    requires { WellFormed p.now × LevelAt p.now l × Readable text.now }
-    ensures { Above p.now text.now l result }
+// The same one directory up: none above the top, and none that counts above a root.
+pub fn above(p: &[u8], from: usize, text: &[u8]) -> Option<usize>
+    requires { WellFormed p.now × LevelAt p.now from × Readable text.now }
+    ensures { Above p.now text.now from result }
 {
-    let from = l.from;
-    if l.used {
-        if from == 0 {
-            return Level {
-                used: false,
-                from: 0,
-            };
-        }
-        if config_text::is_root(text) {
-            return Level {
-                used: false,
-                from: 0,
-            };
-        }
-        return Level {
-            used: true,
-            from: level_from(p, from - 1),
-        };
-    }
-    Level {
-        used: false,
-        from: 0,
+    if from == 0 || config_text::is_root(text) {
+        None
+    } else {
+        Some(level_from(p, from - 1))
     }
 }
 
-// The values after the text of a level, if it counts.
-pub fn apply(p: &[u8], l: Level, text: &[u8], old: Resolved) -> Resolved
-    requires { LevelAt p.now l × Accepted text.now }
-    ensures { Applied p.now text.now l old result }
+// The values that texts set, of which the first is in the directory that the path from `from` on is relative to, and
+// each next one up. The farthest that counts is read first.
+pub fn resolved(p: &[u8], from: usize, texts: &[&[u8]]) -> Resolved
+    requires { WellFormed p.now × LevelAt p.now from × AllAccepted (bytes_of texts.now) }
+    ensures { result ≡ resolved_at p.now from (bytes_of texts.now) }
 {
-    let from = l.from;
-    if l.used {
-        return config_text::settings(text, &p[from..], old);
-    }
-    old
-}
-
-// The levels of four texts, the nearest first, and the one beyond them.
-#[derive(Clone, Copy)]
-pub struct Levels {
-    pub first: Level,
-    pub second: Level,
-    pub third: Level,
-    pub fourth: Level,
-    pub beyond: Level,
-}
-
-// From the level of the nearest of four texts outward.
-pub fn outward(p: &[u8], l: Level, t1: &[u8], t2: &[u8], t3: &[u8], t4: &[u8]) -> Levels
-    requires well_formed { WellFormed p.now × LevelAt p.now l }
-    requires all_accepted { AllAccepted (t1.now ∷ t2.now ∷ t3.now ∷ t4.now ∷ []) }
-    ensures { OutwardFrom p.now t1.now t2.now t3.now
-        t4.now l result }
-{
-    let second = above(p, l, t1);
-    let third = above(p, second, t2);
-    let fourth = above(p, third, t3);
-    let beyond = above(p, fourth, t4);
-    Levels {
-        first: l,
-        second,
-        third,
-        fourth,
-        beyond,
-    }
-}
-
-// Back over the four texts from the values of those beyond, so that the nearest comes last.
-pub fn inward(
-    p: &[u8],
-    ls: Levels,
-    t1: &[u8],
-    t2: &[u8],
-    t3: &[u8],
-    t4: &[u8],
-    old: Resolved,
-) -> Resolved
-    requires outward { Outward p.now t1.now t2.now t3.now t4.now ls }
-    requires all_accepted { AllAccepted (t1.now ∷ t2.now ∷ t3.now ∷ t4.now ∷ []) }
-    ensures { Inward p.now t1.now t2.now t3.now t4.now
-        ls old result }
-{
-    let l1 = ls.first;
-    let l2 = ls.second;
-    let l3 = ls.third;
-    let l4 = ls.fourth;
-    let r4 = apply(p, l4, t4, old);
-    let r3 = apply(p, l3, t3, r4);
-    let r2 = apply(p, l2, t2, r3);
-    apply(p, l1, t1, r2)
+    let [text, farther @ ..] = texts else {
+        return Resolved::default();
+    };
+    let old = match above(p, from, text) {
+        Some(up) => resolved(p, up, farther),
+        None => Resolved::default(),
+    };
+    config_text::settings(text, &p[from..], old)
 }

@@ -1,6 +1,6 @@
 // Refusals 7, 4 and 8 over all texts.
-ghost use Rattle.std.specs.Prelude.{◌≡◌, [], ◌∷◌, max};
-ghost use Rattle.config_read.specs.Refusals.{rank_number, rank_of, path_rank, worst};
+ghost use Rattle.std.specs.Prelude.{◌≡◌, max};
+ghost use Rattle.config_read.specs.Refusals.{bytes_of, rank_number, rank_of, path_rank, worst};
 
 use config_rules::ConfigRefusal;
 
@@ -29,7 +29,7 @@ fn of_text(text: &[u8]) -> Option<ConfigRefusal>
     None
 }
 
-pub fn of_path(path: &[u8]) -> Option<ConfigRefusal>
+fn of_path(path: &[u8]) -> Option<ConfigRefusal>
     ensures { rank_number result ≡ path_rank path.now }
 {
     if utf8::well_formed_prefix(path) != path.len() {
@@ -38,8 +38,13 @@ pub fn of_path(path: &[u8]) -> Option<ConfigRefusal>
     None
 }
 
-pub fn worst_of(a: &[u8], b: &[u8], c: &[u8], d: &[u8]) -> Option<ConfigRefusal>
-    ensures { rank_number result ≡ worst (a.now ∷ b.now ∷ c.now ∷ d.now ∷ []) }
+// Of the path and all texts.
+pub fn worst_of(path: &[u8], texts: &[&[u8]]) -> Option<ConfigRefusal>
+    ensures { rank_number result ≡ max (path_rank path.now) (worst (bytes_of texts.now)) }
 {
-    worse(worse(of_text(a), of_text(b)), worse(of_text(c), of_text(d)))
+    let mut refusal = of_path(path);
+    for text in texts {
+        refusal = worse(refusal, of_text(text));
+    }
+    refusal
 }

@@ -26,6 +26,8 @@ pub enum ConfigRefusal {
 
 impl ConfigRefusal {
     // The number that a host is told.
+    // kept: the new form is no plainer: the variants stand in the order by which one of several is told, so these
+    // numbers can't be theirs
     pub fn number(self) -> u64
         ensures { result ≡ refusal_number self }
     {

@@ -1,4 +1,6 @@
 // What reading comes to, in the numbers that `wirescript_editorconfig` takes.
+// kept: the new form is no plainer: the types are those of `rules` and `None` has a number as well, so a method of each
+// type would leave a `map_or(0, ..)` to the one caller
 ghost use Rattle.std.specs.Prelude.{◌≡◌};
 ghost use Rattle.config_rules.specs.Call.{style_number, size_kind, size_number};
 ghost use Rattle.config_rules.specs.Call.{max_kind, max_number, ending_number, newline_number, answer_of};
@@ -16,41 +18,25 @@ fn style_number(style: Option<IndentStyle>) -> u64
     }
 }
 
-fn size_kind(size: Option<IndentSize>) -> u64
-    ensures { result ≡ size_kind size }
+// The kind of a size, and the size.
+fn size_numbers(size: Option<IndentSize>) -> (u64, u64)
+    ensures { result ≡ (size_kind size, size_number size) }
 {
     match size {
-        None => 0,
-        Some(IndentSize::UseTabWidth) => 1,
-        Some(IndentSize::Value(_)) => 2,
+        None => (0, 0),
+        Some(IndentSize::UseTabWidth) => (1, 0),
+        Some(IndentSize::Value(n)) => (2, n as u64),
     }
 }
 
-fn size_number(size: Option<IndentSize>) -> u64
-    ensures { result ≡ size_number size }
-{
-    match size {
-        Some(IndentSize::Value(n)) => n as u64,
-        Some(IndentSize::UseTabWidth) | None => 0,
-    }
-}
-
-fn max_kind(max: Option<MaxLineLen>) -> u64
-    ensures { result ≡ max_kind max }
+// The kind of a longest line, and its length.
+fn max_numbers(max: Option<MaxLineLen>) -> (u64, u64)
+    ensures { result ≡ (max_kind max, max_number max) }
 {
     match max {
-        None => 0,
-        Some(MaxLineLen::Off) => 1,
-        Some(MaxLineLen::Value(_)) => 2,
-    }
-}
-
-fn max_number(max: Option<MaxLineLen>) -> u64
-    ensures { result ≡ max_number max }
-{
-    match max {
-        Some(MaxLineLen::Value(n)) => n as u64,
-        Some(MaxLineLen::Off) | None => 0,
+        None => (0, 0),
+        Some(MaxLineLen::Off) => (1, 0),
+        Some(MaxLineLen::Value(n)) => (2, n as u64),
     }
 }
 
@@ -81,19 +67,23 @@ impl From<Result<Resolved, ConfigRefusal>> for ConfigAnswer {
 
     fn from(outcome: Result<Resolved, ConfigRefusal>) -> ConfigAnswer {
         match outcome {
-            Ok(values) => ConfigAnswer {
-                refusal: 0,
-                place: 0,
-                style: style_number(values.style),
-                size_kind: size_kind(values.size),
-                size: size_number(values.size),
-                tab_set: values.tab.is_some() as u64,
-                tab: values.tab.unwrap_or(0) as u64,
-                max_kind: max_kind(values.max),
-                max: max_number(values.max),
-                ending: ending_number(values.ending),
-                newline: newline_number(values.newline),
-            },
+            Ok(values) => {
+                let (size_kind, size) = size_numbers(values.size);
+                let (max_kind, max) = max_numbers(values.max);
+                ConfigAnswer {
+                    refusal: 0,
+                    place: 0,
+                    style: style_number(values.style),
+                    size_kind,
+                    size,
+                    tab_set: values.tab.is_some() as u64,
+                    tab: values.tab.unwrap_or(0) as u64,
+                    max_kind,
+                    max,
+                    ending: ending_number(values.ending),
+                    newline: newline_number(values.newline),
+                }
+            }
             Err(why) => ConfigAnswer {
                 refusal: why.number(),
                 place: 0,

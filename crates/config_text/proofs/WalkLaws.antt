@@ -37,9 +37,9 @@ use Rattle.config_rules.specs.Sections.{long_name, root_at, settings}
 use Rattle.config_lines.specs.Words.{Trimmed}
 use Rattle.config_lines.specs.Kinds.{line_in, Parts, KindOf}
 use Rattle.config_lines.specs.declared.kinds.LineKind.{LineKind}
-use Rattle.config_text.specs.Walk.{Unmarked, lines_in, lines_left, LinesWell, LinesOf}
+use Rattle.config_text.specs.Walk.{Unmarked, lines_in, lines_left, LinesWell}
 use Rattle.config_text.specs.declared.walk.Lines.{Lines}
-use Rattle.config_text.specs.Steps.{starts_section, root_after, applies_after, values_after, Named, Accepted}
+use Rattle.config_text.specs.Steps.{starts_section, root_after, applies_after, values_after, Named}
 
 -- ---- where the lines start
 
@@ -194,9 +194,6 @@ pub record Names (text : List ℕ) (s : Lines) : Type 0 where
   pub well : LinesWell s
   pub is : long_name (lines_of (decode text)) ≡ long_name (lines_left s)
 
-pub names_start : (text : List ℕ) (s : Lines) → LinesOf text s → Names text s
-names_start text s w = record { well = w.well; is = ap long_name w.is }
-
 module _ (text : List ℕ) (s : Lines) (w : Names text s) where
   pub names_end : lines_left s ≡ [] → false ≡ long_name (lines_of (decode text))
   names_end e = sym (w.is ∙ ap long_name e ∙ long_nil)
@@ -233,9 +230,6 @@ pub record Root (text : List ℕ) (root : Bool) (s : Lines) : Type 0 where
   pub well : LinesWell s
   pub is : root_at false (lines_of (decode text)) ≡ root_at root (lines_left s)
 
-pub root_start : (text : List ℕ) (s : Lines) → LinesOf text s → Root text false s
-root_start text s w = record { well = w.well; is = ap (root_at false) w.is }
-
 module _ (text : List ℕ) (root : Bool) (s : Lines) (w : Root text root s) where
   pub root_end : lines_left s ≡ [] → root ≡ root_at false (lines_of (decode text))
   root_end e = sym (w.is ∙ ap (root_at root) e ∙ root_nil root)
@@ -268,10 +262,6 @@ pub record Setting (text rel : List ℕ) (old values : Resolved) (applies : Bool
   pub well : LinesWell s
   pub names : long_name (lines_left s) ≡ false
   pub is : settings (decode rel) false old (lines_of (decode text)) ≡ settings (decode rel) applies values (lines_left s)
-
-pub setting_start : (text rel : List ℕ) (old : Resolved) (s : Lines) → Accepted text → LinesOf text s → Setting text rel old old false s
-setting_start text rel old s a w =
-    record { well = w.well; names = sym (ap long_name w.is) ∙ a.names; is = ap (settings (decode rel) false old) w.is }
 
 module _ (text rel : List ℕ) (old values : Resolved) (applies : Bool) (s : Lines) (w : Setting text rel old values applies s) where
   pub setting_end : lines_left s ≡ [] → values ≡ settings (decode rel) false old (lines_of (decode text))

@@ -2,35 +2,22 @@
 #![tactic(auto)]
 
 ghost use Rattle.std.specs.Prelude.{length};
-ghost use Rattle.call.specs.Ran.{call_of};
+ghost use Rattle.call.specs.Ran.{asked};
 ghost use Rattle.edits.specs.Text.{TextRan};
 
-use rules::{Formatted, OptionNumbers, Refusal};
+use call::Request;
+use rules::{Formatted, Refusal};
 
 pub mod with_caret;
 pub mod with_changes;
 
 // The formatting call, with no room for the lines of open brackets.
 pub fn format_text(
-    source: &[u8],
-    indent: &[u8],
-    numbers: OptionNumbers,
-    strengths: &[u8],
+    request: Request<'_>,
     output: &mut [u8],
     scratch: &mut [u8],
 ) -> Result<Formatted, Refusal>
-    ensures { TextRan (call_of source.now indent.now numbers strengths.now
-        (length output.old) 0
-        (length scratch.old)) result output.new scratch.new }
+    ensures { TextRan (asked request.entry (length output.old) 0 (length scratch.old)) result output.new scratch.new }
 {
-    let mut opened = [0u64; 0];
-    call::format(
-        source,
-        indent,
-        numbers,
-        strengths,
-        output,
-        &mut opened,
-        scratch,
-    )
+    call::format(request, output, &mut [], scratch)
 }

@@ -1,11 +1,12 @@
 // A formatting call that moves a caret too.
 ghost use Rattle.std.specs.Prelude.{length, ◌≡◌};
-ghost use Rattle.call.specs.Ran.{call_of};
+ghost use Rattle.call.specs.Ran.{asked};
 ghost use Rattle.edits.specs.CaretCall.{caret_told};
 ghost use Rattle.edits.specs.CaretAnswered.{CaretAnswered};
 
+use call::Request;
 use caret::LineColumn;
-use rules::{Formatted, OptionNumbers, Refusal};
+use rules::{Formatted, Refusal};
 
 // Where the caret stands in the source: a line and a character column, both from 0.
 #[derive(Clone, Copy)]
@@ -63,21 +64,17 @@ impl From<Result<WithCaret, Refusal>> for CaretAnswer {
 
 // The text, and where the caret that stands at a line and a column of the source goes in it.
 fn move_caret(
-    source: &[u8],
-    indent: &[u8],
-    numbers: OptionNumbers,
-    strengths: &[u8],
+    request: Request<'_>,
     at: Caret,
     output: &mut [u8],
     scratch: &mut [u8],
 ) -> Result<WithCaret, Refusal>
-    ensures { CaretAnswered (call_of source.now indent.now numbers strengths.now
-        (length output.old) 0
-        (length scratch.old)) at.line at.column (caret_told result) output.new scratch.new }
+    ensures { CaretAnswered (asked request.entry (length output.old) 0 (length scratch.old)) at.line at.column
+        (caret_told result) output.new scratch.new }
 {
-    let text = crate::format_text(source, indent, numbers, strengths, output, scratch)?;
+    let text = crate::format_text(request, output, scratch)?;
     let taken = &output[..text.length];
-    match caret::caret_in_text(source, taken, at.line as usize, at.column as usize) {
+    match caret::caret_in_text(request.source, taken, at.line as usize, at.column as usize) {
         Some(to) => Ok(WithCaret { text, to }),
         None => {
             buffer::zero(output);
@@ -88,17 +85,13 @@ fn move_caret(
 
 // The same, with its answer in numbers.
 pub fn format_caret(
-    source: &[u8],
-    indent: &[u8],
-    numbers: OptionNumbers,
-    strengths: &[u8],
+    request: Request<'_>,
     at: Caret,
     output: &mut [u8],
     scratch: &mut [u8],
 ) -> CaretAnswer
-    ensures { CaretAnswered (call_of source.now indent.now numbers strengths.now
-        (length output.old) 0
-        (length scratch.old)) at.line at.column result output.new scratch.new }
+    ensures { CaretAnswered (asked request.entry (length output.old) 0 (length scratch.old)) at.line at.column
+        result output.new scratch.new }
 {
-    move_caret(source, indent, numbers, strengths, at, output, scratch).into()
+    move_caret(request, at, output, scratch).into()
 }

@@ -1,10 +1,11 @@
 // A formatting call that gives the changes from the source to the text too.
 ghost use Rattle.std.specs.Prelude.{length, ◌≡◌};
-ghost use Rattle.call.specs.Ran.{call_of};
+ghost use Rattle.call.specs.Ran.{asked};
 ghost use Rattle.edits.specs.ChangesCall.{changes_told};
 ghost use Rattle.edits.specs.ChangesAnswered.{ChangesAnswered};
 
-use rules::{Formatted, OptionNumbers, Refusal};
+use call::Request;
+use rules::{Formatted, Refusal};
 
 // What a call gives beside the text in its output and the changes in its list: the text's length and counts, and how
 // many changes there are.
@@ -54,32 +55,27 @@ impl From<Result<WithChanges, Refusal>> for ChangesAnswer {
 // The text, and in the list, four numbers to each, the changes that turn the source into it. Refused, the list is
 // cleared.
 fn list_changes(
-    source: &[u8],
-    indent: &[u8],
-    numbers: OptionNumbers,
-    strengths: &[u8],
+    request: Request<'_>,
     output: &mut [u8],
     list: &mut [u64],
     scratch: &mut [u8],
 ) -> Result<WithChanges, Refusal>
-    ensures { ChangesAnswered (call_of source.now indent.now numbers
-        strengths.now (length output.old) 0
-        (length scratch.old)) (length list.old) (changes_told result) output.new list.new
-        scratch.new }
+    ensures { ChangesAnswered (asked request.entry (length output.old) 0 (length scratch.old)) (length list.old)
+        (changes_told result) output.new list.new scratch.new }
 {
-    match crate::format_text(source, indent, numbers, strengths, output, scratch) {
+    match crate::format_text(request, output, scratch) {
         Err(why) => {
-            lists::zero(list);
+            list.fill(0);
             Err(why)
         },
         Ok(text) => {
-            let n = changes::write_changes(source, &output[..text.length], list);
+            let n = changes::write_changes(request.source, &output[..text.length], list);
             if list.len() / 4 < n {
                 buffer::zero(output);
-                lists::zero(list);
+                list.fill(0);
                 return Err(Refusal::ListShort(n));
             }
-            lists::finish(list, n * 4);
+            list[n * 4..].fill(0);
             Ok(WithChanges { text, changes: n })
         },
     }
@@ -87,18 +83,13 @@ fn list_changes(
 
 // The same, with its answer in numbers.
 pub fn format_changes(
-    source: &[u8],
-    indent: &[u8],
-    numbers: OptionNumbers,
-    strengths: &[u8],
+    request: Request<'_>,
     output: &mut [u8],
     list: &mut [u64],
     scratch: &mut [u8],
 ) -> ChangesAnswer
-    ensures { ChangesAnswered (call_of source.now indent.now numbers
-        strengths.now (length output.old) 0
-        (length scratch.old)) (length list.old) result output.new list.new
-        scratch.new }
+    ensures { ChangesAnswered (asked request.entry (length output.old) 0 (length scratch.old)) (length list.old)
+        result output.new list.new scratch.new }
 {
-    list_changes(source, indent, numbers, strengths, output, list, scratch).into()
+    list_changes(request, output, list, scratch).into()
 }

@@ -9,12 +9,12 @@ use borrow.Author.Tests.{eq-eqb, ne_eqb, eqb-true, eqb-false, ltb-true}
 use lib.Dec.{eqb, ltb}
 use lib.ListN.{length, get_or, take, drop, drop_of_length-le}
 use Rattle.utf8.specs.Unicode.{encode, chars, decode, WellFormed, is_white, first_is_white}
-use Rattle.utf8.proofs.Tests.{by_test, and_left, and_right}
+use Rattle.utf8.proofs.Tests.{by_test, and_left, and_right, neither_left, neither_right}
 use Rattle.utf8.proofs.Scan.{ascii_step}
 use Rattle.buffer.proofs.RegionLaws.{part_from}
 use Rattle.rules.specs.Basics.{choose, codes, at, is_empty, same, one_of, starts_with, first_is, starts_then}
 use Rattle.rules.specs.Brackets.{leading_closers}
-use Rattle.rules.specs.Operators.{operators}
+use Rattle.rules.specs.Operators.{operators, starts_one, starts_operator}
 use Rattle.rules.specs.Words.{starts_with_word, white_or_paren, starts_with_one_of, starts_with_binary_op, same_declaration}
 use Rattle.rules.specs.Line.{continues}
 use Rattle.rules.proofs.StartsBytes.{on_decode, all_ascii, starts_encode, starts_column, first_encode, closers_encode}
@@ -137,6 +137,14 @@ pair_more false d y w z = refl
 eqb_flip : (m n : ℕ) → eqb m n ≡ eqb n m
 eqb_flip m n = by_test (eqb m n) (λ e. e ∙ sym (eq-eqb n m (sym (eqb-true m n e)))) (λ e. e ∙ sym (ne_eqb n m (λ q. eqb-false m n e (sym q))))
 
+-- a text that starts with the first character of none
+not_one : (ws : List (List ℕ)) (c : ℕ) (l : List ℕ) → starts_one ws c ≡ false → one_of ws (c ∷ l) ≡ false
+unfolding starts_one one_of same first_is
+not_one [] c l e = refl
+not_one ([] ∷ ws) c l e = not_one ws c l e
+not_one ((x ∷ w) ∷ ws) c l e =
+    rw (eqb_flip x c, neither_left (eqb c x) (starts_one ws c) e, not_one ws c l (neither_right (eqb c x) (starts_one ws c) e))
+
 module _ (c d : ℕ) (t : List ℕ) (w : WellFormed (c ∷ d ∷ t)) where
   abbrev line : List ℕ
   line = c ∷ d ∷ t
@@ -190,6 +198,10 @@ module _ (s : List ℕ) (w : WellFormed s) where
   pub binary_pair : (r q : Bool) → 1 < length s → r ≡ (one_of operators (get_or s 0 0 ∷ []) && follows s 1) → r ≡ false
       → q ≡ (one_of operators (get_or s 0 0 ∷ get_or s 1 0 ∷ []) && follows s 2) → q ≡ starts_with_binary_op (decode s)
   binary_pair r q h e z f = f ∙ sym (binary s w h ∙ rw (← e, z))
+
+  pub binary_other : 1 < length s → starts_operator (get_or s 0 0) ≡ false → false ≡ starts_with_binary_op (decode s)
+  unfolding starts_operator
+  binary_other h e = binary_pair false false h (rw (not_one operators (get_or s 0 0) [] e)) refl (rw (not_one operators (get_or s 0 0) (get_or s 1 0 ∷ []) e))
 
 -- ---- continues
 

@@ -8,6 +8,7 @@ ghost use Rattle.basics.specs.Closers.{Closers};
 ghost use Rattle.format.specs.Words.{white_or, follows, declaration_of, same_of, Continues};
 
 use basics::{is_blank, starts_with};
+use operators::first::starts_operator;
 use operators::{is_one, is_two};
 
 // A space, a tab or nothing follows the word.
@@ -43,12 +44,14 @@ fn starts_with_operator_pair(line: &[u8]) -> bool
     is_two(line[0], line[1]) && starts_white_or(&line[2..], b'(')
 }
 
-// One of the 21 binary operators before white space or `(`.
+// One of the 21 binary operators before white space or `(`. Most lines are told by their first byte.
 pub fn starts_with_binary_op(line: &[u8]) -> bool
     requires { WellFormed line.now }
     ensures { result ≡ starts_with_binary_op (decode line.now) }
 {
-    1 < line.len() && (starts_with_operator(line) || starts_with_operator_pair(line))
+    1 < line.len()
+        && starts_operator(line[0])
+        && (starts_with_operator(line) || starts_with_operator_pair(line))
 }
 
 // `.` but not `...`.

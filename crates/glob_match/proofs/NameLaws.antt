@@ -163,14 +163,6 @@ module _ (ks : List Kind) (cs : List ℕ) (i : ℕ) (w : Seeking ks cs i) where
 
 -- ---- the whole
 
-pub place_first : (b : Bool) → b ≡ true → (0 ≡ first_place b) × (0 ≤ 1)
-unfolding first_place choose
-place_first b e = (rw e, omega arith)
-
-pub place_second : (b : Bool) → b ≡ false → (1 ≡ first_place b) × (1 ≤ 1)
-unfolding first_place choose
-place_second b e = (rw e, omega arith)
-
 pub rooted_is : (name old new : List ℕ) (k n : ℕ) (b : Bool) → b ≡ first_is (is "/") (decode name) → (k ≡ first_place b) × (k ≤ 1)
     → Decoded name k (set old 0 47) new n → 0 < length old → take n new ≡ rooted (decode name)
 unfolding rooted first_place choose

@@ -2,14 +2,14 @@
 use Prim.Native.Nat.{ℕ, zero, suc, ◌+◌, ◌≤◌, ◌<◌}
 use mathlib.Core.Bool.{Bool, true, false, true≢false}
 use mathlib.Core.List.{List, [], ◌∷◌}
-use mathlib.Core.Logic.{⊎_elim}
+use mathlib.Core.Logic.{inl, inr, ⊎_elim}
 use mathlib.Core.Path.{◌≡◌, refl, sym, ap, ◌∙◌}
 use native.Mathlib.Numerals.{add-one}
 use native.Mathlib.Omega.{arith}
-use lib.Dec.{eqb}
-use lib.ListN.{length, drop, get_or, set, length-set, drop_of_length-le, replicate}
+use Rattle.std.specs.Prelude.{None}
+use lib.ListN.{length, drop, get_or, set, drop_of_length-le}
 use lib.Seq.{get_or-set_same, get_or-set_other, drop-drop}
-use Rattle.utf8.proofs.Tests.{split, by_test}
+use Rattle.utf8.proofs.Tests.{split}
 use Rattle.rules.specs.Basics.{choose, first_is}
 use Rattle.config_rules.specs.Numbers.{in_range, is_number, number_len, sign, digit_count}
 use Rattle.config_rules.specs.Name.{Item, Token}
@@ -24,11 +24,13 @@ use Rattle.glob_pass.specs.Pass.{here_at, Values, Hits}
 use Rattle.glob_pass.proofs.TokenLaws.{length_held, held_at_law}
 use Rattle.glob_name.specs.Read.{range_more, Spaced}
 use Rattle.ranges.specs.Slots.{valid, from}
-use Rattle.ranges.specs.Ranges.{first_end, second_end, range_for, slot_at, Kept, RangeNext}
+use Rattle.ranges.specs.Ranges.{first_end, second_end, range_for, slot_at, no_far, Empty, Kept, RangeNext}
+use Rattle.ranges.specs.declared.Far.{Far}
+use Rattle.ranges.specs.declared.State.{State}
 use Rattle.ranges.proofs.EndLaws.{range_room}
-use Rattle.glob_match.specs.Match.{is_range, SlotsAt, RangesNext}
+use Rattle.glob_match.specs.Match.{range_kind, SlotsAt, RangesNext}
 
--- ---- a range is held by kind 9 alone
+-- ---- a range is held by its kind alone
 
 -- the ends of an item that is a range, none for the others
 abbrev spans : Item → Bool
@@ -48,40 +50,25 @@ is_range_token Token.closes = false
 abbrev plain_kind : Kind
 plain_kind = Kind.Item ItemKind.Plain
 
-abbrev pub range_kind : Kind
-range_kind = Kind.Item ItemKind.Range
-
 covered_range : Kind.Item ItemKind.Covered ≡ range_kind → ⊥
 covered_range e = cc
 
-held_no : (k : Kind) (s : List ℕ) → is_range k ≡ false → is_range_token (held_at k s) ≡ false
+-- no other kind holds a range
+range_held : (k : Kind) (s : List ℕ) → is_range_token (held_at k s) ≡ true → k ≡ range_kind
 unfolding held_at brace_of plain_at
-held_no (Kind.Brace Brace.Closes) s e = refl
-held_no (Kind.Brace Brace.Comma) s e = refl
-held_no (Kind.Brace Brace.Opens) s e = refl
-held_no (Kind.Item ItemKind.Plain) s e = refl
-held_no (Kind.Item ItemKind.Covered) s e = refl
-held_no (Kind.Item ItemKind.One) s e = refl
-held_no (Kind.Item ItemKind.Star) s e = refl
-held_no (Kind.Item ItemKind.Stars) s e = refl
-held_no (Kind.Item ItemKind.Set) s e = refl
-held_no (Kind.Item ItemKind.Range) s e = absurd (true≢false e)
-held_no (Kind.Item ItemKind.Escape) s e = refl
-held_no (Kind.Item ItemKind.Ahead) s e = refl
-held_no (Kind.Item (ItemKind.Lone b)) s e = refl
-
-pub range_only : (k : Kind) → is_range k ≡ true → k ≡ range_kind
-range_only (Kind.Brace b) e = absurd (true≢false (sym e))
-range_only (Kind.Item ItemKind.Plain) e = absurd (true≢false (sym e))
-range_only (Kind.Item ItemKind.Covered) e = absurd (true≢false (sym e))
-range_only (Kind.Item ItemKind.One) e = absurd (true≢false (sym e))
-range_only (Kind.Item ItemKind.Star) e = absurd (true≢false (sym e))
-range_only (Kind.Item ItemKind.Stars) e = absurd (true≢false (sym e))
-range_only (Kind.Item ItemKind.Set) e = absurd (true≢false (sym e))
-range_only (Kind.Item ItemKind.Range) e = refl
-range_only (Kind.Item ItemKind.Escape) e = absurd (true≢false (sym e))
-range_only (Kind.Item ItemKind.Ahead) e = absurd (true≢false (sym e))
-range_only (Kind.Item (ItemKind.Lone b)) e = absurd (true≢false (sym e))
+range_held (Kind.Brace Brace.Closes) s e = absurd (true≢false (sym e))
+range_held (Kind.Brace Brace.Comma) s e = absurd (true≢false (sym e))
+range_held (Kind.Brace Brace.Opens) s e = absurd (true≢false (sym e))
+range_held (Kind.Item ItemKind.Plain) s e = absurd (true≢false (sym e))
+range_held (Kind.Item ItemKind.Covered) s e = absurd (true≢false (sym e))
+range_held (Kind.Item ItemKind.One) s e = absurd (true≢false (sym e))
+range_held (Kind.Item ItemKind.Star) s e = absurd (true≢false (sym e))
+range_held (Kind.Item ItemKind.Stars) s e = absurd (true≢false (sym e))
+range_held (Kind.Item ItemKind.Set) s e = absurd (true≢false (sym e))
+range_held (Kind.Item ItemKind.Range) s e = refl
+range_held (Kind.Item ItemKind.Escape) s e = absurd (true≢false (sym e))
+range_held (Kind.Item ItemKind.Ahead) s e = absurd (true≢false (sym e))
+range_held (Kind.Item (ItemKind.Lone b)) s e = absurd (true≢false (sym e))
 
 range_ends : (cs : List ℕ) (j : ℕ) → range_in (drop 1 (drop j cs)) ≡ range (first_end cs j) (second_end cs j)
 unfolding range_in
@@ -111,8 +98,7 @@ nine ks cs j m n r e d =
     let t : held_at (kind_at ks j) (drop j cs) ≡ item (range m n) = cc in
     let q : drop (suc j) (held ks cs) ≡ r = cc in
     let k : kind_at ks j ≡ range_kind =
-    by_test (is_range (kind_at ks j)) (λ u. range_only (kind_at ks j) u)
-    (λ u. absurd (true≢false (sym (ap is_range_token t) ∙ held_no (kind_at ks j) (drop j cs) u))) in
+    range_held (kind_at ks j) (drop j cs) (ap is_range_token t) in
     let f : item (range (first_end cs j) (second_end cs j)) ≡ item (range m n) =
     sym (held_nine (drop j cs) (kind_at ks j) k ∙ ap item (range_ends cs j)) ∙ t in
     let g : m ≡ first_end cs j = cc in
@@ -121,15 +107,16 @@ nine ks cs j m n r e d =
 
 -- ---- what is kept of a range depends on its own places alone
 
-kept_frame : (cs : List ℕ) (j : ℕ) (k : Strings) (s l l' : List ℕ) → 0 < range_more cs (j + 1)
-    → ((i : ℕ) → j < i → i ≤ j + range_more cs (j + 1) → get_or l' i 0 ≡ get_or l i 0) → Kept cs j (range_for cs j) k s l → Kept cs j (range_for cs j) k s l'
-kept_frame cs j k s l l' h f w =
+kept_frame : (cs : List ℕ) (j : ℕ) (k : Strings) (s : List ℕ) (t t' : State) → 0 < range_more cs (j + 1)
+    → ((i : ℕ) → j < i → i ≤ j + range_more cs (j + 1) → get_or t'.slots i None ≡ get_or t.slots i None) → get_or t'.far j no_far ≡ get_or t.far j no_far
+    → Kept cs j (range_for cs j) k s t → Kept cs j (range_for cs j) k s t'
+kept_frame cs j k s t t' h f g w =
     let r : (range_for cs j).width + 3 ≤ range_more cs (j + 1) = range_room cs j h in
     record {
       slots = λ i a b. f (j + i) (omega arith) (omega arith) ∙ w.slots i a b;
-      plain = ap (λ (x : ℕ). eqb x 1) (f (j + (range_for cs j).width + 1) (omega arith) (omega arith)) ∙ w.plain;
-      minus = ap (λ (x : ℕ). eqb x 1) (f (j + (range_for cs j).width + 2) (omega arith) (omega arith)) ∙ w.minus;
-      behind = ap (λ (x : ℕ). eqb x 1) (f (j + (range_for cs j).width + 3) (omega arith) (omega arith)) ∙ w.behind;
+      plain = ap (λ (x : Far). x.plain) g ∙ w.plain;
+      minus = ap (λ (x : Far). x.minus) g ∙ w.minus;
+      behind = ap (λ (x : Far). x.behind) g ∙ w.behind;
     }
 
 -- two ranges stand apart
@@ -140,40 +127,29 @@ apart cs ks w i j h b x y =
 
 -- ---- the loop
 
-pub record RangingAt (ks : List Kind) (cs : List ℕ) (c p : ℕ) (s l : List ℕ) (h : List Bool) : Type 0 where
+pub record RangingAt (ks : List Kind) (cs : List ℕ) (c p : ℕ) (s : List ℕ) (t : State) (h : List Bool) : Type 0 where
   pub done : (j : ℕ) → j < p → j < length ks → kind_at ks j ≡ range_kind
       → (get_or h j false ≡ some_then (in_range (first_end cs j) (second_end cs j)) (here_at (held ks cs) (j + 1)) (c ∷ s))
-      × Kept cs j (range_for cs j) (here_at (held ks cs) (j + 1)) (c ∷ s) l
-  pub left : (j : ℕ) → p ≤ j → j < length ks → kind_at ks j ≡ range_kind → Kept cs j (range_for cs j) (here_at (held ks cs) (j + 1)) s l
+      × Kept cs j (range_for cs j) (here_at (held ks cs) (j + 1)) (c ∷ s) t
+  pub left : (j : ℕ) → p ≤ j → j < length ks → kind_at ks j ≡ range_kind → Kept cs j (range_for cs j) (here_at (held ks cs) (j + 1)) s t
 
-pub record Ranging (ks : List Kind) (cs : List ℕ) (v : List Bool) (c : ℕ) (l₀ : List ℕ) (h₀ : List Bool) (p : ℕ) (l : List ℕ) (h : List Bool) : Type 0 where
+pub record Ranging (ks : List Kind) (cs : List ℕ) (v : List Bool) (c : ℕ) (t₀ : State) (p : ℕ) (t : State) (h : List Bool) : Type 0 where
   pub same : length ks ≡ length cs
   pub apart : Spaced cs ks
-  pub long : length l ≡ length l₀
-  pub room : length h ≡ length h₀
-  pub slots : length cs ≤ length l₀
-  pub hits : length cs < length h₀
-  pub at : (s : List ℕ) → Values (held ks cs) s v → SlotsAt ks cs s l₀ → RangingAt ks cs c p s l h
+  pub at : (s : List ℕ) → Values (held ks cs) s v → SlotsAt ks cs s t₀ → RangingAt ks cs c p s t h
 
-pub ranging_start : (ks : List Kind) (cs : List ℕ) (v : List Bool) (c : ℕ) (l : List ℕ) (h : List Bool) → length ks ≡ length cs → Spaced cs ks → length cs ≤ length l
-    → length cs < length h → Ranging ks cs v c l h 0 l h
-ranging_start ks cs v c l h e a b d =
+pub ranging_start : (ks : List Kind) (cs : List ℕ) (v : List Bool) (c : ℕ) (t : State) (h : List Bool) → length ks ≡ length cs → Spaced cs ks → Ranging ks cs v c t 0 t h
+ranging_start ks cs v c t h e a =
     record {
       same = e;
       apart = a;
-      long = refl;
-      room = refl;
-      slots = b;
-      hits = d;
       at = λ s U S. record { done = λ j x. absurd (omega arith); left = λ j x y z. S.at j y z };
     }
 
-module _ (ks : List Kind) (cs : List ℕ) (v : List Bool) (c : ℕ) (l₀ : List ℕ) (h₀ : List Bool) (p : ℕ) (l : List ℕ) (h : List Bool) (w : Ranging ks cs v c l₀ h₀ p l h) where
-  pub ranging_end : length ks ≤ p → RangesNext ks cs v c l₀ l h₀ h
+module _ (ks : List Kind) (cs : List ℕ) (v : List Bool) (c : ℕ) (t₀ : State) (p : ℕ) (t : State) (h : List Bool) (w : Ranging ks cs v c t₀ p t h) where
+  pub ranging_end : length ks ≤ p → RangesNext ks cs v c t₀ t h
   ranging_end z =
       record {
-        long = w.long;
-        room = w.room;
         is = λ s U S. (
           record {
             at = λ j m n r e. let N : Nine ks cs j m n r = nine ks cs j m n r w.same e in
@@ -184,67 +160,53 @@ module _ (ks : List Kind) (cs : List ℕ) (v : List Bool) (c : ℕ) (l₀ : List
         );
       }
 
-  pub ranging_other : p < length ks → is_range (kind_at ks p) ≡ false → Ranging ks cs v c l₀ h₀ (p + 1) l h
+  pub ranging_other : p < length ks → (kind_at ks p ≡ range_kind → ⊥) → Ranging ks cs v c t₀ (p + 1) t h
   ranging_other b n =
       record {
         same = w.same;
         apart = w.apart;
-        long = w.long;
-        room = w.room;
-        slots = w.slots;
-        hits = w.hits;
         at = λ s U S.
             record {
               done = λ j x y z.
-                  ⊎_elim (λ (t : j < p). (w.at s U S).done j t y z)
-                  (λ (t : p ≤ j). absurd (let q : j ≡ p = omega arith in true≢false (sym (ap is_range (ap (λ (i : ℕ). kind_at ks i) (sym q) ∙ z)) ∙ n))) (split j p);
+                  ⊎_elim (λ (u : j < p). (w.at s U S).done j u y z)
+                  (λ (u : p ≤ j). absurd (let q : j ≡ p = omega arith in n (ap (λ (i : ℕ). kind_at ks i) (sym q) ∙ z))) (split j p);
               left = λ j x y z. (w.at s U S).left j (omega arith) y z;
             };
       }
 
-  module _ (b : p < length ks) (f : is_range (kind_at ks p) ≡ true) (l' : List ℕ) (hit : Bool) (N : RangeNext cs p (get_or v (p + 1) false) c l l' hit) where
-    k : kind_at ks p ≡ range_kind
-    k = range_only (kind_at ks p) f
-
-    now_at : (s : List ℕ) → Values (held ks cs) s v → SlotsAt ks cs s l₀
+  module _ (b : p < length ks) (room : p < length h) (k : kind_at ks p ≡ range_kind) (t' : State) (hit : Bool) (N : RangeNext cs p (get_or v (p + 1) false) c t t' hit) where
+    now_at : (s : List ℕ) → Values (held ks cs) s v → SlotsAt ks cs s t₀
         → (hit ≡ some_then (in_range (first_end cs p) (second_end cs p)) (here_at (held ks cs) (p + 1)) (c ∷ s))
-        × Kept cs p (range_for cs p) (here_at (held ks cs) (p + 1)) (c ∷ s) l'
+        × Kept cs p (range_for cs p) (here_at (held ks cs) (p + 1)) (c ∷ s) t'
     now_at s U S =
         N.is (here_at (held ks cs) (p + 1)) s (U.at (p + 1) (rw (length_held ks cs w.same) (omega arith))) ((w.at s U S).left p (omega arith) b k)
 
-    before_kept : (j : ℕ) → j < p → j < length ks → kind_at ks j ≡ range_kind → (K : Strings) (s : List ℕ) → Kept cs j (range_for cs j) K s l → Kept cs j (range_for cs j) K s l'
-    before_kept j t y z K s q =
-        let a : j + range_more cs (j + 1) < p = apart cs ks w.apart j p t b z k in
-        kept_frame cs j K s l l' (w.apart.some j z) (λ i x u. (N.kept i).0 (omega arith)) q
+    before_kept : (j : ℕ) → j < p → j < length ks → kind_at ks j ≡ range_kind → (K : Strings) (s : List ℕ) → Kept cs j (range_for cs j) K s t → Kept cs j (range_for cs j) K s t'
+    before_kept j u y z K s q =
+        let a : j + range_more cs (j + 1) < p = apart cs ks w.apart j p u b z k in
+        kept_frame cs j K s t t' (w.apart.some j z) (λ i x m. (N.kept i).slots (inl (omega arith))) ((N.kept j).far (λ e. absurd (omega arith))) q
 
-    after_kept : (j : ℕ) → p < j → j < length ks → kind_at ks j ≡ range_kind → (K : Strings) (s : List ℕ) → Kept cs j (range_for cs j) K s l → Kept cs j (range_for cs j) K s l'
-    after_kept j t y z K s q =
-        let a : p + range_more cs (p + 1) < j = apart cs ks w.apart p j t y k z in
-        kept_frame cs j K s l l' (w.apart.some j z) (λ i x u. (N.kept i).1 (omega arith)) q
+    after_kept : (j : ℕ) → p < j → j < length ks → kind_at ks j ≡ range_kind → (K : Strings) (s : List ℕ) → Kept cs j (range_for cs j) K s t → Kept cs j (range_for cs j) K s t'
+    after_kept j u y z K s q =
+        let a : p + range_more cs (p + 1) < j = apart cs ks w.apart p j u y k z in
+        kept_frame cs j K s t t' (w.apart.some j z) (λ i x m. (N.kept i).slots (inr (omega arith))) ((N.kept j).far (λ e. absurd (omega arith))) q
 
-    pub ranging_range : Ranging ks cs v c l₀ h₀ (p + 1) l' (set h p hit)
+    pub ranging_range : Ranging ks cs v c t₀ (p + 1) t' (set h p hit)
     ranging_range =
-        let e : length ks ≡ length cs = w.same in
-        let f : length cs < length h₀ = w.hits in
-        let g : length h ≡ length h₀ = w.room in
         record {
           same = w.same;
           apart = w.apart;
-          long = N.long ∙ w.long;
-          room = length-set h p hit ∙ w.room;
-          slots = w.slots;
-          hits = w.hits;
           at = λ s U S.
               record {
                 done = λ j x y z.
                     ⊎_elim
-                    (λ (t : j < p). (
-                      get_or-set_other h p j hit false (λ q. absurd (omega arith)) ∙ ((w.at s U S).done j t y z).0,
-                      before_kept j t y z (here_at (held ks cs) (j + 1)) (c ∷ s) ((w.at s U S).done j t y z).1,
+                    (λ (u : j < p). (
+                      get_or-set_other h p j hit false (λ q. absurd (omega arith)) ∙ ((w.at s U S).done j u y z).0,
+                      before_kept j u y z (here_at (held ks cs) (j + 1)) (c ∷ s) ((w.at s U S).done j u y z).1,
                     ))
-                    (λ (t : p ≤ j).
+                    (λ (u : p ≤ j).
                     let q : j ≡ p = omega arith in
-                    rw q (get_or-set_same h p hit false (omega arith) ∙ (now_at s U S).0, (now_at s U S).1))
+                    rw q (get_or-set_same h p hit false room ∙ (now_at s U S).0, (now_at s U S).1))
                     (split j p);
                 left = λ j x y z. after_kept j (omega arith) y z (here_at (held ks cs) (j + 1)) s ((w.at s U S).left j (omega arith) y z);
               };
@@ -256,7 +218,7 @@ from_none : (p k : Strings) (j : ℕ) → from p k (suc j) [] ≡ false
 unfolding from
 from_none p k j = refl
 
-slot_none : (r t : List ℕ) (k : Strings) (i : ℕ) → 0 < i → slot_at r t k i [] ≡ 0
+slot_none : (r t : List ℕ) (k : Strings) (i : ℕ) → 0 < i → slot_at r t k i [] ≡ None
 unfolding slot_at valid choose
 slot_none r t k zero h = absurd (omega arith)
 slot_none r t k (suc i) h = refl
@@ -265,22 +227,17 @@ minus_none : (m n : List ℕ) (k : Strings) → some_then (in_range m n) k (45 �
 unfolding some_then in_range is_number number_len sign first_is digit_count choose
 minus_none m n k = refl
 
-none_kept : (cs : List ℕ) (j : ℕ) (k : Strings) (l : List ℕ) → ((i : ℕ) → get_or l i 0 ≡ 0) → Kept cs j (range_for cs j) k [] l
-none_kept cs j k l z =
-    record {
-      slots = λ i a b. z (j + i) ∙ sym (slot_none _ _ k i a);
-      plain = ap (λ (x : ℕ). eqb x 1) (z (j + (range_for cs j).width + 1)) ∙ sym (from_none _ k _);
-      minus = ap (λ (x : ℕ). eqb x 1) (z (j + (range_for cs j).width + 2)) ∙ sym (from_none _ k _);
-      behind = ap (λ (x : ℕ). eqb x 1) (z (j + (range_for cs j).width + 3)) ∙ sym (minus_none (first_end cs j) (second_end cs j) k);
-    }
-
-zeros : (n i : ℕ) → ◌≡◌ {A = ℕ} (get_or (replicate n 0) i 0) 0
-zeros zero i = refl
-zeros (suc n) zero = refl
-zeros (suc n) (suc i) = zeros n i
-
-pub slots_start : (ks : List Kind) (cs : List ℕ) (n : ℕ) → SlotsAt ks cs [] (replicate n 0)
-slots_start ks cs n = record { at = λ j a b. none_kept cs j _ (replicate n 0) (zeros n) }
+pub slots_start : (ks : List Kind) (cs : List ℕ) (t : State) → Empty t → SlotsAt ks cs [] t
+slots_start ks cs t z = record { at = λ j a b. none_kept j _ }
+  where
+    none_kept : (j : ℕ) (k : Strings) → Kept cs j (range_for cs j) k [] t
+    none_kept j k =
+        record {
+          slots = λ i a b. z.slots (j + i) ∙ sym (slot_none _ _ k i a);
+          plain = ap (λ (x : Far). x.plain) (z.far j) ∙ sym (from_none _ k _);
+          minus = ap (λ (x : Far). x.minus) (z.far j) ∙ sym (from_none _ k _);
+          behind = ap (λ (x : Far). x.behind) (z.far j) ∙ sym (minus_none (first_end cs j) (second_end cs j) k);
+        }
 
 pub hits_start : (ts : List Token) (h : List Bool) → ((j : ℕ) → get_or h j false ≡ false) → Hits ts [] h
 unfolding some_then in_range is_number number_len sign first_is digit_count choose

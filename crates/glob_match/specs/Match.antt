@@ -1,5 +1,5 @@
 -- A path read from its end.
-use Rattle.std.specs.Prelude.{ℕ, ◌+◌, ◌<◌, Bool, true, false, List, ◌∷◌, ◌++◌, ◌≡◌, length, take}
+use Rattle.std.specs.Prelude.{ℕ, ◌+◌, ◌<◌, Bool, List, ◌∷◌, ◌++◌, ◌≡◌, length, take}
 use Rattle.utf8.specs.Unicode.{decode}
 use Rattle.rules.specs.Basics.{choose, is, first_is}
 use Rattle.config_rules.specs.Name.{Token}
@@ -8,34 +8,20 @@ use Rattle.glob_pass.specs.Kinds.{held, kind_at}
 use Rattle.glob_pass.specs.declared.kinds.ItemKind.{ItemKind}
 use Rattle.glob_pass.specs.declared.kinds.Kind.{Kind}
 use Rattle.glob_pass.specs.Pass.{here_at, Values, Hits}
+use Rattle.ranges.specs.declared.State.{State}
 use Rattle.ranges.specs.Ranges.{range_for, Kept}
 
-abbrev pub is_range : Kind → Bool
-is_range (Kind.Brace b) = false
-is_range (Kind.Item k) = names_range k
-  where
-    names_range : ItemKind → Bool
-    names_range ItemKind.Plain = false
-    names_range ItemKind.Covered = false
-    names_range ItemKind.One = false
-    names_range ItemKind.Star = false
-    names_range ItemKind.Stars = false
-    names_range ItemKind.Set = false
-    names_range ItemKind.Range = true
-    names_range ItemKind.Escape = false
-    names_range ItemKind.Ahead = false
-    names_range (ItemKind.Lone b) = false
+abbrev pub range_kind : Kind
+range_kind = Kind.Item ItemKind.Range
 
--- the slots hold what is kept of each range at s
-pub record SlotsAt (ks : List Kind) (cs s l : List ℕ) : Type 0 where
-  pub at : (j : ℕ) → j < length ks → kind_at ks j ≡ Kind.Item ItemKind.Range → Kept cs j (range_for cs j) (here_at (held ks cs) (j + 1)) s l
+-- what is kept of each range at s
+pub record SlotsAt (ks : List Kind) (cs s : List ℕ) (t : State) : Type 0 where
+  pub at : (j : ℕ) → j < length ks → kind_at ks j ≡ range_kind → Kept cs j (range_for cs j) (here_at (held ks cs) (j + 1)) s t
 
 -- one character more
-pub record RangesNext (ks : List Kind) (cs : List ℕ) (v : List Bool) (c : ℕ) (l l' : List ℕ) (h h' : List Bool) : Type 0 where
-  pub long : length l' ≡ length l
-  pub room : length h' ≡ length h
-  pub is : (s : List ℕ) → Values (held ks cs) s v → SlotsAt ks cs s l
-      → Hits (held ks cs) (c ∷ s) h' × SlotsAt ks cs (c ∷ s) l'
+pub record RangesNext (ks : List Kind) (cs : List ℕ) (v : List Bool) (c : ℕ) (t t' : State) (h' : List Bool) : Type 0 where
+  pub is : (s : List ℕ) → Values (held ks cs) s v → SlotsAt ks cs s t
+      → Hits (held ks cs) (c ∷ s) h' × SlotsAt ks cs (c ∷ s) t'
 
 -- the whole string, or also what remains of it from some place on
 unfoldable pub matches_at : List Token → Bool → List ℕ → Bool

@@ -4,41 +4,41 @@
 pub mod name;
 
 ghost use Rattle.std.specs.Prelude.{◌≡◌, ◌∷◌, ◌≤◌, ◌<◌, length};
+ghost use Rattle.std.specs.Bool.{MatchBool};
 ghost use Rattle.utf8.specs.Unicode.{WellFormed, decode};
 ghost use Rattle.config_rules.specs.Globs.{matches};
 ghost use Rattle.glob_pass.specs.Kinds.{held};
 ghost use Rattle.glob_name.specs.Read.{Spaced};
-ghost use Rattle.glob_match.specs.Match.{is_range, RangesNext, matches_at, first_place, NameMatches};
+ghost use Rattle.glob_match.specs.Match.{range_kind, RangesNext, matches_at, first_place, NameMatches};
 
 use glob_pass::kinds::{ItemKind, Kind};
-use glob_pass::pass;
-use ranges::range_next;
+use glob_pass::{Braces, CHARS, PLACES, Side, pass};
+use ranges::State;
 use utf8::{code_at, size_before};
 
 fn is_range(k: Kind) -> bool
-    ensures { result ≡ is_range k }
+    ensures { MatchBool result (k ≡ range_kind) (k ≡ range_kind → ⊥) }
 {
-    matches!(k, Kind::Item(ItemKind::Range))
+    k == Kind::Item(ItemKind::Range)
 }
 
 // What the ranges of a name say of one character more, from the values without it.
 fn ranges_next(
     kinds: &[Kind],
     chars: &[u32],
-    slots: &mut [u8; 1026],
-    hits: &mut [bool; 1026],
-    v: &[bool; 1026],
+    state: &mut State,
+    hits: &mut [bool; PLACES],
+    v: &[bool; PLACES],
     c: u32,
 )
-    requires { (length kinds.now ≡ length chars.now) × (length chars.now < 1026) × Spaced chars.now
-        kinds.now × (length chars.now ≤ length slots.old) × (length chars.now < length hits.old) ×
-        (length chars.now < length v.now) }
-    ensures { RangesNext kinds.now chars.now v.now c slots.old
-        slots.new hits.old hits.new }
+    requires { (length kinds.now ≡ length chars.now) × (length chars.now < PLACES) × Spaced chars.now
+        kinds.now }
+    ensures { RangesNext kinds.now chars.now v.now c state.old
+        state.new hits.new }
 {
     for p in 0..kinds.len() {
         if is_range(kinds[p]) {
-            hits[p] = range_next(chars, slots, p, v[p + 1], c);
+            hits[p] = state.range_next(chars, p, v[p + 1], c);
         }
     }
 }
@@ -46,27 +46,34 @@ fn ranges_next(
 // Whether a name matches the path with a `/` before it, or, where `levels` says so, what follows from some place of it
 // on.
 fn matches_at(kinds: &[Kind], chars: &[u32], path: &[u8], levels: bool) -> bool
-    requires { (length kinds.now ≡ length chars.now) × (length chars.now < 1026) × Spaced chars.now
+    requires { (length kinds.now ≡ length chars.now) × (length chars.now < PLACES) × Spaced chars.now
         kinds.now × WellFormed path.now }
     ensures { result ≡ matches_at (held kinds.now chars.now) levels
         (47 ∷ decode path.now) }
 {
-    let mut slots: [u8; 1026] = [0; 1026];
-    let mut hits: [bool; 1026] = [false; 1026];
-    let mut v: [bool; 1026] = [false; 1026];
-    pass(kinds, chars, 0, true, &hits, &mut v);
+    let mut state = State::empty();
+    let mut hits = [false; PLACES];
+    let mut v = [false; PLACES];
+    let mut braces = Braces {
+        sides: [Side {
+            others: false,
+            after: false,
+        }; PLACES],
+        depth: 0,
+    };
+    pass(kinds, chars, 0, true, &hits, &mut v, &mut braces);
     let mut found = v[0];
     let mut e = path.len();
     // kept: the new form is no plainer: characters take one to four bytes, and an own iterator from the end is longer
     while 0 < e {
         e -= size_before(path, e);
         let c = code_at(path, e);
-        ranges_next(kinds, chars, &mut slots, &mut hits, &v, c);
-        pass(kinds, chars, c, false, &hits, &mut v);
+        ranges_next(kinds, chars, &mut state, &mut hits, &v, c);
+        pass(kinds, chars, c, false, &hits, &mut v, &mut braces);
         found = found | v[0];
     }
-    ranges_next(kinds, chars, &mut slots, &mut hits, &v, 47);
-    pass(kinds, chars, 47, false, &hits, &mut v);
+    ranges_next(kinds, chars, &mut state, &mut hits, &v, 47);
+    pass(kinds, chars, 47, false, &hits, &mut v, &mut braces);
     if levels {
         return found | v[0];
     }
@@ -75,7 +82,7 @@ fn matches_at(kinds: &[Kind], chars: &[u32], path: &[u8], levels: bool) -> bool
 
 // The same of a name whose characters are given, with a slash before them; `slash` says whether it has that one itself.
 fn matches_name(chars: &[u32], kinds: &mut [Kind], slash: bool, path: &[u8]) -> bool
-    requires { (length kinds.old ≡ length chars.now) × (length chars.now < 1026) × (0 < length chars.now) ×
+    requires { (length kinds.old ≡ length chars.now) × (length chars.now < PLACES) × (0 < length chars.now) ×
         WellFormed path.now }
     ensures { NameMatches chars.now slash (decode path.now) result }
 {
@@ -89,8 +96,8 @@ pub fn glob_matches(name: &[u8], path: &[u8]) -> bool
     requires { WellFormed name.now × WellFormed path.now × (length (decode name.now) ≤ 1024) }
     ensures { result ≡ matches (decode name.now) (decode path.now) }
 {
-    let mut chars: [u32; 1025] = [0; 1025];
-    let mut kinds: [Kind; 1025] = [Kind::Item(ItemKind::Plain); 1025];
+    let mut chars = [0u32; CHARS];
+    let mut kinds = [Kind::Item(ItemKind::Plain); CHARS];
     chars[0] = 47;
     let slash = name::starts_with_slash(name);
     let k = first_place(slash);

@@ -6,6 +6,7 @@ ghost use Rattle.config_rules.specs.Globs.{is_slash, has_slash};
 ghost use Rattle.glob_pass.specs.Kinds.{held_at, held};
 ghost use Rattle.glob_match.specs.Match.{Decoded};
 
+use glob_pass::CHARS;
 use glob_pass::kinds::{ItemKind, Kind};
 use utf8::{code_at, size_at};
 
@@ -18,8 +19,8 @@ pub fn starts_with_slash(name: &[u8]) -> bool
 }
 
 // The characters of a name, from the place k on.
-pub fn decode_into(name: &[u8], chars: &mut [u32; 1025], k: usize) -> usize
-    requires { WellFormed name.now × (k + length (decode name.now) ≤ 1025) × (length chars.old ≡ 1025) }
+pub fn decode_into(name: &[u8], chars: &mut [u32; CHARS], k: usize) -> usize
+    requires { WellFormed name.now × (k + length (decode name.now) ≤ CHARS) }
     ensures { Decoded name.now k chars.old chars.new result }
 {
     let mut n = k;

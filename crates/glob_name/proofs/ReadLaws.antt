@@ -2,13 +2,16 @@
 use Prim.Native.Nat.{ℕ, zero, suc, ◌+◌, ◌-◌, ◌≤◌, ◌<◌}
 use mathlib.Core.Bool.{Bool, true, false, not, ◌&&◌, ◌||◌, and-false, and-true, and_assoc, true≢false}
 use mathlib.Core.List.{List, [], ◌∷◌}
-use mathlib.Core.Option.{Option, none, some}
-use mathlib.Core.Path.{◌≡◌, refl, sym, ap, ◌∙◌}
+use mathlib.Core.Option.{Option as Found, none, some}
+use Rattle.std.specs.Prelude.{Option, Some, None}
+use Rattle.std.specs.Option.{MatchOption}
+use mathlib.Core.Path.{◌≡◌, refl, sym, ap, ◌∙◌, subst}
 use mathlib.Core.Logic.{◌⊎◌, inl, inr, ⊎_elim}
 use native.Mathlib.Numerals.{add-one}
 use native.Mathlib.Omega.{arith}
-use borrow.Author.Tests.{ne_eqb, lt-ltb, le-ltb, le-leb, lt-leb, eqb-true, eqb-false}
+use borrow.Author.Tests.{ne_eqb, lt-ltb, le-ltb, le-leb, lt-leb, eqb-true, eqb-false, ltb-true, ltb-false}
 use lib.Dec.{eqb, ltb, leb}
+use mir.Val.{bool_byte}
 use lib.ListN.{length, drop, get_or, set, length-set, drop_of_length-le}
 use lib.Seq.{drop-cons, drop-drop, drop-length, get_or-set_same, get_or-set_other}
 use Rattle.utf8.proofs.Tests.{by_test, split, neither_left, neither_right, and_right}
@@ -22,7 +25,7 @@ use Rattle.glob_pass.specs.declared.kinds.Brace.{Brace}
 use Rattle.glob_pass.specs.declared.kinds.ItemKind.{ItemKind}
 use Rattle.glob_pass.specs.declared.kinds.Kind.{Kind}
 use Rattle.glob_name.specs.declared.read.Read.{Read}
-use Rattle.glob_name.specs.Read.{Counted, rest_more, range_more, set_more, longer, Ends, plain_read, star_read, slash_read, single_read, opened_read, as_reading, is_raw, Good, TokenRead}
+use Rattle.glob_name.specs.Read.{Counted, NumberAt, Told, rest_more, range_more, set_end, set_more, longer, Ends, plain_read, star_read, slash_read, single_read, set_read, opened_read, as_reading, is_raw, Good, TokenRead}
 
 -- ---- one character
 
@@ -52,103 +55,109 @@ module _ (cs : List ℕ) (from i : ℕ) (w : Counting cs from i) where
   unfolding digit_count
   digit_at h = rw (drop-cons cs i 0)
 
-  pub counting_more : i < length cs → 48 ≤ get_or cs i 0 → get_or cs i 0 ≤ 57 → Counting cs from (i + 1)
-  counting_more h a b =
+  pub counting_more : i < length cs → (ltb (get_or cs i 0) 48 || ltb 57 (get_or cs i 0)) ≡ false → Counting cs from (i + 1)
+  counting_more h e =
       let s : from ≤ i = w.start in
+      let a : 48 ≤ get_or cs i 0 = ltb-false (get_or cs i 0) 48 (neither_left _ _ e) in
+      let b : get_or cs i 0 ≤ 57 = ltb-false 57 (get_or cs i 0) (neither_right (ltb (get_or cs i 0) 48) _ e) in
       let t : is_digit (get_or cs i 0) ≡ true = rw (le-leb 48 (get_or cs i 0) a, le-leb (get_or cs i 0) 57 b) in
       let n : digit_count (drop i cs) ≡ suc (digit_count (drop (i + 1) cs)) = rw (add-one i) (digit_at h ∙ choose_true _ _ _ t) in
       record { start = omega arith; bound = omega arith; is = omega (arith, w.is, n) }
 
-  stops : i ≤ length cs → digit_count (drop i cs) ≡ 0 → Counted cs from (digit_count (drop from cs)) (i - from)
-  stops h e = let s : from ≤ i = w.start in record { is = omega (arith, w.is, e); fits = omega arith }
+  stops : digit_count (drop i cs) ≡ 0 → Counted cs from (digit_count (drop from cs)) (i - from)
+  stops e = let s : from ≤ i = w.start in record { is = omega (arith, w.is, e); fits = omega (arith, w.bound) }
 
-  pub counting_below : i < length cs → get_or cs i 0 < 48 → Counted cs from (digit_count (drop from cs)) (i - from)
-  counting_below h a =
-      let t : is_digit (get_or cs i 0) ≡ false = rw (lt-leb 48 (get_or cs i 0) a) in
-      stops (omega arith) (digit_at h ∙ choose_false _ _ _ t)
+  pub counting_stop : i < length cs → (ltb (get_or cs i 0) 48 || ltb 57 (get_or cs i 0)) ≡ true → Counted cs from (digit_count (drop from cs)) (i - from)
+  counting_stop h e =
+      let t : is_digit (get_or cs i 0) ≡ false =
+      by_test (ltb (get_or cs i 0) 48)
+      (λ a. rw (lt-leb 48 (get_or cs i 0) (ltb-true (get_or cs i 0) 48 a)))
+      (λ a. rw (lt-leb (get_or cs i 0) 57 (ltb-true 57 (get_or cs i 0) (rw a at e)), and-false (leb 48 (get_or cs i 0)))) in
+      stops (digit_at h ∙ choose_false _ _ _ t)
 
-  pub counting_above : i < length cs → 57 < get_or cs i 0 → Counted cs from (digit_count (drop from cs)) (i - from)
-  counting_above h a =
-      let t : is_digit (get_or cs i 0) ≡ false = rw (lt-leb (get_or cs i 0) 57 a, and-false (leb 48 (get_or cs i 0))) in
-      stops (omega arith) (digit_at h ∙ choose_false _ _ _ t)
-
-  pub counting_end : length cs ≤ i → Counted cs from (digit_count (drop from cs)) (i - from)
+  pub counting_end : length cs ≤ i → Counted cs from (digit_count (drop from cs)) (length cs - from)
   unfolding digit_count
-  counting_end h = let b : i ≤ length cs = w.bound in stops b (rw (drop_of_length-le cs {i = i}))
+  counting_end h =
+      let b : i ≤ length cs = w.bound in
+      let e : i ≡ length cs = omega arith in
+      rw (← e) (stops (rw (drop_of_length-le cs {i = i})))
 
 -- ---- a number
 
-module _ (cs : List ℕ) (from n : ℕ) (b : Bool) (e : b ≡ first_is (λ (d : ℕ). eqb d 45) (drop from cs)) where
-  pub minus_inside : b ≡ true → from + 1 ≤ length cs
-  unfolding first_is
-  minus_inside t =
-      ⊎_elim (λ (h : from < length cs). omega arith)
-      (λ (h : length cs ≤ from). absurd (true≢false (sym t ∙ e ∙ sym (first_past cs from 45 h))))
-      (split from (length cs))
+module _ (cs : List ℕ) (from : ℕ) (b : Bool) (e : b ≡ first_is (λ (d : ℕ). eqb d 45) (drop from cs)) (f : from ≤ length cs) where
+  pub sign_is : bool_byte b ≡ sign (drop from cs)
+  unfolding sign choose
+  sign_is = rw e (go (first_is (λ (d : ℕ). eqb d 45) (drop from cs)))
+    where
+      go : (b : Bool) → bool_byte b ≡ choose b 1 0
+      go true = refl
+      go false = refl
 
-  sign_one : b ≡ true → sign (drop from cs) ≡ 1
-  unfolding sign
-  sign_one t = choose_true _ 1 0 (sym e ∙ t)
+  pub sign_inside : from + bool_byte b ≤ length cs
+  sign_inside = by_test b (λ t. rw t (inside t)) (λ t. rw t (omega arith))
+    where
+      inside : b ≡ true → from + 1 ≤ length cs
+      inside t =
+          ⊎_elim (λ (h : from < length cs). omega arith)
+          (λ (h : length cs ≤ from). absurd (true≢false (sym t ∙ e ∙ sym (first_past cs from 45 h))))
+          (split from (length cs))
 
-  sign_none : b ≡ false → sign (drop from cs) ≡ 0
-  unfolding sign
-  sign_none t = choose_false _ 1 0 (sym e ∙ t)
+  module _ (n : ℕ) (w : Counted cs (from + bool_byte b) (digit_count (drop (from + bool_byte b) cs)) n) where
+    digits_are : n ≡ digit_count (drop (sign (drop from cs)) (drop from cs))
+    digits_are = w.is ∙ rw (← sign_is) (sym (ap digit_count (drop-drop (bool_byte b) from cs)))
 
-  pub number_none : b ≡ true → Counted cs (from + 1) (digit_count (drop (from + 1) cs)) n → n ≡ 0 → Counted cs from (number_len (drop from cs)) 0
-  unfolding number_len choose
-  number_none t w z =
-      let h : from + 1 ≤ length cs = minus_inside t in
-      record { is = rw (sign_one t, drop-drop 1 from cs, ← w.is, z); fits = omega arith }
+    pub number_none : n ≡ 0 → number_len (drop from cs) ≡ 0
+    unfolding number_len choose
+    number_none z = rw (← digits_are, z)
 
-  pub number_minus : b ≡ true → Counted cs (from + 1) (digit_count (drop (from + 1) cs)) n → (n ≡ 0 → ⊥) → Counted cs from (number_len (drop from cs)) (n + 1)
-  unfolding number_len choose
-  number_minus t w z =
-      let f : from + 1 + n ≤ length cs = w.fits in
-      record { is = rw (sign_one t, drop-drop 1 from cs, ← w.is, ne_eqb n 0 z) (omega arith); fits = omega arith }
-
-  none_or : (d : ℕ) → d ≡ choose (eqb d 0) 0 (0 + d)
-  unfolding choose
-  none_or d = by_test (eqb d 0) (λ t. rw t (eqb-true d 0 t)) (λ t. rw t (omega arith))
-
-  pub number_plain : b ≡ false → Counted cs from (digit_count (drop from cs)) n → Counted cs from (number_len (drop from cs)) n
-  unfolding number_len
-  number_plain t w = record { is = rw (sign_none t) (w.is ∙ none_or (digit_count (drop from cs))); fits = w.fits }
+    pub number_some : (n ≡ 0 → ⊥) → NumberAt cs from (bool_byte b + n)
+    unfolding number_len choose
+    number_some z =
+        record {
+          is = rw (← digits_are, ne_eqb n 0 z, ← sign_is);
+          some = omega arith;
+          fits = omega (arith, w.fits);
+        }
 
 -- ---- a range
 
-module _ (cs : List ℕ) (from m n : ℕ) (e : Counted cs (from + m + 2) (number_len (drop (from + m + 2) cs)) n) where
-  pub rest_none : n ≡ 0 → 0 ≡ rest_more cs from m
+-- no second number
+pub rest_none : (cs : List ℕ) (from m : ℕ) → number_len (drop (from + m + 2) cs) ≡ 0 → rest_more cs from m ≡ 0
+unfolding rest_more choose
+rest_none cs from m z = rw z
+
+module _ (cs : List ℕ) (from m n : ℕ) (e : NumberAt cs (from + m + 2) n) (b : Bool) (f : b ≡ first_is (λ (d : ℕ). eqb d 125) (drop (from + m + 2 + n) cs)) where
+  some_n : n ≡ 0 → ⊥
+  some_n z = absurd (omega (arith, e.some))
+
+  pub rest_some : b ≡ true → (m + n + 3 ≡ rest_more cs from m) × (0 < m + n + 3)
   unfolding rest_more choose
-  rest_none z = rw (← e.is, z)
+  rest_some t = (rw (← e.is, ne_eqb n 0 some_n, ← f, t), omega arith)
 
-  module _ (b : Bool) (f : b ≡ first_is (λ (d : ℕ). eqb d 125) (drop (from + m + 2 + n) cs)) where
-    pub rest_some : (n ≡ 0 → ⊥) → b ≡ true → m + n + 3 ≡ rest_more cs from m
-    unfolding rest_more choose
-    rest_some z t = rw (← e.is, ne_eqb n 0 z, ← f, t)
+  pub rest_other : b ≡ false → rest_more cs from m ≡ 0
+  unfolding rest_more choose
+  rest_other t = rw (← e.is, ne_eqb n 0 some_n, ← f, t)
 
-    pub rest_other : (n ≡ 0 → ⊥) → b ≡ false → 0 ≡ rest_more cs from m
-    unfolding rest_more choose
-    rest_other z t = rw (← e.is, ne_eqb n 0 z, ← f, t)
+-- no first number
+pub range_none : (cs : List ℕ) (from : ℕ) → number_len (drop from cs) ≡ 0 → range_more cs from ≡ 0
+unfolding range_more choose
+range_none cs from z = rw z
 
-module _ (cs : List ℕ) (from m : ℕ) (e : Counted cs from (number_len (drop from cs)) m) where
-  pub range_none : m ≡ 0 → 0 ≡ range_more cs from
+module _ (cs : List ℕ) (from m : ℕ) (e : NumberAt cs from m) (b d : Bool)
+    (f : b ≡ first_is (λ (d : ℕ). eqb d 46) (drop (from + m) cs)) (g : d ≡ first_is (λ (d : ℕ). eqb d 46) (drop (from + m + 1) cs)) where
+  dots : range_more cs from ≡ choose (b && d) (rest_more cs from m) 0
   unfolding range_more choose
-  range_none z = rw (← e.is, z)
+  dots = rw (← e.is, ne_eqb m 0 (λ z. absurd (omega (arith, e.some))), ← f, ← g) (go b)
+    where
+      go : (b : Bool) → choose b (choose d (rest_more cs from m) 0) 0 ≡ choose (b && d) (rest_more cs from m) 0
+      go true = refl
+      go false = refl
 
-  module _ (z : m ≡ 0 → ⊥) (b d : Bool) (f : b ≡ first_is (λ (d : ℕ). eqb d 46) (drop (from + m) cs)) (g : d ≡ first_is (λ (d : ℕ). eqb d 46) (drop (from + m + 1) cs)) where
-    dots : range_more cs from ≡ choose (b && d) (rest_more cs from m) 0
-    unfolding range_more choose
-    dots = rw (← e.is, ne_eqb m 0 z, ← f, ← g) (go b)
-      where
-        go : (b : Bool) → choose b (choose d (rest_more cs from m) 0) 0 ≡ choose (b && d) (rest_more cs from m) 0
-        go true = refl
-        go false = refl
+  pub range_other : (b && d) ≡ false → range_more cs from ≡ 0
+  range_other t = dots ∙ choose_false _ _ _ t
 
-    pub range_other : (b && d) ≡ false → 0 ≡ range_more cs from
-    range_other t = sym (dots ∙ choose_false _ _ _ t)
-
-    pub range_both : (b && d) ≡ true → (r : ℕ) → r ≡ rest_more cs from m → r ≡ range_more cs from
-    range_both t r k = k ∙ sym (dots ∙ choose_true _ _ _ t)
+  pub range_both : (b && d) ≡ true → (r : Option ℕ) → Told (rest_more cs from m) r → Told (range_more cs from) r
+  range_both t r k = subst (λ (x : ℕ). Told x r) (sym (dots ∙ choose_true _ _ _ t)) k
 
 -- two dots are there, so the place behind them is
 pub dots_inside : (cs : List ℕ) (from m : ℕ) (b d : Bool) → d ≡ first_is (λ (d : ℕ). eqb d 46) (drop (from + m + 1) cs) → (b && d) ≡ true → from + m + 2 ≤ length cs
@@ -218,68 +227,66 @@ brace_is cs from =
 
 -- ---- the end of a set
 
-pub longer_zero : longer 0 ≡ 0
-unfolding longer
-longer_zero = refl
-
-pub longer_some : (n : ℕ) → (n ≡ 0 → ⊥) → n + 1 ≡ longer n
-unfolding longer
-longer_some zero h = absurd (h refl)
-longer_some (suc n) h = omega arith
-
-more_cons : (c : ℕ) (o : Option (List ℕ)) → (bracket_at (cons_to c o)).more ≡ longer (bracket_at o).more
-unfolding bracket_at longer
+more_cons : (c : ℕ) (o : Found (List ℕ)) → set_end (cons_to c o) ≡ longer (set_end o)
 more_cons c none = refl
-more_cons c (some l) = refl
+more_cons c (some l) = ap Some (let e : suc (suc (length l)) ≡ suc (length l) + 1 = omega arith in e)
 
-set_none : (esc : Bool) → set_more esc [] ≡ 0
-unfolding set_more to_bracket bracket_at
+set_none : (esc : Bool) → set_more esc [] ≡ None
+unfolding set_more to_bracket
 set_none esc = refl
 
 set_cons : (esc : Bool) (c : ℕ) (s : List ℕ) → (not esc && is "]" c) ≡ false → set_more esc (c ∷ s) ≡ longer (set_more (not esc && is "\\" c) s)
 unfolding set_more to_bracket
 set_cons esc c s e =
-    ap (λ (o : Option (List ℕ)). (bracket_at o).more) (choose_false (not esc && is "]" c) (some []) (cons_to c (to_bracket (not esc && is "\\" c) s)) e)
+    ap set_end (choose_false (not esc && is "]" c) (some []) (cons_to c (to_bracket (not esc && is "\\" c) s)) e)
     ∙ more_cons c (to_bracket (not esc && is "\\" c) s)
 
-set_close : (s : List ℕ) → set_more false (93 ∷ s) ≡ 1
-unfolding set_more to_bracket bracket_at choose
+set_close : (s : List ℕ) → set_more false (93 ∷ s) ≡ Some 1
+unfolding set_more to_bracket choose
 set_close s = refl
 
-pub record Ending (cs : List ℕ) (i : ℕ) (plain escaped : ℕ) (ends : List ℕ) : Type 0 where
+-- a distance stays in the text
+abbrev Within : List ℕ → ℕ → Option ℕ → Type 0
+Within cs i o = MatchOption o (Unit {0}) (λ n. n + i ≤ length cs)
+
+within_longer : (cs : List ℕ) (i : ℕ) (o : Option ℕ) → 0 < i → Within cs i o → Within cs (i - 1) (longer o)
+within_longer cs i None h w = tt
+within_longer cs i (Some n) h w = omega arith
+
+pub record Ending (cs : List ℕ) (i : ℕ) (plain escaped : Option ℕ) (ends : List (Option ℕ)) : Type 0 where
   pub bound : i ≤ length cs
   pub room : length cs < length ends
-  pub low : plain + i ≤ length cs
-  pub high : escaped + i ≤ length cs
+  pub low : Within cs i plain
+  pub high : Within cs i escaped
   pub here : plain ≡ set_more false (drop i cs)
   pub there : escaped ≡ set_more true (drop i cs)
-  pub done : (j : ℕ) → i ≤ j → j ≤ length cs → get_or ends j 0 ≡ set_more false (drop j cs)
+  pub done : (j : ℕ) → i ≤ j → j ≤ length cs → get_or ends j None ≡ set_more false (drop j cs)
 
-pub ending_start : (cs ends : List ℕ) → length cs < length ends → Ending cs (length cs) 0 0 (set ends (length cs) 0)
+pub ending_start : (cs : List ℕ) (ends : List (Option ℕ)) → length cs < length ends → Ending cs (length cs) None None (set ends (length cs) None)
 ending_start cs ends h =
     record {
       bound = omega arith;
-      room = rw (length-set ends (length cs) 0) h;
-      low = omega arith;
-      high = omega arith;
+      room = rw (length-set ends (length cs) None) h;
+      low = tt;
+      high = tt;
       here = sym (ap (set_more false) (drop-length cs) ∙ set_none false);
       there = sym (ap (set_more true) (drop-length cs) ∙ set_none true);
       done = λ j a b.
           let e : j ≡ length cs = omega arith in
-          rw e (get_or-set_same ends (length cs) 0 0 h ∙ sym (ap (set_more false) (drop-length cs) ∙ set_none false));
+          rw e (get_or-set_same ends (length cs) None None h ∙ sym (ap (set_more false) (drop-length cs) ∙ set_none false));
     }
 
-pub ending_end : (cs : List ℕ) (i plain escaped : ℕ) (ends : List ℕ) → Ending cs i plain escaped ends → i ≤ 0 → Ends cs ends
-ending_end cs i plain escaped ends w z = record { room = w.room; at = λ j h. w.done j (omega arith) h }
+pub ending_end : (cs : List ℕ) (i : ℕ) (plain escaped : Option ℕ) (ends : List (Option ℕ)) → Ending cs i plain escaped ends → i ≤ 0 → Ends cs ends
+ending_end cs i plain escaped ends w z = record { at = λ j h. w.done j (omega arith) h }
 
-module _ (cs : List ℕ) (i plain escaped : ℕ) (ends : List ℕ) (w : Ending cs i plain escaped ends) (h : 0 < i) where
+module _ (cs : List ℕ) (i : ℕ) (plain escaped : Option ℕ) (ends : List (Option ℕ)) (w : Ending cs i plain escaped ends) (h : 0 < i) where
   drop_back : drop (i - 1) cs ≡ get_or cs (i - 1) 0 ∷ drop i cs
   drop_back =
       let b : i ≤ length cs = w.bound in
       let e : suc (i - 1) ≡ i = omega arith in
       drop-cons cs (i - 1) 0 (omega arith) ∙ ap (λ (j : ℕ). get_or cs (i - 1) 0 ∷ drop j cs) e
 
-  ending_back : (p q : ℕ) → p + (i - 1) ≤ length cs → q + (i - 1) ≤ length cs → p ≡ set_more false (get_or cs (i - 1) 0 ∷ drop i cs)
+  ending_back : (p q : Option ℕ) → Within cs (i - 1) p → Within cs (i - 1) q → p ≡ set_more false (get_or cs (i - 1) 0 ∷ drop i cs)
       → q ≡ set_more true (get_or cs (i - 1) 0 ∷ drop i cs) → Ending cs (i - 1) p q (set ends (i - 1) p)
   ending_back p q a c e f =
       let b : i ≤ length cs = w.bound in
@@ -293,39 +300,37 @@ module _ (cs : List ℕ) (i plain escaped : ℕ) (ends : List ℕ) (w : Ending c
         there = f ∙ ap (set_more true) (sym drop_back);
         done = λ j x y.
             ⊎_elim
-            (λ (g : i - 1 < j). get_or-set_other ends (i - 1) j p 0 (λ q. absurd (omega arith)) ∙ w.done j (omega arith) y)
+            (λ (g : i - 1 < j). get_or-set_other ends (i - 1) j p None (λ q. absurd (omega arith)) ∙ w.done j (omega arith) y)
             (λ (g : j ≤ i - 1).
-            let z : j ≡ i - 1 = omega arith in rw z (get_or-set_same ends (i - 1) p 0 (omega arith) ∙ e ∙ ap (set_more false) (sym drop_back)))
+            let z : j ≡ i - 1 = omega arith in rw z (get_or-set_same ends (i - 1) p None (omega arith) ∙ e ∙ ap (set_more false) (sym drop_back)))
             (split (i - 1) j);
       }
 
-  pub ending_close : get_or cs (i - 1) 0 ≡ 93 → (q : ℕ) → (q ≡ longer plain) × (q ≤ plain + 1) → Ending cs (i - 1) 1 q (set ends (i - 1) 1)
+  pub ending_close : get_or cs (i - 1) 0 ≡ 93 → (q : Option ℕ) → q ≡ longer plain → Ending cs (i - 1) (Some 1) q (set ends (i - 1) (Some 1))
   ending_close e q f =
-      let l : plain + i ≤ length cs = w.low in
       let b : i ≤ length cs = w.bound in
-      ending_back 1 q (omega arith) (omega (arith, f.1)) (rw e (sym (set_close (drop i cs))))
-      (f.0 ∙ ap longer w.here ∙ sym (set_cons true (get_or cs (i - 1) 0) (drop i cs) refl))
+      rw f
+      (ending_back (Some 1) (longer plain) (omega arith) (within_longer cs i plain h w.low) (rw e (sym (set_close (drop i cs))))
+      (ap longer w.here ∙ sym (set_cons true (get_or cs (i - 1) 0) (drop i cs) refl)))
 
-  pub ending_escape : get_or cs (i - 1) 0 ≡ 92 → (p q : ℕ) → (p ≡ longer escaped) × (p ≤ escaped + 1) → (q ≡ longer plain) × (q ≤ plain + 1)
-      → Ending cs (i - 1) p q (set ends (i - 1) p)
+  pub ending_escape : get_or cs (i - 1) 0 ≡ 92 → (p q : Option ℕ) → p ≡ longer escaped → q ≡ longer plain → Ending cs (i - 1) p q (set ends (i - 1) p)
   ending_escape e p q f g =
-      let l : plain + i ≤ length cs = w.low in
-      let m : escaped + i ≤ length cs = w.high in
-      ending_back p q (omega (arith, f.1)) (omega (arith, g.1)) (rw e (f.0 ∙ ap longer w.there ∙ sym (set_cons false 92 (drop i cs) refl)))
-      (g.0 ∙ ap longer w.here ∙ sym (set_cons true (get_or cs (i - 1) 0) (drop i cs) refl))
+      rw (f, g)
+      (ending_back (longer escaped) (longer plain) (within_longer cs i escaped h w.high) (within_longer cs i plain h w.low)
+      (rw e (ap longer w.there ∙ sym (set_cons false 92 (drop i cs) refl)))
+      (ap longer w.here ∙ sym (set_cons true (get_or cs (i - 1) 0) (drop i cs) refl)))
 
-  pub ending_other : (get_or cs (i - 1) 0 ≡ 93 → ⊥) → (get_or cs (i - 1) 0 ≡ 92 → ⊥) → (p : ℕ) → (p ≡ longer plain) × (p ≤ plain + 1)
-      → Ending cs (i - 1) p p (set ends (i - 1) p)
+  pub ending_other : (get_or cs (i - 1) 0 ≡ 93 → ⊥) → (get_or cs (i - 1) 0 ≡ 92 → ⊥) → (p : Option ℕ) → p ≡ longer plain → Ending cs (i - 1) p p (set ends (i - 1) p)
   ending_other x y p f =
-      let l : plain + i ≤ length cs = w.low in
       let c : ℕ = get_or cs (i - 1) 0 in
-      ending_back p p (omega (arith, f.1)) (omega (arith, f.1))
-      (f.0 ∙ ap longer (w.here ∙ ap (λ (b : Bool). set_more b (drop i cs)) (sym (ne_eqb c 92 y))) ∙ sym (set_cons false c (drop i cs) (ne_eqb c 93 x)))
-      (f.0 ∙ ap longer w.here ∙ sym (set_cons true c (drop i cs) refl))
+      rw f
+      (ending_back (longer plain) (longer plain) (within_longer cs i plain h w.low) (within_longer cs i plain h w.low)
+      (ap longer (w.here ∙ ap (λ (b : Bool). set_more b (drop i cs)) (sym (ne_eqb c 92 y))) ∙ sym (set_cons false c (drop i cs) (ne_eqb c 93 x)))
+      (ap longer w.here ∙ sym (set_cons true c (drop i cs) refl)))
 
 -- ---- the token
 
-upto_cons : (c : ℕ) (u l : List ℕ) (o : Option (List ℕ)) → ((k : List ℕ) → o ≡ some k → u ≡ k) → cons_to c o ≡ some l → c ∷ u ≡ l
+upto_cons : (c : ℕ) (u l : List ℕ) (o : Found (List ℕ)) → ((k : List ℕ) → o ≡ some k → u ≡ k) → cons_to c o ≡ some l → c ∷ u ≡ l
 upto_cons c u l none f g = absurd (let z : ◌≡◌ {A = ℕ} 0 1 = cc in omega arith)
 upto_cons c u l (some k) f g = rw (f k refl) (let h : some (c ∷ k) ≡ some l = g in cc)
 
@@ -339,20 +344,23 @@ upto_is esc (c ∷ s) l e =
     choose_false _ _ _ t
     ∙ upto_cons c (up_to (not esc && is "\\" c) s) l (to_bracket (not esc && is "\\" c) s) (λ k. upto_is (not esc && is "\\" c) s k) (sym (choose_false _ _ _ t) ∙ e))
 
-bracket_read : (s : List ℕ) (o : Option (List ℕ)) → to_bracket false s ≡ o
-    → as_reading (choose (eqb (bracket_at o).more 0) (plain_read (Kind.Item ItemKind.Plain) 0) (plain_read (Kind.Item ItemKind.Set) (bracket_at o).more)) (91 ∷ s) ≡ bracket_at o
-unfolding bracket_at choose held_at plain_at
+bracket_read : (s : List ℕ) (o : Found (List ℕ)) → to_bracket false s ≡ o → as_reading (set_read (set_end o)) (91 ∷ s) ≡ bracket_at o
+unfolding bracket_at held_at plain_at
 bracket_read s none e = refl
-bracket_read s (some l) e = rw (ne_eqb (suc (length l)) 0 (λ q. absurd (omega arith)), upto_is false s l e)
+bracket_read s (some l) e = rw (upto_is false s l e)
 
-module _ (cs : List ℕ) (i c end m : ℕ) (x : c ≡ 92 → ⊥) (y : c ≡ 91 → ⊥) (e : m ≡ range_more cs (i + 1)) (r : Read) where
-  pub opened_brace : m ≡ 0 → r ≡ plain_read (Kind.Brace Brace.Opens) 0 → r ≡ opened_read cs i c end
+module _ (cs : List ℕ) (i c : ℕ) (end : Option ℕ) (x : c ≡ 92 → ⊥) (y : c ≡ 91 → ⊥) where
+  pub opened_brace : range_more cs (i + 1) ≡ 0 → plain_read (Kind.Brace Brace.Opens) 0 ≡ opened_read cs i c end
   unfolding opened_read choose
-  opened_brace z f = rw (ne_eqb c 92 x, ne_eqb c 91 y, ← e, z) f
+  opened_brace z = rw (ne_eqb c 92 x, ne_eqb c 91 y, z)
 
-  pub opened_range : (m ≡ 0 → ⊥) → r ≡ plain_read (Kind.Item ItemKind.Range) m → r ≡ opened_read cs i c end
+  pub opened_range : (m : ℕ) → (m ≡ range_more cs (i + 1)) × (0 < m) → plain_read (Kind.Item ItemKind.Range) m ≡ opened_read cs i c end
   unfolding opened_read choose
-  opened_range z f = rw (ne_eqb c 92 x, ne_eqb c 91 y, ← e, ne_eqb m 0 z) f
+  opened_range m w = rw (ne_eqb c 92 x, ne_eqb c 91 y, ← w.0, ne_eqb m 0 (λ z. absurd (omega (arith, w.1))))
+
+pub opened_set : (cs : List ℕ) (i c : ℕ) (end : Option ℕ) → c ≡ 91 → set_read end ≡ opened_read cs i c end
+unfolding opened_read choose
+opened_set cs i c end e = rw e
 
 -- the kind is one that is read
 good_kind : (x : ℕ) (r : Read) → is_raw r.kind ≡ true → (r.kind ≡ Kind.Item ItemKind.Range → ⊥) → Good x r
@@ -362,6 +370,10 @@ good_choose : (x : ℕ) (b : Bool) (r t : Read) → Good x r → Good x t → Go
 unfolding choose
 good_choose x true r t g h = g
 good_choose x false r t g h = h
+
+good_set : (x : ℕ) (end : Option ℕ) → Good x (set_read end)
+good_set x None = good_kind x (set_read None) refl (λ e. cc)
+good_set x (Some n) = good_kind x (set_read (Some n)) refl (λ e. cc)
 
 good_range : (x : ℕ) → Good x (choose (eqb x 0) (plain_read (Kind.Brace Brace.Opens) 0) (plain_read (Kind.Item ItemKind.Range) x))
 unfolding choose
@@ -390,7 +402,7 @@ module _ (cs : List ℕ) (i : ℕ) (deep : Bool) (h : i < length cs) where
   brace_token =
       by_test (eqb (range_more cs (i + 1)) 0) (λ t. rw t (sym (brace_is cs (i + 1) ∙ rw t))) (λ t. rw t (sym (brace_is cs (i + 1) ∙ rw t)))
 
-  opened_token : (end : ℕ) (r : Read) → ((eqb c 92 || eqb c 91) || eqb c 123) ≡ true → end ≡ set_more false s → r ≡ opened_read cs i c end
+  opened_token : (end : Option ℕ) (r : Read) → ((eqb c 92 || eqb c 91) || eqb c 123) ≡ true → end ≡ set_more false s → r ≡ opened_read cs i c end
       → TokenRead cs i deep r
   opened_token end r t e f = go (by_test (eqb c 92) (λ q. inl (eqb-true c 92 q)) (λ q. inr (by_test (eqb c 91) (λ p. inl (eqb-true c 91 p)) (λ p. inr (eqb-true c 123 (rw (q, p) at t))))))
     where
@@ -403,7 +415,7 @@ module _ (cs : List ℕ) (i : ℕ) (deep : Bool) (h : i < length cs) where
       go (inr (inl q)) =
           record {
             is = rw (f, q, e) (unfold opened_read in unfold reading_at in unfold choose in unfold set_more in bracket_read s (to_bracket false s) refl);
-            good = rw (f, q) (unfold opened_read in unfold choose in good_choose _ (eqb end 0) (plain_read (Kind.Item ItemKind.Plain) 0) (plain_read (Kind.Item ItemKind.Set) end) (good_kind _ _ refl (λ e. cc)) (good_kind _ _ refl (λ e. cc)));
+            good = rw (f, q) (unfold opened_read in unfold choose in good_set _ end);
           }
       go (inr (inr q)) =
           record {
@@ -411,9 +423,9 @@ module _ (cs : List ℕ) (i : ℕ) (deep : Bool) (h : i < length cs) where
             good = rw (f, q) (unfold opened_read in unfold choose in good_range (range_more cs (i + 1)));
           }
 
-  pub token_opened : (ends : List ℕ) (r : Read) → Ends cs ends → ((eqb c 92 || eqb c 91) || eqb c 123) ≡ true
-      → r ≡ opened_read cs i c (get_or ends (i + 1) 0) → TokenRead cs i deep r
-  token_opened ends r w t f = opened_token (get_or ends (i + 1) 0) r t (w.at (i + 1) (omega arith)) f
+  pub token_opened : (ends : List (Option ℕ)) (r : Read) → Ends cs ends → ((eqb c 92 || eqb c 91) || eqb c 123) ≡ true
+      → r ≡ opened_read cs i c (get_or ends (i + 1) None) → TokenRead cs i deep r
+  token_opened ends r w t f = opened_token (get_or ends (i + 1) None) r t (w.at (i + 1) (omega arith)) f
 
   pub token_star : (r : Read) → c ≡ 42 → r ≡ star_read deep s → TokenRead cs i deep r
   unfolding reading_at star_read star_at choose held_at plain_at

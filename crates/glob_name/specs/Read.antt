@@ -1,8 +1,10 @@
 -- A name read into kinds.
-use Rattle.std.specs.Prelude.{ℕ, zero, suc, ◌+◌, ◌≤◌, ◌<◌, Bool, true, false, List, ◌∷◌, ◌≡◌, eqb, ltb, length, get_or, drop}
+use Rattle.std.specs.Prelude.{ℕ, suc, ◌+◌, ◌≤◌, ◌<◌, Bool, true, false, List, ◌∷◌, ◌≡◌, eqb, ltb, length, get_or, drop, Option, Some, None}
+use Rattle.std.specs.Option.{MatchOption}
+use Rattle.std.proofs.Math.Option.{Option as Found, none, some}
 use Rattle.rules.specs.Basics.{choose, is, at, first_is}
 use Rattle.config_rules.specs.Numbers.{number_len}
-use Rattle.config_rules.specs.Name.{Reading, to_bracket, bracket_at, reading_at, tokens}
+use Rattle.config_rules.specs.Name.{Reading, to_bracket, reading_at, tokens}
 use Rattle.glob_pass.specs.Kinds.{held_at, held, kind_at}
 use Rattle.glob_pass.specs.declared.kinds.Brace.{Brace}
 use Rattle.glob_pass.specs.declared.kinds.ItemKind.{ItemKind}
@@ -13,6 +15,16 @@ use Rattle.glob_name.specs.declared.read.Read.{Read}
 pub record Counted (chars : List ℕ) (from x n : ℕ) : Type 0 where
   pub is : n ≡ x
   pub fits : from + n ≤ length chars
+
+-- n is how long the number is that stands at `from`
+pub record NumberAt (chars : List ℕ) (from n : ℕ) : Type 0 where
+  pub is : n ≡ number_len (drop from chars)
+  pub some : 0 < n
+  pub fits : from + n ≤ length chars
+
+-- r is what x says, where 0 is none
+abbrev pub Told : ℕ → Option ℕ → Type 0
+Told x r = MatchOption r (x ≡ 0) (λ n. (n ≡ x) × (0 < n))
 
 -- how many more characters a range has, 0 for none
 unfoldable pub rest_more : List ℕ → ℕ → ℕ → ℕ
@@ -28,17 +40,20 @@ range_more cs from =
     (choose (first_is (is ".") (drop (from + m + 1) cs)) (rest_more cs from m) 0)
     0)
 
--- how far the `]` is that ends a set, 0 for none
-unfoldable pub set_more : Bool → List ℕ → ℕ
-set_more esc s = (bracket_at (to_bracket esc s)).more
+-- how far the `]` is that ends a set, if one does
+abbrev pub set_end : Found (List ℕ) → Option ℕ
+set_end none = None
+set_end (some l) = Some (suc (length l))
 
-unfoldable pub longer : ℕ → ℕ
-longer zero = zero
-longer (suc n) = suc (suc n)
+unfoldable pub set_more : Bool → List ℕ → Option ℕ
+set_more esc s = set_end (to_bracket esc s)
 
-pub record Ends (chars ends : List ℕ) : Type 0 where
-  pub room : length chars < length ends
-  pub at : (j : ℕ) → j ≤ length chars → get_or ends j 0 ≡ set_more false (drop j chars)
+abbrev pub longer : Option ℕ → Option ℕ
+longer None = None
+longer (Some n) = Some (n + 1)
+
+pub record Ends (chars : List ℕ) (ends : List (Option ℕ)) : Type 0 where
+  pub at : (j : ℕ) → j ≤ length chars → get_or ends j None ≡ set_more false (drop j chars)
 
 -- ---- what is read at a character
 
@@ -57,10 +72,14 @@ single_read c =
     choose (is "?" c) (plain_read (Kind.Item ItemKind.One) 0)
     (choose (is "," c) (plain_read (Kind.Brace Brace.Comma) 0) (choose (is "}" c) (plain_read (Kind.Brace Brace.Closes) 0) (plain_read (Kind.Item ItemKind.Plain) 0)))
 
-unfoldable pub opened_read : List ℕ → ℕ → ℕ → ℕ → Read
+abbrev pub set_read : Option ℕ → Read
+set_read None = plain_read (Kind.Item ItemKind.Plain) 0
+set_read (Some n) = plain_read (Kind.Item ItemKind.Set) n
+
+unfoldable pub opened_read : List ℕ → ℕ → ℕ → Option ℕ → Read
 opened_read cs i c end =
     choose (is "\\" c) (choose (ltb (i + 1) (length cs)) (plain_read (Kind.Item ItemKind.Escape) 1) (plain_read (Kind.Item ItemKind.Plain) 0))
-    (choose (is "[" c) (choose (eqb end 0) (plain_read (Kind.Item ItemKind.Plain) 0) (plain_read (Kind.Item ItemKind.Set) end))
+    (choose (is "[" c) (set_read end)
     (choose (eqb (range_more cs (i + 1)) 0) (plain_read (Kind.Brace Brace.Opens) 0) (plain_read (Kind.Item ItemKind.Range) (range_more cs (i + 1)))))
 
 -- the same as the definitions read it, s from the character on

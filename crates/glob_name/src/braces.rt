@@ -2,17 +2,19 @@
 ghost use Rattle.std.specs.Prelude.{◌≡◌, [], ◌<◌, length};
 ghost use Rattle.glob_name.specs.Braces.{mirrored, right_event, left_event, marked, Happened, mark_right, mark_left};
 
+use glob_pass::PLACES;
 use glob_pass::kinds::{Brace, ItemKind, Kind};
 
 // The braces that are open on one side of a place: the first `depth` of `commas` say of each, the innermost last,
 // whether it has a comma there.
 #[derive(Clone, Copy)]
 pub struct Open {
-    pub commas: [bool; 1026],
+    pub commas: [bool; PLACES],
     pub depth: usize,
 }
 
 // What a brace is to those who read from the right.
+// kept: the new form is no plainer: a method would stand in `glob_pass`, which has no other use for it
 fn mirrored(b: Brace) -> Brace
     ensures { result ≡ mirrored b }
 {
@@ -38,8 +40,7 @@ fn left_event(k: Kind) -> Option<Brace>
     ensures { result ≡ left_event k }
 {
     match k {
-        Kind::Brace(b) => Some(b),
-        Kind::Item(ItemKind::Lone(b)) => Some(b),
+        Kind::Brace(b) | Kind::Item(ItemKind::Lone(b)) => Some(b),
         Kind::Item(_) => None,
     }
 }
@@ -58,23 +59,23 @@ fn marked(k: Kind, lone: bool) -> Kind
 impl Open {
     // No brace.
     fn none() -> Open
-        ensures { (result.depth ≡ 0) × (length result.commas ≡ 1026) }
+        ensures { result.depth ≡ 0 }
     {
         Open {
-            commas: [false; 1026],
+            commas: [false; PLACES],
             depth: 0,
         }
     }
 
     // An event, and whether its brace or comma is lone.
     fn happen(&mut self, e: Option<Brace>) -> bool
-        requires { (self.old.depth < length self.old.commas) × (self.old.depth < 1026) }
+        requires { self.old.depth < PLACES }
         ensures { Happened e self.old self.new result }
     {
         let Some(brace) = e else {
             return false;
         };
-        if let Brace::Opens = brace {
+        if brace == Brace::Opens {
             self.commas[self.depth] = false;
             self.depth += 1;
             return false;
@@ -82,7 +83,7 @@ impl Open {
         if self.depth == 0 {
             return true;
         }
-        if let Brace::Comma = brace {
+        if brace == Brace::Comma {
             self.commas[self.depth - 1] = true;
             return false;
         }
@@ -94,7 +95,7 @@ impl Open {
 // From the right: opening braces and commas.
 // kept: the new form is no plainer: one function for both sides takes the order of the places and the event as closures
 pub fn mark_right(kinds: &mut [Kind])
-    requires { length kinds.old < 1026 }
+    requires { length kinds.old < PLACES }
     ensures { kinds.new ≡ mark_right kinds.old }
 {
     let mut open = Open::none();
@@ -107,7 +108,7 @@ pub fn mark_right(kinds: &mut [Kind])
 
 // From the left: closing braces and commas.
 pub fn mark_left(kinds: &mut [Kind])
-    requires { length kinds.old < 1026 }
+    requires { length kinds.old < PLACES }
     ensures { kinds.new ≡ mark_left [] kinds.old }
 {
     let mut open = Open::none();

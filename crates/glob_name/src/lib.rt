@@ -10,11 +10,12 @@ ghost use Rattle.config_rules.specs.Name.{tokens_of};
 ghost use Rattle.glob_pass.specs.Kinds.{held};
 ghost use Rattle.glob_name.specs.Read.{Spaced};
 
+use glob_pass::PLACES;
 use glob_pass::kinds::Kind;
 
 // The kinds of a name.
 pub fn kinds_of(chars: &[u32], kinds: &mut [Kind])
-    requires { (length kinds.old ≡ length chars.now) × (length chars.now < 1026) }
+    requires { (length kinds.old ≡ length chars.now) × (length chars.now < PLACES) }
     ensures { (length kinds.new ≡ length chars.now) ×
         (held kinds.new chars.now ≡ tokens_of chars.now) × Spaced chars.now
         kinds.new }

@@ -1,13 +1,15 @@
 // The tokens of a name, from left to right.
 ghost use Rattle.std.specs.Prelude.{◌≡◌, ℕ, ◌+◌, ◌≤◌, ◌<◌, eqb, length, drop};
+ghost use Rattle.std.specs.Option.{MatchOption};
 ghost use Rattle.rules.specs.Basics.{first_is, at};
 ghost use Rattle.config_rules.specs.Numbers.{digit_count, number_len};
-ghost use Rattle.glob_name.specs.Read.{Counted, rest_more, range_more, longer, Ends, plain_read, star_read};
+ghost use Rattle.glob_name.specs.Read.{Counted, NumberAt, Told, rest_more, range_more, longer, Ends, plain_read, star_read};
 ghost use Rattle.glob_name.specs.Read.{slash_read, single_read, opened_read, TokenRead, RawKinds};
 
 use glob_pass::kinds::{Brace, ItemKind, Kind};
+use glob_pass::{CHARS, PLACES};
 
-// A token's kind, how many more characters it has, and whether a `/**/` goes on behind it.
+// A token's kind, how many more characters it has, which may be none, and whether a `/**/` goes on behind it.
 #[derive(Clone, Copy)]
 pub struct Read {
     pub kind: Kind,
@@ -27,89 +29,76 @@ fn digit_count(chars: &[u32], from: usize) -> usize
     requires { from ≤ length chars.now }
     ensures { Counted chars.now from (digit_count (drop from chars.now)) result }
 {
-    let mut i = from;
-    while i < chars.len() {
+    for i in from..chars.len() {
         let c = chars[i];
-        if c < 48 {
+        if (c < 48) | (57 < c) {
             return i - from;
         }
-        if 57 < c {
-            return i - from;
-        }
-        i += 1;
     }
-    i - from
+    chars.len() - from
 }
 
-// How long the number is that stands at `from`, 0 for none.
-pub fn number_len(chars: &[u32], from: usize) -> usize
+// How long the number is that stands at `from`, if one does.
+pub fn number_len(chars: &[u32], from: usize) -> Option<usize>
     requires { from ≤ length chars.now }
-    ensures { Counted chars.now from (number_len (drop from chars.now)) result }
+    ensures { MatchOption result (number_len (drop from chars.now) ≡ 0) (NumberAt chars.now from) }
 {
-    if char_is(chars, from, 45) {
-        let n = digit_count(chars, from + 1);
-        if n == 0 {
-            return 0;
-        }
-        return n + 1;
+    let sign = char_is(chars, from, 45) as usize;
+    let digits = digit_count(chars, from + sign);
+    if digits == 0 {
+        None
+    } else {
+        Some(sign + digits)
     }
-    digit_count(chars, from)
 }
 
 // The same behind the first number of a range, m characters long, and `..`.
-fn range_rest(chars: &[u32], from: usize, m: usize) -> usize
-    requires { (from + m + 2 ≤ length chars.now) × (length chars.now < 1026) }
-    ensures { result ≡ rest_more chars.now from m }
+fn range_rest(chars: &[u32], from: usize, m: usize) -> Option<usize>
+    requires { (from + m + 2 ≤ length chars.now) × (length chars.now < PLACES) }
+    ensures { Told (rest_more chars.now from m) result }
 {
-    let n = number_len(chars, from + m + 2);
-    if n == 0 {
-        return 0;
-    }
+    let n = number_len(chars, from + m + 2)?;
     if char_is(chars, from + m + 2 + n, 125) {
-        return m + n + 3;
+        Some(m + n + 3)
+    } else {
+        None
     }
-    0
 }
 
-// How many more characters the range has whose brace stands before `from`, 0 where there is no range.
-fn range_more(chars: &[u32], from: usize) -> usize
-    requires { (from ≤ length chars.now) × (length chars.now < 1026) }
-    ensures { result ≡ range_more chars.now from }
+// How many more characters the range has whose brace stands before `from`, if it is one.
+fn range_more(chars: &[u32], from: usize) -> Option<usize>
+    requires { (from ≤ length chars.now) × (length chars.now < PLACES) }
+    ensures { Told (range_more chars.now from) result }
 {
-    let m = number_len(chars, from);
-    if m == 0 {
-        return 0;
-    }
+    let m = number_len(chars, from)?;
     if char_is(chars, from + m, 46) & char_is(chars, from + m + 1, 46) {
-        return range_rest(chars, from, m);
+        range_rest(chars, from, m)
+    } else {
+        None
     }
-    0
 }
 
-// The next longer distance; 0 is none.
-fn up(n: usize) -> usize
-    requires { n < 2000 }
-    ensures { (result ≡ longer n) × (result ≤ n + 1) }
+// The next longer distance.
+fn up(n: Option<usize>) -> Option<usize>
+    requires { MatchOption n (Unit {0}) (λ m. m < PLACES) }
+    ensures { result ≡ longer n }
 {
-    if n == 0 {
-        return 0;
-    }
-    n + 1
+    Some(n? + 1)
 }
 
-// For each place, how far the `]` is that ends a set there, 0 where there is none.
-fn set_ends(chars: &[u32], ends: &mut [usize; 1026])
-    requires { (length chars.now < 1026) × (length chars.now < length ends.old) }
+// For each place, how far the `]` is that ends a set there, if one does.
+fn set_ends(chars: &[u32], ends: &mut [Option<usize>; PLACES])
+    requires { length chars.now < PLACES }
     ensures { Ends chars.now ends.new }
 {
-    let mut plain: usize = 0;
-    let mut escaped: usize = 0;
-    ends[chars.len()] = 0;
+    let mut plain = None;
+    let mut escaped = None;
+    ends[chars.len()] = None;
     for i in (0..chars.len()).rev() {
         let c = chars[i];
         let before = plain;
         if c == 93 {
-            plain = 1;
+            plain = Some(1);
             escaped = up(before);
             ends[i] = plain;
             continue;
@@ -128,7 +117,7 @@ fn set_ends(chars: &[u32], ends: &mut [usize; 1026])
 
 // Whether `**/` stands at i.
 fn stars_at(chars: &[u32], i: usize) -> bool
-    requires { i < 1026 }
+    requires { i < PLACES }
     ensures { result ≡ at (drop i chars.now) "**/" }
 {
     char_is(chars, i, 42) & char_is(chars, i + 1, 42) & char_is(chars, i + 2, 47)
@@ -147,7 +136,7 @@ fn plain_read(kind: Kind, more: usize) -> Read
 // A star at i, or a slash.
 #[tactic(auto, unfolding(rules::specs::Basics::choose, crate::specs::Read::star_read))]
 fn star_read(chars: &[u32], i: usize, deep: bool) -> Read
-    requires { i < 1026 }
+    requires { i < PLACES }
     ensures { result ≡ star_read deep (drop (i + 1) chars.now) }
 {
     if char_is(chars, i + 1, 42) {
@@ -162,7 +151,7 @@ fn star_read(chars: &[u32], i: usize, deep: bool) -> Read
 
 #[tactic(auto, unfolding(rules::specs::Basics::choose, crate::specs::Read::slash_read))]
 fn slash_read(chars: &[u32], i: usize, deep: bool) -> Read
-    requires { i < 1025 }
+    requires { i < CHARS }
     ensures { result ≡ slash_read deep (drop (i + 1) chars.now) }
 {
     if deep {
@@ -192,8 +181,8 @@ fn single_read(c: u32) -> Read
 }
 
 // A token whose first character is a backslash or an opening bracket or brace.
-fn opened_read(chars: &[u32], i: usize, c: u32, end: usize) -> Read
-    requires { (i < length chars.now) × (length chars.now < 1026) }
+fn opened_read(chars: &[u32], i: usize, c: u32, end: Option<usize>) -> Read
+    requires { (i < length chars.now) × (length chars.now < PLACES) }
     ensures { result ≡ opened_read chars.now i c end }
 {
     if c == 92 {
@@ -203,21 +192,20 @@ fn opened_read(chars: &[u32], i: usize, c: u32, end: usize) -> Read
         return plain_read(Kind::Item(ItemKind::Plain), 0);
     }
     if c == 91 {
-        if end == 0 {
-            return plain_read(Kind::Item(ItemKind::Plain), 0);
-        }
-        return plain_read(Kind::Item(ItemKind::Set), end);
+        return match end {
+            Some(more) => plain_read(Kind::Item(ItemKind::Set), more),
+            None => plain_read(Kind::Item(ItemKind::Plain), 0),
+        };
     }
-    let more = range_more(chars, i + 1);
-    if more == 0 {
-        return plain_read(Kind::Brace(Brace::Opens), 0);
+    match range_more(chars, i + 1) {
+        Some(more) => plain_read(Kind::Item(ItemKind::Range), more),
+        None => plain_read(Kind::Brace(Brace::Opens), 0),
     }
-    plain_read(Kind::Item(ItemKind::Range), more)
 }
 
 // The token at i, which nothing escapes.
-fn read_at(chars: &[u32], ends: &[usize; 1026], i: usize, deep: bool) -> Read
-    requires { (i < length chars.now) × (length chars.now < 1026) × Ends chars.now ends.now }
+fn read_at(chars: &[u32], ends: &[Option<usize>; PLACES], i: usize, deep: bool) -> Read
+    requires { (i < length chars.now) × (length chars.now < PLACES) × Ends chars.now ends.now }
     ensures { TokenRead chars.now i deep result }
 {
     let c = chars[i];
@@ -235,10 +223,10 @@ fn read_at(chars: &[u32], ends: &[usize; 1026], i: usize, deep: bool) -> Read
 
 // The kinds of a name, before any brace is taken for itself.
 pub fn raw_kinds(chars: &[u32], kinds: &mut [Kind])
-    requires { (length kinds.old ≡ length chars.now) × (length chars.now < 1026) }
+    requires { (length kinds.old ≡ length chars.now) × (length chars.now < PLACES) }
     ensures { RawKinds chars.now kinds.new }
 {
-    let mut ends: [usize; 1026] = [0; 1026];
+    let mut ends: [Option<usize>; PLACES] = [None; PLACES];
     set_ends(chars, &mut ends);
     let mut more: usize = 0;
     let mut deep = false;

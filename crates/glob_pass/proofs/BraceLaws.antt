@@ -1,14 +1,16 @@
 -- Braces and commas: the stack of open braces, the innermost first.
 use Prim.Native.Nat.{ℕ, zero, suc, ◌+◌, ◌-◌, ◌≤◌, ◌<◌}
-use mathlib.Core.Bool.{Bool, false, ◌||◌}
+use mathlib.Core.Bool.{Bool, true, false, ◌||◌, true≢false}
 use mathlib.Core.List.{List, [], ◌∷◌}
 use mathlib.Core.Path.{◌≡◌, refl, sym, ap, ◌∙◌}
 use native.Mathlib.Numerals.{add-one}
 use native.Mathlib.Omega.{arith}
+use denote.Enum.Bare.{sameb}
 use lib.ListN.{length, get_or, set, length-set}
 use lib.Seq.{get_or-set_same, get_or-set_other}
 use Rattle.config_rules.specs.Globs.{Strings, Place, Around, place_at, closing, between, opening}
 use Rattle.glob_pass.specs.Kinds.{brace_of}
+use Rattle.glob_pass.specs.contracts.kinds.Brace.{the_type}
 use Rattle.glob_pass.specs.declared.Side.{Side}
 use Rattle.glob_pass.specs.declared.Braces.{Braces}
 use Rattle.glob_pass.specs.declared.kinds.Brace.{Brace}
@@ -78,6 +80,26 @@ unfolding closing seen
 closing_turn p s next st w = record { here = w.here; around = rw (w.here, w.around) }
 
 -- ---- the step
+
+-- what `==` says
+pub is_brace : (a b : Brace) → true ≡ sameb the_type a b → a ≡ b
+is_brace Brace.Closes Brace.Closes e = refl
+is_brace Brace.Closes Brace.Comma e = absurd (true≢false e)
+is_brace Brace.Closes Brace.Opens e = absurd (true≢false e)
+is_brace Brace.Comma Brace.Closes e = absurd (true≢false e)
+is_brace Brace.Comma Brace.Comma e = refl
+is_brace Brace.Comma Brace.Opens e = absurd (true≢false e)
+is_brace Brace.Opens Brace.Closes e = absurd (true≢false e)
+is_brace Brace.Opens Brace.Comma e = absurd (true≢false e)
+is_brace Brace.Opens Brace.Opens e = refl
+
+pub other_brace : (a b : Brace) → false ≡ sameb the_type a b → a ≡ b → ⊥
+other_brace a b e q = self b (rw q at e)
+  where
+    self : (a : Brace) → false ≡ sameb the_type a a → ⊥
+    self Brace.Closes e = true≢false (sym e)
+    self Brace.Comma e = true≢false (sym e)
+    self Brace.Opens e = true≢false (sym e)
 
 module _ (b : Braces) (x : Bool) where
   pub braced_closes : b.depth < length b.sides

@@ -3,7 +3,7 @@ ghost use Rattle.std.specs.Prelude.{◌≡◌};
 ghost use Rattle.glob_pass.specs.Kinds.{code_of};
 
 // A brace or a comma.
-#[derive(Clone, Copy, PartialEq, Eq)]
+#[derive(Clone, Copy, PartialEq, Eq, Debug)]
 pub enum Brace {
     Closes,
     Comma,
@@ -12,7 +12,7 @@ pub enum Brace {
 
 // What matches by itself: a character, the rest of a token of several characters, `?`, `*`, `**`, a set, a range, a
 // backslash before a character, the first slash of a `/**/`, and a brace or a comma that stands for itself.
-#[derive(Clone, Copy, PartialEq, Eq)]
+#[derive(Clone, Copy, PartialEq, Eq, Debug)]
 pub enum ItemKind {
     Plain,
     Covered,
@@ -27,7 +27,8 @@ pub enum ItemKind {
 }
 
 // An item, or a brace or a comma between alternatives.
-#[derive(Clone, Copy, PartialEq, Eq)]
+// kept: the new form is no plainer: neither of the two is the absence of the other
+#[derive(Clone, Copy, PartialEq, Eq, Debug)]
 pub enum Kind {
     Item(ItemKind),
     Brace(Brace),

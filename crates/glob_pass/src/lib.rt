@@ -11,6 +11,12 @@ ghost use Rattle.glob_pass.specs.Pass.{value_at, Braced, Passed};
 
 use kinds::{Brace, ItemKind, Kind};
 
+// The characters of a name of at most 1,024, with a slash before it.
+pub const CHARS: usize = 1025;
+
+// Its places: one more, behind the last character.
+pub const PLACES: usize = 1026;
+
 // What is known at a place: the value at the next place, the old values here and there, and the value of a range.
 #[derive(Clone, Copy)]
 pub struct Known {
@@ -30,17 +36,17 @@ pub struct Side {
 // The open braces, the first `depth` of `sides`, the innermost last.
 #[derive(Clone, Copy)]
 pub struct Braces {
-    pub sides: [Side; 1026],
+    pub sides: [Side; PLACES],
     pub depth: usize,
 }
 
 impl Braces {
     // The value before a brace or a comma, where `next` is that behind it.
     fn step(&mut self, brace: Brace, next: bool) -> bool
-        requires { (self.old.depth < length self.old.sides) × (self.old.depth < 1026) }
+        requires { self.old.depth < PLACES }
         ensures { Braced brace self.old next self.new result }
     {
-        if let Brace::Closes = brace {
+        if brace == Brace::Closes {
             self.sides[self.depth] = Side {
                 others: false,
                 after: next,
@@ -52,7 +58,7 @@ impl Braces {
             return next;
         }
         let top = self.sides[self.depth - 1];
-        if let Brace::Comma = brace {
+        if brace == Brace::Comma {
             self.sides[self.depth - 1].others = next | top.others;
             return top.after;
         }
@@ -62,6 +68,8 @@ impl Braces {
 }
 
 // The character behind p, or 0.
+// kept: the new form is no plainer: an escape has a character behind it wherever a name was read, and the definition
+// takes 0 for the one that it hasn't elsewhere
 fn code_behind(chars: &[u32], p: usize) -> u32
     requires { p < length chars.now }
     ensures { result ≡ get_or chars.now (p + 1) 0 }
@@ -90,27 +98,21 @@ fn value_at(k: ItemKind, chars: &[u32], p: usize, c: u32, known: Known) -> bool
 }
 
 // One character more of the path: v holds the values without it, and then with it. For the end of the path, base is
-// true and c is 0.
+// true and c is 0. `braces` is room, which a caller clears once and not for each character.
 pub fn pass(
     kinds: &[Kind],
     chars: &[u32],
     c: u32,
     base: bool,
-    hits: &[bool; 1026],
-    v: &mut [bool; 1026],
+    hits: &[bool; PLACES],
+    v: &mut [bool; PLACES],
+    braces: &mut Braces,
 )
-    requires { (length kinds.now ≡ length chars.now) × (length chars.now < 1026) ×
-        (length chars.now < length v.old) }
+    requires { (length kinds.now ≡ length chars.now) × (length chars.now < PLACES) }
     ensures { Passed (held kinds.now chars.now) c base hits.now v.old
         v.new }
 {
-    let mut braces = Braces {
-        sides: [Side {
-            others: false,
-            after: false,
-        }; 1026],
-        depth: 0,
-    };
+    braces.depth = 0;
     let mut next = base;
     let mut prior = v[kinds.len()];
     v[kinds.len()] = base;

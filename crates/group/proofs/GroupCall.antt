@@ -34,7 +34,7 @@ use Rattle.group_rules.proofs.ByteLaws.{reading_bytes}
 use Rattle.group_rules.proofs.GroupLaws.{text_of, text_bytes, text_decode, groups}
 use Rattle.group_rules.proofs.PlaceLaws.{longest}
 use Rattle.group_open.specs.Back.{OpenedAll}
-use Rattle.group_close.specs.Forth.{Ready}
+use Rattle.group_close.specs.Forth.{Ready, begins}
 use Rattle.group_read.specs.Read.{Codes, CodedAs, SourceFits}
 use Rattle.group.specs.Ran.{GroupWritten, GroupRan}
 
@@ -112,7 +112,7 @@ module _ {source l l₁ : List ℕ} {m : ℕ} (p : Readable group_scratch source
   pub codes_room : (3 * m ≤ length l₁) × (4 * m ≤ length l₁) × (m ≤ 3145728)
   codes_room = (omega (arith, codes.short, p.room, c.size), omega (arith, codes.short, p.room, c.size), omega (arith, codes.short, p.short))
 
-  pub codes_ready : {l₂ : List ℕ} {from : ℕ} → OpenedAll l₁ l₂ m from → Ready l₂ (3 * m) from 0 0
+  pub codes_ready : {l₂ : List ℕ} {from : ℕ} → OpenedAll l₁ l₂ m from → Ready l₂ (3 * m) (begins from)
   codes_ready o =
       record {
         within = o.within;

@@ -2,10 +2,11 @@
 // goes on stand on a stack in front of the bytes that are left, the nearest on top, 0 for a bracket.
 #![tactic(auto)]
 
-ghost use Rattle.std.specs.Prelude.{◌≡◌, ◌∷◌, [], ◌+◌, ◌≤◌, ◌<◌, ◌^◌, ℕ, Bool};
+ghost use Rattle.std.specs.Prelude.{◌≡◌, [], ◌+◌, ◌≤◌, ◌<◌, ◌^◌, length, ℕ, Bool};
 ghost use Rattle.buffer.specs.Buffer.{part, Appended};
 ghost use Rattle.group_rules.specs.Passes.{closes_before, close_end, closed_text};
-ghost use Rattle.group_close.specs.Forth.{Room, Tells, close_until, Closed, Stepped, Ready, ForthTo};
+ghost use Rattle.group_close.specs.Forth.{Room, Tells, close_until, Put, Pushed, Closed, Stepped};
+ghost use Rattle.group_close.specs.Forth.{Ready, ForthTo, begins};
 
 use group_open::{enters, second_takes, stops};
 use group_rules::{CLOSER, OPENER};
@@ -21,146 +22,127 @@ pub struct Spot {
 #[derive(Clone, Copy)]
 pub struct Forth {
     pub at: usize,
-    pub length: usize,
-    pub top: usize,
+    pub spot: Spot,
 }
 
-// Writes a byte of the text, if it fits.
-fn put(out: &mut [u8], at: usize, b: u8) -> usize
-    requires { at < 2 ^ 63 }
-    ensures { Appended out.old out.new at (b ∷ []) result }
-{
-    if at < out.len() {
-        out[at] = b;
+impl Spot {
+    // Writes a byte of the text, if it fits.
+    fn put(self, out: &mut [u8], b: u8) -> Spot
+        requires { self.length < 2 ^ 63 }
+        ensures { Put out.old out.new self b result }
+    {
+        if self.length < out.len() {
+            out[self.length] = b;
+        }
+        Spot {
+            length: self.length + 1,
+            ..self
+        }
     }
-    at + 1
+
+    // Puts a strength on top of the stack.
+    fn push(self, scratch: &mut [u8], s: u8) -> Spot
+        requires { self.top < length scratch.old }
+        ensures { Pushed scratch.old scratch.new self s result }
+    {
+        scratch[self.top] = s;
+        Spot {
+            top: self.top + 1,
+            ..self
+        }
+    }
 }
 
 // Takes operations off the stack down to the first whose strength passes the test: `)` for each.
-fn close_until<F: Fn(u8) -> bool>(
-    scratch: &[u8],
-    out: &mut [u8],
-    len: usize,
-    top: usize,
-    stop: &F,
-) -> Spot
+fn close_until<F: Fn(u8) -> bool>(scratch: &[u8], out: &mut [u8], spot: Spot, stop: &F) -> Spot
     ghost meets: { ℕ → Bool }
     requires tells { Tells (F.pre stop.now) (F.post stop.now) meets }
-    requires room { Room scratch.now len top 0 }
-    ensures { Closed scratch.now out.old out.new len top (close_until meets) result }
+    requires room { Room scratch.now spot 0 }
+    ensures { Closed scratch.now out.old out.new spot (close_until meets) result }
 {
-    let mut n = len;
-    let mut k = top;
+    let mut o = spot;
     // kept: a range is no plainer, since the stack is taken from its top until one stays
-    while 0 < k && !stop(scratch[k - 1]) {
-        n = put(out, n, b')');
-        k -= 1;
+    while 0 < o.top && !stop(scratch[o.top - 1]) {
+        o.top -= 1;
+        o = o.put(out, b')');
     }
-    Spot { length: n, top: k }
+    o
 }
 
 // Operations that end before an operator of strength s.
-fn close_before(scratch: &[u8], out: &mut [u8], s: u8, len: usize, top: usize) -> Spot
-    requires { Room scratch.now len top 0 }
-    ensures { Closed scratch.now out.old out.new len top (closes_before s) result }
+#[tactic(auto, using(crate::proofs::ForthLaws::closed_before))]
+fn close_before(scratch: &[u8], out: &mut [u8], s: u8, spot: Spot) -> Spot
+    requires { Room scratch.now spot 0 }
+    ensures { Closed scratch.now out.old out.new spot (closes_before s) result }
 {
-    close_until(scratch, out, len, top, &|t| second_takes(t, s))
+    close_until(scratch, out, spot, &|t| second_takes(t, s))
 }
 
 // Operations that end before a closing bracket, or at the end.
-fn close_end(scratch: &[u8], out: &mut [u8], len: usize, top: usize) -> Spot
-    requires { Room scratch.now len top 0 }
-    ensures { Closed scratch.now out.old out.new len top close_end result }
+#[tactic(auto, using(crate::proofs::ForthLaws::closed_end))]
+fn close_end(scratch: &[u8], out: &mut [u8], spot: Spot) -> Spot
+    requires { Room scratch.now spot 0 }
+    ensures { Closed scratch.now out.old out.new spot close_end result }
 {
-    close_until(scratch, out, len, top, &|t| t == 0)
+    close_until(scratch, out, spot, &|t| t == 0)
 }
 
-fn close_bracket(scratch: &[u8], out: &mut [u8], len: usize, top: usize) -> Spot
-    requires { Room scratch.now len top 1 }
-    ensures { Stepped scratch.now scratch.now out.old out.new
-        15 len top result }
+#[tactic(auto, using(crate::proofs::ForthLaws::stepped_bracket))]
+fn close_bracket(scratch: &[u8], out: &mut [u8], spot: Spot) -> Spot
+    requires { Room scratch.now spot 1 }
+    ensures { Stepped scratch.now scratch.now out.old out.new 15 spot result }
 {
-    let c = close_end(scratch, out, len, top);
+    let c = close_end(scratch, out, spot);
     Spot {
-        length: c.length,
         top: c.top.saturating_sub(1),
+        ..c
     }
 }
 
-fn close_opener(scratch: &mut [u8], out: &mut [u8], len: usize, top: usize) -> Spot
-    requires { Room scratch.old len top 1 }
-    ensures { Stepped scratch.old scratch.new out.old out.new
-        14 len top result }
+fn close_operator(scratch: &mut [u8], out: &mut [u8], s: u8, spot: Spot) -> Spot
+    requires { (s ≤ 12) × Room scratch.old spot 1 }
+    ensures { Stepped scratch.old scratch.new out.old out.new s spot result }
 {
-    scratch[top] = 0;
-    Spot {
-        length: len,
-        top: top + 1,
-    }
-}
-
-fn close_operator(scratch: &mut [u8], out: &mut [u8], s: u8, len: usize, top: usize) -> Spot
-    requires { (s ≤ 12) × Room scratch.old len top 1 }
-    ensures { Stepped scratch.old scratch.new out.old out.new s
-        len top result }
-{
-    let c = close_before(scratch, out, s, len, top);
-    let n = put(out, c.length, b' ');
-    let k = c.top;
-    scratch[k] = s;
-    Spot {
-        length: n,
-        top: k + 1,
-    }
-}
-
-fn close_plain(scratch: &[u8], out: &mut [u8], b: u8, len: usize, top: usize) -> Spot
-    requires { ((b ≡ 15 → ⊥) × (b ≡ 14 → ⊥) × (12 < b)) × Room scratch.now len top 1 }
-    ensures { Stepped scratch.now scratch.now out.old out.new
-        b len top result }
-{
-    let n = put(out, len, b);
-    Spot { length: n, top }
+    let c = close_before(scratch, out, s, spot);
+    let p = c.put(out, b' ');
+    p.push(scratch, s)
 }
 
 // One byte.
-fn close_code(scratch: &mut [u8], out: &mut [u8], b: u8, len: usize, top: usize) -> Spot
-    requires { Room scratch.old len top 1 }
-    ensures { Stepped scratch.old scratch.new out.old out.new b
-        len top result }
+#[tactic(auto, using(crate::proofs::ForthLaws::stepped_opener, crate::proofs::ForthLaws::stepped_plain))]
+fn close_code(scratch: &mut [u8], out: &mut [u8], b: u8, spot: Spot) -> Spot
+    requires { Room scratch.old spot 1 }
+    ensures { Stepped scratch.old scratch.new out.old out.new b spot result }
 {
     if b == CLOSER {
-        return close_bracket(scratch, out, len, top);
+        return close_bracket(scratch, out, spot);
     }
     if b == OPENER {
-        return close_opener(scratch, out, len, top);
+        return spot.push(scratch, 0);
     }
     if b <= 12 {
-        return close_operator(scratch, out, b, len, top);
+        return close_operator(scratch, out, b, spot);
     }
-    close_plain(scratch, out, b, len, top)
+    spot.put(out, b)
 }
 
 // The byte that is next.
 fn step_forth(scratch: &mut [u8], out: &mut [u8], end: usize, s: Forth) -> Forth
-    requires { (s.at < end) × Ready scratch.old end s.at s.length s.top }
-    ensures { ForthTo scratch.old scratch.new out.old out.new
-        end 1 s result × (result.at ≡ s.at + 1) }
+    requires { (s.at < end) × Ready scratch.old end s }
+    ensures { ForthTo scratch.old scratch.new out.old out.new end 1 s result × (result.at ≡ s.at + 1) }
 {
     let b = scratch[s.at];
-    let next = close_code(scratch, out, b, s.length, s.top);
     Forth {
         at: s.at + 1,
-        length: next.length,
-        top: next.top,
+        spot: close_code(scratch, out, b, s.spot),
     }
 }
 
 // The same, if one is left.
+#[tactic(auto, using(crate::proofs::ForthLaws::forth_none))]
 fn past_one(scratch: &mut [u8], out: &mut [u8], end: usize, s: Forth) -> Forth
-    requires { Ready scratch.old end s.at s.length s.top }
-    ensures { ForthTo scratch.old scratch.new out.old out.new
-        end 1 s result }
+    requires { Ready scratch.old end s }
+    ensures { ForthTo scratch.old scratch.new out.old out.new end 1 s result }
 {
     if s.at < end {
         step_forth(scratch, out, end, s)
@@ -171,7 +153,7 @@ fn past_one(scratch: &mut [u8], out: &mut [u8], end: usize, s: Forth) -> Forth
 
 // Writes up to the end, or in a bracket up to the byte that closes it. No more than 64 calls stand in each other.
 fn close_forth(scratch: &mut [u8], out: &mut [u8], end: usize, depth: usize, from: Forth) -> Forth
-    requires { (depth ≤ 64) × Ready scratch.old end from.at from.length from.top }
+    requires { (depth ≤ 64) × Ready scratch.old end from }
     ensures { ForthTo scratch.old scratch.new out.old out.new
         end depth from result }
 {
@@ -193,16 +175,14 @@ fn close_forth(scratch: &mut [u8], out: &mut [u8], end: usize, depth: usize, fro
 
 // Writes the text of the opened text that stands from a place up to `end`, and gives its whole length.
 pub fn close_all(scratch: &mut [u8], out: &mut [u8], from: usize, end: usize) -> usize
-    requires { Ready scratch.old end from 0 0 }
+    requires { Ready scratch.old end (begins from) }
     ensures { Appended out.old out.new 0 (closed_text
         (part scratch.old from end)) result }
 {
     let start = Forth {
         at: from,
-        length: 0,
-        top: 0,
+        spot: Spot { length: 0, top: 0 },
     };
     let forth = close_forth(scratch, out, end, 0, start);
-    let s = close_end(scratch, out, forth.length, forth.top);
-    s.length
+    close_end(scratch, out, forth.spot).length
 }

@@ -1,6 +1,6 @@
 -- Laws of the pass in scratch.
 use Prim.Native.Nat.{ℕ, zero, suc, ◌+◌, ◌*◌, ◌-◌, ◌≤◌, ◌<◌}
-use mathlib.Core.Bool.{Bool, true, false, ◌&&◌}
+use mathlib.Core.Bool.{Bool, true, false}
 use mathlib.Core.List.{List, [], ◌∷◌}
 use mathlib.Core.Path.{◌≡◌, refl, ap, sym, ◌∙◌, subst}
 use native.Mathlib.Omega.{arith}
@@ -8,15 +8,14 @@ use native.Mathlib.Numerals.{add-one}
 use lib.Dec.{eqb, ltb}
 use lib.ListN.{length, take, drop, get_or, set, length-set, length-take, drop_of_length-le}
 use lib.Seq.{drop-cons, get_or-set_same, get_or-set_other, take-set-le, drop-set-lt, get_or-take}
-use borrow.Author.Tests.{eq-eqb, ne_eqb, le-ltb, lt-ltb, ltb-true}
+use borrow.Author.Tests.{eq-eqb, ne_eqb, le-ltb, lt-ltb}
 use Rattle.buffer.specs.Buffer.{part}
 use Rattle.buffer.proofs.RegionLaws.{drop_take}
 use Rattle.rules.proofs.Choose.{choose_true, choose_false}
 use Rattle.group_rules.specs.Grouping.{takes}
 use Rattle.group_rules.proofs.TakesLaws.{star_is, takes_lt, takes_not}
 use Rattle.group_rules.specs.Passes.{Pass, pass, opens_after, open_bracket, open_operator, open_back, back_step, is_right_code, opened_text}
-use Rattle.utf8.proofs.Tests.{and_left}
-use Rattle.group_open.specs.Back.{stack_of, pass_in, Room, Pushed, Opened, Moved, Backed, BackTo, OpenedAll}
+use Rattle.group_open.specs.Back.{stack_of, pass_in, Room, Put, Pushed, Opened, Moved, Backed, BackTo, OpenedAll}
 use Rattle.group_open.specs.declared.Spot.{Spot}
 use Rattle.group_open.specs.declared.Back.{Back}
 
@@ -69,193 +68,194 @@ stack_top l base (suc k) h = ap (λ m. stack_of l base m) same ∙ unfold stack_
     same : suc k ≡ suc (suc k - 1)
     same = omega arith
 
--- ---- a byte of the text
+-- ---- a byte of the text, and one of the stack
 
-pub record Wrote (l l' : List ℕ) (n at top b p : ℕ) : Type 0 where
+pub record Wrote (l l' : List ℕ) (n b : ℕ) (s r : Spot) : Type 0 where
   pub same : take n l' ≡ take n l
-  pub text : part l' p (3 * n) ≡ b ∷ part l at (3 * n)
-  pub spine : stack_of l' (3 * n) top ≡ stack_of l (3 * n) top
+  pub text : part l' r.at (3 * n) ≡ b ∷ part l s.at (3 * n)
+  pub spine : stack_of l' (3 * n) r.top ≡ stack_of l (3 * n) s.top
   pub size : length l' ≡ length l
-  pub next : p + 1 ≡ at
+  pub next : r.at + 1 ≡ s.at
+  pub height : r.top ≡ s.top
 
-wrote_set : (l : List ℕ) (n at top b p : ℕ) → p + 1 ≡ at → n < at → at ≤ 3 * n → 3 * n ≤ length l → Wrote l (set l p b) n at top b p
-wrote_set l n at top b p e h k f =
-    record {
-      same = take-set-le n l p b (omega arith);
-      text = part_set l p (3 * n) b (omega arith) f ∙ ap (λ a. b ∷ part l a (3 * n)) (sym (add-one p) ∙ e);
-      spine = stack_set_before l (3 * n) top p b (omega arith);
-      size = length-set l p b;
-      next = e;
-    }
+pub wrote : {l l' : List ℕ} {b : ℕ} {s r : Spot} (n : ℕ) → Put l l' s b r → n < s.at → s.at ≤ 3 * n → 3 * n ≤ length l → Wrote l l' n b s r
+wrote {l} {l'} {b} {s} {r} n w h k f = subst (λ x. Wrote l x n b s r) (sym w.is) set_here
+  where
+    set_here : Wrote l (set l r.at b) n b s r
+    set_here =
+        record {
+          same = take-set-le n l r.at b (omega (arith, w.next));
+          text = part_set l r.at (3 * n) b (omega (arith, w.next)) f ∙ ap (λ a. b ∷ part l a (3 * n)) (sym (add-one r.at) ∙ w.next);
+          spine = stack_set_before l (3 * n) r.top r.at b (omega (arith, w.next)) ∙ ap (stack_of l (3 * n)) w.height;
+          size = length-set l r.at b;
+          next = w.next;
+          height = w.height;
+        }
 
-pub wrote : {l l' : List ℕ} {at b p : ℕ} (n top : ℕ) → Pushed l l' at b p → n < at → at ≤ 3 * n → 3 * n ≤ length l → Wrote l l' n at top b p
-wrote {l} {l'} {at} {b} {p} n top w h k f = subst (λ x. Wrote l x n at top b p) (sym w.is) (wrote_set l n at top b p w.next h k f)
+pub record Grown (l l' : List ℕ) (n b : ℕ) (s r : Spot) : Type 0 where
+  pub same : take n l' ≡ take n l
+  pub text : part l' r.at (3 * n) ≡ part l s.at (3 * n)
+  pub spine : stack_of l' (3 * n) r.top ≡ b ∷ stack_of l (3 * n) s.top
+  pub size : length l' ≡ length l
+  pub place : r.at ≡ s.at
+  pub height : r.top ≡ s.top + 1
+
+pub grown : {l l' : List ℕ} {n b : ℕ} {s r : Spot} → Pushed l l' n s b r → 3 * n + s.top < length l → Grown l l' n b s r
+grown {l} {l'} {n} {b} {s} {r} w h = subst (λ x. Grown l x n b s r) (sym w.is) set_here
+  where
+    set_here : Grown l (set l (3 * n + s.top) b) n b s r
+    set_here =
+        record {
+          same = take-set-le n l (3 * n + s.top) b (omega arith);
+          text = part_set_after l r.at (3 * n) (3 * n + s.top) b (omega arith) ∙ ap (λ a. part l a (3 * n)) w.place;
+          spine = ap (stack_of (set l (3 * n + s.top) b) (3 * n)) (w.height ∙ add-one s.top) ∙ stack_push l (3 * n) s.top b h;
+          size = length-set l (3 * n + s.top) b;
+          place = w.place;
+          height = w.height;
+        }
 
 -- ---- open_after
 
-pub record Opening (l₀ l : List ℕ) (n s at₀ top₀ at top : ℕ) : Type 0 where
+pub record Opening (l₀ l : List ℕ) (n t : ℕ) (s₀ s : Spot) : Type 0 where
   pub same : take n l ≡ take n l₀
-  pub is : opens_after s (part l₀ at₀ (3 * n)) (stack_of l₀ (3 * n) top₀) ≡ opens_after s (part l at (3 * n)) (stack_of l (3 * n) top)
-  pub lower : top ≤ top₀
-  pub moved : at + top₀ ≡ at₀ + top
+  pub is : opens_after t (part l₀ s₀.at (3 * n)) (stack_of l₀ (3 * n) s₀.top) ≡ opens_after t (part l s.at (3 * n)) (stack_of l (3 * n) s.top)
+  pub lower : s.top ≤ s₀.top
+  pub moved : s.at + s₀.top ≡ s₀.at + s.top
   pub size : length l ≡ length l₀
-  pub room : Room l n at top 0
+  pub room : Room l n s 0
 
-pub opening_start : (l : List ℕ) (n s at top : ℕ) → Room l n at top 0 → Opening l l n s at top at top
-opening_start l n s at top r = record { same = refl; is = refl; lower = omega arith; moved = refl; size = refl; room = r }
+module _ {l₀ l : List ℕ} {n t : ℕ} {s₀ s : Spot} (o : Opening l₀ l n t s₀ s) where
+  abbrev left : ℕ
+  left = get_or l (3 * n + (s.top - 1)) 0
 
-module _ {l₀ l : List ℕ} {n s at₀ top₀ at top : ℕ} (o : Opening l₀ l n s at₀ top₀ at top) where
-  pub opening_more : {l' : List ℕ} {p : ℕ} (b : Bool) → 0 < top → b ≡ takes s (get_or l (3 * n + (top - 1)) 0) → b ≡ true → Pushed l l' at 40 p → Opening l₀ l' n s at₀ top₀ p (top - 1)
-  opening_more {l'} {p} b h e t w =
-      let g = wrote n (top - 1) w (omega arith) (omega arith) (omega arith) in
-      let f : opens_after s (part l at (3 * n)) (stack_of l (3 * n) top) ≡ opens_after s (40 ∷ part l at (3 * n)) (stack_of l (3 * n) (top - 1))
-      = ap (λ x. opens_after s (part l at (3 * n)) x) (stack_top l (3 * n) top h) ∙ (unfold opens_after in choose_true (takes s (get_or l (3 * n + (top - 1)) 0)) _ _ (sym e ∙ t)) in
+  pub opening_more : {l' : List ℕ} {r : Spot} (b : Bool) → 0 < s.top → b ≡ takes t left → b ≡ true
+      → Put l l' (record { at = s.at; top = s.top - 1 }) 40 r → Opening l₀ l' n t s₀ r
+  opening_more {l'} {r} b h e k w =
+      let g = wrote n w (omega (arith, o.room.room)) o.room.within (omega (arith, o.room.fits)) in
+      let f : opens_after t (part l s.at (3 * n)) (stack_of l (3 * n) s.top) ≡ opens_after t (40 ∷ part l s.at (3 * n)) (stack_of l (3 * n) (s.top - 1))
+      = ap (opens_after t (part l s.at (3 * n))) (stack_top l (3 * n) s.top h) ∙ (unfold opens_after in choose_true (takes t left) _ _ (sym e ∙ k)) in
       record {
         same = g.same ∙ o.same;
-        is = o.is ∙ f ∙ ap (λ x. opens_after s x (stack_of l (3 * n) (top - 1))) (sym g.text) ∙ ap (λ x. opens_after s (part l' p (3 * n)) x) (sym g.spine);
-        lower = omega (arith, o.lower);
-        moved = omega (arith, o.moved, g.next);
+        is = o.is ∙ f ∙ ap (λ x. opens_after t x (stack_of l (3 * n) (s.top - 1))) (sym g.text) ∙ ap (opens_after t (part l' r.at (3 * n))) (sym g.spine);
+        lower = omega (arith, o.lower, g.height);
+        moved = omega (arith, o.moved, g.next, g.height);
         size = g.size ∙ o.size;
-        room = record { room = omega (arith, o.room.room, g.next); within = omega (arith, o.room.within, g.next); height = omega (arith, o.room.height); fits = omega (arith, o.room.fits, g.size) };
+        room = record { room = omega (arith, o.room.room, g.next, g.height); within = omega (arith, o.room.within, g.next); height = omega (arith, o.room.height, g.height); fits = omega (arith, o.room.fits, g.size) };
       }
 
-  opened_here : opens_after s (part l at (3 * n)) (stack_of l (3 * n) top) ≡ pass_in l n at top → (r : Spot) → r.at ≡ at → r.top ≡ top → Opened l₀ l n s at₀ top₀ r
-  opened_here e r p q =
-      record {
-        same = o.same;
-        is = o.is ∙ e ∙ ap (λ x. pass_in l n x top) (sym p) ∙ ap (λ x. pass_in l n r.at x) (sym q);
-        lower = omega (arith, o.lower);
-        moved = omega (arith, o.moved);
-        size = o.size;
-      }
+  opened_here : opens_after t (part l s.at (3 * n)) (stack_of l (3 * n) s.top) ≡ pass_in l n s → Opened l₀ l n t s₀ s
+  opened_here e = record { same = o.same; is = o.is ∙ e; lower = o.lower; moved = o.moved; size = o.size }
 
-  pub opening_stop : (b : Bool) → 0 < top → b ≡ takes s (get_or l (3 * n + (top - 1)) 0) → b ≡ false → Opened l₀ l n s at₀ top₀ (record { at = at; top = top })
-  opening_stop b h e t =
-      let f : opens_after s (part l at (3 * n)) (get_or l (3 * n + (top - 1)) 0 ∷ stack_of l (3 * n) (top - 1)) ≡ pass (part l at (3 * n)) (get_or l (3 * n + (top - 1)) 0 ∷ stack_of l (3 * n) (top - 1))
-      = unfold opens_after in choose_false (takes s (get_or l (3 * n + (top - 1)) 0)) _ _ (sym e ∙ t) in
+  pub opening_stop : (b : Bool) → 0 < s.top → b ≡ takes t left → b ≡ false → Opened l₀ l n t s₀ s
+  opening_stop b h e k =
+      let f : opens_after t (part l s.at (3 * n)) (left ∷ stack_of l (3 * n) (s.top - 1)) ≡ pass (part l s.at (3 * n)) (left ∷ stack_of l (3 * n) (s.top - 1))
+      = unfold opens_after in choose_false (takes t left) _ _ (sym e ∙ k) in
+      opened_here (ap (opens_after t (part l s.at (3 * n))) (stack_top l (3 * n) s.top h) ∙ f ∙ ap (pass (part l s.at (3 * n))) (sym (stack_top l (3 * n) s.top h)))
+
+  pub opening_end : s.top ≤ 0 → Opened l₀ l n t s₀ s
+  opening_end h =
       opened_here
-      (ap (λ x. opens_after s (part l at (3 * n)) x) (stack_top l (3 * n) top h) ∙ f ∙ ap (λ x. pass (part l at (3 * n)) x) (sym (stack_top l (3 * n) top h)))
-      (record { at = at; top = top }) refl refl
-
-  pub opening_end : top ≤ 0 → Opened l₀ l n s at₀ top₀ (record { at = at; top = top })
-  opening_end h = opened_here (subst (λ k. opens_after s (part l at (3 * n)) (stack_of l (3 * n) k) ≡ pass_in l n at k) zero_top (unfold opens_after stack_of in refl)) (record { at = at; top = top }) refl refl
+      (subst (λ k. opens_after t (part l s.at (3 * n)) (stack_of l (3 * n) k) ≡ pass (part l s.at (3 * n)) (stack_of l (3 * n) k)) zero_top (unfold opens_after stack_of in refl))
     where
-      zero_top : 0 ≡ top
+      zero_top : 0 ≡ s.top
       zero_top = omega arith
 
-pub room_after : {l : List ℕ} {n at top : ℕ} → Room l n at top 1 → Room l n at top 0
+pub room_after : {l : List ℕ} {n : ℕ} {s : Spot} → Room l n s 1 → Room l n s 0
 room_after r = record { room = omega (arith, r.room); within = r.within; height = omega (arith, r.height); fits = r.fits }
 
 -- ---- one code
 
-pub moved_plain : {l l' : List ℕ} {n at top b p : ℕ} → Room l n at top 1 → Pushed l l' at b p
-    → Moved l l' n at top (pass (b ∷ part l at (3 * n)) (stack_of l (3 * n) top)) (record { at = p; top = top })
-moved_plain {l} {l'} {n} {at} {top} {b} {p} r w =
-    let g = wrote n top w (omega (arith, r.room)) r.within (omega (arith, r.fits)) in
+pub moved_plain : {l l' : List ℕ} {n b : ℕ} {s r : Spot} → Room l n s 1 → Put l l' s b r
+    → Moved l l' n s (pass (b ∷ part l s.at (3 * n)) (stack_of l (3 * n) s.top)) r
+moved_plain {l} {l'} {n} {b} {s} {r} h w =
+    let g = wrote n w (omega (arith, h.room)) h.within (omega (arith, h.fits)) in
     record {
       same = g.same;
-      is = ap (λ x. pass x (stack_of l (3 * n) top)) (sym g.text) ∙ ap (λ x. pass (part l' p (3 * n)) x) (sym g.spine);
-      within = omega (arith, r.within, g.next);
-      cost = omega (arith, g.next);
-      high = omega arith;
+      is = ap (λ x. pass x (stack_of l (3 * n) s.top)) (sym g.text) ∙ ap (pass (part l' r.at (3 * n))) (sym g.spine);
+      within = omega (arith, h.within, g.next);
+      cost = omega (arith, g.next, g.height);
+      high = omega (arith, g.height);
       size = g.size;
     }
 
--- v is pushed on the spine
-pub record Grown (l : List ℕ) (n at top v : ℕ) : Type 0 where
-  pub same : take n (set l (3 * n + top) v) ≡ take n l
-  pub text : part (set l (3 * n + top) v) at (3 * n) ≡ part l at (3 * n)
-  pub spine : stack_of (set l (3 * n + top) v) (3 * n) (top + 1) ≡ v ∷ stack_of l (3 * n) top
-  pub size : length (set l (3 * n + top) v) ≡ length l
-
-pub grown : (l : List ℕ) (n at top v : ℕ) → 3 * n + top < length l → Grown l n at top v
-grown l n at top v h =
-    record {
-      same = take-set-le n l (3 * n + top) v (omega arith);
-      text = part_set_after l at (3 * n) (3 * n + top) v (omega arith);
-      spine = ap (stack_of (set l (3 * n + top) v) (3 * n)) (add-one top) ∙ stack_push l (3 * n) top v h;
-      size = length-set l (3 * n + top) v;
-    }
-
-pub moved_closer : {l l' : List ℕ} {n at top p : ℕ} → Room l n at top 1 → Pushed l l' at 15 p
-    → Moved l (set l' (3 * n + top) 0) n at top (pass (15 ∷ part l at (3 * n)) (0 ∷ stack_of l (3 * n) top)) (record { at = p; top = top + 1 })
-moved_closer {l} {l'} {n} {at} {top} {p} r w =
-    let g = wrote n top w (omega (arith, r.room)) r.within (omega (arith, r.fits)) in
-    let k = grown l' n p top 0 (omega (arith, r.fits, r.height, g.size)) in
+pub moved_closer : {l l₁ l₂ : List ℕ} {n : ℕ} {s p r : Spot} → Room l n s 1 → Put l l₁ s 15 p → Pushed l₁ l₂ n p 0 r
+    → Moved l l₂ n s (pass (15 ∷ part l s.at (3 * n)) (0 ∷ stack_of l (3 * n) s.top)) r
+moved_closer {l} {l₁} {l₂} {n} {s} {p} {r} h w u =
+    let g = wrote n w (omega (arith, h.room)) h.within (omega (arith, h.fits)) in
+    let k = grown u (omega (arith, h.fits, h.height, g.size, g.height)) in
     record {
       same = k.same ∙ g.same;
-      is = ap (λ x. pass x (0 ∷ stack_of l (3 * n) top)) (sym (k.text ∙ g.text))
-          ∙ ap (λ x. pass (part (set l' (3 * n + top) 0) p (3 * n)) x) (sym (k.spine ∙ ap (λ x. 0 ∷ x) g.spine));
-      within = omega (arith, r.within, g.next);
-      cost = omega (arith, g.next);
-      high = omega arith;
+      is = ap (λ x. pass x (0 ∷ stack_of l (3 * n) s.top)) (sym (k.text ∙ g.text))
+          ∙ ap (pass (part l₂ r.at (3 * n))) (sym (k.spine ∙ ap (λ x. 0 ∷ x) g.spine));
+      within = omega (arith, h.within, g.next, k.place);
+      cost = omega (arith, g.next, g.height, k.place, k.height);
+      high = omega (arith, g.height, k.height);
       size = k.size ∙ g.size;
     }
 
-module _ {l l₁ l₂ : List ℕ} {n s at top b p : ℕ} {o : Spot} (r : Room l n at top 1) (w : Opened l l₁ n s at top o) (u : Pushed l₁ l₂ o.at b p) where
-  after_opened : Wrote l₁ l₂ n o.at o.top b p
-  after_opened =
-      wrote n o.top u (omega (arith, r.room, w.moved)) (omega (arith, r.within, w.moved, w.lower)) (omega (arith, r.fits, w.size))
+module _ {l l₁ l₂ : List ℕ} {n t b : ℕ} {s o p : Spot} (h : Room l n s 1) (w : Opened l l₁ n t s o) (u : Put l₁ l₂ o b p) where
+  after_opened : Wrote l₁ l₂ n b o p
+  after_opened = wrote n u (omega (arith, h.room, w.moved)) (omega (arith, h.within, w.moved, w.lower)) (omega (arith, h.fits, w.size))
 
-  pub moved_operator : {c : ℕ} → b ≡ 32 → c ≡ s
-      → Moved l (set l₂ (3 * n + o.top) c) n at top (open_operator s (opens_after s (part l at (3 * n)) (stack_of l (3 * n) top))) (record { at = p; top = o.top + 1 })
+  pub moved_operator : {l₃ : List ℕ} {c : ℕ} {r : Spot} → b ≡ 32 → c ≡ t → Pushed l₂ l₃ n p c r
+      → Moved l l₃ n s (open_operator t (opens_after t (part l s.at (3 * n)) (stack_of l (3 * n) s.top))) r
   unfolding open_operator
-  moved_operator {c} e q =
+  moved_operator {l₃} {c} {r} e q v =
       let g = after_opened in
-      let k = grown l₂ n p o.top c (omega (arith, r.fits, r.height, w.lower, w.size, g.size)) in
+      let k = grown v (omega (arith, h.fits, h.height, w.lower, w.size, g.size, g.height)) in
       record {
         same = k.same ∙ g.same ∙ w.same;
-        is = ap (open_operator s) w.is
-            ∙ ap (λ x. pass x (s ∷ stack_of l₁ (3 * n) o.top)) (sym (k.text ∙ g.text ∙ ap (λ x. x ∷ part l₁ o.at (3 * n)) e))
-            ∙ ap (λ x. pass (part (set l₂ (3 * n + o.top) c) p (3 * n)) x) (sym (k.spine ∙ ap (λ x. c ∷ x) g.spine ∙ ap (λ x. x ∷ stack_of l₁ (3 * n) o.top) q));
-        within = omega (arith, r.within, g.next, w.moved, w.lower);
-        cost = omega (arith, g.next, w.moved);
-        high = omega (arith, w.lower);
+        is = ap (open_operator t) w.is
+            ∙ ap (λ x. pass x (t ∷ stack_of l₁ (3 * n) o.top)) (sym (k.text ∙ g.text ∙ ap (λ x. x ∷ part l₁ o.at (3 * n)) e))
+            ∙ ap (pass (part l₃ r.at (3 * n))) (sym (k.spine ∙ ap (λ x. c ∷ x) g.spine ∙ ap (λ x. x ∷ stack_of l₁ (3 * n) o.top) q));
+        within = omega (arith, h.within, g.next, w.moved, w.lower, k.place);
+        cost = omega (arith, g.next, g.height, w.moved, k.place, k.height);
+        high = omega (arith, w.lower, g.height, k.height);
         size = k.size ∙ g.size ∙ w.size;
       }
 
-  pub moved_bracket : {k : ℕ} → b ≡ 14 → s ≡ 0 → k ≡ o.top - 1
-      → Moved l l₂ n at top (open_bracket (opens_after 0 (part l at (3 * n)) (stack_of l (3 * n) top))) (record { at = p; top = k })
+  pub moved_bracket : {k : ℕ} → b ≡ 14 → t ≡ 0 → k ≡ p.top - 1
+      → Moved l l₂ n s (open_bracket (opens_after 0 (part l s.at (3 * n)) (stack_of l (3 * n) s.top))) (record { at = p.at; top = k })
   unfolding open_bracket
   moved_bracket {k} e z q =
       let g = after_opened in
       record {
         same = g.same ∙ w.same;
-        is = ap (λ x. open_bracket (opens_after x (part l at (3 * n)) (stack_of l (3 * n) top))) (sym z) ∙ ap open_bracket w.is
+        is = ap (λ x. open_bracket (opens_after x (part l s.at (3 * n)) (stack_of l (3 * n) s.top))) (sym z) ∙ ap open_bracket w.is
             ∙ ap (λ x. pass x (drop 1 (stack_of l₁ (3 * n) o.top))) (sym (g.text ∙ ap (λ x. x ∷ part l₁ o.at (3 * n)) e))
-            ∙ ap (λ x. pass (part l₂ p (3 * n)) x) (ap (drop 1) (sym g.spine) ∙ stack_pop l₂ (3 * n) o.top ∙ ap (stack_of l₂ (3 * n)) (sym q));
-        within = omega (arith, r.within, g.next, w.moved, w.lower);
-        cost = omega (arith, g.next, w.moved);
-        high = omega (arith, w.lower);
+            ∙ ap (pass (part l₂ p.at (3 * n))) (ap (drop 1) (sym g.spine) ∙ stack_pop l₂ (3 * n) p.top ∙ ap (stack_of l₂ (3 * n)) (sym q));
+        within = omega (arith, h.within, g.next, w.moved, w.lower);
+        cost = omega (arith, g.next, g.height, w.moved);
+        high = omega (arith, w.lower, g.height);
         size = g.size ∙ w.size;
       }
 
-module _ {l l' : List ℕ} {n at top : ℕ} {r : Spot} where
-  moved_as : {p q : Pass} → p ≡ q → Moved l l' n at top p r → Moved l l' n at top q r
-  moved_as e m = subst (λ x. Moved l l' n at top x r) e m
+module _ {l l' : List ℕ} {n : ℕ} {s r : Spot} where
+  moved_as : {p q : Pass} → p ≡ q → Moved l l' n s p r → Moved l l' n s q r
+  moved_as e m = subst (λ x. Moved l l' n s x r) e m
 
   module _ (b : ℕ) where
-    pub code_bracket : b ≡ 14 → Moved l l' n at top (open_bracket (opens_after 0 (part l at (3 * n)) (stack_of l (3 * n) top))) r
-        → Moved l l' n at top (back_step b (pass_in l n at top)) r
+    pub code_bracket : b ≡ 14 → Moved l l' n s (open_bracket (opens_after 0 (part l s.at (3 * n)) (stack_of l (3 * n) s.top))) r
+        → Moved l l' n s (back_step b (pass_in l n s)) r
     unfolding back_step
     code_bracket e m = moved_as (sym (choose_true (eqb b 14) _ _ (eq-eqb b 14 e))) m
 
-    pub code_closer : (b ≡ 14 → ⊥) → b ≡ 15 → Moved l l' n at top (pass (15 ∷ part l at (3 * n)) (0 ∷ stack_of l (3 * n) top)) r
-        → Moved l l' n at top (back_step b (pass_in l n at top)) r
+    pub code_closer : (b ≡ 14 → ⊥) → b ≡ 15 → Moved l l' n s (pass (15 ∷ part l s.at (3 * n)) (0 ∷ stack_of l (3 * n) s.top)) r
+        → Moved l l' n s (back_step b (pass_in l n s)) r
     unfolding back_step
     code_closer h e m = moved_as (sym (choose_false (eqb b 14) _ _ (ne_eqb b 14 h) ∙ choose_true (eqb b 15) _ _ (eq-eqb b 15 e))) m
 
-    pub code_operator : {s : ℕ} {t : Bool} → (b ≡ 14 → ⊥) → (b ≡ 15 → ⊥) → t ≡ is_right_code b → t ≡ true → s ≡ b - 16
-        → Moved l l' n at top (open_operator s (opens_after s (part l at (3 * n)) (stack_of l (3 * n) top))) r
-        → Moved l l' n at top (back_step b (pass_in l n at top)) r
+    pub code_operator : {k : ℕ} {t : Bool} → (b ≡ 14 → ⊥) → (b ≡ 15 → ⊥) → t ≡ is_right_code b → t ≡ true → k ≡ b - 16
+        → Moved l l' n s (open_operator k (opens_after k (part l s.at (3 * n)) (stack_of l (3 * n) s.top))) r
+        → Moved l l' n s (back_step b (pass_in l n s)) r
     unfolding back_step
-    code_operator h k e t q m =
+    code_operator h i e t q m =
         moved_as
-        (ap (λ x. open_operator x (opens_after x (part l at (3 * n)) (stack_of l (3 * n) top))) q
-        ∙ sym (choose_false (eqb b 14) _ _ (ne_eqb b 14 h) ∙ choose_false (eqb b 15) _ _ (ne_eqb b 15 k) ∙ choose_true (is_right_code b) _ _ (sym e ∙ t))) m
+        (ap (λ x. open_operator x (opens_after x (part l s.at (3 * n)) (stack_of l (3 * n) s.top))) q
+        ∙ sym (choose_false (eqb b 14) _ _ (ne_eqb b 14 h) ∙ choose_false (eqb b 15) _ _ (ne_eqb b 15 i) ∙ choose_true (is_right_code b) _ _ (sym e ∙ t))) m
 
     pub code_plain : {t : Bool} → (b ≡ 14 → ⊥) → (b ≡ 15 → ⊥) → t ≡ is_right_code b → t ≡ false
-        → Moved l l' n at top (pass (b ∷ part l at (3 * n)) (stack_of l (3 * n) top)) r → Moved l l' n at top (back_step b (pass_in l n at top)) r
+        → Moved l l' n s (pass (b ∷ part l s.at (3 * n)) (stack_of l (3 * n) s.top)) r → Moved l l' n s (back_step b (pass_in l n s)) r
     unfolding back_step
     code_plain h k e t m =
         moved_as
@@ -269,17 +269,17 @@ drop_back l i h k = drop-cons l (i - 1) 0 (omega arith) ∙ ap (λ m. get_or l (
     same : suc (i - 1) ≡ i
     same = omega arith
 
-pub backed_step : {l l' : List ℕ} {n left at top b : ℕ} {r : Spot} → 0 < left → Backed (take n l) l n left at top → b ≡ get_or l (left - 1) 0
-    → Moved l l' n at top (back_step b (pass_in l n at top)) r → BackTo l l' n 1 (left - 1) (record { left = left - 1; at = r.at; top = r.top })
-backed_step {l} {l'} {n} {left} {at} {top} {b} {r} h k e m =
-    let f : open_back (drop (left - 1) (take n l)) ≡ back_step (get_or (take n l) (left - 1) 0) (open_back (drop left (take n l)))
-    = ap open_back (drop_back (take n l) left h (omega (arith, length-take n l, k.height, k.fits))) ∙ unfold open_back in refl in
-    let g : get_or (take n l) (left - 1) 0 ≡ b = get_or-take n l (left - 1) 0 (omega (arith, k.height)) ∙ sym e in
+pub backed_step : {l l' : List ℕ} {n b : ℕ} {s : Back} {r : Spot} → 0 < s.left → Backed (take n l) l n s → b ≡ get_or l (s.left - 1) 0
+    → Moved l l' n s.spot (back_step b (pass_in l n s.spot)) r → BackTo l l' n 1 (s.left - 1) (record { left = s.left - 1; spot = r })
+backed_step {l} {l'} {n} {b} {s} {r} h k e m =
+    let f : open_back (drop (s.left - 1) (take n l)) ≡ back_step (get_or (take n l) (s.left - 1) 0) (open_back (drop s.left (take n l)))
+    = ap open_back (drop_back (take n l) s.left h (omega (arith, length-take n l, k.height, k.fits))) ∙ unfold open_back in refl in
+    let g : get_or (take n l) (s.left - 1) 0 ≡ b = get_or-take n l (s.left - 1) 0 (omega (arith, k.height)) ∙ sym e in
     record {
       backed =
           record {
             codes = m.same;
-            is = f ∙ ap (λ x. back_step x (open_back (drop left (take n l)))) g ∙ ap (back_step b) k.is ∙ m.is;
+            is = f ∙ ap (λ x. back_step x (open_back (drop s.left (take n l)))) g ∙ ap (back_step b) k.is ∙ m.is;
             room = omega (arith, k.room, m.cost);
             within = m.within;
             height = omega (arith, k.height, m.high);
@@ -304,68 +304,14 @@ second_more s t h k = ne_eqb s t k ∙ sym (takes_not s t h (λ e q. k e))
 
 -- ---- open_back
 
-pub record Backing (l₀ l : List ℕ) (n left i p k : ℕ) : Type 0 where
-  pub backed : Backed (take n l₀) l n i p k
-  pub lower : i ≤ left
+pub record Backing (l₀ l : List ℕ) (n left : ℕ) (s : Back) : Type 0 where
+  pub backed : Backed (take n l₀) l n s
+  pub lower : s.left ≤ left
   pub size : length l ≡ length l₀
-
-pub backing_start : (l : List ℕ) (n left at top : ℕ) → Backed (take n l) l n left at top → Backing l l n left left at top
-backing_start l n left at top b = record { backed = b; lower = omega arith; size = refl }
-
-pub rebase : {cs l : List ℕ} {n left at top : ℕ} → Backed cs l n left at top → Backed (take n l) l n left at top
-rebase {cs} {l} {n} {left} {at} {top} b = subst (λ x. Backed x l n left at top) (sym b.codes) b
-
-module _ {l₀ l : List ℕ} {n left i p k : ℕ} (o : Backing l₀ l n left i p k) where
-  pub backing_ready : Backed (take n l) l n i p k
-  backing_ready = rebase o.backed
-
-  pub backing_more : {l' : List ℕ} {j depth : ℕ} {r : Back} → j ≤ i → BackTo l l' n depth j r → Backing l₀ l' n left r.left r.at r.top
-  backing_more {l'} {j} {depth} {r} h b =
-      record {
-        backed = subst (λ x. Backed x l' n r.left r.at r.top) o.backed.codes b.backed;
-        lower = omega (arith, b.lower, o.lower);
-        size = b.size ∙ o.size;
-      }
-
-  pub backing_stop : (depth : ℕ) (x t : Bool) → t ≡ (ltb 0 depth && x) → t ≡ true → BackTo l₀ l n depth left (record { left = i; at = p; top = k })
-  backing_stop depth x t e f = record { backed = o.backed; lower = o.lower; whole = λ z. absurd (let y = ltb-true 0 depth (and_left (ltb 0 depth) x (sym e ∙ f)) in omega arith); size = o.size }
-
-  pub backing_end : (depth : ℕ) → i ≤ 0 → BackTo l₀ l n depth left (record { left = i; at = p; top = k })
-  backing_end depth h = record { backed = o.backed; lower = o.lower; whole = λ f. omega arith; size = o.size }
-
--- a turn of the loop: a code, and with a bracket its inside and the code that opens it
-pub backing_step : {l₀ l l₁ : List ℕ} {n left : ℕ} (s s₁ : Back) → Backing l₀ l n left s.left s.at s.top → BackTo l l₁ n 1 (s.left - 1) s₁
-    → Backing l₀ l₁ n left s₁.left s₁.at s₁.top
-backing_step s s₁ o b = backing_more o (omega arith) b
-
-pub backing_bracket : {l₀ l l₁ l₂ l₃ : List ℕ} {n left depth : ℕ} (s s₁ s₂ s₃ : Back) → Backing l₀ l n left s.left s.at s.top → BackTo l l₁ n 1 (s.left - 1) s₁
-    → BackTo l₁ l₂ n depth s₁.left s₂ → BackTo l₂ l₃ n 1 s₂.left s₃ → Backing l₀ l₃ n left s₃.left s₃.at s₃.top
-backing_bracket s s₁ s₂ s₃ o a b c = backing_more (backing_more (backing_step s s₁ o a) (omega arith) b) (omega arith) c
-
-pub back_ready : {l l₁ : List ℕ} {n left depth : ℕ} (s : Back) → BackTo l l₁ n depth left s → Backed (take n l₁) l₁ n s.left s.at s.top
-back_ready s b = rebase b.backed
-
--- ---- the tests of a code in so many brackets
-
-pub entered : (depth : ℕ) (x t : Bool) → t ≡ (ltb depth 64 && x) → t ≡ true → depth < 64
-entered depth x t e f = ltb-true depth 64 (and_left (ltb depth 64) x (sym e ∙ f))
-
-pub pushed_size : {l l' : List ℕ} {at b r : ℕ} → Pushed l l' at b r → length l' ≡ length l
-pushed_size {l} {l'} {at} {b} {r} w = ap length w.is ∙ length-set l r b
-
-pub set_size : (l : List ℕ) (i v m : ℕ) → length l ≡ m → length (set l i v) ≡ m
-set_size l i v m e = length-set l i v ∙ e
-
-pub right_least : (b : ℕ) (t : Bool) → t ≡ is_right_code b → t ≡ true → 16 ≤ b
-right_least b t e h = go (ltb 16 b) refl (sym e ∙ h)
-  where
-    go : (a : Bool) → ltb 16 b ≡ a → (a && ltb b 32) ≡ true → 16 ≤ b
-    go true q k = omega (arith, ltb-true 16 b q)
-    go false q k = absurd (let z : ◌≡◌ {A = ℕ} 0 1 = cc in omega arith)
 
 -- ---- open_all
 
-pub backed_start : (l : List ℕ) (n : ℕ) → 4 * n ≤ length l → Backed (take n l) l n n (3 * n) 0
+pub backed_start : (l : List ℕ) (n : ℕ) → 4 * n ≤ length l → Backed (take n l) l n (record { left = n; spot = record { at = 3 * n; top = 0 } })
 backed_start l n h =
     record {
       codes = refl;
@@ -379,10 +325,7 @@ backed_start l n h =
     none : 0 ≡ 3 * n - 3 * n
     none = omega arith
 
-pub backed_end : {cs l : List ℕ} {n left at top : ℕ} → Backed cs l n left at top → Room l n at top 0
-backed_end b = record { room = omega (arith, b.room); within = b.within; height = omega (arith, b.height); fits = b.fits }
-
-pub opened_all : {l l₁ l₂ : List ℕ} {n m : ℕ} {b : Back} {o : Spot} → BackTo l l₁ n 0 m b → Opened l₁ l₂ n 0 b.at b.top o → OpenedAll l l₂ n o.at
+pub opened_all : {l l₁ l₂ : List ℕ} {n m : ℕ} {b : Back} {o : Spot} → BackTo l l₁ n 0 m b → Opened l₁ l₂ n 0 b.spot o → OpenedAll l l₂ n o.at
 unfolding opened_text
 opened_all {l} {l₁} {l₂} {n} {m} {b} {o} k w =
     record {

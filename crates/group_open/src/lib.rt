@@ -3,11 +3,11 @@
 // n.
 #![tactic(auto)]
 
-ghost use Rattle.std.specs.Prelude.{◌≡◌, ◌∷◌, ◌&&◌, eqb, ltb, ◌*◌, ◌-◌, ◌≤◌, ◌<◌, length, take};
+ghost use Rattle.std.specs.Prelude.{◌≡◌, ◌∷◌, ◌&&◌, eqb, ltb, ◌+◌, ◌*◌, ◌-◌, ◌≤◌, ◌<◌, length, take};
 ghost use Rattle.buffer.specs.Buffer.{part};
 ghost use Rattle.group_rules.specs.Grouping.{takes};
 ghost use Rattle.group_rules.specs.Passes.{pass, opens_after, open_bracket, open_operator, back_step, is_right_code};
-ghost use Rattle.group_open.specs.Back.{stack_of, pass_in, Room, Pushed, Opened, Moved, Backed, BackTo, OpenedAll};
+ghost use Rattle.group_open.specs.Back.{stack_of, pass_in, Room, Put, Pushed, Opened, Moved, Backed, BackTo, OpenedAll};
 
 use group_rules::{CLOSER, OPENER};
 
@@ -25,8 +25,31 @@ pub struct Spot {
 #[derive(Clone, Copy)]
 pub struct Back {
     pub left: usize,
-    pub at: usize,
-    pub top: usize,
+    pub spot: Spot,
+}
+
+impl Spot {
+    // Puts a byte in front of the opened text.
+    fn put(self, scratch: &mut [u8], b: u8) -> Spot
+        requires { (0 < self.at) × (self.at ≤ length scratch.old) }
+        ensures { Put scratch.old scratch.new self b result }
+    {
+        let at = self.at - 1;
+        scratch[at] = b;
+        Spot { at, ..self }
+    }
+
+    // Puts a strength on top of the stack.
+    fn push(self, scratch: &mut [u8], n: usize, s: u8) -> Spot
+        requires { 3 * n + self.top < length scratch.old }
+        ensures { Pushed scratch.old scratch.new n self s result }
+    {
+        scratch[3 * n + self.top] = s;
+        Spot {
+            top: self.top + 1,
+            ..self
+        }
+    }
 }
 
 // Of two operators in this order, whether the second takes the operand between.
@@ -36,77 +59,52 @@ pub fn second_takes(s: u8, t: u8) -> bool
     s < t || (s == t && t == 12)
 }
 
-fn push_back(scratch: &mut [u8], at: usize, b: u8) -> usize
-    requires { (0 < at) × (at ≤ length scratch.old) }
-    ensures { Pushed scratch.old scratch.new at b result }
-{
-    let p = at - 1;
-    scratch[p] = b;
-    p
-}
-
 // Operations that start after an operator of strength s, or after a bracket or nothing where s is 0: `(` for each, off
 // the stack.
-fn open_after(scratch: &mut [u8], n: usize, s: u8, at: usize, top: usize) -> Spot
-    requires { Room scratch.old n at top 0 }
-    ensures { Opened scratch.old scratch.new n s at top result }
+fn open_after(scratch: &mut [u8], n: usize, s: u8, spot: Spot) -> Spot
+    requires { Room scratch.old n spot 0 }
+    ensures { Opened scratch.old scratch.new n s spot result }
 {
     let base = 3 * n;
-    let mut p = at;
-    let mut k = top;
+    let mut o = spot;
     // kept: a range is no plainer, since the stack is taken from its top until one stays
-    while 0 < k && second_takes(s, scratch[base + (k - 1)]) {
-        p = push_back(scratch, p, b'(');
-        k -= 1;
+    while 0 < o.top && second_takes(s, scratch[base + (o.top - 1)]) {
+        o.top -= 1;
+        o = o.put(scratch, b'(');
     }
-    Spot { at: p, top: k }
+    o
 }
 
-fn open_bracket(scratch: &mut [u8], n: usize, at: usize, top: usize) -> Spot
-    requires { Room scratch.old n at top 1 }
-    ensures { Moved scratch.old scratch.new n at top (open_bracket
-        (opens_after 0 (part scratch.old at (3 * n)) (stack_of scratch.old (3 * n) top))) result }
+fn open_bracket(scratch: &mut [u8], n: usize, spot: Spot) -> Spot
+    requires { Room scratch.old n spot 1 }
+    ensures { Moved scratch.old scratch.new n spot (open_bracket
+        (opens_after 0 (part scratch.old spot.at (3 * n)) (stack_of scratch.old (3 * n) spot.top))) result }
 {
-    let o = open_after(scratch, n, 0, at, top);
-    let p = push_back(scratch, o.at, OPENER);
+    let o = open_after(scratch, n, 0, spot);
+    let p = o.put(scratch, OPENER);
     Spot {
-        at: p,
-        top: o.top.saturating_sub(1),
+        top: p.top.saturating_sub(1),
+        ..p
     }
 }
 
-fn open_closer(scratch: &mut [u8], n: usize, at: usize, top: usize) -> Spot
-    requires { Room scratch.old n at top 1 }
-    ensures { Moved scratch.old scratch.new n at top (pass
-        (15 ∷ part scratch.old at (3 * n)) (0 ∷ stack_of scratch.old (3 * n) top)) result }
+fn open_closer(scratch: &mut [u8], n: usize, spot: Spot) -> Spot
+    requires { Room scratch.old n spot 1 }
+    ensures { Moved scratch.old scratch.new n spot (pass
+        (15 ∷ part scratch.old spot.at (3 * n)) (0 ∷ stack_of scratch.old (3 * n) spot.top)) result }
 {
-    let p = push_back(scratch, at, CLOSER);
-    scratch[3 * n + top] = 0;
-    Spot {
-        at: p,
-        top: top + 1,
-    }
+    let p = spot.put(scratch, CLOSER);
+    p.push(scratch, n, 0)
 }
 
-fn open_operator(scratch: &mut [u8], n: usize, s: u8, at: usize, top: usize) -> Spot
-    requires { Room scratch.old n at top 1 }
-    ensures { Moved scratch.old scratch.new n at top (open_operator s
-        (opens_after s (part scratch.old at (3 * n)) (stack_of scratch.old (3 * n) top))) result }
+fn open_operator(scratch: &mut [u8], n: usize, s: u8, spot: Spot) -> Spot
+    requires { Room scratch.old n spot 1 }
+    ensures { Moved scratch.old scratch.new n spot (open_operator s
+        (opens_after s (part scratch.old spot.at (3 * n)) (stack_of scratch.old (3 * n) spot.top))) result }
 {
-    let o = open_after(scratch, n, s, at, top);
-    let p = push_back(scratch, o.at, b' ');
-    let k = o.top;
-    scratch[3 * n + k] = s;
-    Spot { at: p, top: k + 1 }
-}
-
-fn open_plain(scratch: &mut [u8], n: usize, b: u8, at: usize, top: usize) -> Spot
-    requires { Room scratch.old n at top 1 }
-    ensures { Moved scratch.old scratch.new n at top (pass
-        (b ∷ part scratch.old at (3 * n)) (stack_of scratch.old (3 * n) top)) result }
-{
-    let p = push_back(scratch, at, b);
-    Spot { at: p, top }
+    let o = open_after(scratch, n, s, spot);
+    let p = o.put(scratch, b' ');
+    p.push(scratch, n, s)
 }
 
 // A code of an operator's right side: its strength + 16.
@@ -117,41 +115,40 @@ fn is_right_code(b: u8) -> bool
 }
 
 // One code.
-fn open_code(scratch: &mut [u8], n: usize, b: u8, at: usize, top: usize) -> Spot
-    requires { Room scratch.old n at top 1 }
-    ensures { Moved scratch.old scratch.new n at top (back_step b
-        (pass_in scratch.old n at top)) result }
+fn open_code(scratch: &mut [u8], n: usize, b: u8, spot: Spot) -> Spot
+    requires { Room scratch.old n spot 1 }
+    ensures { Moved scratch.old scratch.new n spot (back_step b
+        (pass_in scratch.old n spot)) result }
 {
     if b == OPENER {
-        return open_bracket(scratch, n, at, top);
+        return open_bracket(scratch, n, spot);
     }
     if b == CLOSER {
-        return open_closer(scratch, n, at, top);
+        return open_closer(scratch, n, spot);
     }
     if is_right_code(b) {
-        return open_operator(scratch, n, b - 16, at, top);
+        return open_operator(scratch, n, b - 16, spot);
     }
-    open_plain(scratch, n, b, at, top)
+    spot.put(scratch, b)
 }
 
 // The last code that is left.
+#[tactic(auto, using(crate::proofs::BackLaws::backed_step))]
 fn step_back(scratch: &mut [u8], n: usize, s: Back) -> Back
-    requires { (0 < s.left) × Backed (take n scratch.old) scratch.old n s.left s.at s.top }
+    requires { (0 < s.left) × Backed (take n scratch.old) scratch.old n s }
     ensures { BackTo scratch.old scratch.new n 1 (s.left - 1) result }
 {
     let left = s.left - 1;
     let b = scratch[left];
-    let next = open_code(scratch, n, b, s.at, s.top);
     Back {
         left,
-        at: next.at,
-        top: next.top,
+        spot: open_code(scratch, n, b, s.spot),
     }
 }
 
 // The same, if one is left.
 fn past_one(scratch: &mut [u8], n: usize, s: Back) -> Back
-    requires { Backed (take n scratch.old) scratch.old n s.left s.at s.top }
+    requires { Backed (take n scratch.old) scratch.old n s }
     ensures { BackTo scratch.old scratch.new n 1 s.left result }
 {
     if 0 < s.left {
@@ -177,7 +174,7 @@ pub fn enters(depth: usize, b: u8, code: u8) -> bool
 
 // Reads back to the first code, or in a bracket to the code that opens it. No more than 64 calls stand in each other.
 fn open_back(scratch: &mut [u8], n: usize, depth: usize, from: Back) -> Back
-    requires { (depth ≤ 64) × Backed (take n scratch.old) scratch.old n from.left from.at from.top }
+    requires { (depth ≤ 64) × Backed (take n scratch.old) scratch.old n from }
     ensures { BackTo scratch.old scratch.new n depth from.left result }
 {
     let mut s = from;
@@ -206,10 +203,8 @@ pub fn open_all(scratch: &mut [u8], n: usize) -> usize
     }
     let start = Back {
         left: n,
-        at: 3 * n,
-        top: 0,
+        spot: Spot { at: 3 * n, top: 0 },
     };
     let back = open_back(scratch, n, 0, start);
-    let s = open_after(scratch, n, 0, back.at, back.top);
-    s.at
+    open_after(scratch, n, 0, back.spot).at
 }

@@ -14,7 +14,7 @@ use Rattle.rules.specs.SplitOperation.{keywords}
 use Rattle.rules.proofs.Choose.{choose_true, choose_false}
 use Rattle.group_rules.specs.Expression.{max_depth, Token, word, Stage, due, in_name, in_number, after, in_operator, State, Step, due_step, after_step, stage_step, step, read, refused_at, ended, ending, on_step, read_from, reading_to, reading}
 use Rattle.group_rules.specs.Passes.{coded}
-use Rattle.group_read.specs.Read.{Next, Coded, stage_of, state_of, word_of, room_of, Holds, Went, StepIs, Steps, ReaderRoom, DueRoom, DueSteps, AfterSteps, ByteRoom, WordSteps, name_step, number_step, OperatorRoom, OperatorSteps, Codes, CodedIs, EndAs, SourceFits, CodedAs}
+use Rattle.group_read.specs.Read.{Next, Coded, stage_of, state_of, word_of, room_of, Holds, Went, StepIs, Steps, ReaderRoom, DueSteps, AfterSteps, ByteRoom, OperatorRoom, Codes, CodedIs, EndAs, SourceFits, CodedAs}
 use Rattle.group_read.specs.declared.Phase.{Phase}
 use Rattle.group_read.specs.declared.Phase.TheVariants.{Due, Name, Number, After, Operator}
 use Rattle.group_read.specs.declared.Reader.{Reader}
@@ -28,23 +28,8 @@ module _ {source l : List ℕ} {i : ℕ} {r : Reader} (h : ReaderRoom source l i
   room_at : (p : Phase) → r.phase ≡ p → room_of p r.at i
   room_at p e = subst (λ x. room_of x r.at i) e h.room
 
-  in_room : r.at ≤ 3 * i → DueRoom l i r.depth r.at
-  in_room k = record { fits = omega (arith, h.inside, h.fits); shallow = h.shallow; small = omega (arith, h.inside, h.small) }
-
   in_word_law : r.at ≤ 3 * i → ByteRoom source l r.start i r.depth r.at
   in_word_law k = record { inside = h.inside; started = h.started; fits = h.fits; written = k; shallow = h.shallow; small = h.small }
-
-  pub due_room : r.phase ≡ Due → DueRoom l i r.depth r.at
-  due_room e = in_room (room_at Due e)
-
-  pub after_room : r.phase ≡ After → DueRoom l i r.depth r.at
-  after_room e = in_room (room_at After e)
-
-  pub name_room : r.phase ≡ Name → ByteRoom source l r.start i r.depth r.at
-  name_room e = in_word_law (room_at Name e)
-
-  pub number_room : r.phase ≡ Number → ByteRoom source l r.start i r.depth r.at
-  number_room e = in_word_law (room_at Number e)
 
   pub operator_room : r.phase ≡ Operator → OperatorRoom l i r.depth r.at
   operator_room e =
@@ -77,21 +62,6 @@ module _ {source l : List ℕ} {i : ℕ} {r : Reader} (h : ReaderRoom source l i
         (d.is source ts u h.inside h.fits (room_at After e) (g ∙ append-nil (coded (reverse ts)))))
         d.size
 
-    pub steps_name : r.phase ≡ Name → WordSteps source l l' r.start i r.at (name_step source r.start i r.depth) q → Steps source l l' i r q
-    steps_name e d = steps_at Name e (λ ts g. d.is ts g) d.size
-
-    pub steps_number : r.phase ≡ Number → WordSteps source l l' r.start i r.at (number_step source r.start i r.depth) q → Steps source l l' i r q
-    steps_number e d = steps_at Number e (λ ts g. d.is ts g) d.size
-
-    pub steps_operator : (a c : ℕ) → a ≡ get_or source r.start 0 → c ≡ get_or source i 0 → r.phase ≡ Operator
-        → OperatorSteps l l' i a c r.depth r.at q → Steps source l l' i r q
-    steps_operator a c v u e d =
-        steps_at Operator e
-        (λ ts g. subst (λ x. StepIs source l' (suc i) (stage_step max_depth (in_operator x) r.depth ts (get_or source i 0)) q) v
-        (subst (λ x. StepIs source l' (suc i) (stage_step max_depth (in_operator a) r.depth ts x) q) u
-        (d.is source ts u h.inside h.fits (room_at Operator e) (g ∙ append-nil (coded (reverse ts))))))
-        d.size
-
 -- ---- the loop: what is read so far, and what is left
 
 abbrev pub here : Fault → ℕ → NoText
@@ -118,10 +88,6 @@ reads_start h =
     }
 
 module _ {source l₀ l : List ℕ} {i : ℕ} {r : Reader} (h : Reads source l₀ l i r) where
-  pub reads_room : i < length source → ReaderRoom source l i r
-  reads_room k =
-      record { inside = k; started = h.holds.started; fits = h.holds.fits; room = h.holds.room; shallow = h.holds.shallow; small = h.small }
-
   stepped : i < length source → reading source ≡ on_step i (step max_depth (state_of source i r h.tokens) (get_or source i 0)) (λ (t : State). read_from max_depth (suc i) t (drop (suc i) source))
   unfolding read_from
   stepped k = h.is ∙ ap (read_from max_depth i (state_of source i r h.tokens)) (drop-cons source i 0 k)

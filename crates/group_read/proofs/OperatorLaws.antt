@@ -1,11 +1,11 @@
 -- Laws of the operators: their strengths, and the codes that they get.
 use Prim.Native.Nat.{ℕ, suc, ◌+◌, ◌≤◌, ◌<◌}
 use mathlib.Core.Bool.{Bool, true, false, ◌||◌}
-use mathlib.Core.List.{List, [], ◌∷◌, ◌++◌, reverse, append_assoc, append-nil}
+use mathlib.Core.List.{List, [], ◌∷◌, ◌++◌, reverse, append-nil}
 use mathlib.Core.Path.{◌≡◌, refl, ap, sym, ◌∙◌, subst}
 use native.Mathlib.Omega.{arith}
 use native.Mathlib.Numerals.{add-one}
-use lib.ListN.{length, take, get_or, set, length-set}
+use lib.ListN.{length, take, get_or, set}
 use lib.Seq.{take-suc-set}
 use Rattle.std.specs.Prelude.{Err}
 use Rattle.rules.specs.Basics.{choose, same, one_of}
@@ -89,28 +89,6 @@ next_more l past at k v h e = ap (λ n. take n (set l (at + k) v)) same_place �
   where
     same_place : at + suc k ≡ at + k + 1
     same_place = omega arith
-
-pub write_three : (l : List ℕ) (at x y z : ℕ) → at + 3 ≤ length l → Written l (set (set (set l at x) (at + 1) y) (at + 2) z) at (x ∷ y ∷ z ∷ []) (at + 3)
-write_three l at x y z h =
-    record {
-      place = refl;
-      is = next_more (set (set l at x) (at + 1) y) (take at l ++ x ∷ y ∷ []) at 2 z (omega (arith, length-set (set l at x) (at + 1) y, length-set l at x))
-          (next_more (set l at x) (take at l ++ x ∷ []) at 1 y (omega (arith, length-set l at x)) (more l (take at l) at x (omega arith) refl)
-          ∙ append_assoc (take at l) (x ∷ []) (y ∷ []))
-          ∙ append_assoc (take at l) (x ∷ y ∷ []) (z ∷ []);
-      size = length-set (set (set l at x) (at + 1) y) (at + 2) z ∙ length-set (set l at x) (at + 1) y ∙ length-set l at x;
-    }
-
-pub write_four : (l : List ℕ) (at x y z v : ℕ) → at + 4 ≤ length l
-    → Written l (set (set (set (set l at x) (at + 1) y) (at + 2) z) (at + 3) v) at (x ∷ y ∷ z ∷ v ∷ []) (at + 4)
-write_four l at x y z v h =
-    let w = write_three l at x y z (omega arith) in
-    record {
-      place = refl;
-      is = next_more (set (set (set l at x) (at + 1) y) (at + 2) z) (take at l ++ x ∷ y ∷ z ∷ []) at 3 v (omega (arith, w.size)) w.is
-          ∙ append_assoc (take at l) (x ∷ y ∷ z ∷ []) (v ∷ []);
-      size = length-set (set (set (set l at x) (at + 1) y) (at + 2) z) (at + 3) v ∙ w.size;
-    }
 
 -- ---- the step after an operator's first character
 

@@ -155,9 +155,6 @@ module _ (l : List ℕ) (i c d at : ℕ) (room : DueRoom l i d at) where
 pub digit_low : (c : ℕ) → c < 48 → false ≡ is_digit c
 digit_low c h = rw (lt-leb 48 c h)
 
-pub digit_high : (c : ℕ) → 48 ≤ c → leb c 57 ≡ is_digit c
-digit_high c h = rw (le-leb 48 c h)
-
 -- ---- where an operand has ended
 
 module _ (l : List ℕ) (i c d at : ℕ) (room : DueRoom l i d at) where

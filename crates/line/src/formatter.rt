@@ -63,6 +63,7 @@ impl Formatter {
     }
 
     // The same, field by field: the bytes between the fields are then never copied.
+    // kept: tried without it: `blank lines` takes 0.38 ms in place of 0.29 (64 KiB), `declarations` 2.9 % more instructions
     pub fn remade(self) -> Self
         ensures { result ≡ self }
     {

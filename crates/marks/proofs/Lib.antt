@@ -1,4 +1,1 @@
 pub mod NextLaws
-pub mod ReachedLaws
-pub mod RestLaws
-pub mod WithinLaws

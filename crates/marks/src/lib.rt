@@ -1,8 +1,6 @@
 // A line read one byte at a time, as a row of marks: a mark's mode tells a `${..}` from its string.
 #![tactic(auto)]
 
-pub mod within;
-
 ghost use Rattle.std.specs.Prelude.{◌≡◌, ◌∷◌, [], ◌+◌, ◌<◌, ◌^◌};
 ghost use Rattle.rules.specs.Basics.{starts_with};
 ghost use Rattle.rules.specs.Scan.{in_code, in_quoted, in_interp, in_inner, in_block, in_prefab, mark_at, next, at_quote};

@@ -2,3 +2,4 @@
 pub mod Held
 pub mod Endings
 pub mod Indents
+pub mod Numbers

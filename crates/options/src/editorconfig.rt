@@ -5,6 +5,9 @@ ghost use Rattle.rules.specs.EditorConfig.{size_of, too_large, width_from, endin
 use crate::FormatOptions;
 use rules::{ConfigEnding, FinalNewline, IndentSize, LineEnding, MaxLineLen};
 
+// kept: the matches of this file on a value that may be unset. A method of the value's type, or a `From` of it, is no
+// plainer: it would be the inner half of the match, and its caller would still need a `map_or` for what is unset.
+
 // A numeric indent_size, else tab_width, else none.
 pub fn size_of(size: Option<IndentSize>, tab: Option<usize>) -> Option<usize>
     ensures { result ≡ size_of size tab }

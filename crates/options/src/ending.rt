@@ -1,7 +1,6 @@
 // Line endings.
 ghost use Rattle.std.specs.Prelude.{◌≡◌, ◌<◌, length};
-ghost use Rattle.rules.specs.Basics.{codes};
-ghost use Rattle.rules.specs.Lines.{as_str, dominant_in, ends_in_lf};
+ghost use Rattle.rules.specs.Lines.{dominant_in, ends_in_lf};
 ghost use Rattle.options.specs.Endings.{Block, Counted};
 
 use rules::LineEnding;
@@ -77,15 +76,4 @@ pub fn ends_in_lf(source: &[u8]) -> bool
 {
     let n = source.len();
     n != 0 && source[n - 1] == b'\n'
-}
-
-// The bytes of the ending: a part of b"\r\n", which the caller lends.
-pub fn as_str(ending: LineEnding, crlf: &[u8]) -> &[u8]
-    requires { crlf.now ≡ codes "\r\n" }
-    ensures { result.now ≡ as_str ending }
-{
-    match ending {
-        LineEnding::Lf => &crlf[1..],
-        LineEnding::Crlf => crlf,
-    }
 }

@@ -2,6 +2,7 @@
 ghost use Rattle.std.specs.Prelude.{◌≡◌, ◌≤◌, length};
 ghost use Rattle.rules.specs.Options.{max_indent, spaces};
 
+use buffer::pad::Pad;
 use std::marker::Model;
 
 // At most 64 bytes. Zeros follow them, so that two indents of the same bytes are the same.
@@ -49,7 +50,11 @@ impl Indent {
         ensures { result ≡ spaces n }
     {
         let mut bytes = [0u8; Indent::MAX];
-        buffer::put_indent(&mut bytes, b" ", n);
+        let pad = Pad {
+            indent: b" ",
+            levels: n,
+        };
+        buffer::put_indent(&mut bytes, pad);
         Self { bytes, len: n }
     }
 

@@ -2,9 +2,11 @@
 ghost use Rattle.std.specs.Prelude.{◌≡◌};
 ghost use Rattle.rules.specs.Options.{all_blank, valid_indent};
 ghost use Rattle.rules.specs.Choices.{print_width_named, end_of_line_named, final_newline_named};
+ghost use Rattle.options.specs.Held.{options_in};
+ghost use Rattle.options.specs.Numbers.{numbers_in};
 
 use crate::FormatOptions;
-use rules::{FinalNewline, LineEnding};
+use rules::{FinalNewline, LineEnding, OptionNumbers};
 
 // At most 64 bytes, spaces and tabs only.
 #[tactic(auto, unfolding(rules::specs::Options::valid_indent))]
@@ -50,5 +52,28 @@ pub fn final_newline_named(final_newline: u64) -> Option<FinalNewline>
         1 => Some(FinalNewline::Always),
         2 => Some(FinalNewline::Never),
         _ => None,
+    }
+}
+
+// The numbers that name a call's options. The width is 0 where there is none.
+impl From<FormatOptions> for OptionNumbers {
+    ghost from_gives = { λ o n. n ≡ numbers_in (options_in o) };
+
+    fn from(options: FormatOptions) -> OptionNumbers {
+        OptionNumbers {
+            width_set: options.print_width.is_some() as u64,
+            width: options.print_width.unwrap_or(0) as u64,
+            line_ending: match options.end_of_line {
+                None => 0,
+                Some(LineEnding::Lf) => 1,
+                Some(LineEnding::Crlf) => 2,
+            },
+            final_newline: match options.insert_final_newline {
+                FinalNewline::AsSource => 0,
+                FinalNewline::Always => 1,
+                FinalNewline::Never => 2,
+            },
+            ruler_tab: options.ruler_tab as u64,
+        }
     }
 }

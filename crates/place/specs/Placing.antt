@@ -18,6 +18,8 @@ use Rattle.format.specs.declared.words.Declaration.{Declaration}
 use Rattle.text.specs.Text.{Text, Ordered}
 use Rattle.text.specs.declared.Written.{Written}
 use Rattle.split.specs.Measure.{InUse, Wide}
+use Rattle.split.specs.declared.Layout.{Layout}
+use Rattle.line.specs.declared.style.Style.{Style}
 use Rattle.line.specs.Holds.{Record, Holds, Small, Uses, prev_of}
 use Rattle.place.specs.declared.Placed.{Placed}
 use Rattle.place.specs.declared.Placing.{Placing}
@@ -125,6 +127,11 @@ break_width width marker continued closers =
 -- if r, an indented line is not wider than max
 pub record Short (ruler : ℕ) (indent : List ℕ) (level : ℕ) (line : List ℕ) (max : ℕ) (r : Bool) : Type 0 where
   pub fits : r ≡ true → Wide ruler indent level line max false
+
+-- how a line of a style is laid out at a level, and broken at the width max
+abbrev pub layout_of : Style → ℕ → ℕ → Layout
+layout_of style level max =
+    record { level = level; max = record { 0 = max }; ruler = style.ruler; ending = style.ending; strengths = style.strengths }
 
 -- the width that a line is broken at, if it reaches past it to the column `reached` and all of it is code and strings
 unfoldable pub fit_by : PrintWidth → ℕ → Bool → Option ℕ

@@ -15,7 +15,8 @@ ghost use Rattle.rules.specs.declared.Carry.{Carry};
 ghost use Rattle.line.specs.Holds.{ValidIndent};
 ghost use Rattle.split.specs.Measure.{Indent};
 ghost use Rattle.place.specs.Placing.{GoesOn, Short, Heads, Asks, Puts, spaced_by, placed_by, drops_blank, alone_in};
-ghost use Rattle.place.specs.Placing.{break_width, fit_by, Lays, Breaks, after_placed};
+ghost use Rattle.place.specs.Placing.{break_width, fit_by, layout_of, Lays, Breaks};
+ghost use Rattle.place.specs.Placing.{after_placed};
 
 use format::words::Declaration;
 use line::formatter::{Formatter, Prev};
@@ -100,6 +101,9 @@ fn push_one(
     text::push_line(model, out, slot.text, indent, line, how)
 }
 
+// kept: line and class, layout and indent are not one struct each: no plainer, since of a struct that holds a lent slice
+// the contracts say `k.entry.line.now` (tried), and the facts on both are one record already
+
 // A plain else joined to the newest line.
 fn join_one(line: &[u8], class: &[u8], model: &[u8], out: &mut [u8], t: Written) -> Written
     requires goes_on { GoesOn line.now class.now }
@@ -145,6 +149,19 @@ fn is_short(line: &[u8], indent: &[u8], level: usize, ruler: u8, max: usize) -> 
     bytes * (ruler as usize + 1) <= max
 }
 
+// How a line is laid out at a level, and broken at a width.
+fn layout(style: Style, level: usize, max: usize) -> Layout
+    ensures { result ≡ layout_of style level max }
+{
+    Layout {
+        level,
+        max: Utf16Column(max),
+        ruler: style.ruler,
+        ending: style.ending,
+        strengths: style.strengths,
+    }
+}
+
 // The width that the line is broken at, if it is wider than that and all of it is code and strings.
 fn fit_of(
     line: &[u8],
@@ -165,14 +182,7 @@ fn fit_of(
     if is_short(line, indent, level, style.ruler, max) {
         return None;
     }
-    let s = Layout {
-        level,
-        max: Utf16Column(max),
-        ruler: style.ruler,
-        ending: style.ending,
-        strengths: style.strengths,
-    };
-    if over_wide(s, indent, line) && scan::all_code_or_str(class) {
+    if over_wide(layout(style, level, max), indent, line) && scan::all_code_or_str(class) {
         Some(max)
     } else {
         None
@@ -199,19 +209,10 @@ fn fit_line(
         slot.level model.now (as_str style.ending) slot.drops (length line.now)
         out.old slot.text result out.new }
 {
-    let ending = style.ending;
-    let strengths = style.strengths;
-    let width = slot.width;
-    match fit_of(line, class, indent, style, slot.level, width) {
-        None => alone(push_one(line, indent, ending, slot, model, out)),
+    match fit_of(line, class, indent, style, slot.level, slot.width) {
+        None => alone(push_one(line, indent, style.ending, slot, model, out)),
         Some(max) => {
-            let s = Layout {
-                level: slot.level,
-                max: Utf16Column(max),
-                ruler: style.ruler,
-                ending,
-                strengths,
-            };
+            let s = layout(style, slot.level, max);
             break_line(line, class, s, indent, slot, model, out)
         }
     }

@@ -1,5 +1,5 @@
 -- The ends of a range: their digits, and the zeros before them.
-use Prim.Native.Nat.{ℕ, zero, suc, ◌+◌, ◌-◌, ◌*◌, ◌≤◌, ◌<◌}
+use Prim.Native.Nat.{ℕ, zero, suc, ◌+◌, ◌-◌, ◌*◌, ◌≤◌, ◌<◌, max}
 use mathlib.Core.Bool.{Bool, true, false, true≢false}
 use mathlib.Core.List.{List, [], ◌∷◌, ◌++◌, foldl}
 use mathlib.Core.Logic.{⊎_elim}
@@ -11,12 +11,14 @@ use lib.Dec.{eqb, ltb}
 use lib.ListN.{length, drop, take, get_or, length-drop, drop_of_length-le}
 use lib.Seq.{drop-cons, take-suc, get_or-drop, drop-drop}
 use Rattle.utf8.proofs.Tests.{split, by_test, in_range_law}
+use Rattle.std.specs.Prelude.{Option, Some, None}
+use Rattle.std.specs.Option.{MatchOption, IsSome}
 use Rattle.rules.specs.Basics.{choose, is, first_is}
 use Rattle.rules.proofs.Choose.{choose_case, choose_true, choose_false}
 use Rattle.config_rules.specs.Numbers.{is_digit, digit_count, sign, number_len, value}
-use Rattle.glob_name.specs.Read.{rest_more, range_more, Counted}
+use Rattle.glob_name.specs.Read.{rest_more, range_more, NumberAt}
 use Rattle.ranges.specs.Slots.{digit, all_digits, all, minus, size}
-use Rattle.ranges.specs.Ranges.{lows, EndAt, RangeOf, PastZeros, past_zeros, end_of, width_of, range_for, WidthOf, second_at}
+use Rattle.ranges.specs.Ranges.{lows, EndAt, RangeOf, PastZeros, past_zeros, end_of, range_for, second_at}
 use Rattle.ranges.specs.declared.End.{End}
 use Rattle.ranges.specs.declared.Range.{Range}
 
@@ -322,61 +324,45 @@ parts cs from h =
     none : range_more cs from ≡ 0 → Parts cs from
     none e = absurd (omega (arith, e))
 
-pub width_second : (m n : ℕ) → m < n → WidthOf m n n
-unfolding width_of choose
-width_second m n h = record { some = omega arith; wide = omega arith; broad = omega arith; least = λ b x y z. z; is = rw (lt-ltb m n h) }
+-- the two numbers are there
+pub first_here : (cs : List ℕ) (p : ℕ) → 0 < range_more cs (p + 1) → (r : Option ℕ) → MatchOption r (number_len (drop (p + 1) cs) ≡ 0) (NumberAt cs (p + 1)) → IsSome r
+first_here cs p h None e = absurd (omega (arith, (parts cs (p + 1) h).first))
+first_here cs p h (Some m) e = refl
 
-pub width_first : (m n : ℕ) → n ≤ m → 0 < m → WidthOf m n m
-unfolding width_of choose
-width_first m n h k = record { some = k; wide = omega arith; broad = h; least = λ b x y z. y; is = rw (le-ltb m n h, lt-ltb 0 m k) }
+pub second_here : (cs : List ℕ) (p m : ℕ) → 0 < range_more cs (p + 1) → NumberAt cs (p + 1) m → (r : Option ℕ)
+    → MatchOption r (number_len (drop (p + 1 + m + 2) cs) ≡ 0) (NumberAt cs (p + 1 + m + 2)) → IsSome r
+second_here cs p m h c None e = absurd (let y : 0 < number_len (drop (p + 1 + m + 2) cs) = rw (c.is) (parts cs (p + 1) h).second in omega arith)
+second_here cs p m h c (Some n) e = refl
 
-pub width_one : (m n : ℕ) → n ≤ m → m ≤ 0 → WidthOf m n 1
-unfolding width_of choose
-width_one m n h k = record { some = omega arith; wide = omega arith; broad = omega arith; least = λ b x y z. omega arith; is = rw (le-ltb m n h, le-ltb 0 m k) }
+pub second_inside : (cs : List ℕ) (p m : ℕ) → 0 < range_more cs (p + 1) → NumberAt cs (p + 1) m → p + 1 + m + 2 ≤ length cs
+second_inside cs p m h c = omega (arith, (parts cs (p + 1) h).inside, c.is)
 
-pub range_is : (cs : List ℕ) (p m n w : ℕ) (f s : End) → 0 < range_more cs (p + 1) → Counted cs (p + 1) (number_len (drop (p + 1) cs)) m
-    → EndAt cs (take m (drop (p + 1) cs)) f × (f.digits ≤ m) × (f ≡ end_of cs (p + 1) m) → Counted cs (p + 1 + m + 2) (number_len (drop (p + 1 + m + 2) cs)) n
-    → EndAt cs (take n (drop (p + 1 + m + 2) cs)) s × (s.digits ≤ n) × (s ≡ end_of cs (p + 1 + m + 2) n) → WidthOf f.digits s.digits w
-    → RangeOf cs p (record { first = f; second = s; width = w })
-range_is cs p m n w f s h cm ef cn es ww =
+pub range_is : (cs : List ℕ) (p m n : ℕ) (f s : End) → 0 < range_more cs (p + 1) → NumberAt cs (p + 1) m
+    → EndAt cs (take m (drop (p + 1) cs)) f × (f.digits ≤ m) × (f ≡ end_of cs (p + 1) m) → NumberAt cs (p + 1 + m + 2) n
+    → EndAt cs (take n (drop (p + 1 + m + 2) cs)) s × (s.digits ≤ n) × (s ≡ end_of cs (p + 1 + m + 2) n)
+    → (w : ℕ) → w ≡ max (max f.digits s.digits) 1 → RangeOf cs p (record { first = f; second = s; width = w })
+range_is cs p m n f s h cm ef cn es w ww =
     let P : Parts cs (p + 1) = parts cs (p + 1) h in
     let a : m ≡ number_len (drop (p + 1) cs) = cm.is in
     let z : p + 1 + m + 2 ≡ second_at cs p = rw a in
     let b : n ≡ number_len (drop (second_at cs p) cs) = rw a at cn.is in
     let x : 0 < number_len (drop (p + 1) cs) = P.first in
     let y : 0 < number_len (drop (second_at cs p) cs) = P.second in
-    let i : w ≤ m + n = ww.least (m + n) (omega arith) (omega (arith, ef.1)) (omega (arith, es.1)) in
+    let i : w ≤ m + n = omega (arith, ef.1, es.1) in
     record {
       first = rw a at ef.0;
       second = rw (z, b) at es.0;
-      some = ww.some;
-      wide = ww.wide;
-      broad = ww.broad;
+      some = omega arith;
+      wide = omega arith;
+      broad = omega arith;
       room = omega (arith, P.more);
       fits = omega (arith, P.more, P.inside);
-      is = whole (rw a at ef.2) (rw (z, b) at es.2) ww.is;
+      is = whole (rw a at ef.2) (rw (z, b) at es.2);
     }
   where
     whole : f ≡ end_of cs (p + 1) (number_len (drop (p + 1) cs)) → s ≡ end_of cs (second_at cs p) (number_len (drop (second_at cs p) cs))
-        → w ≡ width_of f.digits s.digits → ◌≡◌ {A = Range} (record { first = f; second = s; width = w }) (range_for cs p)
-    whole x y q = unfold range_for in rw (q, x, y)
-
-pub second_inside : (cs : List ℕ) (p m : ℕ) → 0 < range_more cs (p + 1) → Counted cs (p + 1) (number_len (drop (p + 1) cs)) m → p + 1 + m + 2 ≤ length cs
-second_inside cs p m h c =
-    let P : Parts cs (p + 1) = parts cs (p + 1) h in
-    let a : m ≡ number_len (drop (p + 1) cs) = c.is in
-    omega (arith, P.inside)
-
-pub first_some : (cs : List ℕ) (p m : ℕ) → 0 < range_more cs (p + 1) → Counted cs (p + 1) (number_len (drop (p + 1) cs)) m
-    → (m ≡ number_len (drop (p + 1) cs)) × (0 < m) × (p + 1 + m ≤ length cs)
-first_some cs p m h c = (c.is, rw c.is (parts cs (p + 1) h).first, c.fits)
-
-pub second_some : (cs : List ℕ) (p m n : ℕ) → 0 < range_more cs (p + 1) → Counted cs (p + 1) (number_len (drop (p + 1) cs)) m
-    → Counted cs (p + 1 + m + 2) (number_len (drop (p + 1 + m + 2) cs)) n
-    → (n ≡ number_len (drop (p + 1 + m + 2) cs)) × (0 < n) × (p + 1 + m + 2 + n ≤ length cs)
-second_some cs p m n h c d =
-    let P : Parts cs (p + 1) = parts cs (p + 1) h in
-    (d.is, rw (d.is, c.is) P.second, d.fits)
+        → ◌≡◌ {A = Range} (record { first = f; second = s; width = w }) (range_for cs p)
+    whole x y = unfold range_for in rw (ww, x, y)
 
 -- ---- the room that a range needs
 
@@ -394,10 +380,6 @@ end_short cs from n =
     (λ e. let h : from + 1 ≤ past_zeros cs (from + 1) (from + n - (from + 1)) = past_least cs (from + 1) (from + n - (from + 1)) in omega arith)
     (λ e. let h : from ≤ past_zeros cs from (from + n - from) = past_least cs from (from + n - from) in omega arith)
 
-width_short : (m n b : ℕ) → 0 < b → m ≤ b → n ≤ b → width_of m n ≤ b
-unfolding width_of
-width_short m n b h j k = choose_case (λ (x : ℕ). x ≤ b) (λ e. k) (λ e. choose_case (λ (x : ℕ). x ≤ b) (λ f. j) (λ f. omega arith))
-
 pub range_room : (cs : List ℕ) (p : ℕ) → 0 < range_more cs (p + 1) → (range_for cs p).width + 3 ≤ range_more cs (p + 1)
 unfolding range_for
 range_room cs p h =
@@ -407,5 +389,4 @@ range_room cs p h =
     let x : (end_of cs (p + 1) m).digits ≤ m = end_short cs (p + 1) m in
     let y : (end_of cs (second_at cs p) n).digits ≤ n = end_short cs (second_at cs p) n in
     let a : 0 < m = P.first in
-    let w : width_of (end_of cs (p + 1) m).digits (end_of cs (second_at cs p) n).digits ≤ m + n = width_short _ _ (m + n) (omega arith) (omega arith) (omega arith) in
     omega (arith, P.more)

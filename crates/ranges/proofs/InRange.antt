@@ -9,12 +9,14 @@ use native.Mathlib.Omega.{arith}
 use borrow.Author.Tests.{lt-ltb, le-leb, lt-leb, eq-eqb, ne_eqb, eqb-true, eqb-false}
 use lib.Dec.{eqb, ltb, leb}
 use lib.ListN.{length, drop, take}
+use Rattle.std.specs.declared.cmp.Ordering.{Ordering}
 use Rattle.utf8.proofs.Tests.{split, by_test}
 use Rattle.rules.specs.Basics.{choose, first_is}
 use Rattle.rules.proofs.Choose.{choose_true, choose_false}
 use Rattle.config_rules.specs.Numbers.{is_digit, digit_count, sign, number_len, is_number, value, up, down, at_most, in_range}
 use Rattle.config_rules.specs.Globs.{Strings, some_then}
-use Rattle.ranges.specs.Slots.{all_digits, all, order, number, from, minus, size, in_plain, in_minus, valid, not_above, not_below, inside, near}
+use Rattle.std.specs.Ordering.{nat_cmp, is_eq, is_le, is_ge}
+use Rattle.ranges.specs.Slots.{all_digits, all, number, from, minus, size, in_plain, in_minus, valid, not_above, not_below, inside, near}
 use Rattle.ranges.proofs.OrderLaws.{whole_at, whole_at_law, at, from_next, at_number, order_less, order_more, order_same, some_same, and_assoc}
 
 -- ---- a number is digits
@@ -49,44 +51,44 @@ minus_len (suc d) (suc n) =
 
 -- ---- an end of the range: its sign, and the order of a number against its value
 
-order_le : (x m : ℕ) → leb (order x m) 1 ≡ leb x m
+order_le : (x m : ℕ) → is_le (nat_cmp x m) ≡ leb x m
 order_le x m =
     ⊎_elim (λ (h : x < m). rw (order_less x m h, le-leb x m (omega arith)))
     (λ (h : m ≤ x). ⊎_elim (λ (k : m < x). rw (order_more x m k, lt-leb x m k)) (λ (k : x ≤ m). let e : x ≡ m = omega arith in rw (e, order_same m, le-leb m m (omega arith))) (split m x))
     (split x m)
 
-order_ge : (x m : ℕ) → leb 1 (order x m) ≡ leb m x
+order_ge : (x m : ℕ) → is_ge (nat_cmp x m) ≡ leb m x
 order_ge x m =
     ⊎_elim (λ (h : x < m). rw (order_less x m h, lt-leb m x h))
     (λ (h : m ≤ x). ⊎_elim (λ (k : m < x). rw (order_more x m k, le-leb m x h)) (λ (k : x ≤ m). let e : x ≡ m = omega arith in rw (e, order_same m, le-leb m m (omega arith))) (split m x))
     (split x m)
 
-order_none : (x m : ℕ) → (eqb m 0 && eqb (order x m) 1) ≡ leb (x + m) 0
-order_none zero zero = rw (order_same 0)
-order_none (suc x) zero = rw (order_more (suc x) 0 (omega arith)) (sym (lt-leb (suc x + 0) 0 (omega arith)))
+order_none : (x m : ℕ) → (eqb m 0 && is_eq (nat_cmp x m)) ≡ leb (x + m) 0
+order_none zero zero = refl
+order_none (suc x) zero = ap is_eq (order_more (suc x) 0 (omega arith)) ∙ sym (lt-leb (suc x + 0) 0 (omega arith))
 order_none x (suc m) = rw (ne_eqb (suc m) 0 (λ q. absurd (omega arith))) (sym (lt-leb (x + suc m) 0 (omega arith)))
 
 -- an end as it stands in the name: its sign and its value
 module _ (m : List ℕ) (x : ℕ) where
-  above_plain : leb (x + down m) (up m + 0) ≡ not_above (minus m) (eqb (size m) 0) (order x (size m))
+  above_plain : leb (x + down m) (up m + 0) ≡ not_above (minus m) (eqb (size m) 0) (nat_cmp x (size m))
   unfolding not_above size sign choose
   above_plain =
       by_test (minus m) (λ t. rw t (sym (order_none x (value (drop 1 m)))))
       (λ t. rw (t, add-zero x, add-zero (value m)) (sym (order_le x (value m))))
 
-  below_plain : leb (up m + 0) (x + down m) ≡ not_below (minus m) (order x (size m))
+  below_plain : leb (up m + 0) (x + down m) ≡ not_below (minus m) (nat_cmp x (size m))
   unfolding not_below size sign choose
   below_plain =
       by_test (minus m) (λ t. rw t (le-leb 0 (x + value (drop 1 m)) (omega arith)))
       (λ t. rw (t, add-zero x, add-zero (value m)) (sym (order_ge x (value m))))
 
-  above_minus : leb (up m + x) (0 + down m) ≡ not_above (not (minus m)) (eqb (size m) 0) (order x (size m))
+  above_minus : leb (up m + x) (0 + down m) ≡ not_above (not (minus m)) (eqb (size m) 0) (nat_cmp x (size m))
   unfolding not_above size sign choose
   above_minus =
       by_test (minus m) (λ t. rw (t, zero-add x, zero-add (value (drop 1 m))) (sym (order_le x (value (drop 1 m)))))
       (λ t. rw (t, add_comm (value m) x) (sym (order_none x (value m))))
 
-  below_minus : leb (0 + down m) (up m + x) ≡ not_below (not (minus m)) (order x (size m))
+  below_minus : leb (0 + down m) (up m + x) ≡ not_below (not (minus m)) (nat_cmp x (size m))
   unfolding not_below size sign choose
   below_minus =
       by_test (minus m) (λ t. rw (t, zero-add x, zero-add (value (drop 1 m))) (sym (order_ge x (value (drop 1 m)))))
@@ -122,8 +124,8 @@ range_minus m n l =
       above_minus n (value l),
       below_minus m (value l),
       number_minus l,
-      swapped (not_above (not (minus m)) (eqb (size m) 0) (order (value l) (size m))) (not_below (not (minus n)) (order (value l) (size n)))
-          (not_above (not (minus n)) (eqb (size n) 0) (order (value l) (size n))) (not_below (not (minus m)) (order (value l) (size m))),
+      swapped (not_above (not (minus m)) (eqb (size m) 0) (nat_cmp (value l) (size m))) (not_below (not (minus n)) (nat_cmp (value l) (size n)))
+          (not_above (not (minus n)) (eqb (size n) 0) (nat_cmp (value l) (size n))) (not_below (not (minus m)) (nat_cmp (value l) (size m))),
     )
     (and_assoc (all_digits l) (ltb 0 (length l)) _)
 
@@ -174,7 +176,7 @@ some_number f k (suc w) s =
     ∙ sym (or_assoc (near f k w s) (valid k (suc w) s && f (value (take (suc w) s))) (from (number f) k (suc (suc w)) s))
 
 -- a number above both ends is in no range
-pub inside_large : (a x b y : Bool) → inside a x 2 b y 2 ≡ false
+pub inside_large : (a x b y : Bool) → inside a x Ordering.Greater b y Ordering.Greater ≡ false
 unfolding inside not_below not_above choose
 inside_large a x b y = by_test a (λ t. by_test b (λ u. rw (t, u, and-false x, and-false y)) (λ u. rw (t, u, and-false x))) (λ t. by_test b (λ u. rw (t, u, and-false y)) (λ u. rw (t, u)))
 

@@ -14,7 +14,10 @@ use Rattle.utf8.proofs.Tests.{split, in_range_law, and_left, and_right}
 use Rattle.rules.specs.Basics.{choose}
 use Rattle.config_rules.specs.Numbers.{is_digit, value}
 use Rattle.config_rules.specs.Globs.{Strings, some_then, never}
-use Rattle.ranges.specs.Slots.{digit, order_then, valid, order_at, all_digits, all, order, number, from}
+use Rattle.ranges.specs.Slots.{digit, order_then, valid, order_at, all_digits, all, number, from}
+use Rattle.std.specs.Ordering.{nat_cmp, ordering_then}
+use Rattle.std.specs.Cmp.{nat_cmp_is}
+use Rattle.std.specs.declared.cmp.Ordering.{Ordering}
 
 -- ---- x times the j-th power of ten
 
@@ -116,21 +119,18 @@ low_small [] j e = omega (arith, scale_one j)
 low_small (c ∷ r) zero e = omega arith
 low_small (c ∷ r) (suc j) e = omega (arith, low_small r j (and_right (is_digit c) (all_digits r) e), digit_small c (and_left (is_digit c) (all_digits r) e))
 
--- ---- the order of two numbers: 0 less, 1 equal, 2 more; and after one more digit on each
+-- ---- the order of two numbers, and after one more digit on each
 
-pub order_less : (x y : ℕ) → x < y → order x y ≡ 0
-unfolding order choose
-order_less x y h = rw (lt-ltb x y h)
+pub order_less : (x y : ℕ) → x < y → nat_cmp x y ≡ Ordering.Less
+order_less x y h = sym (nat_cmp_is x y Ordering.Less h)
 
-pub order_more : (x y : ℕ) → y < x → order x y ≡ 2
-unfolding order choose
-order_more x y h = rw (le-ltb x y (omega arith), lt-ltb y x h)
+pub order_more : (x y : ℕ) → y < x → nat_cmp x y ≡ Ordering.Greater
+order_more x y h = sym (nat_cmp_is x y Ordering.Greater h)
 
-pub order_same : (x : ℕ) → order x x ≡ 1
-unfolding order choose
-order_same x = rw (le-ltb x x (omega arith))
+pub order_same : (x : ℕ) → nat_cmp x x ≡ Ordering.Equal
+order_same x = sym (nat_cmp_is x x Ordering.Equal refl)
 
-order_shift : (a x y : ℕ) → order (a + x) (a + y) ≡ order x y
+order_shift : (a x y : ℕ) → nat_cmp (a + x) (a + y) ≡ nat_cmp x y
 order_shift a x y =
     ⊎_elim (λ (h : x < y). order_less (a + x) (a + y) (omega arith) ∙ sym (order_less x y h))
     (λ (h : y ≤ x).
@@ -141,13 +141,15 @@ order_shift a x y =
 above : (j d e x y : ℕ) → d < e → x < scale j 1 → scale j d + x < scale j e + y
 above j d e x y h k = omega (arith, scale_le j (d + 1) e (omega arith), scale_add j d 1)
 
-pub order_step : (j d e x y : ℕ) → x < scale j 1 → y < scale j 1 → order (scale j d + x) (scale j e + y) ≡ order_then d e (order x y)
-unfolding order_then choose
+pub order_step : (j d e x y : ℕ) → x < scale j 1 → y < scale j 1 → nat_cmp (scale j d + x) (scale j e + y) ≡ order_then d e (nat_cmp x y)
+unfolding order_then
 order_step j d e x y h k =
-    ⊎_elim (λ (t : d < e). rw (lt-ltb d e t) (order_less _ _ (above j d e x y t h)))
+    ⊎_elim (λ (t : d < e). order_less _ _ (above j d e x y t h) ∙ ap (λ (o : Ordering). ordering_then o (nat_cmp x y)) (sym (order_less d e t)))
     (λ (t : e ≤ d).
-    ⊎_elim (λ (u : e < d). rw (le-ltb d e t, lt-ltb e d u) (order_more _ _ (above j e d y x u k)))
-    (λ (u : d ≤ e). let q : d ≡ e = omega arith in rw (le-ltb d e t, le-ltb e d u, q) (order_shift (scale j e) x y)) (split e d))
+    ⊎_elim (λ (u : e < d). order_more _ _ (above j e d y x u k) ∙ ap (λ (o : Ordering). ordering_then o (nat_cmp x y)) (sym (order_more d e u)))
+    (λ (u : d ≤ e).
+    let q : d ≡ e = omega arith in
+    rw q (order_shift (scale j e) x y ∙ ap (λ (o : Ordering). ordering_then o (nat_cmp x y)) (sym (order_same e)))) (split e d))
     (split d e)
 
 -- ---- what is kept for the number that ends j characters on: whether it is one, and its order against an end's lowest
@@ -165,9 +167,9 @@ valid_digits k zero s e = refl
 valid_digits k (suc j) [] e = absurd (true≢false (sym e))
 valid_digits k (suc j) (c ∷ s) e = rw (and_left (is_digit c) (valid k j s) e) (valid_digits k j s (and_right (is_digit c) (valid k j s) e))
 
-pub order_at_law : (k : Strings) (r : List ℕ) → all_digits r ≡ true → (j : ℕ) (s : List ℕ) → valid k j s ≡ true → order_at r j s ≡ order (value (take j s)) (low r j)
+pub order_at_law : (k : Strings) (r : List ℕ) → all_digits r ≡ true → (j : ℕ) (s : List ℕ) → valid k j s ≡ true → order_at r j s ≡ nat_cmp (value (take j s)) (low r j)
 unfolding order_at valid
-order_at_law k r a zero s e = unfold order in unfold choose in unfold value in rw (low_none r)
+order_at_law k r a zero s e = rw (low_none r) (unfold value in sym (order_same 0))
 order_at_law k r a (suc j) [] e = absurd (true≢false (sym e))
 order_at_law k r a (suc j) (c ∷ s) e =
     let v : valid k j s ≡ true = and_right (is_digit c) (valid k j s) e in
@@ -177,17 +179,17 @@ order_at_law k r a (suc j) (c ∷ s) e =
     rw (order_at_law k r a j s v, y, low_top r j) (sym (order_step j (digit c) (digit (get_or r j 48)) (value (take j s)) (low r j) x (low_small r j a)))
 
 -- against the whole end: less, where a higher digit of the end is not 0
-unfoldable pub whole_at : List ℕ → ℕ → List ℕ → ℕ
-whole_at r j s = choose (ltb 0 (all (drop j r))) 0 (order_at r j s)
+unfoldable pub whole_at : List ℕ → ℕ → List ℕ → Ordering
+whole_at r j s = choose (ltb 0 (all (drop j r))) Ordering.Less (order_at r j s)
 
-pub whole_at_law : (k : Strings) (r : List ℕ) → all_digits r ≡ true → (j : ℕ) (s : List ℕ) → valid k j s ≡ true → whole_at r j s ≡ order (value (take j s)) (all r)
+pub whole_at_law : (k : Strings) (r : List ℕ) → all_digits r ≡ true → (j : ℕ) (s : List ℕ) → valid k j s ≡ true → whole_at r j s ≡ nat_cmp (value (take j s)) (all r)
 unfolding whole_at choose
 whole_at_law k r a j s v =
     let n : length (take j s) ≡ j = valid_length k j s v in
     let x : value (take j s) < scale j 1 = rw n at (value_small (take j s) (valid_digits k j s v)) in
     ⊎_elim
     (λ (h : 0 < all (drop j r)).
-    rw (lt-ltb 0 (all (drop j r)) h) (sym (order_less _ _ (omega (arith, low_split r j, scale_le j 1 (all (drop j r)) (omega arith))))))
+    rw (lt-ltb 0 (all (drop j r)) h) (sym (order_less (value (take j s)) (all r) (omega (arith, low_split r j, scale_le j 1 (all (drop j r)) (omega arith))))))
     (λ (h : all (drop j r) ≤ 0).
     let z : all (drop j r) ≡ 0 = omega arith in
     let l : all r ≡ low r j = omega (arith, low_split r j, scale_zero j, ap (scale j) z) in

@@ -1,71 +1,23 @@
 -- Slots: what one of them holds, and the loops over them.
-use Prim.Native.Nat.{ℕ, zero, suc, ◌+◌, ◌-◌, ◌*◌, ◌/◌, ◌%◌, ◌≤◌, ◌<◌}
-use mathlib.Core.Bool.{Bool, false, ◌&&◌, ◌||◌, and-false}
+use Prim.Native.Nat.{ℕ, zero, suc, ◌+◌, ◌-◌, ◌≤◌, ◌<◌}
+use mathlib.Core.Bool.{Bool, false, ◌&&◌, ◌||◌}
 use mathlib.Core.List.{List}
 use mathlib.Core.Logic.{◌⊎◌, inl, inr, ⊎_elim}
 use mathlib.Core.Path.{◌≡◌, refl, sym, ap, ◌∙◌}
 use native.Mathlib.Numerals.{add-one}
 use native.Mathlib.Omega.{arith}
-use borrow.Author.Tests.{lt-ltb, le-ltb, le-leb, lt-leb, ne_eqb}
-use lib.Dec.{eqb, ltb, leb}
+use lib.Dec.{eqb}
 use lib.ListN.{length, get_or, set, length-set, get_or-eq_default}
 use lib.Seq.{get_or-set_same, get_or-set_other}
 use Rattle.utf8.proofs.Tests.{split}
-use Rattle.rules.specs.Basics.{choose}
-use Rattle.ranges.specs.Slots.{order_then, inside_of, whole_of}
-use Rattle.ranges.specs.Ranges.{lows, lows_of, Ordered, slot_step, slot_in, any_slot, turned, opposite, Moved, RangeOf, FarNext}
-use Rattle.ranges.specs.declared.End.{End}
-use Rattle.ranges.specs.declared.Near.{Near}
+use Rattle.std.specs.Prelude.{Option, None}
+use Rattle.ranges.specs.Ranges.{lows, lows_of, slot_step, slot_in, any_slot, opposite, Moved, RangeOf, FarNext}
+use Rattle.ranges.specs.declared.Orders.{Orders}
+use Rattle.ranges.specs.declared.Far.{Far}
 use Rattle.ranges.specs.declared.Range.{Range}
 
-module _ (c d o : ℕ) where
-  pub ordered_less : c < d → Ordered c d o 0
-  unfolding order_then choose
-  ordered_less h = record { is = rw (lt-ltb c d h); small = λ x. omega arith; least = λ x. omega arith }
-
-  pub ordered_more : d ≤ c → d < c → Ordered c d o 2
-  unfolding order_then choose
-  ordered_more g h = record { is = rw (le-ltb c d g, lt-ltb d c h); small = λ x. omega arith; least = λ x. omega arith }
-
-  pub ordered_same : d ≤ c → c ≤ d → Ordered c d o o
-  unfolding order_then choose
-  ordered_same g h = record { is = rw (le-ltb c d g, le-ltb d c h); small = λ x. x; least = λ x. x }
-
-module _ (x c d e : ℕ) where
-  pub slot_none : x ≡ 0 → 0 ≡ slot_step x c d e
-  unfolding slot_step choose
-  slot_none z = rw z
-
-  pub slot_below : (x ≡ 0 → ⊥) → c < 48 → 0 ≡ slot_step x c d e
-  unfolding slot_step choose
-  slot_below z h = rw (ne_eqb x 0 z, lt-leb 48 c h)
-
-  pub slot_above : (x ≡ 0 → ⊥) → 57 < c → 0 ≡ slot_step x c d e
-  unfolding slot_step choose
-  slot_above z h = rw (ne_eqb x 0 z, lt-leb c 57 h, and-false (leb 48 c))
-
-  pub slot_some : (x ≡ 0 → ⊥) → 48 ≤ c → c ≤ 57 → (o q : ℕ) → Ordered c d ((x - 1) / 3) o → Ordered c e ((x - 1) % 3) q
-      → 1 + 3 * o + q ≡ slot_step x c d e
-  unfolding slot_step choose
-  slot_some z h g o q a b = rw (ne_eqb x 0 z, le-leb 48 c h, le-leb c 57 g, a.is, b.is)
-
-module _ (r : Range) (j x : ℕ) where
-  pub in_none : x ≡ 0 → false ≡ slot_in r j x
-  unfolding slot_in choose
-  in_none z = rw z
-
-  pub in_some : (x ≡ 0 → ⊥) → (o q : ℕ) (b : Bool) → o ≡ whole_of (ltb j r.first.digits) ((x - 1) / 3)
-      → q ≡ whole_of (ltb j r.second.digits) ((x - 1) % 3)
-      → b ≡ inside_of r.first.minus (eqb r.first.digits 0) r.second.minus (eqb r.second.digits 0) o q → b ≡ slot_in r j x
-  unfolding slot_in
-  in_some z o q b e f g = g ∙ rw (ne_eqb x 0 z, e, f) (unfold choose in refl)
-
-pub opposite_is : (r : Range) (f s : End) → f ≡ turned r.first → s ≡ turned r.second
-    → ◌≡◌ {A = Range} (record { first = f; second = s; width = r.width }) (opposite r)
-opposite_is r f s a b = rw (a, b)
-
-pub far_is : (r o : Range) (last : ℕ) (far : Near) (c : ℕ) (a b : Bool) → a ≡ slot_in r r.width last → o ≡ opposite r → b ≡ slot_in o r.width last
-    → FarNext r last far c (record { plain = eqb c 48 && (a || far.plain); minus = eqb c 48 && (b || far.minus) })
+pub far_is : (r o : Range) (last : Option Orders) (far : Far) (c : ℕ) (a b : Bool) → a ≡ slot_in r r.width last → o ≡ opposite r → b ≡ slot_in o r.width last
+    → FarNext r last far c (eqb c 48 && (a || far.plain), eqb c 48 && (b || far.minus))
 far_is r o last far c a b e f g = record { plain = rw e; minus = rw (g, f) }
 
 -- ---- digits
@@ -89,16 +41,16 @@ lows_past cs e n j h = sym (get_or-eq_default (lows cs e n) 48 (rw (length_lows 
 
 -- ---- the slots move up
 
-pub record Moving (cs : List ℕ) (p : ℕ) (r : Range) (c : ℕ) (l₀ : List ℕ) (j : ℕ) (l : List ℕ) : Type 0 where
+pub record Moving (cs : List ℕ) (p : ℕ) (r : Range) (c : ℕ) (l₀ : List (Option Orders)) (j : ℕ) (l : List (Option Orders)) : Type 0 where
   pub bound : j ≤ r.width
   pub inside : p + r.width < length l₀
   pub long : length l ≡ length l₀
-  pub below : (i : ℕ) → i ≤ p + j → get_or l i 0 ≡ get_or l₀ i 0
-  pub above : (i : ℕ) → p + r.width < i → get_or l i 0 ≡ get_or l₀ i 0
+  pub below : (i : ℕ) → i ≤ p + j → get_or l i None ≡ get_or l₀ i None
+  pub above : (i : ℕ) → p + r.width < i → get_or l i None ≡ get_or l₀ i None
   pub slots : (i : ℕ) → j ≤ i → i < r.width
-      → get_or l (p + suc i) 0 ≡ slot_step (get_or l₀ (p + i) 0) c (get_or (lows_of cs r.first) i 48) (get_or (lows_of cs r.second) i 48)
+      → get_or l (p + suc i) None ≡ slot_step (get_or l₀ (p + i) None) c (get_or (lows_of cs r.first) i 48) (get_or (lows_of cs r.second) i 48)
 
-pub moving_start : (cs : List ℕ) (p : ℕ) (r : Range) (c : ℕ) (l : List ℕ) → RangeOf cs p r → length cs ≤ length l → Moving cs p r c l r.width l
+pub moving_start : (cs : List ℕ) (p : ℕ) (r : Range) (c : ℕ) (l : List (Option Orders)) → RangeOf cs p r → length cs ≤ length l → Moving cs p r c l r.width l
 moving_start cs p r c l w h =
     let a : r.width + 3 ≤ _ = w.room in
     let b : p + _ < length cs = w.fits in
@@ -111,28 +63,28 @@ moving_start cs p r c l w h =
       slots = λ i x y. absurd (omega arith);
     }
 
-module _ (cs : List ℕ) (p : ℕ) (r : Range) (c : ℕ) (l₀ : List ℕ) (j : ℕ) (l : List ℕ) (w : Moving cs p r c l₀ j l) where
-  pub moving_more : 0 < j → (x d e : ℕ) → x ≡ slot_step (get_or l (p + (j - 1)) 0) c d e → d ≡ get_or (lows cs r.first.end r.first.digits) (j - 1) 48
+module _ (cs : List ℕ) (p : ℕ) (r : Range) (c : ℕ) (l₀ : List (Option Orders)) (j : ℕ) (l : List (Option Orders)) (w : Moving cs p r c l₀ j l) where
+  pub moving_more : 0 < j → (x : Option Orders) (d e : ℕ) → x ≡ slot_step (get_or l (p + (j - 1)) None) c d e → d ≡ get_or (lows cs r.first.end r.first.digits) (j - 1) 48
       → e ≡ get_or (lows cs r.second.end r.second.digits) (j - 1) 48 → Moving cs p r c l₀ (j - 1) (set l (p + j) x)
   moving_more h x d e f gd ge =
       let b : j ≤ r.width = w.bound in
       let n : p + r.width < length l₀ = w.inside in
       let m : length l ≡ length l₀ = w.long in
-      let y : x ≡ slot_step (get_or l₀ (p + (j - 1)) 0) c (get_or (lows_of cs r.first) (j - 1) 48) (get_or (lows_of cs r.second) (j - 1) 48) =
+      let y : x ≡ slot_step (get_or l₀ (p + (j - 1)) None) c (get_or (lows_of cs r.first) (j - 1) 48) (get_or (lows_of cs r.second) (j - 1) 48) =
       f ∙ rw (gd, ge, w.below (p + (j - 1)) (omega arith)) in
       record {
         bound = omega arith;
         inside = w.inside;
         long = length-set l (p + j) x ∙ w.long;
-        below = λ i a. get_or-set_other l (p + j) i x 0 (λ q. absurd (omega arith)) ∙ w.below i (omega arith);
-        above = λ i a. get_or-set_other l (p + j) i x 0 (λ q. absurd (omega arith)) ∙ w.above i a;
+        below = λ i a. get_or-set_other l (p + j) i x None (λ q. absurd (omega arith)) ∙ w.below i (omega arith);
+        above = λ i a. get_or-set_other l (p + j) i x None (λ q. absurd (omega arith)) ∙ w.above i a;
         slots = λ i a k.
             ⊎_elim
-            (λ (t : j ≤ i). get_or-set_other l (p + j) (p + suc i) x 0 (λ q. absurd (omega arith)) ∙ w.slots i t k)
+            (λ (t : j ≤ i). get_or-set_other l (p + j) (p + suc i) x None (λ q. absurd (omega arith)) ∙ w.slots i t k)
             (λ (t : i < j).
             let z : i ≡ j - 1 = omega arith in
             let u : p + suc i ≡ p + j = omega arith in
-            rw (u, get_or-set_same l (p + j) x 0 (omega arith), z) y)
+            rw (u, get_or-set_same l (p + j) x None (omega arith), z) y)
             (swap (split i j));
       }
     where
@@ -142,25 +94,24 @@ module _ (cs : List ℕ) (p : ℕ) (r : Range) (c : ℕ) (l₀ : List ℕ) (j : 
   pub moving_end : j ≤ 0 → Moved cs p r c l₀ l
   moving_end z =
       record {
-        long = w.long;
         kept = λ i. (λ h. w.below i (omega arith), λ h. w.above i h);
         slots = λ i h. w.slots i (omega arith) h;
       }
 
 -- ---- any of them
 
-pub record Finding (r : Range) (l : List ℕ) (p j : ℕ) (found : Bool) : Type 0 where
+pub record Finding (r : Range) (l : List (Option Orders)) (p j : ℕ) (found : Bool) : Type 0 where
   pub bound : j ≤ r.width
   pub is : found ≡ any_slot r l p j
 
-pub finding_start : (r : Range) (l : List ℕ) (p : ℕ) → Finding r l p 0 false
+pub finding_start : (r : Range) (l : List (Option Orders)) (p : ℕ) → Finding r l p 0 false
 unfolding any_slot
 finding_start r l p = record { bound = omega arith; is = refl }
 
-pub finding_more : (r : Range) (l : List ℕ) (p j : ℕ) (found hit : Bool) → Finding r l p j found → j < r.width
-    → hit ≡ slot_in r (j + 1) (get_or l (p + (j + 1)) 0) → Finding r l p (j + 1) (found || hit)
+pub finding_more : (r : Range) (l : List (Option Orders)) (p j : ℕ) (found hit : Bool) → Finding r l p j found → j < r.width
+    → hit ≡ slot_in r (j + 1) (get_or l (p + (j + 1)) None) → Finding r l p (j + 1) (found || hit)
 unfolding any_slot
 finding_more r l p j found hit w h e = record { bound = omega arith; is = rw (add-one j, w.is, e, add-one j) }
 
-pub finding_end : (r : Range) (l : List ℕ) (p j : ℕ) (found : Bool) → Finding r l p j found → r.width ≤ j → found ≡ any_slot r l p r.width
+pub finding_end : (r : Range) (l : List (Option Orders)) (p j : ℕ) (found : Bool) → Finding r l p j found → r.width ≤ j → found ≡ any_slot r l p r.width
 finding_end r l p j found w h = let e : j ≡ r.width = let b : j ≤ r.width = w.bound in omega arith in rw e at w.is

@@ -1,14 +1,18 @@
 -- A range at a place of a name, and what code keeps of it.
-use Rattle.std.specs.Prelude.{ℕ, zero, suc, ◌+◌, ◌-◌, ◌*◌, ◌/◌, ◌%◌, ◌≤◌, ◌<◌, Bool, true, false, not, ◌&&◌, ◌||◌, List, [], ◌∷◌, ◌≡◌, ltb, eqb, length, get_or, set, take, drop}
+use Rattle.std.specs.declared.cmp.Ordering.{Ordering}
+use Rattle.std.specs.Prelude.{ℕ, zero, suc, ◌+◌, ◌-◌, ◌≤◌, ◌<◌, max, Bool, true, false, not, ◌&&◌, ◌||◌, List, [], ◌∷◌, ◌≡◌, ltb, eqb, length, get_or, take, drop, Option, Some, None}
 use Rattle.rules.specs.Basics.{choose}
 use Rattle.config_rules.specs.Numbers.{is_digit, number_len, in_range}
 use Rattle.config_rules.specs.Globs.{Strings, some_then}
 use Rattle.glob_name.specs.Read.{range_more}
+use mathlib.Core.Logic.{◌⊎◌}
 use Rattle.ranges.specs.Slots.{order_then, valid, order_at, inside_of, whole_of, all_digits, all, minus, size, in_plain}
 use Rattle.ranges.specs.Slots.{in_minus, farther}
 use Rattle.ranges.specs.declared.End.{End}
 use Rattle.ranges.specs.declared.Range.{Range}
-use Rattle.ranges.specs.declared.Near.{Near}
+use Rattle.ranges.specs.declared.Orders.{Orders}
+use Rattle.ranges.specs.declared.Far.{Far}
+use Rattle.ranges.specs.declared.State.{State}
 
 -- the n digits before e, the lowest first
 unfoldable pub lows : List ℕ → ℕ → ℕ → List ℕ
@@ -49,14 +53,11 @@ end_of cs from n =
     (record { minus = true; end = from + n; digits = from + n - past_zeros cs (from + 1) (from + n - (from + 1)) })
     (record { minus = false; end = from + n; digits = from + n - past_zeros cs from (from + n - from) })
 
-unfoldable pub width_of : ℕ → ℕ → ℕ
-width_of m n = choose (ltb m n) n (choose (ltb 0 m) m 1)
-
 unfoldable pub range_for : List ℕ → ℕ → Range
 range_for cs p =
     let f = end_of cs (p + 1) (number_len (drop (p + 1) cs)) in
     let s = end_of cs (second_at cs p) (number_len (drop (second_at cs p) cs)) in
-    record { first = f; second = s; width = width_of f.digits s.digits }
+    record { first = f; second = s; width = max (max f.digits s.digits) 1 }
 
 pub record RangeOf (cs : List ℕ) (p : ℕ) (r : Range) : Type 0 where
   pub first : EndAt cs (first_end cs p) r.first
@@ -76,33 +77,21 @@ pub record PastZeros (cs : List ℕ) (from end i : ℕ) : Type 0 where
   pub other : i < end → get_or cs i 0 ≡ 48 → ⊥
   pub is : i ≡ past_zeros cs from (end - from)
 
-pub record WidthOf (m n w : ℕ) : Type 0 where
-  pub some : 0 < w
-  pub wide : m ≤ w
-  pub broad : n ≤ w
-  pub least : (b : ℕ) → 0 < b → m ≤ b → n ≤ b → w ≤ b
-  pub is : w ≡ width_of m n
+-- ---- slots: the orders against the two ends, where the characters are digits
 
-pub record Ordered (c d order r : ℕ) : Type 0 where
-  pub is : r ≡ order_then c d order
-  pub small : order ≤ 84 → r ≤ 84
-  pub least : order < 3 → r < 3
+unfoldable pub slot_step : Option Orders → ℕ → ℕ → ℕ → Option Orders
+slot_step None c d e = None
+slot_step (Some o) c d e = choose (is_digit c) (Some (record { first = order_then c d o.first; second = order_then c e o.second })) None
 
--- ---- slots: 0, or the orders against the two ends
+unfoldable pub slot_in : Range → ℕ → Option Orders → Bool
+slot_in r j None = false
+slot_in r j (Some o) =
+    inside_of r.first.minus (eqb r.first.digits 0) r.second.minus (eqb r.second.digits 0)
+    (whole_of (ltb j r.first.digits) o.first) (whole_of (ltb j r.second.digits) o.second)
 
-unfoldable pub slot_step : ℕ → ℕ → ℕ → ℕ → ℕ
-slot_step x c d e =
-    choose (eqb x 0) 0 (choose (is_digit c) (1 + 3 * order_then c d ((x - 1) / 3) + order_then c e ((x - 1) % 3)) 0)
-
-unfoldable pub slot_in : Range → ℕ → ℕ → Bool
-slot_in r j x =
-    choose (eqb x 0) false
-    (inside_of r.first.minus (eqb r.first.digits 0) r.second.minus (eqb r.second.digits 0)
-    (whole_of (ltb j r.first.digits) ((x - 1) / 3)) (whole_of (ltb j r.second.digits) ((x - 1) % 3)))
-
-unfoldable pub any_slot : Range → List ℕ → ℕ → ℕ → Bool
+unfoldable pub any_slot : Range → List (Option Orders) → ℕ → ℕ → Bool
 any_slot r l p zero = false
-any_slot r l p (suc j) = any_slot r l p j || slot_in r (suc j) (get_or l (p + suc j) 0)
+any_slot r l p (suc j) = any_slot r l p j || slot_in r (suc j) (get_or l (p + suc j) None)
 
 -- the same with both signs changed, for what stands behind a minus
 abbrev pub turned : End → End
@@ -112,49 +101,49 @@ abbrev pub opposite : Range → Range
 opposite r = record { first = turned r.first; second = turned r.second; width = r.width }
 
 -- what a slot holds at s: whether its characters are digits and k holds behind them, with the orders against r and t
-unfoldable pub slot_at : List ℕ → List ℕ → Strings → ℕ → List ℕ → ℕ
-slot_at r t k j s = choose (valid k j s) (1 + 3 * order_at r j s + order_at t j s) 0
+unfoldable pub slot_at : List ℕ → List ℕ → Strings → ℕ → List ℕ → Option Orders
+slot_at r t k j s = choose (valid k j s) (Some (record { first = order_at r j s; second = order_at t j s })) None
 
-unfoldable pub flag_of : Bool → ℕ
-flag_of b = choose b 1 0
+unfoldable pub first_slot : Bool → Option Orders
+first_slot b = choose b (Some (record { first = Ordering.Equal; second = Ordering.Equal })) None
 
-unfoldable pub first_slot : Bool → ℕ
-first_slot b = choose b 5 0
+-- of no range
+abbrev pub no_far : Far
+no_far = record { plain = false; minus = false; behind = false }
 
--- the flags behind the slots, the highest of which stands at `at`
-unfoldable pub far_at : List ℕ → ℕ → Near
-far_at l at = record { plain = eqb (get_or l (at + 1) 0) 1; minus = eqb (get_or l (at + 2) 0) 1 }
+pub record Empty (t : State) : Type 0 where
+  pub slots : (i : ℕ) → get_or t.slots i None ≡ None
+  pub far : (i : ℕ) → get_or t.far i no_far ≡ no_far
 
-unfoldable pub with_flags : List ℕ → ℕ → Near → Bool → List ℕ
-with_flags l at far behind =
-    set (set (set l (at + 1) (flag_of far.plain)) (at + 2) (flag_of far.minus)) (at + 3) (flag_of behind)
-
--- the longer numbers
-pub record FarNext (r : Range) (last : ℕ) (far : Near) (c : ℕ) (n : Near) : Type 0 where
-  pub plain : n.plain ≡ (eqb c 48 && (slot_in r r.width last || far.plain))
-  pub minus : n.minus ≡ (eqb c 48 && (slot_in (opposite r) r.width last || far.minus))
+-- the longer numbers, as they stand and behind a minus
+pub record FarNext (r : Range) (last : Option Orders) (far : Far) (c : ℕ) (n : Bool × Bool) : Type 0 where
+  pub plain : n.0 ≡ (eqb c 48 && (slot_in r r.width last || far.plain))
+  pub minus : n.1 ≡ (eqb c 48 && (slot_in (opposite r) r.width last || far.minus))
 
 -- the slots of one range move up by one
-pub record Moved (cs : List ℕ) (p : ℕ) (r : Range) (c : ℕ) (l l' : List ℕ) : Type 0 where
-  pub long : length l' ≡ length l
-  pub kept : (i : ℕ) → (i ≤ p → get_or l' i 0 ≡ get_or l i 0) × (p + r.width < i → get_or l' i 0 ≡ get_or l i 0)
+pub record Moved (cs : List ℕ) (p : ℕ) (r : Range) (c : ℕ) (l l' : List (Option Orders)) : Type 0 where
+  pub kept : (i : ℕ) → (i ≤ p → get_or l' i None ≡ get_or l i None) × (p + r.width < i → get_or l' i None ≡ get_or l i None)
   pub slots : (j : ℕ) → j < r.width
-      → get_or l' (p + suc j) 0
-      ≡ slot_step (get_or l (p + j) 0) c (get_or (lows_of cs r.first) j 48) (get_or (lows_of cs r.second) j 48)
+      → get_or l' (p + suc j) None
+      ≡ slot_step (get_or l (p + j) None) c (get_or (lows_of cs r.first) j 48) (get_or (lows_of cs r.second) j 48)
 
 -- ---- what is kept of the range at p, where k follows it, at s
 
-pub record Kept (cs : List ℕ) (p : ℕ) (r : Range) (k : Strings) (s : List ℕ) (l : List ℕ) : Type 0 where
+pub record Kept (cs : List ℕ) (p : ℕ) (r : Range) (k : Strings) (s : List ℕ) (t : State) : Type 0 where
   pub slots : (j : ℕ) → 0 < j → j ≤ r.width
-      → get_or l (p + j) 0 ≡ slot_at (lows_of cs r.first) (lows_of cs r.second) k j s
-  pub plain : eqb (get_or l (p + r.width + 1) 0) 1 ≡ farther (in_plain (first_end cs p) (second_end cs p)) k r.width s
-  pub minus : eqb (get_or l (p + r.width + 2) 0) 1 ≡ farther (in_minus (first_end cs p) (second_end cs p)) k r.width s
-  pub behind : eqb (get_or l (p + r.width + 3) 0) 1 ≡ some_then (in_range (first_end cs p) (second_end cs p)) k (45 ∷ s)
+      → get_or t.slots (p + j) None ≡ slot_at (lows_of cs r.first) (lows_of cs r.second) k j s
+  pub plain : (get_or t.far p no_far).plain ≡ farther (in_plain (first_end cs p) (second_end cs p)) k r.width s
+  pub minus : (get_or t.far p no_far).minus ≡ farther (in_minus (first_end cs p) (second_end cs p)) k r.width s
+  pub behind : (get_or t.far p no_far).behind ≡ some_then (in_range (first_end cs p) (second_end cs p)) k (45 ∷ s)
+
+-- what is kept outside of the range at p stays
+pub record Apart (cs : List ℕ) (p : ℕ) (t t' : State) (i : ℕ) : Type 0 where
+  pub slots : (i < p) ⊎ (p + range_more cs (p + 1) < i) → get_or t'.slots i None ≡ get_or t.slots i None
+  pub far : (i ≡ p → ⊥) → get_or t'.far i no_far ≡ get_or t.far i no_far
 
 -- one character more: the ends are those that the characters have
-pub record RangeNext (cs : List ℕ) (p : ℕ) (next : Bool) (c : ℕ) (l l' : List ℕ) (hit : Bool) : Type 0 where
+pub record RangeNext (cs : List ℕ) (p : ℕ) (next : Bool) (c : ℕ) (t t' : State) (hit : Bool) : Type 0 where
   pub of : RangeOf cs p (range_for cs p)
-  pub long : length l' ≡ length l
-  pub kept : (i : ℕ) → (i < p → get_or l' i 0 ≡ get_or l i 0) × (p + range_more cs (p + 1) < i → get_or l' i 0 ≡ get_or l i 0)
-  pub is : (k : Strings) (s : List ℕ) → next ≡ k s → Kept cs p (range_for cs p) k s l
-      → (hit ≡ some_then (in_range (first_end cs p) (second_end cs p)) k (c ∷ s)) × Kept cs p (range_for cs p) k (c ∷ s) l'
+  pub kept : (i : ℕ) → Apart cs p t t' i
+  pub is : (k : Strings) (s : List ℕ) → next ≡ k s → Kept cs p (range_for cs p) k s t
+      → (hit ≡ some_then (in_range (first_end cs p) (second_end cs p)) k (c ∷ s)) × Kept cs p (range_for cs p) k (c ∷ s) t'

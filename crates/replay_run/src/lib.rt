@@ -7,6 +7,7 @@ ghost use Rattle.replay_run.specs.Replay.{agrees as agreesWith, agreed, differed
 ghost use Rattle.replay_run.specs.Replay.{from_start, replayed};
 
 use crate::list::{Case, case_at};
+use call::Request;
 use rules::{OptionNumbers, Strengths};
 
 mod list;
@@ -69,19 +70,14 @@ fn agrees(list: &[u8], c: Case, output: &mut [u8], scratch: &mut [u8]) -> bool
         final_newline: c.final_newline as u64,
         ruler_tab: 0,
     };
-    let mut opened = [0u64; 0];
     let strengths = Strengths::BUILT_IN;
-    let table = strengths.table;
-    let outcome = call::format(
-        &list[source..indent],
-        &list[indent..stored],
+    let request = Request {
+        source: &list[source..indent],
+        indent: &list[indent..stored],
         numbers,
-        &table,
-        output,
-        &mut opened,
-        scratch,
-    );
-    match outcome {
+        strengths: &strengths.table,
+    };
+    match call::format(request, output, &mut [], scratch) {
         Ok(text) => check::same(&output[..text.length], &list[stored..end]),
         Err(_) => false,
     }

@@ -10,7 +10,7 @@ use Rattle.rules.specs.Basics.{codes}
 use Rattle.rules.specs.Strengths.{built_in}
 use Rattle.rules.specs.Options.{Options, SettingStep, defaults, with_indent, indent_with, spaces, tab}
 use Rattle.rules.specs.Assembly.{format_with, format_wirescript}
-use Rattle.rules.specs.Choices.{Choices, default_numbers, print_width_named, end_of_line_named, final_newline_named, valid_options, options_of}
+use Rattle.rules.specs.Choices.{Choices, default_numbers, valid_options, options_of}
 use Rattle.std.specs.Prelude.{Ok, Err}
 use Rattle.rules.specs.Call.{Call, CallResult, Outcome, outcome_of, format_call}
 use Rattle.rules.specs.TextKind.{text_kind_at, kind_outcome_of, kind_number}

@@ -12,7 +12,7 @@ ghost use Rattle.rules.specs.TextKind.{kind_number, kind_answer};
 pub const MAX_SOURCE: usize = 1048576;
 
 // What a character of a line is part of.
-#[derive(Clone, Copy)]
+#[derive(Clone, Copy, PartialEq, Eq, Debug)]
 pub enum Class {
     Code,
     Str,
@@ -22,7 +22,7 @@ pub enum Class {
 }
 
 // What is still open at the end of a line; a block comment with its depth.
-#[derive(Clone, Copy)]
+#[derive(Clone, Copy, PartialEq, Eq, Debug)]
 pub enum Carry {
     Code,
     Block(u32),
@@ -31,7 +31,7 @@ pub enum Carry {
 
 // Where in a line a character stands. The bools say which quote ends a string: `"` if true, else `'`.
 // Interp and Inner are inside `${..}`, at a depth of braces; Inner is a string in it.
-#[derive(Clone, Copy)]
+#[derive(Clone, Copy, PartialEq, Eq, Debug)]
 pub enum Mode {
     Code,
     Quoted(bool),
@@ -51,7 +51,8 @@ pub struct Mark {
 }
 
 // What spacing has just read, in code: a backslash, a comma, a space, or anything else.
-#[derive(Clone, Copy)]
+// kept: `Option<Gap>` is no plainer: it has the same four cases in two levels
+#[derive(Clone, Copy, PartialEq, Eq, Debug)]
 pub enum Gap {
     Nothing,
     Escape,
@@ -61,14 +62,15 @@ pub enum Gap {
 
 // What a marker protects: nothing, the next line that is not blank, or a block up to and with the first line that
 // leaves so many brackets open or fewer.
-#[derive(Clone, Copy)]
+// kept: `Option<Ignore>` is no plainer: it has the same three cases in two levels
+#[derive(Clone, Copy, PartialEq, Eq, Debug)]
 pub enum Ignore {
     Nothing,
     NextLine,
     Block(usize),
 }
 
-#[derive(Clone, Copy)]
+#[derive(Clone, Copy, PartialEq, Eq, Debug)]
 pub enum LineEnding {
     Lf,
     Crlf,
@@ -81,7 +83,7 @@ impl LineEnding {
 }
 
 // Whether the text ends in a line ending: if the source does, always, or never.
-#[derive(Clone, Copy)]
+#[derive(Clone, Copy, PartialEq, Eq, Debug)]
 pub enum FinalNewline {
     AsSource,
     Always,
@@ -284,25 +286,26 @@ impl From<Result<TextKind, Refusal>> for Kind {
     }
 }
 
-#[derive(Clone, Copy)]
+#[derive(Clone, Copy, PartialEq, Eq, Debug)]
 pub enum IndentStyle {
     Tabs,
     Spaces,
 }
 
-#[derive(Clone, Copy)]
+// kept, and so `MaxLineLen`: `Option<usize>` is no plainer, since it would stand in the `Option` of an unset value
+#[derive(Clone, Copy, PartialEq, Eq, Debug)]
 pub enum IndentSize {
     UseTabWidth,
     Value(usize),
 }
 
-#[derive(Clone, Copy)]
+#[derive(Clone, Copy, PartialEq, Eq, Debug)]
 pub enum MaxLineLen {
     Off,
     Value(usize),
 }
 
-#[derive(Clone, Copy)]
+#[derive(Clone, Copy, PartialEq, Eq, Debug)]
 pub enum ConfigEnding {
     Lf,
     CrLf,

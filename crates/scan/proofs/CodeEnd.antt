@@ -1,6 +1,6 @@
 -- The loops of `code_end` and `all_code_or_str`, and what they say of a line's cells.
 use Prim.Native.Nat.{ℕ, zero, suc, ◌+◌, ◌<◌, ◌≤◌, zero-le}
-use mathlib.Core.Bool.{Bool, true, false, ◌&&◌, true≢false}
+use mathlib.Core.Bool.{Bool, true, false, ◌&&◌}
 use mathlib.Core.Path.{◌≡◌, refl, sym, ap, ◌∙◌}
 use mathlib.Core.List.{List, [], ◌∷◌}
 use native.Mathlib.Numerals.{add-one}
@@ -29,9 +29,6 @@ comment_found ks r w = sym (first_comment ks r w.within (λ j l. w.none j zero-l
 
 pub no_comment : (ks : List ℕ) (r : Bool) → NoneBefore (comment_at ks) (length ks) r → NoComment ks r
 no_comment ks r w = record { none = λ e. first_comment ks (length ks) (omega arith) (w.none e) (λ l. absurd (omega arith)) }
-
-pub no_comment_no : (ks : List ℕ) → NoComment ks false
-no_comment_no ks = record { none = λ q. absurd (true≢false (sym q)) }
 
 -- whether all are code or string is left to those from i on
 pub record Checked (ks : List ℕ) (i : ℕ) : Type 0 where

@@ -5,3 +5,4 @@ pub mod StringLaws
 pub mod CodeLaws
 pub mod ClassifyLaws
 pub mod CodeEnd
+pub mod WithinLaws

@@ -1,3 +1,4 @@
 pub mod Classified
 pub mod CodeEnd
 pub mod Stretch
+pub mod Within

@@ -11,6 +11,7 @@ ghost use Rattle.scan.specs.Classified.{Classified};
 ghost use Rattle.scan.specs.CodeEnd.{code_length, NoComment, only_code_or_str};
 ghost use Rattle.scan.specs.Stretch.{Room, Inside, At, Deep, PairRead, InnerRead, InterpRead, DollarRead};
 ghost use Rattle.scan.specs.Stretch.{Scanned, Stretch, fresh, starts_in_code};
+ghost use Rattle.scan.specs.Within.{ClassRoom, ClassifiedAt};
 
 use basics::quote_of;
 use rules::{Carry, Class, Mode};
@@ -396,6 +397,16 @@ pub fn classify(line: &[u8], carry: Carry, class: &mut [u8]) -> Carry
         y = stop.carry;
     }
     y
+}
+
+// The same of a line of code that stands in the buffer itself, n bytes from `at` on: its class bytes go to class_at and
+// on.
+pub fn classify_at(buf: &mut [u8], at: usize, n: usize, class_at: usize) -> Carry
+    requires { ClassRoom buf.old at n class_at }
+    ensures { ClassifiedAt buf.old at n class_at buf.new result }
+{
+    let (front, back) = buf.split_at_mut(class_at);
+    classify(&front[at..at + n], Carry::Code, back)
 }
 
 // Whether no class byte is one of a `//` comment. Of a short line it is not said.

@@ -3,6 +3,7 @@ ghost use Rattle.std.specs.Prelude.{◌≡◌, ◌+◌, ◌≤◌, length};
 ghost use Rattle.short_texts.specs.Texts.{Short};
 ghost use Rattle.short_sources.specs.Printed.{digit_in, greatest_in, TextIn, Added, Paged};
 
+use call::Request;
 use rules::{OptionNumbers, Strengths};
 use short_texts::Place;
 
@@ -46,15 +47,13 @@ fn format_short(source: &[u8], output: &mut [u8]) -> usize
 {
     let mut scratch = [0u8; 512];
     let strengths = Strengths::BUILT_IN;
-    let answer = call::format_call(
+    let request = Request {
         source,
-        b"  ",
-        OptionNumbers::DEFAULTS,
-        &strengths.table,
-        output,
-        &mut [],
-        &mut scratch,
-    );
+        indent: b"  ",
+        numbers: OptionNumbers::DEFAULTS,
+        strengths: &strengths.table,
+    };
+    let answer = call::format_call(request, output, &mut [], &mut scratch);
     answer.length as usize
 }
 

@@ -220,12 +220,13 @@ pub keeping_start : (line ks : List ℕ) → Keeping line ks 0
 unfolding respaced_from normalize_spacing
 keeping_start line ks = record { within = zero-le; same = refl }
 
+pub keeping_none : (line ks : List ℕ) (i : ℕ) → i ≤ 0 → Keeping line ks i
+keeping_none line ks i h = let e : i ≡ 0 = omega arith in rw e (keeping_start line ks)
+
 pub keeping_more : (line ks : List ℕ) (i n : ℕ) → Keeping line ks i → Kept line ks i n → Keeping line ks (i + n)
 keeping_more line ks i n w k = record { within = k.fits; same = w.same ∙ k.kept }
 
-pub keeping_end : (line ks : List ℕ) (i : ℕ) → Keeping line ks i → length line ≤ i → Unchanged line ks true
+pub keeping_unchanged : (line ks : List ℕ) (i : ℕ) (r : Bool) → Keeping line ks i → (r ≡ true → i ≡ length line) → Unchanged line ks r
 unfolding respaced_from
-keeping_end line ks i w h = record { yes = λ q. w.same ∙ from_end line ks Gap.Nothing (take i line) i h ∙ take_all i line h }
-
-pub unchanged_no : (line ks : List ℕ) → Unchanged line ks false
-unchanged_no line ks = record { yes = λ q. cc }
+keeping_unchanged line ks i r w e =
+    record { yes = λ q. (let h : length line ≤ i = omega (arith, e q) in w.same ∙ from_end line ks Gap.Nothing (take i line) i h ∙ take_all i line h) }

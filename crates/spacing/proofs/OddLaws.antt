@@ -1,5 +1,5 @@
 -- A line without odd bytes: spacing leaves it as it is, as far as its last two bytes.
-use Prim.Native.Nat.{ℕ, zero, suc, ◌+◌, ◌-◌, ◌≤◌, ◌<◌}
+use Prim.Native.Nat.{ℕ, zero, suc, ◌+◌, ◌-◌, ◌≤◌, ◌<◌, zero-le}
 use mathlib.Core.Bool.{Bool, true, false, not, ◌&&◌, ◌||◌, and-false, true≢false}
 use mathlib.Core.List.{List}
 use mathlib.Core.Path.{◌≡◌, refl, sym, subst, ◌∙◌}
@@ -8,7 +8,7 @@ use native.Mathlib.Omega.{arith}
 use borrow.Author.Tests.{eqb-true, eqb-false, not-false}
 use lib.Dec.{eqb}
 use lib.ListN.{length, get_or}
-use Rattle.blocks.specs.Blocks.{NoneBefore}
+use Rattle.blocks.specs.Blocks.{NoneBefore, NoneFrom}
 use Rattle.utf8.proofs.Tests.{by_test, neither_left, neither_right}
 use Rattle.rules.specs.Basics.{is_blank, is_closer}
 use Rattle.rules.specs.Scan.{is_code}
@@ -66,16 +66,16 @@ data Walked (line ks : List ℕ) (i : ℕ) : Type 0 where
   on : Keeping line ks i → Walked line ks i
   gap : Keeping line ks (i + 1) → get_or line i 0 ≡ 32 → get_or line (i - 1) 0 ≡ 44 → Walked line ks i
 
-module _ (line ks : List ℕ) (long : length line ≤ length ks) (none-odd : (j : ℕ) → j + 2 < length line → odd_at line ks j ≡ false) where
+module _ (line ks : List ℕ) (e : ℕ) (long : length line ≤ length ks) (fits : e + 2 ≤ length line) (none-odd : (j : ℕ) → j < e → odd_at line ks j ≡ false) where
   -- no blank stands before a comma
-  before : (i : ℕ) → i + 2 < length line → eqb (get_or line i 0) 44 ≡ true → NoBlank line i false
-  before zero h e = blank_first line 0 false refl
-  before (suc i) h e =
+  before : (i : ℕ) → i < e → eqb (get_or line i 0) 44 ≡ true → NoBlank line i false
+  before zero h d = blank_first line 0 false refl
+  before (suc i) h d =
       let a : suc i - 1 ≡ i = omega arith in
-      let q : eqb (get_or line (i + 1) 0) 44 ≡ true = rw (add-one i) e in
+      let q : eqb (get_or line (i + 1) 0) 44 ≡ true = rw (add-one i) d in
       blank_last line (suc i) false (omega arith) (λ z. absurd (omega arith)) (rw a (sym (sieve_blank _ _ _ _ _ _ _ _ _ (none-odd i (omega arith)) q)))
 
-  module _ (i : ℕ) (h : i + 2 < length line) (w : Keeping line ks i) (code : eqb (get_or ks i 0) 0 ≡ true) where
+  module _ (i : ℕ) (h : i < e) (w : Keeping line ks i) (code : eqb (get_or ks i 0) 0 ≡ true) where
     space : eqb (get_or line i 0) 32 ≡ true → Walked line ks (i + 1)
     space s =
         let v : InCode line ks i 32 = record { within = omega arith; classes = long; char = eqb-true _ _ s; code = eqb-true _ _ code } in
@@ -90,7 +90,7 @@ module _ (line ks : List ℕ) (long : length line ≤ length ks) (none-odd : (j 
         let m : (is_blank (get_or line (i + 2) 0) || is_closer (get_or line (i + 2) 0)) ≡ false = sieve_then _ _ _ _ _ _ _ _ _ o code c in
         let p : is_blank (get_or line (i + 2) 0) ≡ false = neither_left (is_blank (get_or line (i + 2) 0)) (is_closer (get_or line (i + 2) 0)) m in
         let q : is_closer (get_or line (i + 2) 0) ≡ false = after (is_blank (get_or line (i + 2) 0)) true (is_closer (get_or line (i + 2) 0)) m refl in
-        let x = comma_gap line ks i v (before i h c) _ _ u h refl (rw p (and-false (is_code (class_of (get_or ks (i + 2) 0))))) refl q in
+        let x = comma_gap line ks i v (before i h c) _ _ u (omega (arith, h, fits)) refl (rw p (and-false (is_code (class_of (get_or ks (i + 2) 0))))) refl q in
         let a : i + 2 ≡ i + 1 + 1 = omega arith in
         let b : i + 1 - 1 ≡ i = omega arith in
         gap (rw a at (keeping_more line ks i 2 w x)) g (rw b (eqb-true _ _ c))
@@ -99,14 +99,14 @@ module _ (line ks : List ℕ) (long : length line ≤ length ks) (none-odd : (j 
     other s c =
         on (keeping_more line ks i 1 w (kept_char line ks i (omega arith, long) (eqb-false _ _ s) (eqb-false _ _ c) (eqb-false _ _ (sieve_escape _ _ _ _ _ _ _ _ _ (none-odd i h) code))))
 
-  walk_on : (i : ℕ) → i + 2 < length line → Walked line ks i → Walked line ks (i + 1)
+  walk_on : (i : ℕ) → i < e → Walked line ks i → Walked line ks (i + 1)
   walk_on i h (gap w s c) = on w
   walk_on i h (on w) =
       by_test (eqb (get_or ks i 0) 0)
       (λ k. by_test (eqb (get_or line i 0) 32) (space i h w k) (λ s. by_test (eqb (get_or line i 0) 44) (comma i h w k) (other i h w k s)))
       (λ k. on (keeping_more line ks i 1 w (kept_other line ks i (omega arith, long) (eqb-false _ _ k))))
 
-  walk : (i : ℕ) → i + 1 < length line → Walked line ks i
+  walk : (i : ℕ) → i ≤ e → Walked line ks i
   walk zero h = on (keeping_start line ks)
   walk (suc i) h = rw (← add-one i) (walk_on i (omega arith) (walk i (omega arith)))
 
@@ -119,17 +119,20 @@ walked_other : {line ks : List ℕ} {i : ℕ} → Walked line ks i → (get_or l
 walked_other (on w) n = w
 walked_other (gap w s c) n = absurd (n c)
 
-module _ (line ks : List ℕ) (r : Bool) (long : length line ≤ length ks) (w : Clear line ks r) (q : r ≡ true) where
-  pub clear_comma : get_or line (length line - 2 - 1) 0 ≡ 44 → Keeping line ks (length line - 2 - 1)
-  clear_comma e = walked_comma (walk line ks long (w.none q) (length line - 2 - 1) (omega (arith, w.long q))) e
+module _ (line ks : List ℕ) (e : ℕ) (long : length line ≤ length ks) (w : Clear line ks e) where
+  pub clear_comma : 0 < e → get_or line (e - 1) 0 ≡ 44 → Keeping line ks (e - 1)
+  clear_comma h c = walked_comma (walk line ks e long (w.fits h) w.none (e - 1) (omega arith)) c
 
-  pub clear_other : (get_or line (length line - 2 - 1) 0 ≡ 44 → ⊥) → Keeping line ks (length line - 2)
-  clear_other n = walked_other (walk line ks long (w.none q) (length line - 2) (omega (arith, w.long q))) n
+  pub clear_other : 0 < e → (get_or line (e - 1) 0 ≡ 44 → ⊥) → Keeping line ks e
+  clear_other h n = walked_other (walk line ks e long (w.fits h) w.none e (omega arith)) n
 
 -- ---- the line whole
 
-pub even_clear : (line ks : List ℕ) (r : Bool) → 2 < length line → NoneBefore (odd_at line ks) (length line - 2) r → Clear line ks r
-even_clear line ks r h w = record { long = λ q. h; none = λ q j m. w.none q j (omega arith) }
+pub clear_none : (line ks : List ℕ) → Clear line ks 0
+clear_none line ks = record { fits = λ h. absurd (omega arith); none = λ j m. absurd (omega arith) }
+
+pub even_clear : (line ks : List ℕ) (i : ℕ) → 2 ≤ length line → NoneFrom (odd_at line ks) 0 (length line - 2) i → Clear line ks i
+even_clear line ks i h w = record { fits = λ m. omega (arith, w.within); none = λ j m. w.none j zero-le m }
 
 -- ---- a line without commas, backslashes and two spaces
 
@@ -151,11 +154,11 @@ module _ (x y z k l : ℕ) (e : busy x y ≡ false) (f : busy y z ≡ false) whe
   unfolding sieve
   quiet_odd = rw (next_no_comma, no_escape, no_pair, no_comma, and-false (is_blank x)) (and-false (eqb k 0))
 
-pub quiet_clear : (line ks : List ℕ) (r : Bool) → 2 < length line → NoneBefore (busy_at line) (length line - 1) r → Clear line ks r
-quiet_clear line ks r h w =
+pub quiet_clear : (line ks : List ℕ) (r : Bool) → 2 < length line → NoneBefore (busy_at line) (length line - 1) r → r ≡ true → Clear line ks (length line - 2)
+quiet_clear line ks r h w q =
     record {
-      long = λ q. h;
-      none = λ q j m.
+      fits = λ m. omega arith;
+      none = λ j m.
           (let a : j + 1 + 1 ≡ j + 2 = omega arith in
           let n : busy (get_or line (j + 1) 0) (get_or line (j + 2) 0) ≡ false = subst (λ (i : ℕ). busy (get_or line (j + 1) 0) (get_or line i 0) ≡ false) a (w.none q (j + 1) (omega arith)) in
           quiet_odd (get_or line j 0) (get_or line (j + 1) 0) (get_or line (j + 2) 0) (get_or ks j 0) (get_or ks (j + 1) 0) (w.none q j (omega arith)) n);

@@ -1,15 +1,15 @@
 -- Laws of a text in scratch that grows at its end, and the loops of spacing.
-use Prim.Native.Nat.{ℕ, zero, suc, ◌+◌, ◌-◌, ◌*◌, ◌≤◌, ◌<◌, zero-le}
+use Prim.Native.Nat.{ℕ, zero, suc, ◌+◌, ◌-◌, ◌*◌, ◌≤◌, ◌<◌}
 use mathlib.Core.Bool.{Bool, true, false, not, ◌&&◌, true≢false}
-use mathlib.Core.List.{List, [], ◌∷◌, ◌++◌}
+use mathlib.Core.List.{List, [], ◌∷◌, ◌++◌, foldl}
 use mathlib.Core.Path.{◌≡◌, refl, sym, ap, ◌∙◌}
 use native.Mathlib.Nat.{le_refl}
 use native.Mathlib.Numerals.{add-one}
 use native.Mathlib.Omega.{arith}
 use borrow.Author.Tests.{eqb-true, eqb-false, ne_eqb, not-false}
 use lib.Dec.{eqb}
-use lib.ListN.{length, get_or, take, drop, set, length-drop}
-use lib.Seq.{take-suc, take-suc-set, drop-set-add, get_or-drop}
+use lib.ListN.{length, get_or, take, drop, set, length-drop, length-take, length-append}
+use lib.Seq.{take-suc, take-suc-set, drop-set-add, get_or-drop, length-take-le}
 use Rattle.buffer.specs.Buffer.{part}
 use Rattle.blocks.specs.Blocks.{FirstFrom}
 use Rattle.rules.specs.Basics.{choose, is_blank}
@@ -18,11 +18,13 @@ use Rattle.rules.specs.ClassBytes.{class_of, cells_of}
 use Rattle.rules.specs.Spacing.{Spaced, spaced, cons_blank, trim_blanks, put_plain, put_at, space_step, normalize_spacing}
 use Rattle.rules.specs.declared.Gap.{Gap}
 use Rattle.rules.proofs.Choose.{choose_true, choose_false}
-use Rattle.rules.proofs.CellsLaws.{Folding, fold_start, fold_more, fold_end}
+use Rattle.rules.proofs.CellsLaws.{cells_at, cells_end}
 use Rattle.basics.specs.Region.{Only}
-use Rattle.spacing.specs.Respaced.{text_at, spaced_at, Trimmed, Wrote, Plain, Dropped, other_at, Place, Normalized}
+use Rattle.spacing.specs.Respaced.{text_at, spaced_at, Trimmed, Wrote, Plain, Dropped, other_at, Place, Copied, Normalized, Keeping, respaced_from}
 use Rattle.spacing.specs.declared.Respaced.{Respaced}
-use Rattle.basics.proofs.OnlyLaws.{only_same, only_set, only_wider, only_then, read_now}
+use Rattle.basics.proofs.OnlyLaws.{only_same, only_set, only_wider, only_then, only_part_before, read_now}
+use borrow.Rule.Slice.PartMut.{put_mid}
+use Rattle.std.proofs.lemmas.Slice.{between-put_mid, take-put_mid, take-put_mid_below, drop-put_mid}
 use Rattle.buffer.proofs.RegionLaws.{length_part}
 
 -- ---- blanks at the end
@@ -141,13 +143,37 @@ plain_yes c gap e = record { yes = λ q. (e, go (eqb c 92) (eqb c 44) (eqb c 32)
 
 -- ---- the loop over the line
 
+-- before byte i: what is left of the line, after the text so far, comes to the respaced line
 pub record Reached (line ks buf₀ : List ℕ) (at : ℕ) (buf : List ℕ) (t : Respaced) (i : ℕ) : Type 0 where
-  pub fold : Folding space_step (spaced [] Gap.Nothing) line ks (spaced_at buf at t) i
+  pub within : i ≤ length line
+  pub same : normalize_spacing (cells_of line ks) ≡ (foldl space_step (spaced_at buf at t) (cells_of (drop i line) (drop i ks))).out
   pub most : t.len ≤ 2 * i
   pub only : Only buf₀ buf at (at + 2 * length line)
 
-pub reached_start : (line ks buf : List ℕ) (at : ℕ) → Reached line ks buf at buf (record { len = 0; gap = Gap.Nothing }) 0
-reached_start line ks buf at = record { fold = fold_start space_step (spaced [] Gap.Nothing) line ks; most = zero-le; only = only_same buf _ _ }
+reached_next : {line ks buf₀ : List ℕ} {at : ℕ} {buf : List ℕ} {t : Respaced} {i : ℕ} (buf' : List ℕ) (u : Respaced) → Reached line ks buf₀ at buf t i → i < length line → length line ≤ length ks
+    → spaced_at buf' at u ≡ put_at t.gap (text_at buf at t.len) (cell (get_or line i 0) (class_of (get_or ks i 0))) → u.len ≤ 2 * (i + 1) → Only buf₀ buf' at (at + 2 * length line)
+    → Reached line ks buf₀ at buf' u (i + 1)
+reached_next {line} {ks} {buf₀} {at} {buf} {t} {i} buf' u w h l e m o =
+    record {
+      within = omega arith;
+      same =
+          w.same
+          ∙ ap (λ (xs : List Cell). (foldl space_step (spaced_at buf at t) xs).out) (cells_at line ks i h l)
+          ∙ ap (λ (s : Spaced). (foldl space_step s (cells_of (drop (i + 1) line) (drop (i + 1) ks))).out) (sym e);
+      most = m;
+      only = o;
+    }
+
+-- the first k bytes, which spacing leaves as they are, were copied
+pub reached_kept : (line ks buf : List ℕ) (at k : ℕ) → Keeping line ks k → text_at buf at k ≡ take k line → Reached line ks buf at buf (record { len = k; gap = Gap.Nothing }) k
+unfolding respaced_from
+reached_kept line ks buf at k w e =
+    record {
+      within = w.within;
+      same = w.same ∙ ap (λ (l : List ℕ). (foldl space_step (spaced l Gap.Nothing) (cells_of (drop k line) (drop k ks))).out) (sym e);
+      most = omega arith;
+      only = only_same buf _ _;
+    }
 
 -- a space after a space
 space_again : (o : List ℕ) (g : Gap) (x : Cell) → g ≡ Gap.Space → x.ch ≡ 32 → spaced o g ≡ put_at g o x
@@ -160,11 +186,7 @@ reached_by line ks buf₀ at buf t zero i l g h s w = let e : i + 0 ≡ i = omeg
 reached_by line ks buf₀ at buf t (suc n) i l g h s w =
     let e : i + 1 + n ≡ i + suc n = omega arith in
     let v : Reached line ks buf₀ at buf t (i + 1) =
-    record {
-      fold = fold_more w.fold (omega arith) l (space_again (text_at buf at t.len) t.gap (cell (get_or line i 0) (class_of (get_or ks i 0))) g (s i (omega arith) (omega arith)));
-      most = omega (arith, w.most);
-      only = w.only;
-    } in
+    reached_next buf t w (omega arith) l (space_again (text_at buf at t.len) t.gap (cell (get_or line i 0) (class_of (get_or ks i 0))) g (s i (omega arith) (omega arith))) (omega (arith, w.most)) w.only in
     rw e at (reached_by line ks buf₀ at buf t n (i + 1) l g (omega arith) (λ j p q. s j (omega arith) (omega arith)) v)
 
 module _ (line buf₀ : List ℕ) (class at : ℕ) (buf : List ℕ) (t : Respaced) (i : ℕ) (p : Place buf₀ (length line) class at)
@@ -176,11 +198,7 @@ module _ (line buf₀ : List ℕ) (class at : ℕ) (buf : List ℕ) (t : Respace
       let n = length line in
       let l = length_part buf₀ class n (omega (arith, p.classes, p.room)) in
       let e = v.is ∙ ap (λ (k : ℕ). put_at t.gap (text_at buf at t.len) (cell (get_or line i 0) (class_of k))) (sym (read_now class n i w.only p.classes h)) in
-      record {
-        fold = fold_more w.fold h (omega arith) e;
-        most = omega (arith, w.most, v.most);
-        only = only_then w.only (only_wider at (at + 2 * n) v.only (omega arith) (omega (arith, w.most)));
-      }
+      reached_next buf' u w h (omega arith) e (omega (arith, w.most, v.most)) (only_then w.only (only_wider at (at + 2 * n) v.only (omega arith) (omega (arith, w.most))))
 
   pub reached_plain : (buf' : List ℕ) (u : Respaced) (r : Bool) → i < length line → Plain (get_or line i 0) t.gap r → r ≡ true
       → Wrote (spaced (text_at buf at t.len ++ (get_or line i 0 ∷ [])) Gap.Nothing) 1 buf at t.len buf' u
@@ -202,8 +220,45 @@ module _ (line buf₀ : List ℕ) (class at : ℕ) (buf : List ℕ) (t : Respace
       rw m at (reached_by line (part buf₀ class (class + length line)) buf₀ at buf t (e - (i + 1)) (i + 1) (omega arith) g.0 (omega (arith, u.within, m)) (λ j a b. eqb-true (get_or line j 0) 32 (not-false (eqb (get_or line j 0) 32) (u.none j a (omega (arith, m))))) v)
 
   pub reached_end : length line ≤ i → Normalized (cells_of line (part buf₀ class (class + length line))) buf₀ buf at (length line) t.len
-  unfolding normalize_spacing
   reached_end h =
       let e : at + t.len - at ≡ t.len = omega arith in
-      let d : i ≡ length line = omega (arith, w.fold.within) in
-      record { is = rw e (ap (λ (s : Spaced). s.out) (fold_end w.fold h)); most = omega (arith, w.most); only = w.only }
+      let d = ap (λ (xs : List Cell). (foldl space_step (spaced_at buf at t) xs).out) (cells_end line (part buf₀ class (class + length line)) i h) in
+      record { is = rw e (sym (w.same ∙ d)); most = omega (arith, w.most, w.within); only = w.only }
+
+-- ---- the bytes that are copied
+
+pub copied : (t buf ys : List ℕ) (at n m : ℕ) → at + n ≤ length buf → m ≡ n → length t ≡ n → ys ≡ t → Copied t buf (put_mid at m buf ys) at n
+copied t buf ys at n m h e g q =
+    let l : length ys ≡ m = omega (arith, ap length q) in
+    let a : at ≤ length buf = omega arith in
+    let k : at + n - at ≡ n = omega arith in
+    let x = ap length (drop-put_mid at m buf ys (at + n) (omega arith) a l) in
+    let y = ap length (take-put_mid at m buf ys (at + n) (omega arith) a) in
+    record {
+      is = rw k at (between-put_mid at m buf ys (at + n) a (omega arith)) ∙ q;
+      only = record {
+        long = omega (arith, h, x, y, length-drop (at + n) (put_mid at m buf ys), length-drop (at + n) buf, length-take (at + n) (put_mid at m buf ys), length-append (take at buf) ys, length-take-le at buf a);
+        front = take-put_mid_below at m buf ys at (omega arith) a;
+        back = drop-put_mid at m buf ys (at + n) (omega arith) a l;
+      };
+    }
+
+-- after that, the classes are as they were
+module _ (line buf mid : List ℕ) (class at k : ℕ) (p : Place buf (length line) class at) (t : List ℕ) (c : Copied t buf mid at k) (fits : k ≤ length line) where
+  same_classes : part mid class (class + length line) ≡ part buf class (class + length line)
+  same_classes = only_part_before c.only class (class + length line) (omega arith) p.classes
+
+  pub copied_place : Place mid (length line) class at
+  copied_place = record { classes = p.classes; room = omega (arith, p.room, c.only.long) }
+
+  pub copied_keeping : Keeping line (part buf class (class + length line)) k → Keeping line (part mid class (class + length line)) k
+  copied_keeping w = rw (sym same_classes) at w
+
+  pub normalized_after : (after : List ℕ) (r : ℕ) → Normalized (cells_of line (part mid class (class + length line))) mid after at (length line) r
+      → Normalized (cells_of line (part buf class (class + length line))) buf after at (length line) r
+  normalized_after after r w =
+      record {
+        is = w.is ∙ ap (λ (ks : List ℕ). normalize_spacing (cells_of line ks)) same_classes;
+        most = w.most;
+        only = only_then (only_wider at (at + 2 * length line) c.only (omega arith) (omega arith)) w.only;
+      }

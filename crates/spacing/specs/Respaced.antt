@@ -46,6 +46,11 @@ pub record Place (buf : List ℕ) (n class at : ℕ) : Type 0 where
   pub classes : class + n ≤ at
   pub room : at + 2 * n ≤ length buf
 
+-- the text t of n bytes stands from at on
+pub record Copied (t before after : List ℕ) (at n : ℕ) : Type 0 where
+  pub is : text_at after at n ≡ t
+  pub only : Only before after at (at + n)
+
 -- the respaced line has r bytes, from at on
 pub record Normalized (cells : List Cell) (before after : List ℕ) (at n r : ℕ) : Type 0 where
   pub is : part after at (at + r) ≡ normalize_spacing cells
@@ -101,10 +106,10 @@ odd x y z k l =
 abbrev pub odd_at : List ℕ → List ℕ → ℕ → Bool
 odd_at line ks i = odd (get_or line i 0) (get_or line (i + 1) 0) (get_or line (i + 2) 0) (get_or ks i 0) (get_or ks (i + 1) 0)
 
--- if r says so, none is that two bytes follow
-pub record Clear (line ks : List ℕ) (r : Bool) : Type 0 where
-  pub long : r ≡ true → 2 < length line
-  pub none : r ≡ true → (j : ℕ) → j + 2 < length line → odd_at line ks j ≡ false
+-- the first e bytes are not; two follow them
+pub record Clear (line ks : List ℕ) (e : ℕ) : Type 0 where
+  pub fits : 0 < e → e + 2 ≤ length line
+  pub none : (j : ℕ) → j < e → odd_at line ks j ≡ false
 
 -- a comma, a backslash or the first of two spaces: x, which y follows
 abbrev pub busy : ℕ → ℕ → Bool

@@ -1,7 +1,7 @@
 // Spacing: the respaced line, written into scratch, and the test whether a line is spaced already.
 #![tactic(auto)]
 
-ghost use Rattle.std.specs.Prelude.{◌≡◌, ◌&&◌, false, ◌++◌, ◌∷◌, [], ◌+◌, ◌-◌, ◌<◌, ◌≤◌, length};
+ghost use Rattle.std.specs.Prelude.{◌≡◌, ◌&&◌, false, ◌++◌, ◌∷◌, [], ◌+◌, ◌-◌, ◌<◌, ◌≤◌, length, take};
 ghost use Rattle.blocks.specs.Blocks.{FirstFrom, NoneBefore};
 ghost use Rattle.rules.specs.declared.Gap.{Gap};
 ghost use Rattle.buffer.specs.Buffer.{part};
@@ -9,7 +9,7 @@ ghost use Rattle.rules.specs.Basics.{choose, is_blank};
 ghost use Rattle.rules.specs.Scan.{cell, is_code};
 ghost use Rattle.rules.specs.ClassBytes.{class_of, cells_of};
 ghost use Rattle.rules.specs.Spacing.{spaced, put_plain, put_after_comma, put_at};
-ghost use Rattle.spacing.specs.Respaced.{text_at, Trimmed, Wrote, Plain, Dropped, other_at, Place, Normalized};
+ghost use Rattle.spacing.specs.Respaced.{text_at, Trimmed, Wrote, Plain, Dropped, other_at, Place, Copied, Normalized};
 ghost use Rattle.spacing.specs.Respaced.{InCode, KeptAt, NoBlank, Keeping, odd, odd_at, Clear, Unchanged};
 ghost use Rattle.spacing.specs.Respaced.{busy, busy_at};
 
@@ -158,19 +158,28 @@ fn is_dropped(c: u8, gap: Gap) -> bool
     c == b' ' && matches!(gap, Gap::Space)
 }
 
-// Writes the respaced line into scratch from out_at on, and gives its length. The line's class bytes stand in scratch
-// from class_at on.
-pub fn normalize_spacing(line: &[u8], scratch: &mut [u8], class_at: usize, out_at: usize) -> usize
-    requires { Place scratch.old (length line.now) class_at out_at }
+// Copies the line's first `kept` bytes into scratch from out_at on.
+fn put_kept(line: &[u8], scratch: &mut [u8], out_at: usize, kept: usize)
+    requires { (kept ≤ length line.now) × (out_at + kept ≤ length scratch.old) }
+    ensures { Copied (take kept line.now) scratch.old scratch.new out_at kept }
+{
+    scratch[out_at..out_at + kept].copy_from_slice(&line[..kept]);
+}
+
+// Writes the respaced line behind its first `kept` bytes, which stand in scratch from out_at on, and gives its length.
+fn respace(line: &[u8], scratch: &mut [u8], class_at: usize, out_at: usize, kept: usize) -> usize
+    requires place { Place scratch.old (length line.now) class_at out_at }
+    requires keeping { Keeping line.now (part scratch.old class_at (class_at + length line.now)) kept }
+    requires copied { text_at scratch.old out_at kept ≡ take kept line.now }
     ensures { Normalized (cells_of line.now
         (part scratch.old class_at (class_at + length line.now))) scratch.old
         scratch.new out_at (length line.now) result }
 {
     let mut t = Respaced {
-        len: 0,
+        len: kept,
         gap: Gap::Nothing,
     };
-    let mut i = 0;
+    let mut i = kept;
     // kept: a range is no plainer, since the place moves past all spaces of a run
     while i < line.len() {
         let c = line[i];
@@ -187,6 +196,35 @@ pub fn normalize_spacing(line: &[u8], scratch: &mut [u8], class_at: usize, out_a
         i += 1;
     }
     t.len
+}
+
+// Writes the respaced line into scratch from out_at on, and gives its length. The line's class bytes stand in scratch
+// from class_at on. Spacing leaves its first `kept` bytes as they are.
+pub fn normalize_from(
+    line: &[u8],
+    scratch: &mut [u8],
+    class_at: usize,
+    out_at: usize,
+    kept: usize,
+) -> usize
+    requires place { Place scratch.old (length line.now) class_at out_at }
+    requires keeping { Keeping line.now (part scratch.old class_at (class_at + length line.now)) kept }
+    ensures { Normalized (cells_of line.now
+        (part scratch.old class_at (class_at + length line.now))) scratch.old
+        scratch.new out_at (length line.now) result }
+{
+    put_kept(line, scratch, out_at, kept);
+    respace(line, scratch, class_at, out_at, kept)
+}
+
+// The same of a line of which nothing is known.
+pub fn normalize_spacing(line: &[u8], scratch: &mut [u8], class_at: usize, out_at: usize) -> usize
+    requires { Place scratch.old (length line.now) class_at out_at }
+    ensures { Normalized (cells_of line.now
+        (part scratch.old class_at (class_at + length line.now))) scratch.old
+        scratch.new out_at (length line.now) result }
+{
+    normalize_from(line, scratch, class_at, out_at, 0)
 }
 
 // ---- a line that is spaced already. Each function tells how many bytes from i on stand as spacing leaves them, given
@@ -311,60 +349,69 @@ fn is_quiet(line: &[u8]) -> bool
     }
 }
 
-// Whether no byte is odd but for the last two, by blocks.
-fn is_even(line: &[u8], class: &[u8]) -> bool
-    requires in_bounds { 10 ≤ length line.now }
-    requires line_in_bounds { length line.now ≤ length class.now }
-    ensures { NoneBefore (odd_at line.now class.now) (length line.now - 2) result }
+// How many bytes are not odd, by blocks: all but the last two, or up to a block that has one.
+fn even_to(line: &[u8], class: &[u8]) -> usize
+    requires { (10 ≤ length line.now) × (length line.now ≤ length class.now) }
+    ensures { Clear line.now class.now result }
 {
     let end = line.len() - 2;
     let test = |i: usize| is_odd(line[i], line[i + 1], line[i + 2], class[i], class[i + 1]);
     if line.len() < 18 {
-        blocks::none_before::<8, _>(end, &test)
+        blocks::past_all::<8, _>(0, end, &test)
     } else {
-        blocks::none_before::<16, _>(end, &test)
+        blocks::past_all::<16, _>(0, end, &test)
     }
 }
 
-fn is_clear(line: &[u8], class: &[u8]) -> bool
+// The same, by the bytes alone where they tell it; of a short line it is not said.
+fn clear_to(line: &[u8], class: &[u8]) -> usize
     requires { length line.now ≤ length class.now }
     ensures { Clear line.now class.now result }
 {
     if line.len() < 10 {
-        return false;
+        0
+    } else if is_quiet(line) {
+        line.len() - 2
+    } else {
+        even_to(line, class)
     }
-    is_quiet(line) || is_even(line, class)
 }
 
-// How many bytes a first look finds to stay as they are: all but two or three, or none.
+// How many bytes a first look finds to stay as they are. A comma is one less: what follows it is looked at with it.
 fn kept_prefix(line: &[u8], class: &[u8]) -> usize
     requires { length line.now ≤ length class.now }
     ensures { Keeping line.now class.now result }
 {
-    if is_clear(line, class) {
-        let e = line.len() - 2;
-        if line[e - 1] == b',' {
-            return e - 1;
-        }
-        return e;
+    let e = clear_to(line, class);
+    if 0 < e && line[e - 1] == b',' {
+        e - 1
+    } else {
+        e
     }
-    0
 }
 
-// Whether spacing leaves the line as it is, as far as a look at each byte and its neighbours tells.
-pub fn is_spaced(line: &[u8], class: &[u8]) -> bool
+// How many bytes spacing leaves as they are, as far as a look at each byte and its neighbours tells.
+pub fn spaced_to(line: &[u8], class: &[u8]) -> usize
     requires { length line.now ≤ length class.now }
-    ensures { Unchanged line.now class.now result }
+    ensures { Keeping line.now class.now result }
 {
     let mut i = kept_prefix(line, class);
     // kept: a range is no plainer, since the place moves by as many bytes as are kept
     while i < line.len() {
         let Some(n) = kept_at(line, class, i) else {
-            return false;
+            return i;
         };
         i += n;
     }
-    true
+    i
+}
+
+// Whether it leaves the line whole as it is, as far as that tells.
+pub fn is_spaced(line: &[u8], class: &[u8]) -> bool
+    requires { length line.now ≤ length class.now }
+    ensures { Unchanged line.now class.now result }
+{
+    spaced_to(line, class) == line.len()
 }
 
 // The line that goes on: the source line kept as written, or the respaced line, len bytes of scratch from at on.

@@ -9,6 +9,7 @@ ghost use Rattle.split.specs.Measure.{ByteMeasured, Measurable, Measured, Indent
 ghost use Rattle.split.specs.Measure.{Trimmed};
 ghost use Rattle.split.specs.Text.{lay, LineRoom, LineWritten};
 
+use buffer::pad::Pad;
 use rules::{LineEnding, Strengths};
 use utf8::Utf16Column;
 
@@ -164,6 +165,10 @@ pub fn write_line(
         model.now out.old out.new at result }
 {
     let start = text::append_ending(model, out, at, s.ending);
-    let next = compare::append_indented(model, out, start, indent, s.level, line);
+    let pad = Pad {
+        indent,
+        levels: s.level,
+    };
+    let next = compare::append_indented(model, out, start, pad, line);
     NewLine { start, next }
 }

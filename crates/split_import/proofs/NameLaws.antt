@@ -279,9 +279,6 @@ between_is s a e h k l =
         rw (n, z) at (part_more s (a - 1) (a - 1) (omega arith) (omega arith))
 
 module _ (s : List ℕ) (p : Part) where
-  pub not_spaced : Spaced s p false
-  not_spaced = record { is = λ e. absurd (let y : ◌≡◌ {A = ℕ} 0 1 = cc in omega arith) }
-
   pub spaced : Within s p.start p.end → (p.start ≡ 0 → ⊥) → p.end < length s → get_or s (p.start - 1) 0 ≡ 32 → Spaced s p (eqb (get_or s p.end 0) 44)
   spaced w z h b =
       record {

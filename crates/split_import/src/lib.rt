@@ -19,6 +19,7 @@ ghost use Rattle.split_import.specs.Names.{NamesFit, NamesWritten};
 ghost use Rattle.split_import.specs.Import.{HeadFits, HeadWritten, Braces, parts_of, Given, ImportFits};
 
 use basics::{is_ident, starts_with};
+use buffer::pad::Pad;
 use split::{Layout, Part, indent_column, measure_from, trim_part, write_line};
 use utf8::Utf16Column;
 
@@ -44,6 +45,9 @@ fn code_is(c: u8, b: u8, k: u8) -> bool
 {
     k == 0 && b == c
 }
+
+// kept: line and class, layout and indent are not one struct each: no plainer, since of a struct that holds a lent slice
+// the contracts say `k.entry.line.now` (tried), and the facts on both are one record already
 
 // Where the first code character c stands.
 fn find_code(line: &[u8], class: &[u8], c: u8) -> Option<usize>
@@ -123,7 +127,11 @@ fn put_line(model: &[u8], out: &mut [u8], at: usize, s: Layout, indent: &[u8], n
         (as_str s.ending ++ lay indent.now s.level (name.now ++ 44 ∷ [])) result }
 {
     let n = text::append_ending(model, out, at, s.ending);
-    let m = compare::append_indented(model, out, n, indent, s.level, name);
+    let pad = Pad {
+        indent,
+        levels: s.level,
+    };
+    let m = compare::append_indented(model, out, n, pad, name);
     compare::append(model, out, m, b",")
 }
 
@@ -245,7 +253,11 @@ fn write_head(
         out.new at result }
 {
     let n = utf8::trim_end(head);
-    let m = compare::append_indented(model, out, at, indent, level, &head[..n]);
+    let pad = Pad {
+        indent,
+        levels: level,
+    };
+    let m = compare::append_indented(model, out, at, pad, &head[..n]);
     compare::append(model, out, m, b" {")
 }
 

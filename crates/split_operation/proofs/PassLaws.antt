@@ -1,7 +1,7 @@
 -- Laws of the passes over a line's bytes.
-use Prim.Native.Nat.{ℕ, zero, suc, ◌+◌, ◌-◌, ◌^◌, ◌≤◌, ◌<◌, zero-le, min}
-use mathlib.Core.Bool.{Bool, true, false, not, ◌&&◌, ◌||◌, and-false, true≢false}
-use mathlib.Core.List.{List, [], ◌∷◌, ◌++◌, foldl, reverse, reverse-append, reverse-reverse, append-nil, append_assoc}
+use Prim.Native.Nat.{ℕ, zero, suc, ◌+◌, ◌-◌, ◌≤◌, ◌<◌, zero-le, min}
+use mathlib.Core.Bool.{Bool, true, false, not, true≢false}
+use mathlib.Core.List.{List, [], ◌∷◌, ◌++◌, foldl, append-nil, append_assoc}
 use mathlib.Core.Option.{Option, none, some}
 use Rattle.std.specs.Prelude.{Some, None}
 use Rattle.std.specs.Prelude as code
@@ -12,28 +12,25 @@ use native.Mathlib.Omega.{arith}
 use lib.Dec.{eqb, ltb}
 use lib.ListN.{length, get_or, take, drop, length-drop}
 use lib.Seq.{drop-cons}
-use lib.Pointwise.{pointwise}
-use borrow.Author.Tests.{eq-eqb, ne_eqb, eqb-true, eqb-false, lt-ltb, le-ltb, ltb-true, ltb-false}
+use borrow.Author.Tests.{eq-eqb, ne_eqb, lt-ltb, le-ltb, ltb-true, ltb-false}
 use Rattle.buffer.specs.Buffer.{part}
 use Rattle.buffer.proofs.RegionLaws.{part_from, part_more}
 use mathlib.Core.Logic.{◌⊎◌, inl, inr}
-use Rattle.utf8.proofs.Tests.{by_test, split}
-use Rattle.split.proofs.MeasureLaws.{part_length}
-use Rattle.rules.specs.Basics.{choose, same, one_of, Pieces, is_opener, is_closer}
+use Rattle.utf8.proofs.Tests.{split}
+use Rattle.rules.specs.Basics.{choose, same, Pieces, is_opener, is_closer}
 use Rattle.rules.specs.Scan.{Cell, chars_of, is_code}
-use Rattle.rules.specs.ClassBytes.{class_of, cells_of, cell_at}
-use Rattle.rules.specs.SplitOperation.{Ops, OpStep, OpMark, op_mark, no_ops, token, operator, escape, bracket, one_char_step, two_char_step, code_step, fresh_step, op_step_at, deeper, shallower, balance_step, is_zero, is_balanced, in_word, word_on, has_word_from, has_word, keywords, looser, loosest, at_mark, cut_before}
+use Rattle.rules.specs.ClassBytes.{cells_of, cell_at}
+use Rattle.rules.specs.SplitOperation.{Ops, OpStep, OpMark, op_mark, no_ops, token, operator, escape, bracket, one_char_step, two_char_step, code_step, fresh_step, op_step_at, deeper, shallower, balance_step, is_zero, is_balanced, has_word, keywords, looser, loosest, at_mark, cut_before}
 use Rattle.rules.proofs.Choose.{choose_true, choose_false}
-use Rattle.rules.proofs.CellsLaws.{cells_at, cells_end, chars_cells, code_byte_law}
+use Rattle.rules.proofs.CellsLaws.{cells_at, cells_end, chars_cells}
 use Rattle.rules.specs.OperatorBytes.{byte_step, byte_marks}
+use Rattle.split_operation.proofs.WordLaws.{part_none}
 use Rattle.top_level_ops.specs.declared.OpState.{OpState}
-use Rattle.top_level_ops.specs.declared.OpFound.{OpFound}
 use Rattle.top_level_ops.specs.declared.Token.{Token}
-use Rattle.top_level_ops.specs.Steps.{ops_of, step_of, step_with, step_or, byte_or, token_step, FewBrackets}
+use Rattle.top_level_ops.specs.Steps.{OpFound, unless, found_as, ops_of, step_of, step_with, step_or, byte_or, token_step}
 use Rattle.top_level_ops.proofs.StepLaws.{byte_or_law}
-use Rattle.split_operation.specs.declared.pass.Span.{Span}
 use Rattle.split_operation.specs.declared.pass.Break.{Break}
-use Rattle.split_operation.specs.Pass.{marks_at, line_start, Sound, Breakable, cuts_at, rest_from, Cutting, NextOp, Seeking, break_strength, Balances, keyword_ends, WordOn, SpanOn, TakesOver, IsLooser, broken_at, Loosest, OpsAt, Pass, strength_of, cut_of, pass_at, Strong, Passing, BreakFound, PassEnd}
+use Rattle.split_operation.specs.Pass.{marks_at, line_start, Sound, Breakable, cuts_at, rest_from, Cutting, NextOp, Seeking, break_strength, Balances, TakesOver, IsLooser, broken_at, Loosest, OpsAt, Pass, strength_of, cut_of, pass_at, Strong, Passing, BreakFound, PassEnd}
 
 -- ---- one byte
 
@@ -114,21 +111,20 @@ module _ (table : List ℕ) (s : OpState) (line class : List ℕ) (i : ℕ) (h :
       }
 
   -- as the calls say it
-  module _ (r : code.Option OpState) (e : (t : OpStep) → step_or t r ≡ byte_or t (ops_of s) x) where
-    pub read_plain : (a : OpState) → r ≡ Some a → ReadAt table s line class i (record { strength = 0; after = a })
-    read_plain a k =
+  module _ (r : Bool) (a : OpState) (e : (t : OpStep) → step_or t (unless r a) ≡ byte_or t (ops_of s) x) where
+    pub read_plain : r ≡ false → ReadAt table s line class i (record { strength = 0; after = a })
+    read_plain k =
         let t : OpStep = token_step table (ops_of s) (get_or line i 0 ∷ drop (i + 1) line) in
-        read_step (record { strength = 0; after = a }) (ap (step_or t) (sym k) ∙ e t ∙ sym (byte_or_law table (ops_of s) x (drop (i + 1) line)))
+        read_step (record { strength = 0; after = a }) (ap (λ (b : Bool). step_or t (unless b a)) (sym k) ∙ e t ∙ sym (byte_or_law table (ops_of s) x (drop (i + 1) line)))
 
-    pub read_token : r ≡ None → (t : Token) → ((o : Ops) → o.operand ≡ s.operand → step_with o t ≡ token_step table o (take (length line - i) (drop i line)))
-        → (f : OpFound) → step_of f ≡ step_with (ops_of s) t → ReadAt table s line class i f
-    read_token k t q f g =
+    pub read_token : r ≡ true → a ≡ s → (t : Token) → ((o : Ops) → o.operand ≡ a.operand → step_with o t ≡ token_step table o (take (length line - i) (drop i line)))
+        → (strength : ℕ) (after : OpState) → found_as strength after ≡ step_with (ops_of a) t → ReadAt table s line class i (record { strength = strength; after = after })
+    read_token k same t q strength after g =
         let d : take (length line - i) (drop i line) ≡ get_or line i 0 ∷ drop (i + 1) line = part_from line i ∙ drop-cons line i 0 h ∙ rw (add-one i) in
         let u : OpStep = token_step table (ops_of s) (get_or line i 0 ∷ drop (i + 1) line) in
-        read_step f (g ∙ q (ops_of s) refl ∙ ap (token_step table (ops_of s)) d ∙ ap (step_or u) (sym k) ∙ e u ∙ sym (byte_or_law table (ops_of s) x (drop (i + 1) line)))
-
-pub countable : {s : OpState} {i : ℕ} {line class : List ℕ} → Sound s i → i < length line → Breakable line class → FewBrackets s
-countable q h b = record { opened = omega (arith, q.opened, b.short); closed = omega (arith, q.closed, b.short) }
+        read_step (record { strength = strength; after = after })
+        (g ∙ ap (λ (y : OpState). step_with (ops_of y) t) same ∙ q (ops_of s) (ap (λ (y : OpState). y.operand) (sym same)) ∙ ap (token_step table (ops_of s)) d ∙ ap (λ (b : Bool). step_or u (unless b a)) (sym k) ∙ e u
+        ∙ sym (byte_or_law table (ops_of s) x (drop (i + 1) line)))
 
 -- ---- strengths
 
@@ -186,9 +182,6 @@ less_looser a b h k =
     go (inr m) l = let q : a ≡ b = omega arith in rw q (sym (looser_more b b k k (omega arith)))
 
 -- ---- brackets
-
-pub code_test : (k : ℕ) → eqb k 0 ≡ is_code (class_of k)
-code_test k = sym (code_byte_law k)
 
 abbrev balanced : Bool → Bool → Bool → Option ℕ → Option ℕ
 balanced code opens closes d = choose (not code) d (choose opens (deeper d) (choose closes (shallower d) d))
@@ -251,54 +244,6 @@ module _ (depth : ℕ) (x : Cell) (r : Bool) (p : r ≡ is_code x.class) where
             small = omega arith;
           }
 
--- ---- words
-
-pub eqb_swap : (m n : ℕ) → eqb m n ≡ eqb n m
-eqb_swap m n =
-    by_test (eqb n m) (λ e. eq-eqb m n (sym (eqb-true n m e)) ∙ sym e) (λ e. ne_eqb m n (λ (h : m ≡ n). eqb-false n m e (sym h)) ∙ sym e)
-
-pub same_pointwise : (s w : List ℕ) → pointwise eqb s w ≡ same w s
-unfolding same
-same_pointwise [] [] = refl
-same_pointwise [] (b ∷ w) = refl
-same_pointwise (a ∷ s) [] = refl
-same_pointwise (a ∷ s) (b ∷ w) = rw (eqb_swap a b, same_pointwise s w)
-
--- a part that ends where it starts
-part_none : (l : List ℕ) (a : ℕ) → part l a a ≡ []
-part_none l a = let e : a - a ≡ 0 = omega arith in rw e
-
--- no keyword has fewer than two characters
-short_word : (w : List ℕ) → length w < 2 → one_of keywords w ≡ false
-unfolding one_of same
-short_word [] h = refl
-short_word (a ∷ []) h = simp and-false
-short_word (a ∷ b ∷ w) h = absurd (omega arith)
-
-module _ (line : List ℕ) (start i : ℕ) (x : Cell) (pre : (i < length line) × (start ≤ i)) (r : Bool) (p : r ≡ in_word x) where
-  pub word_on_law : get_or line i 0 ≡ x.ch → r ≡ true → WordOn line start i x start
-  unfolding word_on
-  word_on_law g q =
-      record {
-        start = omega (arith, pre.1);
-        word = ap reverse (part_more line start i pre.1 pre.0) ∙ reverse-append (part line start i) (get_or line i 0 ∷ []) ∙ rw g (sym (choose_true _ _ _ (sym p ∙ q)));
-        other = rw (← p, q);
-      }
-
-  module _ (q : r ≡ false) where
-    ends : reverse (part line (i + 1) (i + 1)) ≡ word_on (reverse (part line start i)) x
-    unfolding word_on
-    ends = ap reverse (part_none line (i + 1)) ∙ sym (choose_false _ _ _ (sym p ∙ q))
-
-    pub word_keyword : (s : Bool) → s ≡ one_of keywords (part line start i) → s ≡ true → keyword_ends line start i x ≡ true
-    word_keyword s u e = rw (← p, q, ← u) e
-
-    pub word_end : (s : Bool) → s ≡ one_of keywords (part line start i) → s ≡ false → WordOn line start i x (i + 1)
-    word_end s u e = record { start = omega arith; word = ends; other = rw (← p, q, ← u) e }
-
-    pub word_short : i ≤ start + 1 → WordOn line start i x (i + 1)
-    word_short h = word_end false (sym (short_word (part line start i) (omega (arith, part_length line start i (omega (arith, pre.0)))))) refl
-
 -- ---- the next operator: none of the strength stands before i
 
 pub seek_start : (table : List ℕ) (strength : ℕ) (line class : List ℕ) (from : ℕ) (start : OpState) → Cutting strength line class from start → Seeking table strength line class from start start from
@@ -351,9 +296,9 @@ module _ {table : List ℕ} {strength : ℕ} {line class : List ℕ} {from : ℕ
       }
 
   -- as the calls of `next_op` say it
-  pub seek_plain : (r : code.Option OpState) (a : OpState) → i < length line → ((t : OpStep) → step_or t r ≡ byte_or t (ops_of s) (cell_at line class i)) → r ≡ Some a
+  pub seek_plain : (r : Bool) (a : OpState) → i < length line → ((t : OpStep) → step_or t (unless r a) ≡ byte_or t (ops_of s) (cell_at line class i)) → r ≡ false
       → Seeking table strength line class from start a (i + 1)
-  seek_plain r a h e k = seek_read (record { strength = 0; after = a }) h (read_plain table s line class i h q.breaks r e a k) (λ z. q.some (sym z))
+  seek_plain r a h e k = seek_read (record { strength = 0; after = a }) h (read_plain table s line class i h q.breaks r a e k) (λ z. q.some (sym z))
 
 -- ---- the operators of the whole line
 
@@ -417,14 +362,10 @@ starts_line s e =
     let t : ◌≡◌ {A = OpState} (record { opened = s.opened; closed = s.closed; operand = s.operand; esc = s.esc; skip = s.skip }) line_start = rw (e.0, e.1.0, e.1.1.0, e.1.1.1.0, e.1.1.1.1) in
     t
 
-pub passing_start : (table line class : List ℕ) (p : Pass) → Breakable line class → p.ops.ops ≡ line_start → p.ops.strength ≡ 0 → p.start ≡ 0 → p.depth ≡ 0 → Passing table line class p 0
-unfolding has_word is_balanced
-passing_start table line class p h e z a d =
-    record { ops = ops_start table line class p.ops h e z; start = omega arith; deep = omega arith; words = rw a; balance = rw d }
-
-words_cons : (ws : List (List ℕ)) (word : List ℕ) (x : Cell) (xs : List Cell) → has_word_from ws word (x ∷ xs) ≡ ((not (in_word x) && one_of ws (reverse word)) || has_word_from ws (word_on word x) xs)
-unfolding has_word_from
-words_cons ws word x xs = refl
+pub passing_start : (table line class : List ℕ) (p : Pass) → Breakable line class → has_word keywords (cells_of line class) ≡ false → p.ops.ops ≡ line_start → p.ops.strength ≡ 0 → p.depth ≡ 0 → Passing table line class p 0
+unfolding is_balanced
+passing_start table line class p h w e z d =
+    record { ops = ops_start table line class p.ops h e z; deep = omega arith; words = w; balance = rw d }
 
 fell : (xs : List Cell) → foldl balance_step none xs ≡ none
 fell [] = refl
@@ -437,88 +378,64 @@ module _ (table line class : List ℕ) (p : Pass) (i : ℕ) (q : Passing table l
   cells : cells_of (drop i line) (drop i class) ≡ cell_at line class i ∷ left
   cells = cells_at line class i h q.ops.breaks.long
 
-  pub pass_deep : p.depth < 2 ^ 32
-  pass_deep = omega (arith, q.deep, q.ops.breaks.short)
-
-  -- whether a word ends at i, and what is left of the line
-  word_found : has_word keywords (cells_of line class) ≡ (keyword_ends line p.start i (cell_at line class i) || has_word_from keywords (word_on (reverse (part line p.start i)) (cell_at line class i)) left)
-  word_found =
-      q.words ∙ ap (has_word_from keywords (reverse (part line p.start i))) cells
-      ∙ words_cons keywords (reverse (part line p.start i)) (cell_at line class i) left ∙ rw reverse-reverse
-
   balance_left : is_balanced (cells_of line class) ≡ is_zero (foldl balance_step (balance_step (some p.depth) (cell_at line class i)) left)
   balance_left = q.balance ∙ ap (λ (xs : List Cell). is_zero (foldl balance_step (some p.depth) xs)) cells
 
-  pub pass_keyword : keyword_ends line p.start i (cell_at line class i) ≡ true → 0 ≡ break_strength table (cells_of line class)
-  unfolding break_strength
-  pass_keyword e = sym (choose_true _ _ _ (word_found ∙ rw e))
-
   pub pass_fell : Balances p.depth (cell_at line class i) None → 0 ≡ break_strength table (cells_of line class)
   unfolding break_strength
-  pass_fell b = by_test (has_word keywords (cells_of line class)) (λ t. sym (choose_true _ _ _ t)) (λ t. sym (choose_false _ _ _ t ∙ choose_true _ _ _ (ap not y)))
+  pass_fell b = sym (choose_false _ _ _ q.words ∙ choose_true _ _ _ (ap not y))
     where
       y : is_balanced (cells_of line class) ≡ false
       y = balance_left ∙ ap (λ (o : Option ℕ). is_zero (foldl balance_step o left)) (sym b.is) ∙ ap is_zero (fell left)
 
-  pub passing_more : (w d : ℕ) → WordOn line p.start i (cell_at line class i) w → Balances p.depth (cell_at line class i) (Some d) → (ops : Loosest) → OpsAt table line class ops (i + 1)
-      → Passing table line class (record { ops = ops; start = w; depth = d }) (i + 1)
-  passing_more w d v b ops o =
+  pub passing_more : (d : ℕ) → Balances p.depth (cell_at line class i) (Some d) → (ops : Loosest) → OpsAt table line class ops (i + 1)
+      → Passing table line class (record { ops = ops; depth = d }) (i + 1)
+  passing_more d b ops o =
       record {
         ops = o;
-        start = v.start;
         deep = omega (arith, b.small, q.deep);
-        words = word_found ∙ rw (v.other, ← v.word);
+        words = q.words;
         balance = balance_left ∙ ap (λ (o : Option ℕ). is_zero (foldl balance_step o left)) (sym b.is);
       }
 
 -- as the calls of `find_break` say it
-pub span_keyword : (line : List ℕ) (start depth i : ℕ) (x : Cell) → keyword_ends line start i x ≡ true → keyword_ends line start i x ≡ false → Balances depth x None
-span_keyword line start depth i x e t = absurd (true≢false (sym e ∙ t))
-
-module _ {table line class : List ℕ} {s : OpState} {start depth : ℕ} (a : code.Option Break) {i : ℕ} (q : Passing table line class (pass_at s start depth a) i) (h : i < length line) where
+module _ {table line class : List ℕ} {s : OpState} {depth : ℕ} (a : code.Option Break) {i : ℕ} (q : Passing table line class (pass_at s depth a) i) (h : i < length line) where
   abbrev p : Pass
-  p = pass_at s start depth a
+  p = pass_at s depth a
 
-  pub pass_over : (keyword_ends line start i (cell_at line class i) ≡ false → Balances depth (cell_at line class i) None) → 0 ≡ break_strength table (cells_of line class)
-  pass_over v =
-      by_test (keyword_ends line start i (cell_at line class i))
-      (λ t. pass_keyword table line class p i q h t)
-      (λ t. pass_fell table line class p i q h (v t))
+  module _ (d : ℕ) (v : Balances depth (cell_at line class i) (Some d)) where
+    pass_on : (b : Loosest) → OpsAt table line class b (i + 1) → Passing table line class (record { ops = b; depth = d }) (i + 1)
+    pass_on b o = passing_more table line class p i q h d v b o
 
-  module _ (w : Span) (v : SpanOn line start depth i (cell_at line class i) w) where
-    pass_on : (b : Loosest) → OpsAt table line class b (i + 1) → Passing table line class (record { ops = b; start = w.start; depth = w.depth }) (i + 1)
-    pass_on b o = passing_more table line class p i q h w.start w.depth v.word v.balance b o
-
-    module _ (r : code.Option OpState) (e : (t : OpStep) → step_or t r ≡ byte_or t (ops_of s) (cell_at line class i)) where
-      pub pass_plain : (n : OpState) → r ≡ Some n → Passing table line class (pass_at n w.start w.depth a) (i + 1)
-      pass_plain n k =
+    module _ (r : Bool) (n : OpState) (e : (t : OpStep) → step_or t (unless r n) ≡ byte_or t (ops_of s) (cell_at line class i)) where
+      pub pass_plain : r ≡ false → Passing table line class (pass_at n d a) (i + 1)
+      pass_plain k =
           pass_on (record { ops = n; strength = strength_of a; cut = cut_of a })
-          (ops_left q.ops h (record { strength = 0; after = n }) (read_plain table s line class i h q.ops.breaks r e n k) (looser_zero (strength_of a)))
+          (ops_left q.ops h (record { strength = 0; after = n }) (read_plain table s line class i h q.ops.breaks r n e k) (looser_zero (strength_of a)))
 
-      module _ (k : r ≡ None) (t : Token) (g : (o : Ops) → o.operand ≡ s.operand → step_with o t ≡ token_step table o (take (length line - i) (drop i line)))
-          (f : OpFound) (u : step_of f ≡ step_with (ops_of s) t) (l : Bool) (y : IsLooser f.strength (strength_of a) l) where
+      module _ (k : r ≡ true) (same : n ≡ s) (t : Token) (g : (o : Ops) → o.operand ≡ n.operand → step_with o t ≡ token_step table o (take (length line - i) (drop i line)))
+          (strength : ℕ) (after : OpState) (u : found_as strength after ≡ step_with (ops_of n) t) (l : Bool) (y : IsLooser strength (strength_of a) l) where
+        abbrev f : OpFound
+        f = record { strength = strength; after = after }
+
         read : ReadAt table s line class i f
-        read = read_token table s line class i h q.ops.breaks r e k t g f u
+        read = read_token table s line class i h q.ops.breaks r n e k same t g strength after u
 
-        pub pass_taken : l ≡ true → (b : Break) → b ≡ broken_at i f → Passing table line class (pass_at f.after w.start w.depth (Some b)) (i + 1) × (b.strength ≡ 0 → ⊥)
+        pub pass_taken : l ≡ true → (b : Break) → b ≡ broken_at i strength after → Passing table line class (pass_at after d (Some b)) (i + 1) × (b.strength ≡ 0 → ⊥)
         pass_taken z b j =
-            subst (λ (x : Break). Passing table line class (pass_at f.after w.start w.depth (Some x)) (i + 1) × (x.strength ≡ 0 → ⊥)) (sym j) (
-              pass_on (record { ops = f.after; strength = f.strength; cut = record { place = i; after = f.after } }) (ops_taken q.ops h f read (y.taken z)),
+            subst (λ (x : Break). Passing table line class (pass_at after d (Some x)) (i + 1) × (x.strength ≡ 0 → ⊥)) (sym j) (
+              pass_on (record { ops = after; strength = strength; cut = record { place = i; after = after } }) (ops_taken q.ops h f read (y.taken z)),
               (λ o. absurd (omega (arith, (y.taken z).some))),
             )
 
-        pub pass_left : l ≡ false → Passing table line class (pass_at f.after w.start w.depth a) (i + 1)
-        pass_left z = pass_on (record { ops = f.after; strength = strength_of a; cut = cut_of a }) (ops_left q.ops h f read (y.left z))
+        pub pass_left : l ≡ false → Passing table line class (pass_at after d a) (i + 1)
+        pass_left z = pass_on (record { ops = after; strength = strength_of a; cut = cut_of a }) (ops_left q.ops h f read (y.left z))
 
 -- the whole line was read
-module _ (line : List ℕ) (start depth : ℕ) (a : code.Option Break) where
-  module _ (table class : List ℕ) (s : OpState) (q : Passing table line class (pass_at s start depth a) (length line)) where
+module _ (depth : ℕ) (a : code.Option Break) where
+  module _ (table line class : List ℕ) (s : OpState) (q : Passing table line class (pass_at s depth a) (length line)) where
     none_left : cells_of (drop (length line) line) (drop (length line) class) ≡ []
     none_left = cells_end line class (length line) (omega arith)
-
-    end_words : has_word keywords (cells_of line class) ≡ one_of keywords (part line start (length line))
-    unfolding has_word_from
-    end_words = q.words ∙ rw (none_left, reverse-reverse)
 
     end_balance : is_balanced (cells_of line class) ≡ eqb depth 0
     end_balance = q.balance ∙ rw none_left (go depth)
@@ -531,37 +448,36 @@ module _ (line : List ℕ) (start depth : ℕ) (a : code.Option Break) where
     unfolding byte_marks loosest
     end_loosest = q.ops.loosest ∙ rw none_left (looser_zero (strength_of a))
 
-  kept : (table class : List ℕ) (b : code.Option Break) → strength_of b ≡ break_strength table (cells_of line class) → (0 < strength_of b → NextOp table (strength_of b) line class 0 line_start (cut_of b)) → Strong b
+  kept : (table line class : List ℕ) (b : code.Option Break) → strength_of b ≡ break_strength table (cells_of line class) → (0 < strength_of b → NextOp table (strength_of b) line class 0 line_start (cut_of b)) → Strong b
       → BreakFound table line class b
-  kept table class None e f k = e
-  kept table class (Some b) e f k = record { strength = e; some = k; cut = f (omega arith) }
+  kept table line class None e f k = e
+  kept table line class (Some b) e f k = record { strength = e; some = k; cut = f (omega arith) }
 
-  module _ (r : Bool) (f : r ≡ one_of keywords (take (length line - start) (drop start line))) where
-    pub end_keyword : r ≡ true → PassEnd line start depth a None
-    unfolding break_strength
-    end_keyword g = record { found = λ table class s q k. sym (choose_true _ _ _ (end_words table class s q ∙ sym f ∙ g)) }
+  pub end_found : depth ≡ 0 → PassEnd depth a a
+  unfolding break_strength
+  end_found d =
+      record {
+        found = λ table line class s q k.
+            kept table line class a
+            (sym (choose_false _ _ _ q.words ∙ choose_false _ _ _ (ap not (end_balance table line class s q ∙ eq-eqb _ 0 d)) ∙ end_loosest table line class s q))
+            q.ops.found k;
+      }
 
-    pub end_found : r ≡ false → depth ≡ 0 → PassEnd line start depth a a
-    unfolding break_strength
-    end_found g d =
-        record {
-          found = λ table class s q k.
-              kept table class a
-              (sym (choose_false _ _ _ (end_words table class s q ∙ sym f ∙ g) ∙ choose_false _ _ _ (ap not (end_balance table class s q ∙ eq-eqb _ 0 d)) ∙ end_loosest table class s q))
-              q.ops.found k;
-        }
-
-  pub end_open : (depth ≡ 0 → ⊥) → PassEnd line start depth a None
+  pub end_open : (depth ≡ 0 → ⊥) → PassEnd depth a None
   unfolding break_strength
   end_open d =
       record {
-        found = λ table class s q k.
-            by_test (has_word keywords (cells_of line class)) (λ t. sym (choose_true _ _ _ t))
-            (λ t. sym (choose_false _ _ _ t ∙ choose_true _ _ _ (ap not (end_balance table class s q ∙ ne_eqb _ 0 d))));
+        found = λ table line class s q k.
+            sym (choose_false _ _ _ q.words ∙ choose_true _ _ _ (ap not (end_balance table line class s q ∙ ne_eqb _ 0 d)));
       }
 
-pub pass_end : {table line class : List ℕ} {s : OpState} {start depth : ℕ} (a : code.Option Break) {i : ℕ} (r : code.Option Break) → Passing table line class (pass_at s start depth a) i → length line ≤ i
-    → Strong a → PassEnd line start depth a r → BreakFound table line class r
-pass_end {table} {line} {class} {s} {start} {depth} a {i} r q h k e =
+pub pass_end : {table line class : List ℕ} {s : OpState} {depth : ℕ} (a : code.Option Break) {i : ℕ} (r : code.Option Break) → Passing table line class (pass_at s depth a) i → length line ≤ i
+    → Strong a → PassEnd depth a r → BreakFound table line class r
+pass_end {table} {line} {class} {s} {depth} a {i} r q h k e =
     let z : i ≡ length line = omega (arith, q.ops.within) in
-    e.found table class s (subst (Passing table line class (pass_at s start depth a)) z q) k
+    e.found table line class s (subst (Passing table line class (pass_at s depth a)) z q) k
+
+-- a line with a keyword isn't broken
+pub keyword_unbroken : (table line class : List ℕ) → has_word keywords (cells_of line class) ≡ true → 0 ≡ break_strength table (cells_of line class)
+unfolding break_strength
+keyword_unbroken table line class e = sym (choose_true _ _ _ e)

@@ -1,19 +1,18 @@
 -- What the passes over a line's bytes find: the strength that the line is broken at, and its pieces.
-use Rattle.std.specs.Prelude.{ℕ, zero, suc, ◌+◌, ◌^◌, ◌≤◌, ◌<◌, Bool, true, false, not, ◌&&◌, ◌≡◌, ltb, length, get_or, drop, Some, None}
+use Rattle.std.specs.Prelude.{ℕ, zero, suc, ◌+◌, ◌^◌, ◌≤◌, ◌<◌, Bool, true, false, not, ◌&&◌, ◌||◌, ◌≡◌, ltb, length, get_or, drop, Some, None}
 use Rattle.std.specs.Prelude as code
 use mathlib.Core.List.{List, [], ◌∷◌, ◌++◌, foldl, reverse}
 use Rattle.std.proofs.Math.Option.{Option, none, some}
 use Rattle.buffer.specs.Buffer.{part}
-use Rattle.rules.specs.Basics.{choose, one_of, Pieces}
-use Rattle.rules.specs.Scan.{Cell}
+use Rattle.rules.specs.Basics.{choose, is, is_blank, one_of, Pieces}
+use Rattle.utf8.specs.Unicode.{tail}
+use Rattle.rules.specs.Scan.{Cell, is_code, is_str}
 use Rattle.rules.specs.ClassBytes.{cells_of, cell_at}
-use Rattle.rules.specs.SplitOperation.{OpMark, no_ops, balance_step, is_zero, is_balanced, in_word, word_on, has_word_from}
+use Rattle.rules.specs.SplitOperation.{OpMark, no_ops, balance_step, is_zero, is_balanced, in_word, word_on}
 use Rattle.rules.specs.SplitOperation.{has_word, keywords, looser, loosest, cut_before}
 use Rattle.rules.specs.OperatorBytes.{byte_marks}
 use Rattle.top_level_ops.specs.Steps.{ops_of}
-use Rattle.top_level_ops.specs.declared.OpFound.{OpFound}
 use Rattle.top_level_ops.specs.declared.OpState.{OpState}
-use Rattle.split_operation.specs.declared.pass.Span.{Span}
 use Rattle.split_operation.specs.declared.pass.Break.{Break}
 use Rattle.split_operation.specs.declared.pass.Cut.{Cut}
 
@@ -30,7 +29,7 @@ pub record Sound (s : OpState) (n : ℕ) : Type 0 where
   pub opened : s.opened ≤ n
   pub closed : s.closed ≤ n
 
--- ---- a run of letters, digits and underscores
+-- ---- a run of words, strings and gaps
 
 -- nothing is pending
 pub record NonePending (s : OpState) : Type 0 where
@@ -40,18 +39,27 @@ pub record NonePending (s : OpState) : Type 0 where
 pub record PlainTest (s : OpState) (b : Bool) : Type 0 where
   pub yes : b ≡ true → NonePending s
 
-pub record IdentRun (line class : List ℕ) (from e : ℕ) : Type 0 where
-  pub after : from ≤ e
-  pub fits : e ≤ length line
-  pub idents : (k : ℕ) → from ≤ k → k < e → in_word (cell_at line class k) ≡ true
+-- a byte that an operand ends with: one of a word, or one of a string that starts a character
+abbrev pub is_operand : Cell → Bool
+is_operand x = in_word x || (is_str x.class && not (tail x.ch))
 
-pub record PlainRun (line class : List ℕ) (from : ℕ) (s : OpState) (e : ℕ) : Type 0 where
-  pub run : IdentRun line class from e
-  pub plain : from < e → NonePending s
+-- a space or a tab of code, or a byte that starts no character
+abbrev pub in_gap : Cell → Bool
+in_gap x = tail x.ch || (is_code x.class && is_blank x.ch)
+
+-- from `from` up to e stand such cells and those of words, with nothing pending in the state s, and an operand ends
+-- after them if `operand` says so
+pub data QuietRun (line class : List ℕ) (from : ℕ) (s : OpState) : ℕ → Bool → Type 0 where
+  begins : QuietRun line class from s from s.operand
+  word : {e : ℕ} {operand : Bool} → QuietRun line class from s e operand → e < length line → NonePending s
+      → is_operand (cell_at line class e) ≡ true → QuietRun line class from s (e + 1) true
+  gap : {e : ℕ} {operand : Bool} → QuietRun line class from s e operand → e < length line → NonePending s
+      → in_gap (cell_at line class e) ≡ true → QuietRun line class from s (e + 1) operand
 
 -- after such a run
-abbrev pub past_ident : OpState → OpState
-past_ident s = record { opened = s.opened; closed = s.closed; operand = true; esc = false; skip = 0 }
+abbrev pub past_run : OpState → Bool → OpState
+past_run s operand =
+    record { opened = s.opened; closed = s.closed; operand = operand; esc = s.esc; skip = s.skip }
 
 -- ---- the pieces
 
@@ -134,15 +142,19 @@ abbrev pub WordStep : List ℕ → ℕ → ℕ → Cell → code.Option ℕ → 
 WordStep line was i x None = keyword_ends line was i x ≡ true
 WordStep line was i x (Some r) = WordOn line was i x r
 
--- both, of a word that starts at `was` and brackets `old` deep
-pub record SpanOn (line : List ℕ) (was old i : ℕ) (x : Cell) (r : Span) : Type 0 where
-  pub word : WordOn line was i x r.start
-  pub balance : Balances old x (Some r.depth)
+-- a, b and c are the first bytes of a keyword, or the first two are one
+abbrev pub starts_keyword : ℕ → ℕ → ℕ → Bool
+starts_keyword a b c =
+    (is "i" a && is "f" b) || (is "t" a && is "h" b && is "e" c) || (is "e" a && is "l" b && is "s" c)
+    || (is "m" a && is "a" b && is "t" c) || (is "a" a && is "w" b && is "a" c)
 
--- none after a keyword, and where the depth falls below 0
-abbrev pub SpanStep : List ℕ → ℕ → ℕ → ℕ → Cell → code.Option Span → Type 0
-SpanStep line was old i x None = keyword_ends line was i x ≡ false → Balances old x None
-SpanStep line was old i x (Some r) = SpanOn line was old i x r
+abbrev pub keyword_starts_at : List ℕ → ℕ → Bool
+keyword_starts_at line i = starts_keyword (get_or line i 0) (get_or line (i + 1) 0) (get_or line (i + 2) 0)
+
+-- where r is false, no keyword stands in the line, whatever its classes
+pub record NoKeyword (line : List ℕ) (r : Bool) : Type 0 where
+  pub none : r ≡ false → (class : List ℕ) → length line ≤ length class
+      → has_word keywords (cells_of line class) ≡ false
 
 -- a is the strength of an operator, and it is looser than b
 pub record TakesOver (a b : ℕ) : Type 0 where
@@ -170,10 +182,9 @@ pub record OpsAt (table line class : List ℕ) (b : Loosest) (i : ℕ) : Type 0 
   pub clear : (p : ℕ) → 0 < p → (0 < b.strength → p < b.strength) → Seeking table p line class 0 line_start b.ops i
   pub found : 0 < b.strength → NextOp table b.strength line class 0 line_start b.cut
 
--- what a pass knows before a byte: the operators, where the word that ends there starts, and the depth of brackets
+-- what a pass knows before a byte: the operators, and the depth of brackets
 pub record Pass : Type 0 where
   pub ops : Loosest
-  pub start : ℕ
   pub depth : ℕ
 
 -- the strength of what was found so far, 0 for nothing, and its cut, any for nothing
@@ -185,9 +196,8 @@ abbrev pub cut_of : code.Option Break → Cut
 cut_of None = record { place = 0; after = line_start }
 cut_of (Some b) = b.cut
 
-abbrev pub pass_at : OpState → ℕ → ℕ → code.Option Break → Pass
-pass_at s start depth b =
-    record { ops = record { ops = s; strength = strength_of b; cut = cut_of b }; start = start; depth = depth }
+abbrev pub pass_at : OpState → ℕ → code.Option Break → Pass
+pass_at s depth b = record { ops = record { ops = s; strength = strength_of b; cut = cut_of b }; depth = depth }
 
 -- what is found has a strength
 abbrev pub Strong : code.Option Break → Type 0
@@ -195,16 +205,14 @@ Strong None = Unit {0}
 Strong (Some b) = b.strength ≡ 0 → ⊥
 
 -- a line broken at what was found at i
-abbrev pub broken_at : ℕ → OpFound → Break
-broken_at i f = record { strength = f.strength; cut = record { place = i; after = f.after } }
+abbrev pub broken_at : ℕ → ℕ → OpState → Break
+broken_at i strength after = record { strength = strength; cut = record { place = i; after = after } }
 
--- what the first i bytes say of the whole line
+-- what the first i bytes say of the whole line, which has no keyword
 pub record Passing (table line class : List ℕ) (p : Pass) (i : ℕ) : Type 0 where
   pub ops : OpsAt table line class p.ops i
-  pub start : p.start ≤ i
   pub deep : p.depth ≤ i
-  pub words : has_word keywords (cells_of line class)
-      ≡ has_word_from keywords (reverse (part line p.start i)) (cells_of (drop i line) (drop i class))
+  pub words : has_word keywords (cells_of line class) ≡ false
   pub balance : is_balanced (cells_of line class)
       ≡ is_zero (foldl balance_step (some p.depth) (cells_of (drop i line) (drop i class)))
 
@@ -219,6 +227,6 @@ BreakFound table line class None = 0 ≡ break_strength table (cells_of line cla
 BreakFound table line class (Some r) = BreakAt table line class r
 
 -- what a pass over the whole line says
-pub record PassEnd (line : List ℕ) (start depth : ℕ) (b r : code.Option Break) : Type 0 where
-  pub found : (table class : List ℕ) (s : OpState) → Passing table line class (pass_at s start depth b) (length line)
+pub record PassEnd (depth : ℕ) (b r : code.Option Break) : Type 0 where
+  pub found : (table line class : List ℕ) (s : OpState) → Passing table line class (pass_at s depth b) (length line)
       → Strong b → BreakFound table line class r

@@ -13,12 +13,14 @@ ghost use Rattle.split.specs.Measure.{InUse};
 ghost use Rattle.split_operation.specs.Operation.{LineFits, Broken, line_of, RestFits, RestWritten, RoundBreak};
 ghost use Rattle.split_operation.specs.Operation.{FirstBroken, OperationFits};
 
+use buffer::pad::Pad;
 use operators::MAX_STRENGTH;
 use operators::first::has_operator;
 use pass::{Break, find_break, next_op};
 use split::{Layout, NewLine, over_wide, trim_part, write_line};
 
 // The line whole, or the lines that it is broken into, written: the last of them.
+// kept: the new form is no plainer: both ways have a last line, and an Option would lose one
 #[derive(Clone, Copy)]
 pub enum OperationSplit {
     Whole(NewLine),
@@ -32,6 +34,9 @@ fn line_of(r: OperationSplit) -> NewLine
         OperationSplit::Whole(w) | OperationSplit::Broken(w) => w,
     }
 }
+
+// kept: line and class, layout and indent are not one struct each: no plainer, since of a struct that holds a lent slice
+// the contracts say `k.entry.line.now` (tried), and the facts on both are one record already
 
 // The pieces of a line from an operator on, each a line, one level deeper than the first, which was written last.
 fn write_rest(
@@ -110,7 +115,11 @@ fn break_first(
 {
     match round_break(line, class, s, rounds, indent) {
         None => {
-            let next = compare::append_indented(model, out, at, indent, s.level, line);
+            let pad = Pad {
+                indent,
+                levels: s.level,
+            };
+            let next = compare::append_indented(model, out, at, pad, line);
             OperationSplit::Whole(NewLine { start: at, next })
         }
         Some(b) => {

@@ -3,16 +3,16 @@
 ghost use Rattle.std.specs.Prelude.{◌≡◌, ◌≤◌, ◌<◌, ◌^◌, length, get_or};
 ghost use Rattle.rules.specs.Basics.{one_of};
 ghost use Rattle.rules.specs.Scan.{cell, is_code};
-ghost use Rattle.rules.specs.ClassBytes.{class_of};
+ghost use Rattle.rules.specs.ClassBytes.{class_of, cells_of};
 ghost use Rattle.rules.specs.Strengths.{strengths_in};
-ghost use Rattle.rules.specs.SplitOperation.{in_word, keywords};
-ghost use Rattle.split_operation.specs.Pass.{PlainTest, IdentRun, PlainRun, past_ident, Balances};
-ghost use Rattle.split_operation.specs.Pass.{WordStep, IsLooser, SpanStep, broken_at, strength_of, Breakable};
-ghost use Rattle.split_operation.specs.Pass.{PassEnd, BreakFound, Cutting, NextOp};
+ghost use Rattle.rules.specs.SplitOperation.{in_word, keywords, has_word};
+ghost use Rattle.split_operation.specs.Pass.{PlainTest, NonePending, is_operand, in_gap, QuietRun, Balances};
+ghost use Rattle.split_operation.specs.Pass.{WordStep, starts_keyword, NoKeyword, IsLooser, broken_at, strength_of};
+ghost use Rattle.split_operation.specs.Pass.{Breakable, PassEnd, BreakFound, Cutting, NextOp};
 
-use basics::{is_closer, is_ident, is_opener};
+use basics::{is_blank, is_closer, is_ident, is_opener};
 use rules::Strengths;
-use top_level_ops::{OpFound, OpState, found, plain_step, token_at};
+use top_level_ops::{OpState, token_at};
 
 fn is_code(k: u8) -> bool
     ensures { result ≡ is_code (class_of k) }
@@ -34,39 +34,59 @@ fn is_plain(s: OpState) -> bool
     s.skip == 0 && !s.esc
 }
 
-// Where the letters, digits and underscores of code that stand from a place on end.
-fn ident_end(line: &[u8], class: &[u8], from: usize) -> usize
-    requires { (from ≤ length line.now) × (length line.now ≤ length class.now) }
-    ensures { IdentRun line.now class.now from result }
+// A byte that an operand ends with: one of a word, or one of a string that starts a character.
+fn is_operand(k: u8, c: u8) -> bool
+    ensures { result ≡ is_operand (cell c (class_of k)) }
 {
+    in_word(k, c) || k == 1 && !utf8::is_tail(c)
+}
+
+// A space or a tab of code, or a byte that starts no character.
+fn in_gap(k: u8, c: u8) -> bool
+    ensures { result ≡ in_gap (cell c (class_of k)) }
+{
+    utf8::is_tail(c) || is_code(k) && is_blank(c)
+}
+
+// Where a run of words, strings and gaps ends, and whether an operand ends there.
+#[derive(Clone, Copy)]
+pub struct Run {
+    pub end: usize,
+    pub operand: bool,
+}
+
+// The run of words, strings and gaps that stands at a place.
+fn quiet_run(line: &[u8], class: &[u8], from: usize, s: OpState) -> Run
+    requires within { (from ≤ length line.now) × (length line.now ≤ length class.now) }
+    requires none { NonePending s }
+    ensures { QuietRun line.now class.now from s result.end result.operand }
+{
+    let mut operand = s.operand;
     for i in from..line.len() {
-        if !in_word(class[i], line[i]) {
-            return i;
+        if is_operand(class[i], line[i]) {
+            operand = true;
+        } else if !in_gap(class[i], line[i]) {
+            return Run { end: i, operand };
         }
     }
-    line.len()
+    Run {
+        end: line.len(),
+        operand,
+    }
 }
 
 // The same if nothing is pending, else the place itself: the passes step over such a run at once.
-fn run_end(line: &[u8], class: &[u8], from: usize, s: OpState) -> usize
+fn run_at(line: &[u8], class: &[u8], from: usize, s: OpState) -> Run
     requires { (from ≤ length line.now) × (length line.now ≤ length class.now) }
-    ensures { PlainRun line.now class.now from s result }
+    ensures { QuietRun line.now class.now from s result.end result.operand }
 {
     if is_plain(s) {
-        ident_end(line, class, from)
+        quiet_run(line, class, from, s)
     } else {
-        from
-    }
-}
-
-fn past_ident(s: OpState) -> OpState
-    ensures { result ≡ past_ident s }
-{
-    OpState {
-        operand: true,
-        esc: false,
-        skip: 0,
-        ..s
+        Run {
+            end: from,
+            operand: s.operand,
+        }
     }
 }
 
@@ -86,7 +106,7 @@ fn balance(depth: usize, k: u8, c: u8) -> Option<usize>
     }
 }
 
-#[tactic(auto, using(crate::proofs::PassLaws::same_pointwise), unfolding(rules::specs::Basics::one_of))]
+#[tactic(auto, using(crate::proofs::WordLaws::same_pointwise), unfolding(rules::specs::Basics::one_of))]
 pub fn is_keyword(s: &[u8]) -> bool
     ensures { result ≡ one_of keywords s.now }
 {
@@ -111,7 +131,50 @@ fn word_step(line: &[u8], start: usize, i: usize, k: u8) -> Option<usize>
     Some(i + 1)
 }
 
+// Whether a keyword may start with the bytes a, b and c.
+fn starts_keyword(a: u8, b: u8, c: u8) -> bool
+    ensures { result ≡ starts_keyword a b c }
+{
+    ((a == b'i') & (b == b'f'))
+        | ((a == b't') & (b == b'h') & (c == b'e'))
+        | ((a == b'e') & (b == b'l') & (c == b's'))
+        | ((a == b'm') & (b == b'a') & (c == b't'))
+        | ((a == b'a') & (b == b'w') & (c == b'a'))
+}
+
+// Whether a keyword may stand in a line: most lines are told to have none at once.
+fn may_have_keyword(line: &[u8]) -> bool
+    ensures { NoKeyword line.now result }
+{
+    if line.len() < 2 {
+        return false;
+    }
+    let last = line.len() - 2;
+    let starts = |i: usize| starts_keyword(line[i], line[i + 1], line[i + 2]);
+    blocks::first_by_blocks::<16, _>(0, last, &starts) < last
+        || line[last] == b'i' && line[last + 1] == b'f'
+}
+
+// Whether a keyword stands in the line's code.
+fn has_keyword(line: &[u8], class: &[u8]) -> bool
+    requires { length line.now ≤ length class.now }
+    ensures { result ≡ has_word keywords (cells_of line.now class.now) }
+{
+    if !may_have_keyword(line) {
+        return false;
+    }
+    let mut start = 0;
+    for i in 0..line.len() {
+        let Some(next) = word_step(line, start, i, class[i]) else {
+            return true;
+        };
+        start = next;
+    }
+    is_keyword(&line[start..])
+}
+
 // A place before which a line is cut, or its length, and the state after the byte there.
+// kept: the new form is no plainer: the last piece ends at the length, as the others do at their cuts
 #[derive(Clone, Copy)]
 pub struct Cut {
     pub place: usize,
@@ -132,15 +195,12 @@ pub struct Break {
     pub cut: Cut,
 }
 
-fn break_at(i: usize, f: OpFound) -> Break
-    ensures { result ≡ broken_at i f }
+fn break_at(i: usize, strength: u8, after: OpState) -> Break
+    ensures { result ≡ broken_at i strength after }
 {
     Break {
-        strength: f.strength,
-        cut: Cut {
-            place: i,
-            after: f.after,
-        },
+        strength,
+        cut: Cut { place: i, after },
     }
 }
 
@@ -151,70 +211,44 @@ fn strength_of(b: Option<Break>) -> u8
     b.map_or(0, |b| b.strength)
 }
 
-// Where the word that ends here starts, and the depth of brackets.
-#[derive(Clone, Copy)]
-pub struct Span {
-    pub start: usize,
-    pub depth: usize,
-}
-
-// Both after a byte, or none where the line is not to be broken.
-fn span_step(line: &[u8], start: usize, depth: usize, i: usize, k: u8) -> Option<Span>
-    requires { (i < length line.now) × (start ≤ i) × (depth < 2 ^ 32) }
-    ensures { SpanStep line.now start depth i (cell (get_or line.now i 0) (class_of k)) result }
-{
-    Some(Span {
-        start: word_step(line, start, i, k)?,
-        depth: balance(depth, k, line[i])?,
-    })
-}
-
 // What a pass over the whole line says.
-fn end_pass(line: &[u8], start: usize, depth: usize, b: Option<Break>) -> Option<Break>
-    requires { start ≤ length line.now }
-    ensures { PassEnd line.now start depth b result }
+fn end_pass(depth: usize, b: Option<Break>) -> Option<Break>
+    ensures { PassEnd depth b result }
 {
-    if depth == 0 && !is_keyword(&line[start..]) {
-        b
-    } else {
-        None
-    }
+    if depth == 0 { b } else { None }
 }
 
-// One pass for the line's words, its brackets and its operators.
+// Where a line is broken: nowhere if it has a keyword or its brackets don't match, else by one pass for its brackets
+// and operators.
 pub fn find_break(table: &[u8; Strengths::LENGTH], line: &[u8], class: &[u8]) -> Option<Break>
     requires { Breakable line.now class.now }
     ensures { BreakFound (strengths_in table.now) line.now class.now result }
 {
+    if has_keyword(line, class) {
+        return None;
+    }
     let mut b = None;
     let mut s = OpState::default();
-    let mut start = 0;
     let mut depth = 0;
     let mut i = 0;
-    // kept: a range is no plainer, since a word is passed at once
-    while i < line.len() {
-        let e = run_end(line, class, i, s);
-        if i < e {
-            s = past_ident(s);
-            i = e;
-            continue;
+    // kept: a range is no plainer, since a run is passed at once
+    loop {
+        let run = run_at(line, class, i, s);
+        s.operand = run.operand;
+        i = run.end;
+        if line.len() <= i {
+            return end_pass(depth, b);
         }
-        let w = span_step(line, start, depth, i, class[i])?;
-        start = w.start;
-        depth = w.depth;
-        match plain_step(s, class[i], line[i]) {
-            Some(after) => s = after,
-            None => {
-                let f = found(s, token_at(table, s.operand, &line[i..]));
-                s = f.after;
-                if is_looser(f.strength, strength_of(b)) {
-                    b = Some(break_at(i, f));
-                }
+        depth = balance(depth, class[i], line[i])?;
+        if s.step(class[i], line[i]) {
+            let token = token_at(table, s.operand, &line[i..]);
+            let strength = s.take(token);
+            if is_looser(strength, strength_of(b)) {
+                b = Some(break_at(i, strength, s));
             }
         }
         i += 1;
     }
-    end_pass(line, start, depth, b)
 }
 
 // The next operator of a strength, from a place on.
@@ -232,25 +266,20 @@ pub fn next_op(
 {
     let mut s = start;
     let mut i = from;
-    // kept: a range is no plainer, since a word is passed at once
-    while i < line.len() {
-        let e = run_end(line, class, i, s);
-        if i < e {
-            s = past_ident(s);
-            i = e;
-            continue;
+    // kept: a range is no plainer, since a run is passed at once
+    loop {
+        let run = run_at(line, class, i, s);
+        s.operand = run.operand;
+        i = run.end;
+        if line.len() <= i {
+            return Cut { place: i, after: s };
         }
-        match plain_step(s, class[i], line[i]) {
-            Some(after) => s = after,
-            None => {
-                let f = found(s, token_at(table, s.operand, &line[i..]));
-                s = f.after;
-                if f.strength == strength {
-                    return Cut { place: i, after: s };
-                }
+        if s.step(class[i], line[i]) {
+            let token = token_at(table, s.operand, &line[i..]);
+            if s.take(token) == strength {
+                return Cut { place: i, after: s };
             }
         }
         i += 1;
     }
-    Cut { place: i, after: s }
 }

@@ -19,10 +19,10 @@ use Rattle.rules.proofs.StartsBytes.{on_decode, all_ascii, closers_encode, close
 use Rattle.rules.proofs.ScanBytes.{chars_classify}
 use Rattle.rules.proofs.BracketsBytes.{brackets_encode, drop_encode}
 use Rattle.rules.proofs.SpacedLine.{spaced_bytes, brackets_height, openers_spaced, count_length, length_size, count_drop}
-use Rattle.marks.specs.Within.{ClassifiedAt}
+use Rattle.scan.specs.Within.{ClassifiedAt}
 use Rattle.basics.specs.Region.{Only}
 use Rattle.basics.specs.Closers.{Closers}
-use Rattle.spacing.specs.Respaced.{Normalized, Unchanged}
+use Rattle.spacing.specs.Respaced.{Keeping, Normalized, Unchanged}
 use Rattle.brackets.specs.Stack.{stacked, Nested, StackFits, BracketsDone}
 use Rattle.brackets.specs.declared.Nesting.{Nesting}
 use Rattle.basics.proofs.OnlyLaws.{only_same, only_wider, only_then, only_part_before}
@@ -67,13 +67,13 @@ module _ (line scratch : List ℕ) (unit : ℕ) (after : Carry) (well : WellForm
   unfolding choose
   goes_spaced mid last len carry n c =
       let s = spaced_bytes line well in
-      let o : Only mid last (reclassed_at unit) (reclassed_at unit + len) = record { long = c.long; front = c.front; back = c.back } in
+      let o : Only mid last (reclassed_at unit) (reclassed_at unit + len) = c.only in
       let p : part last (respaced_at unit) (respaced_at unit + len) ≡ part mid (respaced_at unit) (respaced_at unit + len) = only_part_before o (respaced_at unit) (respaced_at unit + len) (omega arith) (omega (arith, n.most, room.short)) in
       let k : part last (respaced_at unit) (respaced_at unit + len) ≡ encode (respaced (decode line)) =
       p ∙ n.is ∙ ap (λ (ks : List ℕ). normalize_spacing (cells_of line ks)) classes.bytes ∙ s.bytes in
       record {
         goes = record {
-          long = length_part last (respaced_at unit) len (omega (arith, c.long, n.only.long, n.most, room.short, room.room));
+          long = length_part last (respaced_at unit) len (omega (arith, c.only.long, n.only.long, n.most, room.short, room.room));
           well = subst WellFormed (sym k) s.well;
           text = ap decode k ∙ s.chars;
           classes = c.bytes ∙ ap (λ (l : List ℕ). class_bytes (classify Carry.Code l)) (sym p);
@@ -85,7 +85,11 @@ module _ (line scratch : List ℕ) (unit : ℕ) (after : Carry) (well : WellForm
         only = only_then (only_wider 0 (stack_at unit) n.only (omega arith) (omega (arith, room.short))) (only_wider 0 (stack_at unit) o (omega arith) (omega (arith, n.most, room.short)));
       }
 
--- the class bytes are lent to `is_spaced`
+-- what stands at the front of scratch, as the respacing takes it
+pub goes_keeping : (line scratch : List ℕ) (k : ℕ) → Keeping line (take (length line) scratch) k → Keeping line (part scratch 0 (0 + length line)) k
+goes_keeping line scratch k w = rw (sym (front_part scratch (length line))) at w
+
+-- the class bytes are lent to `spaced_to`
 pub front_fits : (line scratch : List ℕ) (unit : ℕ) → LineRoom scratch unit (length line) → length line ≡ length (take (length line) scratch)
 front_fits line scratch unit r = sym (length-take-le (length line) scratch (omega (arith, r.short, r.room)))
 

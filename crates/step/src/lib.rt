@@ -30,7 +30,7 @@ use place::Placing;
 use rules::{Carry, Ignore};
 
 // A marker in the line's comment: one that stands alone, or one with code before it.
-#[derive(Clone, Copy)]
+#[derive(Clone, Copy, PartialEq, Eq)]
 pub enum Marker {
     Alone,
     AfterCode,
@@ -83,7 +83,8 @@ fn go_on(line: &[u8], scratch: &mut [u8], unit: usize, after: Carry) -> Going
     ensures { Went line.now scratch.old scratch.new unit result }
 {
     let n = line.len();
-    if spacing::is_spaced(line, &scratch[..n]) {
+    let kept = spacing::spaced_to(line, &scratch[..n]);
+    if kept == n {
         return Going {
             own: true,
             len: n,
@@ -92,9 +93,9 @@ fn go_on(line: &[u8], scratch: &mut [u8], unit: usize, after: Carry) -> Going
         };
     }
     let at = RESPACED * unit;
-    let len = spacing::normalize_spacing(line, scratch, 0, at);
+    let len = spacing::normalize_from(line, scratch, 0, at, kept);
     let class_at = RECLASSED * unit;
-    let carry = marks::within::classify_at(scratch, at, len, class_at);
+    let carry = scan::classify_at(scratch, at, len, class_at);
     Going {
         own: false,
         len,
@@ -232,6 +233,9 @@ fn ends_outside(class: &[u8]) -> bool
     n != 0 && class[n - 1] != scan::LINE_COMMENT
 }
 
+// kept: line and class, layout and indent are not one struct each: no plainer, since of a struct that holds a lent slice
+// the contracts say `k.entry.line.now` (tried), and the facts on both are one record already
+
 // The marker of a line with its class bytes.
 fn marker_in(line: &[u8], class: &[u8]) -> Option<Marker>
     requires well_formed { WellFormed line.now }
@@ -262,14 +266,14 @@ fn protects_next(ignore: Ignore) -> bool
 fn is_kept(pending: Ignore, marker: Option<Marker>) -> bool
     ensures { result ≡ is_kept pending marker }
 {
-    matches!(marker, Some(Marker::AfterCode)) || protects_next(pending)
+    marker == Some(Marker::AfterCode) || protects_next(pending)
 }
 
 // Whether a marker stands alone.
 fn is_alone(marker: Option<Marker>) -> bool
     ensures { result ≡ is_alone marker }
 {
-    matches!(marker, Some(Marker::Alone))
+    marker == Some(Marker::Alone)
 }
 
 // The line's class bytes go to the front of scratch.

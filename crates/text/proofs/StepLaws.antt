@@ -1,5 +1,5 @@
 -- What a written line, a joined else, several lines and the end make of the text.
-use Prim.Native.Nat.{ℕ, ◌+◌, ◌-◌, ◌≤◌, ◌<◌}
+use Prim.Native.Nat.{ℕ, ◌+◌, ◌-◌, ◌≤◌, ◌<◌, ◌^◌}
 use mathlib.Core.Bool.{Bool, true, false, not, true≢false}
 use mathlib.Core.Path.{◌≡◌, refl, sym, ap, ◌∙◌}
 use mathlib.Core.List.{List, [], ◌∷◌, ◌++◌, append_assoc}
@@ -14,9 +14,8 @@ use Rattle.utf8.proofs.Decode.{encode_nil, encode_append, encode_ascii, size_app
 use Rattle.buffer.specs.Buffer.{Finishes}
 use Rattle.buffer.specs.Repeat.{times}
 use Rattle.buffer.proofs.AgreeLaws.{finishes_text}
-use Rattle.compare.specs.Common.{Keeps, ending_of, Compared}
-use Rattle.compare.proofs.CommonLaws.{ending_size}
-use Rattle.compare.proofs.WriterLaws.{compared_nil, keeps_cut}
+use Rattle.compare.specs.Common.{Keeps, Compared}
+use Rattle.compare.proofs.WriterLaws.{keeps_cut}
 use Rattle.check_rules.specs.Check.{settled_lines, closed}
 use Rattle.check_rules.proofs.SettledLaws.{settled_drop, settled_join, settled_solid, settled_white, joined_closed}
 use Rattle.rules.specs.declared.LineEnding.{LineEnding}
@@ -30,7 +29,7 @@ use Rattle.rules.specs.Call.{filled}
 use Rattle.rules.proofs.Choose.{choose_case, choose_true, choose_false}
 use Rattle.text.specs.declared.Last.{Last}
 use Rattle.text.specs.declared.Written.{Written}
-use Rattle.text.specs.Text.{trim_newest, newest_by, newest_of, is_first, sep_by, sep_of, kept_lines, alone_after, tail_of, full_of, nothing, after_lines, Line, ElseLine, Text, Grown, Ordered, SepLen, From, Adds, Joins, Continued, Ended, Finished}
+use Rattle.text.specs.Text.{trim_newest, newest_by, newest_of, is_first, sep_by, sep_of, kept_lines, alone_after, tail_of, full_of, nothing, after_lines, Line, ElseLine, Text, Grown, Ordered, From, Adds, Joins, Continued, Ended, Finished}
 use Rattle.text.proofs.LinesLaws.{not_alone, joined_cons, joined_grow, size_joined, encode_append_lines, full_cut, full_empty, full_line, below_cut, below_full, below_empty, below_line, newest_cut}
 use Rattle.text.proofs.PadLaws.{Blanks, indent_blanks, blanks_encode, some_size, some_chars, none_test, some_test, tail_pad, join_pad, else_trimmed, else_joinable, white_of}
 
@@ -52,32 +51,6 @@ sep_bytes eol false e = e.bytes
 
 pub sep_le : (ending : LineEnding) (first : Bool) → length (sep_by (as_str ending) first) ≤ 2
 sep_le e first = choose_case (λ (l : List ℕ). length l ≤ 2) (λ _. omega arith) (λ _. (ending e).small)
-
-pub ending_lf : (e : LineEnding) (m x y : List ℕ) (at r : ℕ) → e ≡ LineEnding.Lf → Compared m x y at (10 ∷ []) r → Compared m x y at (as_str e) r
-unfolding as_str
-ending_lf e m x y at r k w = rw k w
-
-pub ending_crlf : (e : LineEnding) (m x y : List ℕ) (at r : ℕ) → e ≡ LineEnding.Crlf → Compared m x y at (13 ∷ 10 ∷ []) r → Compared m x y at (as_str e) r
-unfolding as_str
-ending_crlf e m x y at r k w = rw k w
-
-pub sep_none : (eol m x : List ℕ) (at : ℕ) (first : Bool) → first ≡ true → Compared m x x at (sep_by eol first) at
-sep_none eol m x at first k = rw (choose_true first [] eol k) (compared_nil m x at)
-
-pub sep_eol : (eol m x y : List ℕ) (at r : ℕ) (first : Bool) → first ≡ false → Compared m x y at eol r → Compared m x y at (sep_by eol first) r
-sep_eol eol m x y at r first k w = rw (choose_false first [] eol k) w
-
-pub len_none : (eol : List ℕ) (first : Bool) → first ≡ true → SepLen (sep_by eol first) 0
-unfolding ending_of
-len_none eol first k = record { is = sym (choose_true first [] eol k); small = omega arith }
-
-pub len_lf : (e : LineEnding) (first : Bool) → first ≡ false → e ≡ LineEnding.Lf → SepLen (sep_by (as_str e) first) 1
-unfolding ending_of as_str
-len_lf e first k l = rw (choose_false first [] (as_str e) k, l) (record { is = refl; small = omega arith })
-
-pub len_crlf : (e : LineEnding) (first : Bool) → first ≡ false → e ≡ LineEnding.Crlf → SepLen (sep_by (as_str e) first) 2
-unfolding ending_of as_str
-len_crlf e first k l = rw (choose_false first [] (as_str e) k, l) (record { is = refl; small = omega arith })
 
 -- ---- the parts of the record
 
@@ -183,21 +156,15 @@ module _ (model eol : List ℕ) where
 -- ---- a line is added
 
 module _
-    (model eol out o1 p line : List ℕ) (from full settled : ℕ) (f : Bool) (start next tail : ℕ) (joins : Bool)
-    (ends : Ending eol) (b : Blanks p) (told : Line line tail joins) (starts : start ≡ from + length (sep_by eol f))
+    (model eol out o1 p line : List ℕ) (from full settled : ℕ) (f : Bool) (start next k tail : ℕ) (joins : Bool)
+    (ends : Ending eol) (b : Blanks p) (told : Line line tail joins) (starts : start ≡ from + length (sep_by eol f)) (pad : k ≡ length p)
     (w : Compared model out o1 from (sep_by eol f ++ (p ++ line)) next)
   where
-    reach : next ≡ start + length (p ++ line)
-    reach = omega (arith, w.next, length-append (sep_by eol f) (p ++ line))
-
     bytes : encode (p ++ decode line) ≡ p ++ line
     bytes = blanks_encode p (decode line) b ∙ ap (λ (x : List ℕ). p ++ x) told.well
 
-    long : next - start ≡ size (p ++ decode line)
-    long = omega (arith, reach, ap length bytes)
-
-    pad : next - start - length line ≡ length p
-    pad = omega (arith, reach, length-append p line)
+    long : k + length line ≡ size (p ++ decode line)
+    long = omega (arith, pad, ap length bytes, length-append p line)
 
     kept : tail ≡ size (trim_end (decode line))
     kept = sym (length-take-le tail line told.trims.fits) ∙ ap length (sym told.trims.well) ∙ ap size told.trims.text
@@ -206,11 +173,11 @@ module _
     pushed =
         record {
           at = record { 0 = next };
-          cut = start + tail_of (next - start - length line) tail;
-          full = full_of (next - start) full next;
-          below = full_of (next - start) from next;
-          alone = alone_after (next - start) f;
-          last = newest_by (next - start) joins;
+          cut = start + tail_of (k) tail;
+          full = full_of (k + length line) full next;
+          below = full_of (k + length line) from next;
+          alone = alone_after (k + length line) f;
+          last = newest_by (k + length line) joins;
           settled = full_of tail settled start;
         }
 
@@ -241,38 +208,40 @@ module _
           settles = settled_at_law model eol l ls tail settled start white_tail solid_tail r.settles g;
         }
 
--- in the terms of the calls in `push_line`
-module _
-    {m x y eol : List ℕ} {from sep next : ℕ} (p line : List ℕ) (s : SepLen eol sep)
-    (w : Compared m x y from (ending_of sep ++ (p ++ line)) next)
-  where
-    pub long_room : next ≡ from + sep + (length p + length line)
-    long_room = omega (arith, w.next, length-append (ending_of sep) (p ++ line), length-append p line, ending_size sep s.small)
+-- in the terms of the calls in `push_line`: s is the ending, and k the length of the indent p
+pub row_room : {at from : ℕ} (e : LineEnding) (f : Bool) (s p line : List ℕ) → s ≡ sep_by (as_str e) f → from ≤ at
+    → at + 2 + (length p + length line) < 2 ^ 64 → from + length (s ++ (p ++ line)) < 2 ^ 64
+row_room e f s p line is h b = omega (arith, ap length is, sep_le e f, length-append s (p ++ line), length-append p line)
 
-    pub kept_room : {tail kept : ℕ} {joins : Bool} → Line line tail joins → kept ≡ tail_of (next - (from + sep) - length line) tail → from + sep + kept ≤ next
-    kept_room {tail} told e = omega (arith, long_room, tail_le (next - (from + sep) - length line) tail, told.trims.fits)
+module _ {m x y : List ℕ} {from k next : ℕ} (s p line : List ℕ) (ek : k ≡ length p) (w : Compared m x y from (s ++ (p ++ line)) next) where
+  pub starts_at : next ≡ from + length s + (k + length line)
+  starts_at = omega (arith, w.next, length-append s (p ++ line), length-append p line)
 
-pub push_done : (e : LineEnding) (drops : Bool) (model out o1 : List ℕ) (t : Written) (indent : List ℕ) (levels : ℕ) (line : List ℕ) (from : ℕ) (f : Bool) (sep next tail : ℕ) (joins : Bool) (kept full below : ℕ) (alone : Bool) (last : Last) (settled : ℕ)
+  pub kept_room : {tail kept : ℕ} {joins : Bool} → Line line tail joins → kept ≡ tail_of k tail → next - (k + length line) + kept ≤ next
+  kept_room {tail} told h = omega (arith, starts_at, tail_le k tail, told.trims.fits)
+
+pub push_done : (e : LineEnding) (drops : Bool) (model out o1 : List ℕ) (t : Written) (indent : List ℕ) (levels : ℕ) (line : List ℕ) (from : ℕ) (f : Bool) (s : List ℕ) (k next tail : ℕ) (joins : Bool) (kept full below : ℕ) (alone : Bool) (last : Last) (settled : ℕ)
     → all_blank indent ≡ true → Line line tail joins → Ordered t → From drops t from → f ≡ choose drops t.alone (is_first t.last)
-    → SepLen (sep_by (as_str e) f) sep → Compared model out o1 from (ending_of sep ++ (times levels indent ++ line)) next
-    → kept ≡ tail_of (next - (from + sep) - length line) tail → full ≡ full_of (next - (from + sep)) t.full next
-    → below ≡ full_of (next - (from + sep)) from next → alone ≡ alone_after (next - (from + sep)) f → last ≡ newest_by (next - (from + sep)) joins → settled ≡ full_of tail t.settled (from + sep)
+    → s ≡ sep_by (as_str e) f → Compared model out o1 from (s ++ (times levels indent ++ line)) next → k ≡ length (times levels indent)
+    → kept ≡ tail_of k tail → full ≡ full_of (k + length line) t.full next
+    → below ≡ full_of (k + length line) from next → alone ≡ alone_after (k + length line) f → last ≡ newest_by (k + length line) joins
+    → settled ≡ full_of tail t.settled (next - (k + length line))
     → Adds (as_str e) drops (times levels indent ++ decode line) model out t o1
-    (record { at = record { 0 = next }; cut = from + sep + kept; full = full; below = below; alone = alone; last = last; settled = settled })
-push_done e drops model out o1 t indent levels line from f sep next tail joins kept full below alone last settled blank told order wf ef s w ek efull eb ea el es =
+    (record { at = record { 0 = next }; cut = next - (k + length line) + kept; full = full; below = below; alone = alone; last = last; settled = settled })
+push_done e drops model out o1 t indent levels line from f s k next tail joins kept full below alone last settled blank told order wf ef is w ekk ek efull eb ea el es =
     let p = times levels indent in
     let b = indent_blanks levels indent blank in
     let over : t.full ≤ from = rw wf.is (choose_case (λ (n : ℕ). t.full ≤ n) (λ _. order.full) (λ _. omega (arith, order.full, order.below))) in
-    let starts : from + sep ≡ from + length (sep_by (as_str e) f) = ap (λ (n : ℕ). from + n) (sym (ending_size sep s.small) ∙ ap length s.is) in
-    let r = long_room p line s w in
+    let r = starts_at s p line ekk w in
+    let starts : next - (k + length line) ≡ from + length (sep_by (as_str e) f) = omega (arith, r, ap length is) in
     rw (ek, efull, eb, ea, el, es)
     (record {
-      text = λ ls x. push_text model (as_str e) out o1 p line from t.full t.settled f (from + sep) next tail joins (ending e) b told starts (rw s.is at w) (kept_lines drops ls) (rw (wf.is, ef) (stem model (as_str e) drops ls t out x));
+      text = λ ls x. push_text model (as_str e) out o1 p line from t.full t.settled f (next - (k + length line)) next k tail joins (ending e) b told starts ekk (rw is at w) (kept_lines drops ls) (rw (wf.is, ef) (stem model (as_str e) drops ls t out x));
       grown = record {
-        at = omega (arith, r, s.small, wf.small, ap length (blanks_encode p (decode line) b), ap length told.well, length-append p (encode (decode line)));
-        cut = kept_room p line s w told refl;
-        full = full_mono (eqb (next - (from + sep)) 0) t.full from next over;
-        below = full_le (next - (from + sep)) from next (omega (arith, r));
+        at = omega (arith, r, ap length is, sep_le e f, wf.small, ap length (blanks_encode p (decode line) b), ap length told.well, length-append p (encode (decode line)));
+        cut = kept_room s p line ekk w told refl;
+        full = full_mono (eqb (k + length line) 0) t.full from next over;
+        below = full_le (k + length line) from next (omega (arith, w.next));
       };
     })
 
@@ -327,11 +296,6 @@ continue_done e drops model out o1 t from f r wf ef w =
       holds = λ ls x. (after_sep model (as_str e) (kept_lines drops ls) from t.full t.settled f out o1 r (ending e) (s ls x) w).1;
       small = omega (arith, w.next, wf.small, sep_le e f);
     }
-
-pub lines_record : (start next : ℕ) (joins : Bool) (last : Last) → last ≡ newest_by 1 joins
-    → ◌≡◌ {A = Written} (record { at = record { 0 = next }; cut = next; full = next; below = next; alone = false; last = last; settled = start }) (after_lines start next joins)
-lines_record start next joins last e =
-    ap {B = Written} (λ (k : Last). record { at = record { 0 = next }; cut = next; full = next; below = next; alone = false; last = k; settled = start }) e
 
 module _
     {model eol out out' after : List ℕ} {drops : Bool} {t : Written} {r next : ℕ} (m : List ℕ) (ms : List (List ℕ))

@@ -2,7 +2,7 @@
 use Rattle.std.specs.Prelude.{ℕ, ◌+◌, ◌≤◌, ◌^◌, Bool, true, false, List, [], ◌∷◌, ◌++◌, ◌≡◌, eqb, length, replicate}
 use Rattle.utf8.specs.Unicode.{encode, decode, size, trim_end, WellFormed}
 use Rattle.utf8.specs.Places.{TrimmedEnd}
-use Rattle.compare.specs.Common.{Keeps, ending_of}
+use Rattle.compare.specs.Common.{Keeps}
 use Rattle.check_rules.specs.Check.{settled_lines, closed}
 use Rattle.rules.specs.Basics.{choose, is, last_is}
 use Rattle.rules.specs.Assembly.{joined, drop_empty}
@@ -115,11 +115,6 @@ pub record Ordered (t : Written) : Type 0 where
   pub cut : t.cut ≤ t.at.0
   pub full : t.full ≤ t.below
   pub below : t.below ≤ t.at.0
-
--- r is the length of the line ending eol, or 0 where there is none
-pub record SepLen (eol : List ℕ) (r : ℕ) : Type 0 where
-  pub is : ending_of r ≡ eol
-  pub small : r ≤ 2
 
 -- where a line is written
 pub record From (drops : Bool) (t : Written) (r : ℕ) : Type 0 where

@@ -6,13 +6,16 @@ ghost use Rattle.std.specs.Prelude.{◌≡◌, true, [], ◌++◌, ◌+◌, ◌<
 ghost use Rattle.utf8.specs.Unicode.{decode};
 ghost use Rattle.buffer.specs.Repeat.{times};
 ghost use Rattle.compare.specs.Common.{Compared};
+ghost use Rattle.compare.specs.Rows.{ending_of};
 ghost use Rattle.rules.specs.Basics.{choose};
 ghost use Rattle.rules.specs.Lines.{as_str};
 ghost use Rattle.rules.specs.Options.{all_blank};
 ghost use Rattle.text.specs.Text.{nothing, sep_by, alone_after, tail_of, newest_by, full_of, is_first, is_joinable};
-ghost use Rattle.text.specs.Text.{after_lines, Ordered, Line, ElseLine, SepLen, From, Adds, Joins, Continued};
+ghost use Rattle.text.specs.Text.{after_lines, Ordered, Line, ElseLine, From, Adds, Joins, Continued};
 ghost use Rattle.text.specs.Text.{Ended, Finished};
 
+use buffer::pad::Pad;
+use compare::ending::ending_bytes;
 use rules::LineEnding;
 use utf8::ByteOffset;
 
@@ -69,42 +72,33 @@ pub fn is_joinable(last: Last) -> bool
 }
 
 // The line ending, from the place at on.
+#[tactic(auto, unfolding(rules::specs::Lines::as_str))]
 pub fn append_ending(model: &[u8], out: &mut [u8], at: usize, ending: LineEnding) -> usize
     requires { at + 2 < 2 ^ 64 }
     ensures { Compared model.now out.old out.new at (as_str ending) result }
 {
-    match ending {
-        LineEnding::Lf => compare::append(model, out, at, b"\n"),
-        LineEnding::Crlf => compare::append(model, out, at, b"\r\n"),
-    }
+    compare::append(model, out, at, ending_bytes(Some(ending)))
 }
 
-// The line ending before a line, but not before the first.
+// What stands before a line: the line ending, but nothing before the first.
+#[tactic(auto, unfolding(rules::specs::Basics::choose))]
+fn ending_before(ending: LineEnding, first: bool) -> Option<LineEnding>
+    ensures { ending_of result ≡ sep_by (as_str ending) first }
+{
+    if first { None } else { Some(ending) }
+}
+
+// This, from the place at on.
+#[tactic(auto, using(crate::proofs::StepLaws::sep_le))]
 fn separate(model: &[u8], out: &mut [u8], at: usize, ending: LineEnding, first: bool) -> usize
     requires { at + 2 < 2 ^ 64 }
     ensures { Compared model.now out.old out.new at (sep_by (as_str ending) first)
         result }
 {
-    if first {
-        at
-    } else {
-        append_ending(model, out, at, ending)
-    }
+    compare::append(model, out, at, ending_bytes(ending_before(ending, first)))
 }
 
-// The length of the line ending before a line: 0 before the first.
-fn sep_len(ending: LineEnding, first: bool) -> usize
-    ensures { SepLen (sep_by (as_str ending) first) result }
-{
-    if first {
-        return 0;
-    }
-    match ending {
-        LineEnding::Lf => 1,
-        LineEnding::Crlf => 2,
-    }
-}
-
+#[tactic(auto, unfolding(rules::specs::Basics::choose))]
 fn stem_at(t: Written, drops: bool) -> usize
     requires { t.below ≤ t.at.0 }
     ensures { From drops t result }
@@ -112,18 +106,21 @@ fn stem_at(t: Written, drops: bool) -> usize
     if drops { t.below } else { t.at.0 }
 }
 
+#[tactic(auto, unfolding(rules::specs::Basics::choose))]
 fn stem_first(t: Written, drops: bool) -> bool
     ensures { result ≡ choose drops t.alone (is_first t.last) }
 {
     if drops { t.alone } else { is_first(t.last) }
 }
 
+#[tactic(auto, unfolding(rules::specs::Basics::choose))]
 fn alone_of(long: usize, first: bool) -> bool
     ensures { result ≡ alone_after long first }
 {
     long == 0 && first
 }
 
+#[tactic(auto, unfolding(rules::specs::Basics::choose))]
 fn tail_of(pad: usize, tail: usize) -> usize
     requires { pad + tail < 2 ^ 64 }
     ensures { result ≡ tail_of pad tail }
@@ -131,6 +128,7 @@ fn tail_of(pad: usize, tail: usize) -> usize
     if tail == 0 { 0 } else { pad + tail }
 }
 
+#[tactic(auto, unfolding(rules::specs::Basics::choose))]
 fn kind_of(long: usize, joins: bool) -> Last
     ensures { result ≡ newest_by long joins }
 {
@@ -143,6 +141,7 @@ fn kind_of(long: usize, joins: bool) -> Last
     }
 }
 
+#[tactic(auto, unfolding(rules::specs::Basics::choose))]
 fn full_of(long: usize, full: usize, at: usize) -> usize
     ensures { result ≡ full_of long full at }
 {
@@ -179,12 +178,16 @@ pub fn push_line(
 {
     let from = stem_at(t, how.drops);
     let first = stem_first(t, how.drops);
-    let sep = sep_len(how.ending, first);
-    let next = compare::append_line(model, out, from, sep, indent, how.levels, line);
-    let start = from + sep;
-    let long = next - start;
-    let pad = long - line.len();
-    let kept = tail_of(pad, how.tail);
+    let ending = ending_before(how.ending, first);
+    let pad = Pad {
+        indent,
+        levels: how.levels,
+    };
+    let next = compare::append_line(model, out, from, ending, pad, line);
+    let indented = pad.len();
+    let long = indented + line.len();
+    let start = next - long;
+    let kept = tail_of(indented, how.tail);
     Written {
         at: ByteOffset(next),
         cut: start + kept,
@@ -257,6 +260,7 @@ pub fn end_text(
 }
 
 // The same in an output: zeros after the text, or all zeros where it does not fit.
+#[tactic(auto, using(crate::proofs::StepLaws::finish_short, crate::proofs::StepLaws::finish_whole))]
 pub fn finish_text(out: &mut [u8], t: Written, ending: LineEnding, newline: bool) -> usize
     requires { t.full + 2 < 2 ^ 64 }
     ensures { Finished (as_str ending) (choose newline (as_str ending) []) out.old t out.new result }

@@ -6,8 +6,8 @@ use mathlib.Core.Bool.{Bool, true, false}
 use mathlib.Core.List.{List, [], ◌∷◌}
 use mathlib.Core.Logic.{◌⊎◌, inl, inr}
 use mathlib.Core.Path.{◌≡◌, refl, sym, ap, subst, ◌∙◌}
-use borrow.Author.Tests.{ltb-false, le-ltb, ne_eqb}
-use Rattle.std.specs.Prelude.{Some, None}
+use borrow.Author.Tests.{ltb-false, le-ltb}
+use Rattle.std.specs.Prelude.{Some}
 use lib.Dec.{T, eqb}
 use lib.ListN.{length, get_or, take, length-take}
 use lib.Seq.{get_or-take, take_at}
@@ -118,18 +118,12 @@ module _ {line class : List ℕ} {ascii clear : ℕ} (w : Tells line class ascii
   told_past h =
       record { told = λ k s y _. only TextKind.Code _ (ap kind_number (past_line line y column h)) k s; clear = w.clear }
 
-  pub told_none : KindTold line class column None clear
-  told_none = record { told = λ k s. absurd (cc); clear = w.clear }
-
   joined : (past : ℕ) → Without (dollar_at line) clear past → Without (dollar_at line) 0 past
   joined past n = record { none = λ j l m. go j m (split j clear) }
     where
       go : (j : ℕ) → j < past → (j < clear) ⊎ (clear ≤ j) → dollar_at line j ≡ false
       go j m (inl x) = w.clear.none j zero-le x
       go j m (inr x) = n.none j x m
-
-  pub told_not : (past : ℕ) → Without (dollar_at line) clear past → KindTold line class column None past
-  told_not past n = record { told = λ k s. absurd (cc); clear = joined past n }
 
   module _ (h : column < length line) (a : column < ascii) where
     here : (y : Carry) → ClassesIn y line class → ByClass (begin y) line column
@@ -165,18 +159,6 @@ module _ {line class : List ℕ} {ascii clear : ℕ} (w : Tells line class ascii
 
 -- ---- the kind of a class byte
 
-pub kind_string : (b : ℕ) → b ≡ 1 → TextKind.Str ≡ kind_of_class b
-unfolding class_kind choose
-kind_string b e = rw e
-
-pub kind_line : (b : ℕ) → b ≡ 2 → TextKind.Comment ≡ kind_of_class b
-unfolding class_kind
-kind_line b e = rw e
-
-pub kind_block : (b : ℕ) → b ≡ 3 → TextKind.Comment ≡ kind_of_class b
-unfolding class_kind
-kind_block b e = rw e
-
 pub kind_other : (b : ℕ) → (b ≡ 1 → ⊥) → (b ≡ 2 → ⊥) → (b ≡ 3 → ⊥) → TextKind.Code ≡ kind_of_class b
 unfolding class_kind
 kind_other zero l m n = refl
@@ -189,16 +171,6 @@ kind_other (suc (suc (suc (suc b)))) l m n = refl
 
 pub without_none : (p : ℕ → Bool) (at : ℕ) → Without p at at
 without_none p at = record { none = λ j l m. absurd (omega arith) }
-
-pub without_end : (p : ℕ → Bool) (at i to : ℕ) → Without p at i → to ≤ i → Without p at to
-without_end p at i to w h = record { none = λ j l m. w.none j l (omega arith) }
-
-pub without_more : (line : List ℕ) (at i : ℕ) → Without (dollar_at line) at i → (get_or line i 0 ≡ 36 → ⊥) → Without (dollar_at line) at (i + 1)
-without_more line at i w n = record { none = λ j l m. go j l (split j i) m }
-  where
-    go : (j : ℕ) → at ≤ j → (j < i) ⊎ (i ≤ j) → j < i + 1 → dollar_at line j ≡ false
-    go j l (inl x) m = w.none j l x
-    go j l (inr x) m = let e : i ≡ j = omega arith in rw e at (ne_eqb (get_or line i 0) 36 n)
 
 -- ---- from what `classify` and the search for ASCII bytes give
 

@@ -1,7 +1,7 @@
 -- What a call comes to, by the tests in their order.
 use Prim.Native.Nat.{ℕ, ◌/◌, ◌<◌, ◌≤◌}
 use native.Mathlib.Omega.{arith}
-use mathlib.Core.Bool.{Bool, true, false}
+use mathlib.Core.Bool.{Bool, true}
 use mathlib.Core.List.{List, [], ◌∷◌, ◌++◌}
 use mathlib.Core.Path.{◌≡◌, refl, sym, ap, ◌∙◌}
 use borrow.Author.Tests.{lt-ltb, le-ltb}
@@ -22,9 +22,6 @@ use Rattle.text_kinds.proofs.PlaceLaws.{count_half}
 -- ---- the list
 
 module _ (list : List ℕ) (room : ℕ) (b : Bool) (e : b ≡ ascending (places_in list)) where
-  pub out_of_order : b ≡ false → Err Refusal.PlacesUnordered ≡ tested (list_tests list room)
-  out_of_order f = rw (← e, f)
-
   module _ (t : b ≡ true) where
     pub too_few : room < length list / 2 → Err Refusal.KindsShort ≡ tested (list_tests list room)
     too_few h = rw (← e, t, lt-ltb room (place_count list) (omega (arith, count_half list)))

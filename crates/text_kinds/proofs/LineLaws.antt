@@ -1,11 +1,11 @@
 -- The places of a line: the loop of `kinds_in_line`, which before byte i of the line, with the mark t, has read so many
 -- characters, and that of `kinds_by_class`.
-use Prim.Native.Nat.{ℕ, suc, ◌+◌, ◌<◌, ◌≤◌, zero-le}
+use Prim.Native.Nat.{ℕ, suc, ◌+◌, ◌<◌, ◌≤◌}
 use native.Mathlib.Omega.{arith}
 use native.Mathlib.Numerals.{add-one}
 use mathlib.Core.Bool.{Bool, true, false}
 use mathlib.Core.List.{List, [], ◌∷◌}
-use mathlib.Core.Path.{◌≡◌, refl, sym, ap, ◌∙◌}
+use mathlib.Core.Path.{◌≡◌, sym, ap, ◌∙◌}
 use lib.ListN.{length, get_or, drop, set, length-drop, length-set, drop_of_length-le, get_or-eq_default}
 use lib.Seq.{drop-cons, drop-drop, get_or-drop}
 use Rattle.utf8.specs.Unicode.{tail}
@@ -25,7 +25,6 @@ use Rattle.std.specs.Prelude.{Option, Some}
 use Rattle.text_kinds.specs.Reading.{column_of, IsOn, Ahead, Filled, Listed, Answered, PassedOver, LineAnswered, Without, dollar_at, ClassesIn, Tells, KindTold, PartAnswered}
 use Rattle.text_kinds.proofs.PlaceLaws.{from_line, from_next, from_trans}
 use Rattle.text_kinds.proofs.FillLaws.{filled_set}
-use Rattle.text_kinds.proofs.ClassLaws.{without_none}
 
 abbrev KindsAt : Mark → List ℕ → ℕ → (Place → ℕ) → Type 0
 KindsAt t line number f = (c : ℕ) → f (place_at number c) ≡ kind_number (get_or (byte_kinds t line) c TextKind.Code)
@@ -38,19 +37,6 @@ pub record InLine (line : List ℕ) (t₀ : Mark) (number : ℕ) (list : List �
   pub long : length kinds ≡ length kinds₀
   pub filled : (f : Place → ℕ) → KindsAt t₀ line number f → Filled f list (suc number) k kinds₀ → Filled f list (suc number) to kinds
   pub ahead : Ahead list number column to
-
-pub in_line_start : (line : List ℕ) (t : Mark) (number : ℕ) (list : List ℕ) (k : ℕ) (kinds : List ℕ) → Ahead list number 0 k
-    → InLine line t number list k kinds t k 0 0 kinds
-in_line_start line t number list k kinds a =
-    record {
-      within = zero-le;
-      few = zero-le;
-      depth = omega arith;
-      rest = refl;
-      long = refl;
-      filled = λ f e r. r;
-      ahead = a;
-    }
 
 -- no place of the line is left
 none_left : {list : List ℕ} {number column to : ℕ} (b : Bool) → Ahead list number column to → IsOn list to number b → b ≡ false → Ahead list (suc number) 0 to
@@ -147,10 +133,6 @@ in_line_end line carry t₀ number list k kinds₀ t to column i kinds to' r h b
 pub record Telling (line class : List ℕ) (number : ℕ) (list : List ℕ) (k : ℕ) (kinds₀ : List ℕ) (to d : ℕ) (kinds : List ℕ) : Type 0 where
   pub part : PartAnswered line class number list k kinds₀ to kinds
   pub clear : Without (dollar_at line) 0 d
-
-pub telling_start : (line class : List ℕ) (number : ℕ) (list : List ℕ) (k : ℕ) (kinds : List ℕ) → Telling line class number list k kinds k 0 kinds
-telling_start line class number list k kinds =
-    record { part = record { long = refl; filled = λ y e f m z. z; ahead = λ a. a }; clear = without_none _ 0 }
 
 module _ {line class : List ℕ} {number : ℕ} {list : List ℕ} {k : ℕ} {kinds₀ : List ℕ} {to clear : ℕ} {kinds : List ℕ}
     (r : Telling line class number list k kinds₀ to clear kinds)

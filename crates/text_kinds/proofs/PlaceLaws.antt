@@ -169,9 +169,6 @@ pub record Ascends (list : List ℕ) (k : ℕ) : Type 0 where
   pub first : 1 ≤ k
   pub same : ascending (places_in list) ≡ ascending (drop (k - 1) (places_in list))
 
-pub ascends_start : (list : List ℕ) → Ascends list 1
-ascends_start list = record { first = omega arith; same = refl }
-
 module _ {list : List ℕ} {k : ℕ} (r : Ascends list k) (h : k < length list / 2) (b : Bool)
     (e : b ≡ not_after (place_at (get_or list (2 * k - 2) 0) (get_or list (2 * k - 1) 0)) (place_at (get_or list (2 * k) 0) (get_or list (2 * k + 1) 0)))
   where

@@ -152,13 +152,6 @@ read_start source list kinds scratch n f h z =
     start zero c = inr (refl, zero-le)
     start (suc l) c = inl (omega arith)
 
--- the buffers keep their lengths
-pub fits_on : {source scratch₀ scratch : List ℕ} → SourceFits source scratch₀ → length scratch ≡ length scratch₀ → SourceFits source scratch
-fits_on f e = record { well = f.well; room = omega (arith, f.room); short = f.short }
-
-pub listed_on : {list kinds : List ℕ} → ascending (places_in list) ≡ true → {p : Progress} {source : List ℕ} → Read source list kinds p → Listed list kinds
-listed_on w r = record { order = w; room = r.answers.room }
-
 pub as_zeroed : (n : ℕ) (kinds₀ kinds : List ℕ) → kinds₀ ≡ replicate n 0 → length kinds ≡ length kinds₀ → length kinds ≡ n
 as_zeroed n kinds₀ kinds z e = e ∙ ap length z ∙ length-replicate {A = ℕ} n 0
 

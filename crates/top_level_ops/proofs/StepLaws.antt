@@ -1,15 +1,15 @@
 -- Laws of one step of top_level_ops.
 use Prim.Native.Nat.{ℕ, zero, suc, ◌+◌, ◌-◌, ◌≤◌, ◌<◌}
-use mathlib.Core.Bool.{Bool, true, false, not, ◌&&◌, ◌||◌, and-true, and-false}
+use mathlib.Core.Bool.{Bool, true, false, not, ◌&&◌, ◌||◌, and-true, and-false, true≢false}
 use mathlib.Core.List.{List, [], ◌∷◌}
-use Rattle.std.specs.Prelude.{Option}
+use Rattle.std.specs.Prelude.{Some}
 use mathlib.Core.Path.{◌≡◌, refl, sym, ap, ◌∙◌}
 use native.Mathlib.Omega.{arith}
 use native.Mathlib.Numerals.{add-one}
 use lib.Dec.{eqb, ltb}
 use lib.ListN.{length, get_or, take, drop, length-drop}
 use borrow.Author.Tests.{ne_eqb, eq-eqb, eqb-true, lt-ltb}
-use Rattle.rules.specs.Basics.{choose, is, codes, at, same, starts_with, first_is}
+use Rattle.rules.specs.Basics.{choose, is, codes, at, same, one_of, starts_with, first_is}
 use Rattle.rules.specs.ClassBytes.{class_of}
 use Rattle.rules.specs.Scan.{Cell, is_str}
 use Rattle.rules.specs.Operators.{operators, index_in}
@@ -18,15 +18,16 @@ use Rattle.rules.specs.OperatorBytes.{byte_step}
 use Rattle.rules.proofs.CellsLaws.{str_byte}
 use Rattle.rules.proofs.Choose.{choose_true, choose_false}
 use Rattle.rules.proofs.StartsBytes.{choose_both}
-use Rattle.rules.proofs.Leading.{Passing, passing_start, passing_more, passing_stop, passing_end}
+use Rattle.rules.proofs.Leading.{Passing, passing_more, passing_stop, passing_end}
 use Rattle.utf8.specs.Unicode.{tail}
 use Rattle.utf8.proofs.Tests.{by_test, and_left}
 use Rattle.buffer.proofs.RegionLaws.{part_from}
 use Rattle.operators.specs.Places.{place_of}
 use Rattle.operators.specs.declared.Operator.{Operator}
 use Rattle.operators.proofs.OperatorLaws.{strength_index, one_of_index, place_below, is_operator, no_operator}
-use Rattle.top_level_ops.specs.Steps.{AtomLen, AtomAt, sign_step, token_step, step_with, ops_of, step_or, passed_in, bracket_in, code_or, fresh_or, skip_or, byte_or}
+use Rattle.top_level_ops.specs.Steps.{AtomLen, AtomAt, sign_step, token_step, step_with, goes_on, LongToken, ops_of, step_or, passed, found_as, code_or, fresh_or, skip_or, byte_or}
 use Rattle.top_level_ops.specs.declared.OpState.{OpState}
+use Rattle.top_level_ops.specs.declared.Token.{Token}
 
 -- ---- an operator of two characters at the head of l, by the place that was found
 
@@ -88,22 +89,22 @@ two_operator table s l o e x r n p q g f =
 
 -- ---- an operator of one character
 
-module _ (table : List ℕ) (s : Ops) (l : List ℕ) (x : OpStep) where
-  pub one_token : (b : Bool) → 21 ≡ index_in operators (get_or l 0 0 ∷ []) → b ≡ ends_operand (get_or l 0 0) → x ≡ token s b 0 → x ≡ one_char_step table s (get_or l 0 0) (drop 1 l)
+module _ (table : List ℕ) (s : Ops) (c : ℕ) (cs : List ℕ) (x : OpStep) where
+  pub one_token : (b : Bool) → 21 ≡ index_in operators (c ∷ []) → b ≡ ends_operand c → x ≡ token s b 0 → x ≡ one_char_step table s c cs
   unfolding one_char_step
   one_token b e g f =
       f ∙ ap (λ (v : Bool). token s v 0) g
-      ∙ sym (choose_true _ _ _ (ap not (no_operator (get_or l 0 0 ∷ []) e)))
+      ∙ sym (choose_true _ _ _ (ap not (no_operator (c ∷ []) e)))
 
   abbrev signed : OpStep
   signed =
-      choose (first_is (is "=") (drop 1 l)) (token s false 1)
-      (choose (is_sign (get_or l 0 0) && not s.operand) (token s false 0)
-      (operator s (precedence table (get_or l 0 0 ∷ [])) 0))
+      choose (first_is (is "=") cs) (token s false 1)
+      (choose (is_sign c && not s.operand) (token s false 0)
+      (operator s (precedence table (c ∷ [])) 0))
 
-  pub one_operator : (o : Operator) → place_of o ≡ index_in operators (get_or l 0 0 ∷ []) → x ≡ signed → x ≡ one_char_step table s (get_or l 0 0) (drop 1 l)
+  pub one_operator : (o : Operator) → place_of o ≡ index_in operators (c ∷ []) → x ≡ signed → x ≡ one_char_step table s c cs
   unfolding one_char_step
-  one_operator o e f = f ∙ sym (choose_false _ _ _ (ap not (is_operator (get_or l 0 0 ∷ []) o e)))
+  one_operator o e f = f ∙ sym (choose_false _ _ _ (ap not (is_operator (c ∷ []) o e)))
 
 pub operator_strength : (table : List ℕ) (s : Ops) (w : List ℕ) (x : OpStep) (k n m : ℕ) → k ≡ index_in operators w → n ≡ get_or table k 0 → x ≡ operator s n m → x ≡ operator s (precedence table w) m
 operator_strength table s w x k n m e g f = f ∙ ap (λ (i : ℕ). operator s i m) (g ∙ strength_index table w k e)
@@ -120,12 +121,6 @@ assign_long [] h = absurd (omega arith)
 assign_long (a ∷ []) h = absurd (omega arith)
 assign_long (a ∷ b ∷ l) h = refl
 
-pub unary_operand : (b v : Bool) → v ≡ true → false ≡ (b && not v)
-unary_operand b v e = rw e (sym (and-false b))
-
-pub unary_sign : (b v r : Bool) → v ≡ false → r ≡ b → r ≡ (b && not v)
-unary_sign b v r e f = rw e (f ∙ sym (and-true b))
-
 pub unary_at : (b v w r : Bool) → v ≡ w → r ≡ (b && not w) → r ≡ (b && not v)
 unary_at b v w r e f = rw e f
 
@@ -133,9 +128,6 @@ unary_at b v w r e f = rw e f
 
 abbrev pub AtomScan : List ℕ → ℕ → Type 0
 AtomScan s i = Passing atom_char s i
-
-pub atom_begin : (s : List ℕ) → AtomScan s 0
-atom_begin s = passing_start atom_char s
 
 module _ (s : List ℕ) (i : ℕ) (q : AtomScan s i) where
   pub atom_more : (r : Bool) → i < length s → r ≡ atom_char (get_or s i 0) → r ≡ true → AtomScan s (i + 1)
@@ -191,6 +183,59 @@ module _ (table : List ℕ) (s : Ops) (l : List ℕ) (some : 0 < length l) (oper
       let no : (colon && not (eqb (atom_len (drop 1 l)) 0)) ≡ false = by_test colon (λ t. rw (t, eq-eqb (atom_len (drop 1 l)) 0 (omega (arith, q.is ∙ choose_true _ _ _ t)))) (λ t. rw t) in
       f ∙ sym (choose_false _ _ _ (rw o no))
 
+-- ---- a token of one character: the second byte b, 0 where there is none, goes on with none
+
+off : (k b : ℕ) → goes_on b ≡ false → goes_on k ≡ true → eqb k b ≡ false
+off k b h t = ne_eqb k b (λ (e : k ≡ b). true≢false (sym t ∙ ap goes_on e ∙ h))
+
+module _ (l : List ℕ) (h : goes_on (get_or l 1 0) ≡ false) where
+  no_pair : (l : List ℕ) → goes_on (get_or l 1 0) ≡ false → starts_pair l ≡ false
+  unfolding one_of same
+  no_pair [] h = refl
+  no_pair (a ∷ []) h = refl
+  no_pair (a ∷ b ∷ l) h =
+      simp (off 124 b h refl, off 94 b h refl, off 38 b h refl, off 61 b h refl, off 60 b h refl, off 62 b h refl, off 46 b h refl, off 42 b h refl, and-false)
+
+  no_assign : (l : List ℕ) → goes_on (get_or l 1 0) ≡ false → first_is (is "=") (drop 1 l) ≡ false
+  unfolding first_is
+  no_assign [] h = refl
+  no_assign (a ∷ []) h = refl
+  no_assign (a ∷ b ∷ l) h = ne_eqb b 61 (λ (e : b ≡ 61). true≢false (sym (ap goes_on e) ∙ h))
+
+  no_dots : (l : List ℕ) → goes_on (get_or l 1 0) ≡ false → at l "..." ≡ false
+  unfolding starts_with
+  no_dots [] h = refl
+  no_dots (a ∷ []) h = simp and-false
+  no_dots (a ∷ b ∷ l) h = rw (ne_eqb b 46 (λ (e : b ≡ 46). true≢false (sym (ap goes_on e) ∙ h)), and-false)
+
+  no_arrow : (l : List ℕ) → goes_on (get_or l 1 0) ≡ false → (at l "->" || at l "=>") ≡ false
+  unfolding starts_with
+  no_arrow [] h = refl
+  no_arrow (a ∷ []) h = simp and-false
+  no_arrow (a ∷ b ∷ l) h = simp (ne_eqb b 62 (λ (e : b ≡ 62). true≢false (sym (ap goes_on e) ∙ h)), and-false)
+
+  pub long_not : (get_or l 0 0 ≡ 58 → ⊥) → LongToken l false
+  unfolding token_step sign_step
+  long_not n =
+      record {
+        short = λ e table s.
+            choose_false _ _ _ (rw (ne_eqb (get_or l 0 0) 58 n)) ∙ choose_false _ _ _ (no_dots l h) ∙ choose_false _ _ _ (no_arrow l h)
+            ∙ choose_false _ _ _ (no_pair l h);
+        alone = λ e. no_assign l h;
+      }
+
+pub long_may : (l : List ℕ) → LongToken l true
+long_may l = record { short = λ e. absurd (true≢false e); alone = λ e. absurd (true≢false e) }
+
+pub long_short : (l : List ℕ) → length l ≤ 1 → (get_or l 0 0 ≡ 58 → ⊥) → LongToken l false
+long_short [] h n = long_not [] refl n
+long_short (a ∷ []) h n = long_not (a ∷ []) refl n
+long_short (a ∷ b ∷ l) h n = absurd (omega arith)
+
+pub long_by : (l : List ℕ) (r : Bool) → r ≡ goes_on (get_or l 1 0) → (get_or l 0 0 ≡ 58 → ⊥) → LongToken l r
+long_by l true e n = long_may l
+long_by l false e n = long_not l (sym e) n
+
 -- ---- a byte
 
 pub opens : (x : OpStep) (m n : ℕ) → x ≡ bracket (m + 1) n false → x ≡ bracket (suc m) n false
@@ -200,22 +245,29 @@ pub closes : (x : OpStep) (m n c : ℕ) (b : Bool) → b ≡ ends_operand c → 
 closes x m n c b g e = rw (← g, ← add-one n) e
 
 -- the steps as the code gives them
-module _ (r : Option OpState) (s : OpState) (t : OpStep) where
-  pub passed_token : (operand : Bool) (n : ℕ) → r ≡ passed_in s operand false n → step_or t r ≡ token (ops_of s) operand n
+module _ (n s : OpState) (t : OpStep) where
+  pub passed_token : (operand : Bool) (k : ℕ) → n ≡ passed s operand false k → step_or t (Some n) ≡ token (ops_of s) operand k
   unfolding token
-  passed_token operand n e = rw e
+  passed_token operand k e = rw e
 
-  pub passed_escape : (esc : Bool) → r ≡ passed_in s s.operand esc 0 → step_or t r ≡ escape (ops_of s) esc
+  pub passed_escape : (esc : Bool) → n ≡ passed s s.operand esc 0 → step_or t (Some n) ≡ escape (ops_of s) esc
   unfolding escape
   passed_escape esc e = rw e
 
-  pub passed_string : r ≡ passed_in s true s.esc 0
-      → step_or t r ≡ record { strength = 0; after = record { opened = s.opened; closed = s.closed; operand = true; esc = s.esc; skip = 0 } }
+  pub passed_string : n ≡ passed s true s.esc 0
+      → step_or t (Some n) ≡ record { strength = 0; after = record { opened = s.opened; closed = s.closed; operand = true; esc = s.esc; skip = 0 } }
   passed_string e = rw e
 
-pub passed_bracket : (r : Option OpState) (t : OpStep) (m n : ℕ) (operand : Bool) → r ≡ bracket_in m n operand → step_or t r ≡ bracket m n operand
-unfolding bracket
-passed_bracket r t m n operand e = rw e
+  pub passed_bracket : (i k : ℕ) (operand : Bool) → n ≡ record { opened = i; closed = k; operand = operand; esc = false; skip = 0 } → step_or t (Some n) ≡ bracket i k operand
+  unfolding bracket
+  passed_bracket i k operand e = rw e
+
+module _ (n s : OpState) (t : Token) (e : n ≡ passed s t.operand false t.skip) where
+  pub taken_outside : n.opened ≡ n.closed → found_as t.strength n ≡ step_with (ops_of s) t
+  taken_outside h = let k : s.opened ≡ s.closed = rw e at h in rw (e, choose_true {A = ℕ} _ t.strength 0 (eq-eqb _ _ k))
+
+  pub taken_inside : (n.opened ≡ n.closed → ⊥) → found_as 0 n ≡ step_with (ops_of s) t
+  taken_inside h = let k : s.opened ≡ s.closed → ⊥ = rw e at h in rw (e, choose_false {A = ℕ} _ t.strength 0 (ne_eqb _ _ k))
 
 module _ (k : ℕ) (x y z : OpStep) where
   pub pick_string : k ≡ 1 → x ≡ y → x ≡ choose (is_str (class_of k)) y z

@@ -1,16 +1,23 @@
 -- The state and the step of top_level_ops as the code holds them.
 use Rattle.std.specs.Prelude.{ℕ, zero, suc, ◌<◌, ◌≤◌, ◌^◌, Bool, true, false, not, ◌&&◌, ◌||◌, List, ◌≡◌, eqb, length, take, drop, get_or, Option, Some, None}
 use Rattle.utf8.specs.Unicode.{tail}
-use Rattle.rules.specs.Basics.{choose, is, at, is_blank, is_opener, is_closer}
+use Rattle.rules.specs.Basics.{choose, is, at, first_is, is_blank, is_opener, is_closer}
 use Rattle.rules.specs.Scan.{Cell, is_str}
 use Rattle.rules.specs.SplitOperation.{Ops, OpStep, ends_operand, token, escape, bracket, atom_len, starts_pair}
 use Rattle.rules.specs.SplitOperation.{two_char_step, one_char_step}
 use Rattle.top_level_ops.specs.declared.OpState.{OpState}
-use Rattle.top_level_ops.specs.declared.OpFound.{OpFound}
 use Rattle.top_level_ops.specs.declared.Token.{Token}
 
 abbrev pub ops_of : OpState → Ops
 ops_of s = record { opened = s.opened; closed = s.closed; operand = s.operand; esc = s.esc; skip = s.skip }
+
+-- the strength of the operator that starts at a byte, 0 for none; and the state after the byte
+pub record OpFound : Type 0 where
+  pub strength : ℕ
+  pub after : OpState
+
+abbrev pub found_as : ℕ → OpState → OpStep
+found_as strength after = record { strength = strength; after = ops_of after }
 
 abbrev pub step_of : OpFound → OpStep
 step_of r = record { strength = r.strength; after = ops_of r.after }
@@ -41,6 +48,16 @@ token_step table s l =
     (token s (ends_operand (get_or l (atom_len (drop 1 l)) 0)) (atom_len (drop 1 l)))
     (sign_step table s l)
 
+-- b stands second in an operator, a `...`, an arrow or an assignment
+abbrev pub goes_on : ℕ → Bool
+goes_on b = is "|" b || is "^" b || is "&" b || is "=" b || is "<" b || is ">" b || is "." b || is "*" b
+
+-- where r is false, the token at the head of l has one character, and assigns nothing
+pub record LongToken (l : List ℕ) (r : Bool) : Type 0 where
+  pub short : r ≡ false → (table : List ℕ) (s : Ops)
+      → token_step table s l ≡ one_char_step table s (get_or l 0 0) (drop 1 l)
+  pub alone : r ≡ false → first_is (is "=") (drop 1 l) ≡ false
+
 -- the step that a token says in the state s: its strength counts outside brackets
 abbrev pub step_with : Ops → Token → OpStep
 step_with s t =
@@ -56,13 +73,15 @@ abbrev pub step_or : OpStep → Option OpState → OpStep
 step_or t None = t
 step_or t (Some r) = record { strength = 0; after = ops_of r }
 
-abbrev pub passed_in : OpState → Bool → Bool → ℕ → Option OpState
-passed_in s operand esc skip =
-    Some (record { opened = s.opened; closed = s.closed; operand = operand; esc = esc; skip = skip })
+-- the state after a byte that is no bracket
+abbrev pub passed : OpState → Bool → Bool → ℕ → OpState
+passed s operand esc skip =
+    record { opened = s.opened; closed = s.closed; operand = operand; esc = esc; skip = skip }
 
-abbrev pub bracket_in : ℕ → ℕ → Bool → Option OpState
-bracket_in opened closed operand =
-    Some (record { opened = opened; closed = closed; operand = operand; esc = false; skip = 0 })
+-- none if a token may start, else the state
+abbrev pub unless : Bool → OpState → Option OpState
+unless true s = None
+unless false s = Some s
 
 unfoldable pub code_or : OpStep → Ops → ℕ → OpStep
 code_or t s c =

@@ -1,7 +1,7 @@
 // top_level_ops: where the binary operators outside every bracket are, byte by byte.
 #![tactic(auto)]
 
-ghost use Rattle.std.specs.Prelude.{◌≡◌, not, ◌&&◌, ◌||◌, ◌<◌, eqb, length, get_or, drop, take};
+ghost use Rattle.std.specs.Prelude.{ℕ, List, true, ◌≡◌, not, ◌&&◌, ◌||◌, ◌<◌, eqb, length, get_or, drop, take};
 ghost use Rattle.rules.specs.Basics.{choose, is, at, first_is};
 ghost use Rattle.rules.specs.Scan.{cell};
 ghost use Rattle.rules.specs.ClassBytes.{class_of};
@@ -9,8 +9,9 @@ ghost use Rattle.rules.specs.Operators.{operators, index_in};
 ghost use Rattle.rules.specs.Strengths.{strengths_in};
 ghost use Rattle.rules.specs.SplitOperation.{Ops, OpStep, ends_operand, atom_char, token, is_sign, one_char_step};
 ghost use Rattle.operators.specs.Places.{place_in};
-ghost use Rattle.top_level_ops.specs.Steps.{ops_of, step_of, AtomLen, AtomAt, sign_step, token_step, step_with};
-ghost use Rattle.top_level_ops.specs.Steps.{step_or, code_or, fresh_or, byte_or, passed_in, bracket_in, FewBrackets};
+ghost use Rattle.top_level_ops.specs.Steps.{ops_of, AtomLen, AtomAt, sign_step, token_step, step_with};
+ghost use Rattle.top_level_ops.specs.Steps.{step_or, code_or, fresh_or, byte_or, passed, unless, found_as, FewBrackets};
+ghost use Rattle.top_level_ops.specs.Steps.{goes_on, LongToken};
 
 use basics::{is_blank, is_closer, is_ident, is_opener, starts_with};
 use operators::{Operator, is_sign};
@@ -27,15 +28,9 @@ pub struct OpState {
     pub skip: usize,
 }
 
-// The strength of the operator that starts at a byte, 0 for none; and the state after the byte.
-#[derive(Clone, Copy)]
-pub struct OpFound {
-    pub strength: u8,
-    pub after: OpState,
-}
-
 // A token of code: its strength if it is an operator, else 0; whether an operand ends with it; and how many more bytes
 // it has.
+// kept: the C interface's table of strengths has 0 for an operator that no line is broken at, as here
 #[derive(Clone, Copy)]
 pub struct Token {
     pub strength: u8,
@@ -128,16 +123,15 @@ fn is_unary(operand: bool, c: u8) -> bool
     !operand && is_sign(c)
 }
 
-fn one_char_step(table: &[u8; Strengths::LENGTH], operand: bool, l: &[u8]) -> Token
-    requires { 0 < length l.now }
-    ensures { (s : Ops) → s.operand ≡ operand → step_with s result ≡ one_char_step (strengths_in table.now) s
-        (get_or l.now 0 0) (drop 1 l.now) }
+// A token of one character or, where it assigns, of two.
+fn one_char_step(table: &[u8; Strengths::LENGTH], operand: bool, c: u8, assigns: bool) -> Token
+    ensures { (s : Ops) (cs : List ℕ) → s.operand ≡ operand → assigns ≡ first_is (is "=") cs
+        → step_with s result ≡ one_char_step (strengths_in table.now) s c cs }
 {
-    let c = l[0];
     let Some(operator) = Operator::of_one(c) else {
         return plain_token(ends_operand(c), 0);
     };
-    if is_assign(l) {
+    if assigns {
         return plain_token(false, 1);
     }
     if is_unary(operand, c) {
@@ -162,7 +156,7 @@ fn sign_step(table: &[u8; Strengths::LENGTH], operand: bool, l: &[u8]) -> Token
         return plain_token(false, 1);
     }
     let Some(operator) = two_at(l) else {
-        return one_char_step(table, operand, l);
+        return one_char_step(table, operand, l[0], is_assign(l));
     };
     if is_shift_assign(l) {
         return plain_token(false, 2);
@@ -174,8 +168,8 @@ fn sign_step(table: &[u8; Strengths::LENGTH], operand: bool, l: &[u8]) -> Token
     }
 }
 
-// The token at the head of l, which is code and neither blank nor a bracket.
-pub fn token_at(table: &[u8; Strengths::LENGTH], operand: bool, l: &[u8]) -> Token
+// A token that may have several characters.
+fn long_token(table: &[u8; Strengths::LENGTH], operand: bool, l: &[u8]) -> Token
     requires { 0 < length l.now }
     ensures { (s : Ops) → s.operand ≡ operand → step_with s result ≡ token_step (strengths_in table.now) s
         l.now }
@@ -188,87 +182,109 @@ pub fn token_at(table: &[u8; Strengths::LENGTH], operand: bool, l: &[u8]) -> Tok
     }
 }
 
-// What a token says of the state: its strength counts outside brackets, at depth exactly 0.
-pub fn found(s: OpState, t: Token) -> OpFound
-    ensures { step_of result ≡ step_with (ops_of s) t }
+// Whether b may stand second in an operator, a `...`, an arrow or an assignment.
+fn goes_on(b: u8) -> bool
+    ensures { result ≡ goes_on b }
 {
-    OpFound {
-        strength: if s.opened == s.closed { t.strength } else { 0 },
-        after: OpState {
-            operand: t.operand,
-            esc: false,
-            skip: t.skip,
-            ..s
-        },
+    matches!(b, b'|' | b'^' | b'&' | b'=' | b'<' | b'>' | b'.' | b'*')
+}
+
+// Whether the token at the head of l may have several bytes: of most that have one this is told at once.
+fn may_be_long(l: &[u8]) -> bool
+    requires { 0 < length l.now }
+    ensures { LongToken l.now result }
+{
+    l[0] == b':' || 1 < l.len() && goes_on(l[1])
+}
+
+// The token at the head of l, which is code and neither blank nor a bracket.
+pub fn token_at(table: &[u8; Strengths::LENGTH], operand: bool, l: &[u8]) -> Token
+    requires { 0 < length l.now }
+    ensures { (s : Ops) → s.operand ≡ operand → step_with s result ≡ token_step (strengths_in table.now) s
+        l.now }
+{
+    if may_be_long(l) {
+        long_token(table, operand, l)
+    } else {
+        one_char_step(table, operand, l[0], false)
     }
 }
 
-// The state after a byte that is no operator and no bracket.
-fn passed(s: OpState, operand: bool, esc: bool, skip: usize) -> Option<OpState>
-    ensures { result ≡ passed_in s operand esc skip }
-{
-    Some(OpState {
-        operand,
-        esc,
-        skip,
-        ..s
-    })
-}
-
-fn bracket(opened: usize, closed: usize, operand: bool) -> Option<OpState>
-    ensures { result ≡ bracket_in opened closed operand }
-{
-    Some(OpState {
-        opened,
-        closed,
-        operand,
-        esc: false,
-        skip: 0,
-    })
-}
-
-fn code_step(s: OpState, c: u8) -> Option<OpState>
-    requires { FewBrackets s }
-    ensures { (t : OpStep) → step_or t result ≡ code_or t (ops_of s) c }
-{
-    if is_blank(c) {
-        passed(s, s.operand, false, 0)
-    } else if is_opener(c) {
-        bracket(s.opened + 1, s.closed, false)
-    } else if is_closer(c) {
-        bracket(s.opened, s.closed + 1, ends_operand(c))
-    } else {
-        None
+impl OpState {
+    // Over a byte that is no operator and no bracket.
+    fn pass(&mut self, operand: bool, esc: bool, skip: usize)
+        ensures { self.new ≡ passed self.old operand esc skip }
+    {
+        self.operand = operand;
+        self.esc = esc;
+        self.skip = skip;
     }
-}
 
-// A string is one operand; an escaped character is passed over.
-fn fresh_step(s: OpState, k: u8, c: u8) -> Option<OpState>
-    requires { FewBrackets s }
-    ensures { (t : OpStep) → step_or t result ≡ fresh_or t (ops_of s) (cell c (class_of k)) }
-{
-    if k == 1 {
-        passed(s, true, s.esc, 0)
-    } else if s.esc {
-        passed(s, s.operand, false, 0)
-    } else if c == b'\\' {
-        passed(s, s.operand, true, 0)
-    } else {
-        code_step(s, c)
+    fn code_step(&mut self, c: u8) -> bool
+        requires { FewBrackets self.old }
+        ensures stepped { (t : OpStep) → step_or t (unless result self.new) ≡ code_or t (ops_of self.old) c }
+        ensures same { result ≡ true → self.new ≡ self.old }
+    {
+        if is_blank(c) {
+            self.pass(self.operand, false, 0);
+        } else if is_opener(c) {
+            self.opened += 1;
+            self.pass(false, false, 0);
+        } else if is_closer(c) {
+            self.closed += 1;
+            self.pass(ends_operand(c), false, 0);
+        } else {
+            return true;
+        }
+        false
     }
-}
 
-// The state after the byte c with the class byte k, or none where a token may start there. A byte that starts no
-// character leaves the state as it is.
-pub fn plain_step(s: OpState, k: u8, c: u8) -> Option<OpState>
-    requires { FewBrackets s }
-    ensures { (t : OpStep) → step_or t result ≡ byte_or t (ops_of s) (cell c (class_of k)) }
-{
-    if utf8::is_tail(c) {
-        Some(s)
-    } else if 0 < s.skip {
-        passed(s, s.operand, false, s.skip - 1)
-    } else {
-        fresh_step(s, k, c)
+    // A string is one operand; an escaped character is passed over.
+    fn fresh_step(&mut self, k: u8, c: u8) -> bool
+        requires { FewBrackets self.old }
+        ensures stepped { (t : OpStep) → step_or t (unless result self.new) ≡ fresh_or t (ops_of self.old)
+            (cell c (class_of k)) }
+        ensures same { result ≡ true → self.new ≡ self.old }
+    {
+        if k == 1 {
+            self.pass(true, self.esc, 0);
+        } else if self.esc {
+            self.pass(self.operand, false, 0);
+        } else if c == b'\\' {
+            self.pass(self.operand, true, 0);
+        } else {
+            return self.code_step(c);
+        }
+        false
+    }
+
+    // Over the byte c with the class byte k, unless a token may start there, which the answer tells. A byte that starts
+    // no character leaves the state as it is.
+    pub fn step(&mut self, k: u8, c: u8) -> bool
+        requires { FewBrackets self.old }
+        ensures stepped { (t : OpStep) → step_or t (unless result self.new) ≡ byte_or t (ops_of self.old)
+            (cell c (class_of k)) }
+        ensures same { result ≡ true → self.new ≡ self.old }
+    {
+        if utf8::is_tail(c) {
+            false
+        } else if 0 < self.skip {
+            self.pass(self.operand, false, self.skip - 1);
+            false
+        } else {
+            self.fresh_step(k, c)
+        }
+    }
+
+    // Over the first byte of a token: its strength, which counts outside brackets, at depth exactly 0.
+    pub fn take(&mut self, t: Token) -> u8
+        ensures { found_as result self.new ≡ step_with (ops_of self.old) t }
+    {
+        self.pass(t.operand, false, t.skip);
+        if self.opened == self.closed {
+            t.strength
+        } else {
+            0
+        }
     }
 }

@@ -1,7 +1,6 @@
 pub mod Tests
 pub mod Table
 pub mod Decode
-pub mod Among
 pub mod Scan
 pub mod Back
 pub mod Cut

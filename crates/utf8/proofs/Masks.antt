@@ -1,6 +1,6 @@
 -- The digits that tell where a byte stands.
 --     weight_same, weight_other                   what `weight` gives
---     masked_start, masked_more, masked_all       the loop of `byte_mask`
+--     masked_more       the loop of `byte_mask`
 --     masked_none, masked_first, masked_same      what stands where a mask has zeros or ones at its end
 use Prim.Native.Nat.{ℕ, zero, suc, ◌+◌, ◌-◌, ◌*◌, ◌/◌, ◌%◌, ◌^◌, ◌<◌, ◌≤◌}
 use native.Mathlib.Omega.{arith}
@@ -93,9 +93,6 @@ module _ (s : List ℕ) (b at : ℕ) where
   abbrev Shown : ℕ → ℕ → ℕ → Type 0
   Shown k m j = digit (16 - k + j) m ≡ bit j
 
-  pub masked_start : Masked s b at 0 0
-  masked_start = record { few = omega arith; small = omega arith; is = λ j l. absurd (omega arith) }
-
   -- the digits of the bytes before, one place lower
   lower : (k m h j : ℕ) → j < k → k < 16 → digit (16 - (k + 1) + j) (h * 2 ^ 15 + m / 2) ≡ digit (16 - k + j) m
   unfolding digit
@@ -125,9 +122,6 @@ module _ (s : List ℕ) (b at : ℕ) where
       by_test (eqb (get_or s (at + k) 0) b)
       (λ t. let q : w ≡ 1 * 32768 = e ∙ ap (λ (x : Bool). cond x 32768 0) t in rw q (set_more_law k m 1 p l (omega arith) (sym (ap (λ (x : Bool). cond x 1 0) t))))
       (λ t. let q : w ≡ 0 * 32768 = e ∙ ap (λ (x : Bool). cond x 32768 0) t in rw q (set_more_law k m 0 p l (omega arith) (sym (ap (λ (x : Bool). cond x 1 0) t))))
-
-  pub masked_all : (k m : ℕ) → Masked s b at k m → 16 ≤ k → Masked s b at 16 m
-  masked_all k m p l = let e : k ≡ 16 = omega (arith, p.few) in subst (λ (x : ℕ). Masked s b at x m) e p
 
   module _ (m : ℕ) (p : Masked s b at 16 m) where
     shown : (j : ℕ) → j < 16 → digit j m ≡ bit j

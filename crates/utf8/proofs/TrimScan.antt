@@ -1,6 +1,6 @@
 -- The scans for the two ends of a trimmed text.
 --     low_white                                      White_Space, up to U+1680
---     white_ascii, other_ascii, white_more, other_more  the white space at a place
+--     white_ascii, other_ascii                         the white space at a place
 --     before_ascii, before_ascii_other, before_more, before_other  the same before a place
 --     start_begin, start_turn, start_found, start_end   the scan from the start
 --     end_begin, end_turn, end_found, end_all           the scan from the end
@@ -45,12 +45,6 @@ module _ (s : List ℕ) (i : ℕ) (h : i < length s) where
 
   pub other_ascii : (w : Bool) → get_or s i 0 < 0x80 → w ≡ is_white (get_or s i 0) → w ≡ false → WhiteAt s i None
   other_ascii w b v y = record { is = ap is_white (ascii s i b).1 ∙ sym v ∙ y; step = λ n p. absurd cc }
-
-  pub white_more : (n c : ℕ) (w : Bool) → c ≡ code_at (drop i s) → w ≡ is_white c → w ≡ true → Step s i n → WhiteAt s i (Some n)
-  white_more n c w k v y t = record { is = ap is_white (sym k) ∙ sym v ∙ y; step = λ m p. let e : n ≡ m = cc in subst (Step s i) e t }
-
-  pub other_more : (c : ℕ) (w : Bool) → c ≡ code_at (drop i s) → w ≡ is_white c → w ≡ false → WhiteAt s i None
-  other_more c w k v y = record { is = ap is_white (sym k) ∙ sym v ∙ y; step = λ n p. absurd cc }
 
 module _ (s : List ℕ) (e n : ℕ) (t : Back s e n) where
   back_white : is_white (code_at (drop (e - n) s)) ≡ true → WhiteBefore s e (Some n)

@@ -280,15 +280,27 @@ pub fn is_white(c: u32) -> bool
 }
 
 // How many bytes the character at i takes, if it is white space.
+fn wide_white_at(s: &[u8], i: usize) -> Option<usize>
+    requires { (i < length s.now) × WellFormed (drop i s.now) }
+    ensures { WhiteAt s.now i result }
+{
+    if is_white(code_at(s, i)) {
+        Some(size_at(s, i))
+    } else {
+        None
+    }
+}
+
+// The same. One of a byte is told here, so that a caller's loop takes this in.
 pub fn white_at(s: &[u8], i: usize) -> Option<usize>
     requires { (i < length s.now) × WellFormed (drop i s.now) }
     ensures { WhiteAt s.now i result }
 {
     let b = s[i];
-    if b < 0x80 {
-        if is_white(b as u32) { Some(1) } else { None }
-    } else if is_white(code_at(s, i)) {
-        Some(size_at(s, i))
+    if 0x80 <= b {
+        wide_white_at(s, i)
+    } else if is_white(b as u32) {
+        Some(1)
     } else {
         None
     }

@@ -1,7 +1,6 @@
 -- What a setting call comes to.
 use Rattle.std.proofs.Common.{ℕ, Bool, true, false, ◌≤◌, ◌≡◌, List, length, refl, ap, ◌∙◌, not, ◌&&◌, Option, Some, None, is_some, unwrap_or, ok_or, Result, Ok, Err}
 use borrow.Author.Tests.{le-ltb}
-use mir.Val.{bool_byte}
 use Rattle.buffer.specs.Buffer.{over, Wrote, Finishes}
 use Rattle.buffer.proofs.OverLaws.{length_over}
 use Rattle.buffer.proofs.AgreeLaws.{agree_over, agree_text}
@@ -13,23 +12,17 @@ use Rattle.rules.specs.Choices.{Choices, print_width_named, end_of_line_named, f
 use Rattle.rules.specs.Call.{filled}
 use Rattle.rules.specs.declared.LineEnding.{LineEnding}
 use Rattle.rules.specs.declared.FinalNewline.{FinalNewline}
+use Rattle.rules.specs.declared.OptionNumbers.{OptionNumbers}
 use Rattle.rules.specs.declared.Refusal.{Refusal}
 use Rattle.options.specs.Held.{held, held_change, held_named}
+use Rattle.options.specs.Numbers.{width_set_number, width_number, line_ending_number, final_newline_number, numbers_in}
 use Rattle.options.specs.declared.FormatOptions.{FormatOptions}
 use Rattle.wirescript.specs.Config.{valid_config, resolved_of}
 use Rattle.wirescript.specs.Settings.{SettingOutcome, given_in, step_outcome, tabs_named, indent_outcome, config_outcome, handed, indent_made, config_made}
-use Rattle.wirescript.specs.Settings.{width_set_number, width_number, line_ending_number, final_newline_number, settings_answer, indent_written}
+use Rattle.wirescript.specs.Settings.{settings_answer, indent_written}
 use Rattle.wirescript.specs.SettingsAnswered.{SettingsAnswered}
 use Rattle.wirescript.specs.declared.config.ConfigNumbers.{ConfigNumbers}
 use Rattle.wirescript.specs.declared.settings.Settings.{Settings}
-
-set_number : (w : PrintWidth) → bool_byte (is_some w) ≡ width_set_number w
-set_number None = refl
-set_number (Some n) = refl
-
-number_or : (w : PrintWidth) → unwrap_or w 0 ≡ width_number w
-number_or None = refl
-number_or (Some n) = refl
 
 -- a text over the front of a buffer, then zeros
 filled_from : (x t y x' : List ℕ) (n : ℕ) → length t ≤ length x → n ≡ length t → y ≡ over x t → Finishes y x' n → x' ≡ filled (length x) t
@@ -38,26 +31,23 @@ filled_from x t y x' n h k e f =
     f.is ∙ rw (k, e, length_over x t, agree_text (over x t) t (rw length_over h) (agree_over x t))
 
 -- what the options come to in an output that has room for their indent t
-pub given_made : (o : Options) (t x y x' : List ℕ) (n width ending newline : ℕ) → t ≡ o.indent → length t ≤ length x → Wrote x y t n → Finishes y x' (length t)
-    → width ≡ unwrap_or o.print_width 0 → ending ≡ line_ending_number o.end_of_line → newline ≡ final_newline_number o.insert_final_newline
+pub given_made : (o : Options) (t x y x' : List ℕ) (n : ℕ) (m : OptionNumbers) → t ≡ o.indent → length t ≤ length x → Wrote x y t n → Finishes y x' (length t)
+    → m ≡ numbers_in o
     → SettingsAnswered (given_in o)
     (record {
       refusal = 0;
       place = 0;
       indent_len = length t;
-      width_set = bool_byte (is_some o.print_width);
-      width = width;
-      line_ending = ending;
-      final_newline = newline;
+      width_set = m.width_set;
+      width = m.width;
+      line_ending = m.line_ending;
+      final_newline = m.final_newline;
     })
     x
     x'
-given_made o t x y x' n width ending newline e h p f e₁ e₂ e₃ =
+given_made o t x y x' n m e h p f k =
     let room : given_in o (length x) ≡ Ok o = rw (← e, le-ltb (length x) (length t) h) in
-    record {
-      answer = rw (room, e, e₁, e₂, e₃, set_number o.print_width, number_or o.print_width);
-      output = filled_from x t y x' (length t) h refl p.is f ∙ rw (room, e);
-    }
+    record { answer = rw (room, e, k); output = filled_from x t y x' (length t) h refl p.is f ∙ rw (room, e) }
 
 -- ---- the steps over numbers
 

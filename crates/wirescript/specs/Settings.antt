@@ -1,14 +1,13 @@
 -- A setting step over numbers and bytes: what a call comes to, its answer, and what it writes.
 use Rattle.std.specs.Prelude.{ℕ, zero, suc, Bool, true, false, not, ◌&&◌, List, length, replicate, Option, Some, None, is_some, unwrap_or, ok_or, Result, Ok, Err}
-use Rattle.rules.specs.Options.{Options, SettingStep, indent_with, PrintWidth, EndOfLine}
+use Rattle.rules.specs.Options.{Options, SettingStep, indent_with}
 use Rattle.rules.specs.EditorConfig.{with_editor_config}
 use Rattle.rules.specs.Refusals.{number_of, place_of, and_then, bad_option, short_output}
 use Rattle.rules.specs.Choices.{Choices, valid_options, options_of}
 use Rattle.rules.specs.Call.{filled}
-use Rattle.rules.specs.declared.LineEnding.{LineEnding}
-use Rattle.rules.specs.declared.FinalNewline.{FinalNewline}
 use Rattle.rules.specs.declared.Refusal.{Refusal}
 use Rattle.options.specs.Held.{options_in, held_named, held_change}
+use Rattle.options.specs.Numbers.{width_set_number, width_number, line_ending_number, final_newline_number}
 use Rattle.options.specs.declared.FormatOptions.{FormatOptions}
 use Rattle.wirescript.specs.Config.{valid_config, resolved_of, config_named}
 use Rattle.wirescript.specs.declared.config.ConfigNumbers.{ConfigNumbers}
@@ -56,26 +55,6 @@ config_made c v =
 -- what these come to
 abbrev pub handed : Result FormatOptions Refusal → ℕ → SettingOutcome
 handed s room = and_then s (λ o. given_in (options_in o) room)
-
--- ---- the numbers of the options, as a call gives them; the width is 0 where there is none
-
-abbrev pub width_set_number : PrintWidth → ℕ
-width_set_number None = 0
-width_set_number (Some n) = 1
-
-abbrev pub width_number : PrintWidth → ℕ
-width_number None = 0
-width_number (Some n) = n
-
-abbrev pub line_ending_number : EndOfLine → ℕ
-line_ending_number None = 0
-line_ending_number (Some LineEnding.Lf) = 1
-line_ending_number (Some LineEnding.Crlf) = 2
-
-abbrev pub final_newline_number : FinalNewline → ℕ
-final_newline_number FinalNewline.AsSource = 0
-final_newline_number FinalNewline.Always = 1
-final_newline_number FinalNewline.Never = 2
 
 -- ---- what a call leaves
 

@@ -3,6 +3,7 @@ ghost use Rattle.std.specs.Prelude.{length};
 ghost use Rattle.call.specs.Ran.{numbers_of};
 ghost use Rattle.check_call.specs.CheckAnswered.{choices_of, CheckAnswered};
 
+use call::Request;
 use check_call::CheckAnswer;
 use rules::OptionNumbers;
 
@@ -31,5 +32,11 @@ pub extern "C" fn wirescript_is_formatted(
         final_newline,
         ruler_tab,
     };
-    check_call::check_call(source, indent, numbers, strengths, scratch)
+    let request = Request {
+        source,
+        indent,
+        numbers,
+        strengths,
+    };
+    check_call::check_call(request, scratch)
 }

@@ -21,7 +21,8 @@ pub extern "C" fn wirescript_read_editorconfig(
         ∷ text_3.now ∷ text_4.now ∷ text_5.now ∷ text_6.now
         ∷ text_7.now ∷ text_8.now ∷ []) result }
 {
-    let near = config_read::read_near(path, text_1, text_2, text_3, text_4);
-    let far = config_read::read_far(path, near, text_5, text_6, text_7, text_8);
-    config_read::read(path, near, far, text_1, text_2, text_3, text_4).into()
+    let texts = [
+        text_1, text_2, text_3, text_4, text_5, text_6, text_7, text_8,
+    ];
+    config_read::read(path, &texts).into()
 }

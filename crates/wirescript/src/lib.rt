@@ -7,7 +7,6 @@ pub mod editorconfig;
 pub mod grouping;
 pub mod interface;
 pub mod kinds;
-mod number;
 pub mod settings;
 pub mod with_caret;
 pub mod with_changes;
@@ -17,6 +16,7 @@ ghost use Rattle.call.specs.Ran.{call_of, numbers_of};
 ghost use Rattle.call.specs.FormatAnswered.{FormatAnswered};
 ghost use Rattle.text_kind.specs.KindAnswered.{KindAnswered};
 
+use call::Request;
 use rules::{Answer, Kind, OptionNumbers};
 use utf8::CharColumn;
 
@@ -65,5 +65,11 @@ pub extern "C" fn wirescript_format(
         final_newline,
         ruler_tab,
     };
-    call::format_call(source, indent, numbers, strengths, output, opened, scratch)
+    let request = Request {
+        source,
+        indent,
+        numbers,
+        strengths,
+    };
+    call::format_call(request, output, opened, scratch)
 }

@@ -4,11 +4,12 @@ ghost use Rattle.std.specs.Prelude.{◌≡◌};
 ghost use Rattle.rules.specs.Strengths.{built_in};
 ghost use Rattle.call.specs.Ran.{numbers_of};
 ghost use Rattle.options.specs.Held.{options_in};
-ghost use Rattle.wirescript.specs.Settings.{given_in, handed, tabs_named, indent_made, config_made, indent_outcome, config_outcome};
+ghost use Rattle.wirescript.specs.Settings.{given_in, handed, tabs_named, indent_made, config_made};
+ghost use Rattle.wirescript.specs.Settings.{indent_outcome, config_outcome};
 ghost use Rattle.wirescript.specs.SettingsAnswered.{SettingsAnswered};
 
+use crate::config;
 use crate::config::ConfigNumbers;
-use crate::{config, number};
 use options::FormatOptions;
 use rules::{OptionNumbers, Refusal, Strengths};
 
@@ -52,14 +53,15 @@ fn give(options: FormatOptions, output: &mut [u8]) -> Settings
     }
     buffer::put_line(output, indent);
     buffer::finish(output, n);
+    let numbers = OptionNumbers::from(options);
     Settings {
         refusal: 0,
         place: 0,
         indent_len: n as u64,
-        width_set: options.print_width.is_some() as u64,
-        width: options.print_width.unwrap_or(0) as u64,
-        line_ending: number::line_ending(options.end_of_line),
-        final_newline: number::final_newline(options.insert_final_newline),
+        width_set: numbers.width_set,
+        width: numbers.width,
+        line_ending: numbers.line_ending,
+        final_newline: numbers.final_newline,
     }
 }
 

@@ -3,6 +3,7 @@ ghost use Rattle.std.specs.Prelude.{length};
 ghost use Rattle.call.specs.Ran.{call_of, numbers_of};
 ghost use Rattle.edits.specs.CaretAnswered.{CaretAnswered};
 
+use call::Request;
 use edits::with_caret::{Caret, CaretAnswer};
 use rules::OptionNumbers;
 
@@ -35,6 +36,12 @@ pub extern "C" fn wirescript_format_caret(
         final_newline,
         ruler_tab,
     };
+    let request = Request {
+        source,
+        indent,
+        numbers,
+        strengths,
+    };
     let at = Caret { line, column };
-    edits::with_caret::format_caret(source, indent, numbers, strengths, at, output, scratch)
+    edits::with_caret::format_caret(request, at, output, scratch)
 }

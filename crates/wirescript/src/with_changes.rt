@@ -3,6 +3,7 @@ ghost use Rattle.std.specs.Prelude.{length};
 ghost use Rattle.call.specs.Ran.{call_of, numbers_of};
 ghost use Rattle.edits.specs.ChangesAnswered.{ChangesAnswered};
 
+use call::Request;
 use edits::with_changes::ChangesAnswer;
 use rules::OptionNumbers;
 
@@ -34,7 +35,11 @@ pub extern "C" fn wirescript_format_changes(
         final_newline,
         ruler_tab,
     };
-    edits::with_changes::format_changes(
-        source, indent, numbers, strengths, output, changes, scratch,
-    )
+    let request = Request {
+        source,
+        indent,
+        numbers,
+        strengths,
+    };
+    edits::with_changes::format_changes(request, output, changes, scratch)
 }

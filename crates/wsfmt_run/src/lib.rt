@@ -6,6 +6,7 @@ ghost use Rattle.buffer.specs.Buffer.{Wrote};
 ghost use Rattle.wsfmt_run.specs.Program.{max_input, refusal, Printed};
 ghost use Rattle.wsfmt_run.specs.Steps.{Called};
 
+use call::Request;
 use rules::{Formatted, OptionNumbers, Refusal, Strengths};
 
 // The bytes that the program takes, and those that it has for the text.
@@ -30,18 +31,14 @@ fn format_default(source: &[u8], output: &mut [u8; MAX_TEXT]) -> Result<Formatte
     ensures { Called source.now output.new (length output.old) result }
 {
     let mut scratch = [0u8; call::FORMAT_SCRATCH * MAX_INPUT + 256];
-    let mut opened = [0u64; 0];
     let strengths = Strengths::BUILT_IN;
-    let table = strengths.table;
-    call::format(
+    let request = Request {
         source,
-        b"  ",
-        OptionNumbers::DEFAULTS,
-        &table,
-        output,
-        &mut opened,
-        &mut scratch,
-    )
+        indent: b"  ",
+        numbers: OptionNumbers::DEFAULTS,
+        strengths: &strengths.table,
+    };
+    call::format(request, output, &mut [], &mut scratch)
 }
 
 // Writes the text of the source, or its refusal, over the front of output and zeros after it, and gives its length.

@@ -1,4 +1,4 @@
--- `first_short` meets its contract: the invariant is `Halves`, whose laws are in proofs/StackLaws.antt.
+-- `first_short` meets its contract: the invariant is `Halves`, and its laws are in proofs/StackLaws.antt.
 use Rattle.brackets.proofs.StackLaws.{Halves}
 use Rattle.brackets.proofs.first_short.Given as goal
 

@@ -1,5 +1,6 @@
 use native.Mathlib.Omega.{arith}
-use Rattle.brackets.proofs.StackLaws.{scan_fits, scan_done, front_part, front_long}
+use Rattle.basics.proofs.SplitLaws.{front_part, front_long}
+use Rattle.brackets.proofs.StackLaws.{scan_fits, scan_done}
 use Rattle.brackets.proofs.scan_brackets_at.Goals as goal
 
 pub scan-requires : goal.scan-requires

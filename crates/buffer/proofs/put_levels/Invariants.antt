@@ -3,4 +3,4 @@ use Rattle.buffer.proofs.LoopLaws.{Indenting}
 use Rattle.buffer.proofs.put_levels.Given as goal
 
 abbrev pub invariant-loop : goal.invariant-loop
-invariant-loop l = Indenting l.initial.out l.indent l.levels l.out l.counter l.at
+invariant-loop l = Indenting l.initial.out l.pad.indent.now l.pad.levels l.out l.counter l.at

@@ -1,6 +1,5 @@
--- `differ_among` meets its contract: the invariant is `SameBytes`, whose laws are in proofs/PassLaws.antt.
-use Rattle.changes.specs.Passing.{SameBytes}
+use Rattle.changes.specs.Passing.{differ_at}
 use Rattle.changes.proofs.differ_among.Given as goal
 
-abbrev pub invariant-loop-k : goal.invariant-loop-k
-invariant-loop-k l = SameBytes l.source l.i l.text l.j l.k l.any
+abbrev pub ghost-any_among : goal.ghost-any_among
+ghost-any_among a = differ_at a.test.now.0.now a.test.now.1.now

@@ -1,25 +1,13 @@
 use borrow.Author.Rules.{rules}
-use Rattle.changes.proofs.WalkLaws.{walk_source, walk_text, walk_text_fits, walk_source_on, walk_text_on}
-use Rattle.changes.proofs.WalkLaws.{walk_begin, walk_pair, walk_turn, walk_end}
+use Rattle.changes.proofs.WalkLaws.{walk_text_fits, walk_text_on}
+use Rattle.changes.proofs.WalkLaws.{walk_begin, walk_turn, walk_end}
 use Rattle.changes.proofs.write_changes.Goals as goal
-
-pub gap_end-a-requires : goal.gap_end-a-requires
-gap_end-a-requires c = search (rules, walk_source)
-
-pub gap_end-b-requires : goal.gap_end-b-requires
-gap_end-b-requires c = search (rules, walk_text)
 
 pub loop-a-init : goal.loop-a-init
 loop-a-init c = search (rules, walk_begin)
 
-pub note_gap-n-requires : goal.note_gap-n-requires
-note_gap-n-requires c = search (rules, walk_pair)
-
 pub same_run-k-requires : goal.same_run-k-requires
 same_run-k-requires c = search (rules, walk_text_fits)
-
-pub gap_end-a-requires-in-loop-a : goal.gap_end-a-requires-in-loop-a
-gap_end-a-requires-in-loop-a c = search (rules, walk_source_on)
 
 pub gap_end-b-requires-in-loop-a : goal.gap_end-b-requires-in-loop-a
 gap_end-b-requires-in-loop-a c = search (rules, walk_text_on)

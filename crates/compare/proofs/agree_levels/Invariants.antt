@@ -4,4 +4,4 @@ use Rattle.compare.proofs.WriterLaws.{Leveling}
 use Rattle.compare.proofs.agree_levels.Given as goal
 
 abbrev pub invariant-loop : goal.invariant-loop
-invariant-loop l = Leveling l.model l.indent l.levels l.at l.counter
+invariant-loop l = Leveling l.model l.pad.indent.now l.pad.levels l.at l.counter

@@ -1,5 +1,5 @@
-use Rattle.compare.proofs.WriterLaws.{parts_written}
 use borrow.Author.Rules.{rules}
+use Rattle.compare.proofs.WriterLaws.{parts_written}
 use Rattle.compare.proofs.write_parts.Goals as goal
 
 pub returns : goal.returns

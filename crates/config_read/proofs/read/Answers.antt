@@ -1,25 +1,16 @@
-use native.Mathlib.Omega.{arith}
-use Rattle.config_read.proofs.RefusalLaws.{handed_refusal, all_refused, all_near, all_accept, all_top, all_outward, all_given}
+use mathlib.Core.Path.{ap, sym, ◌∙◌}
+use Rattle.config_read.specs.Refusals.{rank_number}
+use Rattle.config_read.proofs.RefusalLaws.{read_refused, path_fine, texts_fine, read_values}
 use Rattle.config_read.proofs.read.Goals as goal
 
-pub returns-in_err-values : goal.returns-in_err-values
-returns-in_err-values c =
-    rw (handed_refusal c.from_residual.result _ c.from_residual.ensures) (all_refused _ _ _ _ _ _ _ c.requires _ c.in_err-values.was)
+pub returns-in-Some : goal.returns-in-Some
+returns-in-Some c = read_refused _ _ _ (sym (ap rank_number c.in-Some.is) ∙ c.worst_of.ensures)
 
-pub returns-in_err-near : goal.returns-in_err-near
-returns-in_err-near c =
-    rw (handed_refusal c.from_residual-in_err-near.result _ c.from_residual-in_err-near.ensures)
-    (all_near _ _ _ _ _ _ _ c.requires _ c.in_ok-values.was _ c.in_err-near.was)
+pub unslashed-p-requires : goal.unslashed-p-requires
+unslashed-p-requires c = path_fine _ _ (sym (ap rank_number c.in_default.is) ∙ c.worst_of.ensures)
 
-pub slice_bounds-inward-count : goal.slice_bounds-inward-count
-slice_bounds-inward-count c = omega (arith, (all_top _ _ _ _ _ _ c.requires _ c.in_ok-near.was).fits)
-
-pub slice_bounds-inward-start : goal.slice_bounds-inward-start
-slice_bounds-inward-start c = omega (arith, (all_top _ _ _ _ _ _ c.requires _ c.in_ok-near.was).fits)
-
-pub inward-requires : goal.inward-requires
-inward-requires c =
-    record { outward = all_outward _ _ _ _ _ _ c.requires _ c.in_ok-near.was; all_accepted = all_accept _ _ _ _ _ _ c.requires _ c.in_ok-near.was }
+pub resolved-requires : goal.resolved-requires
+resolved-requires c = (c.unslashed-p.ensures.well, c.nearest.ensures.at, texts_fine _ _ (sym (ap rank_number c.in_default.is) ∙ c.worst_of.ensures))
 
 pub returns : goal.returns
-returns c = all_given _ _ _ _ _ _ _ c.requires _ c.in_ok-values.was _ c.in_ok-near.was _ c.inward.ensures
+returns c = read_values _ _ (sym (ap rank_number c.in_default.is) ∙ c.worst_of.ensures) _ _ _ c.unslashed-p.ensures c.nearest.ensures c.resolved.ensures

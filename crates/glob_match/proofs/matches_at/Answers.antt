@@ -1,10 +1,9 @@
 use borrow.Author.Rules.{rules}
-use native.Mathlib.Omega.{arith}
 use Rattle.glob_match.proofs.PathLaws.{reading_start, reading_more, reading_levels, reading_whole}
 use Rattle.glob_match.proofs.matches_at.Goals as goal
 
 pub loop-e-init : goal.loop-e-init
-loop-e-init c = reading_start _ _ _ 1026 1026 _ c.requires.3 c.requires.0 (omega arith) (omega arith) c.pass.ensures
+loop-e-init c = reading_start _ _ _ _ 1026 _ c.requires.3 c.requires.0 c.empty-state.ensures c.pass.ensures
 
 pub loop-e-preserved : goal.loop-e-preserved
 loop-e-preserved c = search (rules, reading_more)

@@ -4,8 +4,8 @@ use Rattle.group_close.specs.Forth.{close_until}
 use Rattle.group_close.proofs.ForthLaws.{Closing}
 use Rattle.group_close.proofs.close_until.Given as goal
 
-abbrev pub invariant-loop-k : goal.invariant-loop-k
-invariant-loop-k g l = Closing l.scratch l.initial.out l.out l.len l.top l.n l.k (close_until g.meets)
+abbrev pub invariant-loop-o : goal.invariant-loop-o
+invariant-loop-o g l = Closing l.scratch l.initial.out l.out l.fn.spot l.o (close_until g.meets)
 
-abbrev pub decreases-loop-k : goal.decreases-loop-k
-decreases-loop-k g l = l.k
+abbrev pub decreases-loop-o : goal.decreases-loop-o
+decreases-loop-o g l = l.o.top

@@ -7,7 +7,7 @@ abbrev pub decreases-open_back : goal.decreases-open_back
 decreases-open_back l = l.from.left
 
 abbrev pub invariant-loop-s : goal.invariant-loop-s
-invariant-loop-s l = Backing l.initial.scratch l.scratch l.n l.initial.s.left l.s.left l.s.at l.s.top
+invariant-loop-s l = Backing l.initial.scratch l.scratch l.n l.fn.from.left l.s
 
 abbrev pub decreases-loop-s : goal.decreases-loop-s
 decreases-loop-s l = l.s.left

@@ -3,8 +3,8 @@
 use Rattle.group_open.proofs.BackLaws.{Opening}
 use Rattle.group_open.proofs.open_after.Given as goal
 
-abbrev pub invariant-loop-k : goal.invariant-loop-k
-invariant-loop-k l = Opening l.initial.scratch l.scratch l.n l.s l.at l.top l.p l.k
+abbrev pub invariant-loop-o : goal.invariant-loop-o
+invariant-loop-o l = Opening l.initial.scratch l.scratch l.n l.s l.fn.spot l.o
 
-abbrev pub decreases-loop-k : goal.decreases-loop-k
-decreases-loop-k l = l.k
+abbrev pub decreases-loop-o : goal.decreases-loop-o
+decreases-loop-o l = l.o.top

@@ -1,5 +1,5 @@
 use borrow.Author.Rules.{rules}
-use Rattle.group_read.proofs.ReadLaws.{name_goes, name_word, name_ends, byte_room}
+use Rattle.group_read.proofs.ReadLaws.{name_goes, name_word, name_ends}
 use Rattle.group_read.proofs.name_byte.Goals as goal
 
 pub returns-then-is_ident : goal.returns-then-is_ident
@@ -7,9 +7,6 @@ returns-then-is_ident c = search (rules, name_goes)
 
 pub returns-then-is_keyword : goal.returns-then-is_keyword
 returns-then-is_keyword c = search (rules, name_word)
-
-pub after_byte-requires : goal.after_byte-requires
-after_byte-requires c = search (rules, byte_room)
 
 pub returns : goal.returns
 returns c = search (rules, name_ends)

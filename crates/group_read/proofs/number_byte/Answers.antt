@@ -1,12 +1,9 @@
 use borrow.Author.Rules.{rules}
-use Rattle.group_read.proofs.ReadLaws.{number_goes, number_ends, byte_room}
+use Rattle.group_read.proofs.ReadLaws.{number_goes, number_ends}
 use Rattle.group_read.proofs.number_byte.Goals as goal
 
 pub returns-then-is_digit : goal.returns-then-is_digit
 returns-then-is_digit c = search (rules, number_goes)
-
-pub after_byte-requires : goal.after_byte-requires
-after_byte-requires c = search (rules, byte_room)
 
 pub returns : goal.returns
 returns c = search (rules, number_ends)

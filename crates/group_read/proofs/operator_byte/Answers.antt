@@ -1,5 +1,5 @@
 use mathlib.Core.Path.{refl}
-use Rattle.group_read.proofs.OperatorLaws.{strength_small, operator_two_law, operator_none, operator_one_law, operator_room}
+use Rattle.group_read.proofs.OperatorLaws.{strength_small, operator_two_law, operator_none, operator_one_law}
 use borrow.Author.Rules.{rules}
 use Rattle.group_read.proofs.operator_byte.Goals as goal
 
@@ -14,9 +14,6 @@ returns-in_default-of_one c = operator_none _ _ c.requires c.in_default.ensures 
 
 pub put_one-p-requires : goal.put_one-p-requires
 put_one-p-requires c = (strength_small _ _ (c.in-Some-of_one.ensures.some _ refl).0, search rules)
-
-pub due_byte-requires : goal.due_byte-requires
-due_byte-requires c = operator_room _ _ c.requires c.in_default.ensures _ _ c.put_one-p.ensures
 
 pub returns : goal.returns
 returns c =

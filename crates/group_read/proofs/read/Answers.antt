@@ -1,12 +1,9 @@
 use borrow.Author.Rules.{rules}
-use Rattle.group_read.proofs.LoopLaws.{reads_start, reads_room, reads_next, reads_refused, reads_end}
+use Rattle.group_read.proofs.LoopLaws.{reads_start, reads_next, reads_refused, reads_end}
 use Rattle.group_read.proofs.read.Goals as goal
 
 pub loop-i-init : goal.loop-i-init
 loop-i-init c = search (rules, reads_start)
-
-pub read_byte-requires : goal.read_byte-requires
-read_byte-requires c = search (rules, reads_room)
 
 pub returns-in-Err : goal.returns-in-Err
 returns-in-Err c = search (rules, reads_refused)

@@ -8,6 +8,7 @@ push_one-requires c = record { valid_indent = search rules; level_le_max_source 
 
 pub break_line-requires : goal.break_line-requires
 break_line-requires c =
+    rw c.layout-s.ensures
     record { valid_indent = c.requires.valid_indent; level_le_max_source = c.requires.level_le_max_source; goes_on = c.requires.goes_on; ordered = c.requires.ordered; line_value = (is_broken_law _ _ _ _ (sym c.fit_of.ensures ∙ c.in-Some.is)).1.1 }
 
 pub returns-in-None : goal.returns-in-None
@@ -17,4 +18,5 @@ returns-in-None c =
 
 pub returns-in-Some : goal.returns-in-Some
 returns-in-Some c =
-    fit_broken _ _ _ _ _ _ _ _ _ _ _ _ _ _ _ c.requires.goes_on (sym c.fit_of.ensures ∙ c.in-Some.is) c.break_line.ensures
+    let broken = rw c.layout-s.ensures at c.break_line.ensures in
+    fit_broken _ _ _ _ _ _ _ _ _ _ _ _ _ _ _ c.requires.goes_on (sym c.fit_of.ensures ∙ c.in-Some.is) broken

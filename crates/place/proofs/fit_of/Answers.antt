@@ -10,6 +10,7 @@ is_short-requires c =
 
 pub over_wide-requires : goal.over_wide-requires
 over_wide-requires c =
+    rw c.layout.ensures
     record { indent = record { blank = c.requires.valid_indent.blank; short = c.requires.valid_indent.short; flat = omega (arith, c.requires.level_le_max_source) }; well_formed = (c.requires.goes_on.well, omega (arith, c.requires.goes_on.short)) }
 
 pub returns-in_err-max : goal.returns-in_err-max
@@ -21,14 +22,16 @@ returns-then-is_short c =
 
 pub returns-then-all_code_or_str : goal.returns-then-all_code_or_str
 returns-then-all_code_or_str c =
-    fit_wide _ _ _ _ (c.in_ok-max.was) (sym c.over_wide.ensures.is ∙ c.if-over_wide.true)
+    let wide = rw c.layout.ensures at c.over_wide.ensures in
+    fit_wide _ _ _ _ (c.in_ok-max.was) (sym wide.is ∙ c.if-over_wide.true)
     (sym (code_bytes _ _ _ c.requires.goes_on c.all_code_or_str.ensures) ∙ c.if-all_code_or_str.true)
 
 pub returns-else-over_wide : goal.returns-else-over_wide
 returns-else-over_wide c =
+    let wide = rw c.layout.ensures at c.over_wide.ensures in
     elim c.else-over_wide.branch [
       | else-over_wide-via-then-over_wide+else-all_code_or_str w ↦
           fit_mixed _ _ _ _ (c.in_ok-max.was)
           (sym (code_bytes _ _ _ c.requires.goes_on w.all_code_or_str.ensures) ∙ w.if-all_code_or_str.false)
-      | else-over_wide-via-else-over_wide w ↦ fit_narrow _ _ _ _ (c.in_ok-max.was) (sym c.over_wide.ensures.is ∙ w.if-over_wide.false)
+      | else-over_wide-via-else-over_wide w ↦ fit_narrow _ _ _ _ (c.in_ok-max.was) (sym wide.is ∙ w.if-over_wide.false)
     ]

@@ -1,6 +1,5 @@
 -- `past_zeros` meets its contract: the invariant is `Zeros`, only zeros stand from `from` up to i; its laws are in
 -- proofs/EndLaws.antt.
-use Prim.Native.Nat.{◌-◌}
 use Rattle.ranges.proofs.EndLaws.{Zeros}
 use Rattle.ranges.proofs.past_zeros.Given as goal
 

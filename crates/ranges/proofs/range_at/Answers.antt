@@ -1,15 +1,20 @@
-use borrow.Author.Rules.{rules}
-use Rattle.ranges.proofs.EndLaws.{first_some, second_inside, second_some, range_is}
+use Rattle.std.proofs.lemmas.Option.{MatchOption-at_some}
+use Rattle.glob_name.specs.Read.{NumberAt}
+use Rattle.ranges.proofs.EndLaws.{first_here, second_here, second_inside, range_is}
 use Rattle.ranges.proofs.range_at.Goals as goal
 
-pub end_at-first-requires : goal.end_at-first-requires
-end_at-first-requires c = let t = first_some _ _ _ c.requires.0 c.number_len-m.ensures in (t.0, t.1, t.2, c.requires.2)
+pub unwrap-m-requires : goal.unwrap-m-requires
+unwrap-m-requires c = first_here _ _ c.requires.0 _ c.number_len.ensures
 
-pub number_len-n-requires : goal.number_len-n-requires
-number_len-n-requires c = second_inside _ _ _ c.requires.0 c.number_len-m.ensures
+pub number_len-requires-2 : goal.number_len-requires-2
+number_len-requires-2 c =
+    second_inside _ _ _ c.requires.0 (MatchOption-at_some _ (NumberAt _ _) _ c.unwrap-m.ensures c.number_len.ensures)
 
-pub end_at-second-requires : goal.end_at-second-requires
-end_at-second-requires c = let t = second_some _ _ _ _ c.requires.0 c.number_len-m.ensures c.number_len-n.ensures in (t.0, t.1, t.2, c.requires.2)
+pub unwrap-n-requires : goal.unwrap-n-requires
+unwrap-n-requires c =
+    second_here _ _ _ c.requires.0 (MatchOption-at_some _ (NumberAt _ _) _ c.unwrap-m.ensures c.number_len.ensures) _ c.number_len-2.ensures
 
 pub returns : goal.returns
-returns c = search (rules, range_is)
+returns c =
+    range_is _ _ _ _ _ _ c.requires.0 (MatchOption-at_some _ (NumberAt _ _) _ c.unwrap-m.ensures c.number_len.ensures) c.end_at-first.ensures
+    (MatchOption-at_some _ (NumberAt _ _) _ c.unwrap-n.ensures c.number_len-2.ensures) c.end_at-second.ensures _ (rw (c.max-2.ensures, c.max.ensures))

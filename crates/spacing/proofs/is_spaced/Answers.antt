@@ -1,9 +1,6 @@
-use borrow.Author.Rules.{rules}
-use Rattle.spacing.proofs.KeptLaws.{keeping_more, keeping_end}
+use borrow.Author.Tests.{eqb-true}
+use Rattle.spacing.proofs.KeptLaws.{keeping_unchanged}
 use Rattle.spacing.proofs.is_spaced.Goals as goal
 
-pub loop-i-preserved : goal.loop-i-preserved
-loop-i-preserved c = search (rules, keeping_more)
-
 pub returns : goal.returns
-returns c = search (rules, keeping_end)
+returns c = keeping_unchanged _ _ _ _ c.spaced_to.ensures (eqb-true _ _)

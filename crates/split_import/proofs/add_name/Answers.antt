@@ -1,9 +1,6 @@
 use borrow.Author.Rules.{rules}
-use Rattle.split_import.proofs.NameLaws.{name_named, add_first, add_wide, add_here}
+use Rattle.split_import.proofs.NameLaws.{add_first, add_wide, add_here}
 use Rattle.split_import.proofs.add_name.Goals as goal
-
-pub name_column-column-requires : goal.name_column-column-requires
-name_column-column-requires c = search (rules, name_named)
 
 pub returns-then-column-s : goal.returns-then-column-s
 returns-then-column-s c = search (rules, add_here)

@@ -1,9 +1,6 @@
 use borrow.Author.Rules.{rules}
-use Rattle.split_import.proofs.NameLaws.{name_begin, name_more, name_found, name_end}
+use Rattle.split_import.proofs.NameLaws.{name_more, name_found, name_end}
 use Rattle.split_import.proofs.name_len.Goals as goal
-
-pub loop-i-init : goal.loop-i-init
-loop-i-init c = name_begin _
 
 pub returns-then-b-eq44 : goal.returns-then-b-eq44
 returns-then-b-eq44 c = search (rules, name_found)

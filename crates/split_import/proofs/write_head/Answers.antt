@@ -1,12 +1,11 @@
 use borrow.Author.Rules.{rules}
 use native.Mathlib.Omega.{arith}
-use lib.Seq.{length-take-le}
-use mathlib.Core.Path.{sym}
+use Rattle.split.proofs.TextLaws.{indent_short}
 use Rattle.split_import.proofs.ImportLaws.{head_room, brace_room, head_written}
 use Rattle.split_import.proofs.write_head.Goals as goal
 
-pub slice_bounds-append_indented-end : goal.slice_bounds-append_indented-end
-slice_bounds-append_indented-end c = sym (length-take-le _ _ (omega arith))
+pub invariant_of-pad : goal.invariant_of-pad
+invariant_of-pad c = record { fits = omega (arith, indent_short _ _ c.requires.indents) }
 
 pub append_indented-m-requires : goal.append_indented-m-requires
 append_indented-m-requires c = search (rules, head_room)

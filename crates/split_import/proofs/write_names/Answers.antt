@@ -1,5 +1,5 @@
 use borrow.Author.Rules.{rules}
-use Rattle.split_import.proofs.NameLaws.{filling_start, filling_part, filling_room, filling_blank, filling_name, filling_end, piece_within}
+use Rattle.split_import.proofs.NameLaws.{filling_start, filling_blank, filling_name, filling_end, piece_within}
 use Rattle.split_import.proofs.write_names.Goals as goal
 
 pub loop-a-init : goal.loop-a-init
@@ -10,9 +10,6 @@ trim_part-p-requires c = search (rules, piece_within)
 
 pub loop-a-preserved-then-p : goal.loop-a-preserved-then-p
 loop-a-preserved-then-p c = search (rules, filling_blank)
-
-pub add_name-f-requires : goal.add_name-f-requires
-add_name-f-requires c = record { within = search (rules, filling_part); name_fits = search (rules, filling_room) }
 
 pub loop-a-preserved : goal.loop-a-preserved
 loop-a-preserved c = search (rules, filling_name)

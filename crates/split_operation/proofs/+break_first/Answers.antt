@@ -1,10 +1,14 @@
 use borrow.Author.Rules.{rules}
+use native.Mathlib.Omega.{arith}
 use Rattle.split_operation.proofs.ClassLaws.{class_length}
 use Rattle.split_operation.proofs.OperationLaws.{line_fits, whole_room, first_whole, first_within, first_fits, rounds_left, rest_fits, first_broken, some_rounds, fewer_rounds}
 use Rattle.split_operation.proofs.+break_first.Goals as goal
 
 pub round_break-requires : goal.round_break-requires
 round_break-requires t c = line_fits c.requires
+
+pub invariant_of-pad : goal.invariant_of-pad
+invariant_of-pad t c = let h = whole_room c.requires in record { fits = omega arith }
 
 pub append_indented-next-requires : goal.append_indented-next-requires
 append_indented-next-requires t c = whole_room c.requires

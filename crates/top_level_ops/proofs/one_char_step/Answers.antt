@@ -1,5 +1,5 @@
 use borrow.Author.Rules.{rules}
-use Rattle.std.specs.Prelude.{◌≡◌, get_or, ◌∷◌, []}
+use Rattle.std.specs.Prelude.{◌≡◌, ◌∷◌, []}
 use Rattle.rules.specs.Operators.{operators, index_in}
 use Rattle.operators.specs.Places.{place_of}
 use Rattle.rules.proofs.Choose.{picks}
@@ -7,14 +7,14 @@ use Rattle.top_level_ops.proofs.StepLaws.{one_token, one_operator, operator_stre
 use Rattle.top_level_ops.proofs.one_char_step.Goals as goal
 
 pub returns-in_default : goal.returns-in_default
-returns-in_default c = λ s e. let h = c.plain_token.ensures s in search (rules, one_token)
+returns-in_default c = λ s cs e f. let h = c.plain_token.ensures s in search (rules, one_token)
 
-pub returns-then-is_assign : goal.returns-then-is_assign
-returns-then-is_assign c = λ s e. let h = c.plain_token-then-is_assign.ensures s in one_operator _ s c.args.l.now _ c.in-Some.operator c.in-Some.ensures (search picks depth 20)
+pub returns-then-assigns : goal.returns-then-assigns
+returns-then-assigns c = λ s cs e f. let h = c.plain_token-then-assigns.ensures s in one_operator _ s _ cs _ c.in-Some.operator c.in-Some.ensures (search picks depth 20)
 
 pub returns-then-is_unary : goal.returns-then-is_unary
-returns-then-is_unary c = λ s e. let h = c.plain_token-then-is_unary.ensures s in one_operator _ s c.args.l.now _ c.in-Some.operator c.in-Some.ensures (search (picks, unary_at) depth 20)
+returns-then-is_unary c = λ s cs e f. let h = c.plain_token-then-is_unary.ensures s in one_operator _ s _ cs _ c.in-Some.operator c.in-Some.ensures (search (picks, unary_at) depth 20)
 
 pub returns : goal.returns
-returns c = λ s e. let g : place_of c.in-Some.operator ≡ index_in operators (get_or c.args.l.now 0 0 ∷ []) = c.in-Some.ensures in one_operator _ s c.args.l.now _ c.in-Some.operator c.in-Some.ensures
+returns c = λ s cs e f. let g : place_of c.in-Some.operator ≡ index_in operators (c.args.c ∷ []) = c.in-Some.ensures in one_operator _ s _ cs _ c.in-Some.operator c.in-Some.ensures
     (search (picks, operator_strength, token_operator, unary_at) depth 20)

@@ -15,7 +15,7 @@ returns-then-is_arrow c = λ s e. let h = c.plain_token-then-is_arrow.ensures s 
 
 pub returns-in_default : goal.returns-in_default
 unfolding sign_step
-returns-in_default c = λ s e. let h = c.one_char_step.ensures s e in let g : Two c.args.l.now 21 = c.in_default.ensures in search (picks, pick_one) depth 20
+returns-in_default c = λ s e. let h = c.one_char_step.ensures s _ e c.is_assign.ensures in let g : Two c.args.l.now 21 = c.in_default.ensures in search (picks, pick_one) depth 20
 
 pub returns-then-is_shift_assign : goal.returns-then-is_shift_assign
 unfolding sign_step

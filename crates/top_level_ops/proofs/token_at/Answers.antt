@@ -1,9 +1,7 @@
-use borrow.Author.Rules.{rules}
-use Rattle.top_level_ops.proofs.StepLaws.{token_atom, token_sign}
+use mathlib.Core.Path.{sym, ◌∙◌}
 use Rattle.top_level_ops.proofs.token_at.Goals as goal
 
-pub returns-then-n-gt0 : goal.returns-then-n-gt0
-returns-then-n-gt0 c = λ s e. let h = c.plain_token.ensures s in search (rules, token_atom)
-
-pub returns-else-n-gt0 : goal.returns-else-n-gt0
-returns-else-n-gt0 c = λ s e. let h = c.sign_step.ensures s e in search (rules, token_sign)
+pub returns-else-may_be_long : goal.returns-else-may_be_long
+returns-else-may_be_long c =
+    λ s e. let q = c.may_be_long.ensures in
+    c.one_char_step.ensures s _ e (sym (q.alone c.if-may_be_long.false)) ∙ sym (q.short c.if-may_be_long.false _ s)

@@ -1,6 +1,6 @@
 -- `utf8::white_at` meets its contract: each answer is a law of proofs/TrimScan.antt.
 -- Assumes nothing.
-use Rattle.utf8.proofs.TrimScan.{white_ascii, other_ascii, white_more, other_more}
+use Rattle.utf8.proofs.TrimScan.{white_ascii, other_ascii}
 use borrow.Author.Rules.{rules}
 use Rattle.utf8.proofs.white_at.Goals as goal
 
@@ -9,9 +9,3 @@ returns-then-is_white c = search (rules, white_ascii)
 
 pub returns-else-is_white : goal.returns-else-is_white
 returns-else-is_white c = search (rules, other_ascii)
-
-pub returns-then-is_white-2 : goal.returns-then-is_white-2
-returns-then-is_white-2 c = search (rules, white_more)
-
-pub returns-else-is_white-2 : goal.returns-else-is_white-2
-returns-else-is_white-2 c = search (rules, other_more)

@@ -1,14 +1,19 @@
-use Rattle.config_read.proofs.LevelLaws.{above_unused, above_top, above_root, above_next}
+use borrow.Author.Tests.{eqb-false}
+use mathlib.Core.Path.{sym, ◌∙◌}
+use Rattle.config_read.proofs.LevelLaws.{above_top, above_root, above_next}
 use Rattle.config_read.proofs.levels.above.Goals as goal
-
-pub returns-then-from-eq0 : goal.returns-then-from-eq0
-returns-then-from-eq0 c = above_top _ _ _ c.requires.0 c.if-l.true c.if-from-eq0.true
+use Rattle.config_read.proofs.levels.above.Goals.{then-from-eq0, else-from-eq0}
 
 pub returns-then-is_root : goal.returns-then-is_root
-returns-then-is_root c = above_root _ _ _ c.requires.0 _ c.is_root.ensures c.if-is_root.true
+returns-then-is_root c =
+    elim c.if-from-eq0.branch [
+      | then-from-eq0 w ↦ above_top _ _ _ w.if-from-eq0.true
+      | else-from-eq0 w ↦ above_root _ _ _ _ w.is_root.ensures (sym w.value-is ∙ c.if-is_root.true)
+    ]
 
-pub returns-then-l : goal.returns-then-l
-returns-then-l c = above_next _ _ _ c.requires.0 c.if-l.true c.if-from-eq0.false _ c.is_root.ensures c.if-is_root.false _ c.level_from.ensures
-
-pub returns : goal.returns
-returns c = above_unused _ _ _ c.requires.0 c.if-l.false
+pub returns-else-is_root : goal.returns-else-is_root
+returns-else-is_root c =
+    elim c.if-from-eq0.branch [
+      | then-from-eq0 w ↦ absurd (eqb-false c.args.from 0 (sym w.value-is ∙ c.if-is_root.false) w.if-from-eq0.true)
+      | else-from-eq0 w ↦ above_next _ _ _ w.if-from-eq0.false _ w.is_root.ensures (sym w.value-is ∙ c.if-is_root.false) _ c.level_from.ensures
+    ]

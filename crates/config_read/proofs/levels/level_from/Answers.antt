@@ -1,13 +1,6 @@
 use borrow.Author.Rules.{rules}
-use native.Mathlib.Omega.{arith}
-use Rattle.config_read.proofs.LevelLaws.{scan_start, scan_found, scan_more, scan_end}
+use Rattle.config_read.proofs.LevelLaws.{scan_found, scan_more, scan_end}
 use Rattle.config_read.proofs.levels.level_from.Goals as goal
-
-pub loop-i-init : goal.loop-i-init
-loop-i-init c = search (rules, scan_start)
-
-pub bounds-p-i : goal.bounds-p-i
-bounds-p-i c = omega (arith, c.loop-i.invariant.bound)
 
 pub returns-then-p-i-eq47 : goal.returns-then-p-i-eq47
 returns-then-p-i-eq47 c = search (rules, scan_found)

@@ -1,12 +1,7 @@
 -- `digit_count` meets its contract: the invariant is `Counting`, digits stand from `from` up to i; its laws are in
 -- proofs/ReadLaws.antt.
-use Prim.Native.Nat.{◌-◌}
-use lib.ListN.{length}
 use Rattle.glob_name.proofs.ReadLaws.{Counting}
 use Rattle.glob_name.proofs.read.digit_count.Given as goal
 
 abbrev pub invariant-loop-i : goal.invariant-loop-i
 invariant-loop-i l = Counting l.chars l.from l.i
-
-abbrev pub decreases-loop-i : goal.decreases-loop-i
-decreases-loop-i l = length l.chars - l.i

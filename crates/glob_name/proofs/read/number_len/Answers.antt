@@ -1,15 +1,11 @@
-use borrow.Author.Rules.{rules}
-use Rattle.glob_name.proofs.ReadLaws.{minus_inside, number_none, number_minus, number_plain}
+use Rattle.glob_name.proofs.ReadLaws.{sign_inside, number_none, number_some}
 use Rattle.glob_name.proofs.read.number_len.Goals as goal
 
-pub digit_count-n-requires : goal.digit_count-n-requires
-digit_count-n-requires c = search (rules, minus_inside)
+pub digit_count-digits-requires : goal.digit_count-digits-requires
+digit_count-digits-requires c = sign_inside _ _ _ c.char_is-sign.ensures c.requires
 
-pub returns-then-n-eq0 : goal.returns-then-n-eq0
-returns-then-n-eq0 c = search (rules, number_none)
+pub returns-then-digits-eq0 : goal.returns-then-digits-eq0
+returns-then-digits-eq0 c = number_none _ _ _ c.char_is-sign.ensures c.requires _ c.digit_count-digits.ensures c.if-digits-eq0.true
 
-pub returns-then-char_is : goal.returns-then-char_is
-returns-then-char_is c = search (rules, number_minus)
-
-pub returns : goal.returns
-returns c = search (rules, number_plain)
+pub returns-else-digits-eq0 : goal.returns-else-digits-eq0
+returns-else-digits-eq0 c = number_some _ _ _ c.char_is-sign.ensures c.requires _ c.digit_count-digits.ensures c.if-digits-eq0.false

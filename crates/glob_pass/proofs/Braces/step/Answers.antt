@@ -1,15 +1,16 @@
-use Rattle.glob_pass.proofs.BraceLaws.{braced_closes, braced_none, braced_comma, braced_opens}
 use native.Mathlib.Omega.{arith}
+use Rattle.glob_pass.specs.declared.kinds.Brace.{Brace}
+use Rattle.glob_pass.proofs.BraceLaws.{is_brace, other_brace, braced_closes, braced_none, braced_comma, braced_opens}
 use Rattle.glob_pass.proofs.Braces.step.Goals as goal
 
-pub returns-in-Closes : goal.returns-in-Closes
-returns-in-Closes c = rw c.in-Closes.is (braced_closes _ _ c.requires.0)
+pub returns-then-eq : goal.returns-then-eq
+returns-then-eq c = rw (is_brace c.args.brace Brace.Closes c.if-eq.ensures) (braced_closes _ _ (omega arith))
 
 pub returns-then-self-eq0 : goal.returns-then-self-eq0
-returns-then-self-eq0 c = braced_none _ _ _ c.in_default.not-Closes c.if-self-eq0.true
+returns-then-self-eq0 c = braced_none _ _ _ (other_brace _ _ c.if-eq.ensures) c.if-self-eq0.true
 
-pub returns-in-Comma : goal.returns-in-Comma
-returns-in-Comma c = rw c.in-Comma.is (braced_comma _ _ c.if-self-eq0.false (omega arith))
+pub returns-then-eq-2 : goal.returns-then-eq-2
+returns-then-eq-2 c = rw (is_brace c.args.brace Brace.Comma c.if-eq-2.ensures) (braced_comma _ _ c.if-self-eq0.false (omega arith))
 
 pub returns : goal.returns
-returns c = braced_opens _ _ c.if-self-eq0.false _ c.in_default.not-Closes c.in_default-brace.not-Comma
+returns c = braced_opens _ _ c.if-self-eq0.false _ (other_brace _ _ c.if-eq.ensures) (other_brace _ _ c.if-eq-2.ensures)

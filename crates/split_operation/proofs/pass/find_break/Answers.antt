@@ -1,44 +1,44 @@
 use native.Mathlib.Omega.{arith}
-use mathlib.Core.Path.{refl}
+use mathlib.Core.Path.{refl, sym, ◌∙◌}
 use Rattle.std.specs.Prelude.{None}
 use Rattle.split_operation.specs.Pass.{pass_at}
-use Rattle.split_operation.proofs.PassLaws.{countable, starts_line, passing_start, pass_deep, pass_over, pass_plain, pass_taken, pass_left, pass_end}
-use Rattle.split_operation.proofs.IdentLaws.{passing_past}
-use Rattle.split_operation.proofs.pass.find_break.Goals.{in-Some, in-None+then-is_looser, in-None+else-is_looser}
+use Rattle.split_operation.proofs.PassLaws.{starts_line, passing_start, pass_fell, pass_plain, pass_taken, pass_left, pass_end, keyword_unbroken}
+use Rattle.split_operation.proofs.RunLaws.{run_within, passing_run}
+use Rattle.split_operation.proofs.pass.find_break.Goals.{then-step+then-is_looser, then-step+else-is_looser, else-step}
 use Rattle.split_operation.proofs.pass.find_break.Goals as goal
 
+pub returns-then-has_keyword : goal.returns-then-has_keyword
+returns-then-has_keyword c = keyword_unbroken _ _ _ (sym c.has_keyword.ensures ∙ c.if-has_keyword.true)
+
 pub loop-i-init : goal.loop-i-init
-loop-i-init c = (passing_start _ _ _ (pass_at c.default-s.result 0 0 None) c.requires (starts_line _ c.default-s.ensures) refl refl refl, tt)
+loop-i-init c = (passing_start _ _ _ (pass_at c.default-s.result 0 None) c.requires (sym c.has_keyword.ensures ∙ c.if-has_keyword.false) (starts_line _ c.default-s.ensures) refl refl, tt)
 
-pub loop-i-preserved-then-i-e : goal.loop-i-preserved-then-i-e
-loop-i-preserved-then-i-e c = (passing_past _ _ _ _ c.loop-i.invariant.0 c.run_end-e.ensures c.if-i-e.true c.past_ident-s.ensures, c.loop-i.invariant.1)
+pub returns-then-line-i : goal.returns-then-line-i
+returns-then-line-i c =
+    let q = c.loop-i.invariant in
+    pass_end c.loop-i.b _ (passing_run (pass_at c.loop-i.s c.loop-i.depth c.loop-i.b) q.0 c.run_at-run.ensures) c.if-line-i.true q.1 c.end_pass.ensures
 
-pub span_step-requires : goal.span_step-requires
-span_step-requires c = (c.loop-i-test.true, c.loop-i.invariant.0.start, pass_deep _ _ _ _ _ c.loop-i.invariant.0 c.loop-i-test.true)
+pub returns-in_err-depth : goal.returns-in_err-depth
+returns-in_err-depth c =
+    let q = passing_run (pass_at c.loop-i.s c.loop-i.depth c.loop-i.b) c.loop-i.invariant.0 c.run_at-run.ensures in
+    rw c.from_residual.ensures (pass_fell _ _ _ _ _ q c.if-line-i.false c.in_err-depth.ensures)
 
-pub returns-in_err-w : goal.returns-in_err-w
-returns-in_err-w c = rw c.from_residual.ensures (pass_over c.loop-i.b c.loop-i.invariant.0 c.loop-i-test.true c.in_err-w.ensures)
-
-pub plain_step-requires : goal.plain_step-requires
-plain_step-requires c = countable c.loop-i.invariant.0.ops.sound c.loop-i-test.true c.loop-i.invariant.0.ops.breaks
-
-pub overflow_add-i : goal.overflow_add-i
-overflow_add-i c = record { fits = omega (arith, c.loop-i-test.true, c.loop-i.invariant.0.ops.breaks.short) }
+pub loop-i-smaller : goal.loop-i-smaller
+loop-i-smaller c = omega (arith, c.if-line-i.false, (run_within c.run_at-run.ensures c.loop-i.invariant.0.ops.within).0)
 
 pub loop-i-preserved : goal.loop-i-preserved
 loop-i-preserved c =
-    let q = c.loop-i.invariant in
-    elim c.match-plain_step.branch [
-      | in-Some w ↦ rw (w.b-is, w.s-is) (pass_plain c.loop-i.b q.0 c.loop-i-test.true _ c.in_ok-w.ensures _ c.plain_step.ensures _ w.in-Some.is, q.1)
-      | in-None+then-is_looser w ↦
+    let q = passing_run (pass_at c.loop-i.s c.loop-i.depth c.loop-i.b) c.loop-i.invariant.0 c.run_at-run.ensures in
+    let h = c.if-line-i.false in
+    let e = c.step.ensures in
+    elim c.if-step.branch [
+      | then-step+then-is_looser w ↦
           let l = rw w.strength_of.ensures at w.is_looser.ensures in
           rw (w.b-is, w.s-is)
-          (pass_taken c.loop-i.b q.0 c.loop-i-test.true _ c.in_ok-w.ensures _ c.plain_step.ensures w.in-None.is _ w.token_at.ensures _ w.found-f.ensures _ l w.if-is_looser.true _ w.break_at.ensures)
-      | in-None+else-is_looser w ↦
+          (pass_taken c.loop-i.b q h _ c.in_ok-depth.ensures _ _ e.stepped w.if-step.true (e.same w.if-step.true) _ w.token_at-token.ensures _ _ w.take-strength.ensures _ l w.if-is_looser.true _ w.break_at.ensures)
+      | then-step+else-is_looser w ↦
           let l = rw w.strength_of.ensures at w.is_looser.ensures in
           rw (w.b-is, w.s-is)
-          (pass_left c.loop-i.b q.0 c.loop-i-test.true _ c.in_ok-w.ensures _ c.plain_step.ensures w.in-None.is _ w.token_at.ensures _ w.found-f.ensures _ l w.if-is_looser.false, q.1)
+          (pass_left c.loop-i.b q h _ c.in_ok-depth.ensures _ _ e.stepped w.if-step.true (e.same w.if-step.true) _ w.token_at-token.ensures _ _ w.take-strength.ensures _ l w.if-is_looser.false, c.loop-i.invariant.1)
+      | else-step w ↦ rw (w.b-is, w.s-is) (pass_plain c.loop-i.b q h _ c.in_ok-depth.ensures _ _ e.stepped w.if-step.false, c.loop-i.invariant.1)
     ]
-
-pub returns : goal.returns
-returns c = pass_end _ _ c.loop-i.invariant.0 c.loop-i-test.false c.loop-i.invariant.1 c.end_pass.ensures

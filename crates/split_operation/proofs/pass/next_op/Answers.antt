@@ -1,32 +1,32 @@
-use borrow.Author.Rules.{rules}
-use Rattle.split_operation.proofs.PassLaws.{countable, seek_start, read_token, seek_read, seek_found, seek_plain, seek_end}
-use Rattle.split_operation.proofs.IdentLaws.{seek_past}
-use Rattle.split_operation.proofs.pass.next_op.Goals.{in-Some, in-None+else-f-strength}
+use native.Mathlib.Omega.{arith}
+use Rattle.split_operation.proofs.PassLaws.{read_token, seek_read, seek_found, seek_plain, seek_end}
+use Rattle.split_operation.proofs.RunLaws.{run_within, seek_run}
+use Rattle.split_operation.proofs.pass.next_op.Goals.{then-step+else-take-strength, else-step}
 use Rattle.split_operation.proofs.pass.next_op.Goals as goal
 
-pub loop-i-init : goal.loop-i-init
-loop-i-init c = search (rules, seek_start)
+pub returns-then-line-i : goal.returns-then-line-i
+returns-then-line-i c = seek_end (seek_run c.loop-i.invariant c.run_at-run.ensures) c.if-line-i.true
 
-pub loop-i-preserved-then-i-e : goal.loop-i-preserved-then-i-e
-loop-i-preserved-then-i-e c = search (rules, seek_past)
-
-pub plain_step-requires : goal.plain_step-requires
-plain_step-requires c = search (rules, countable)
-
-pub returns-then-f-strength : goal.returns-then-f-strength
-returns-then-f-strength c =
-    seek_found c.loop-i.invariant _ c.loop-i-test.true
-    (read_token _ _ _ _ _ c.loop-i-test.true c.loop-i.invariant.breaks _ c.plain_step.ensures c.in-None.is _ c.token_at.ensures _ c.found-f.ensures) c.if-f-strength.true
+pub loop-i-smaller : goal.loop-i-smaller
+loop-i-smaller c = omega (arith, c.if-line-i.false, (run_within c.run_at-run.ensures c.loop-i.invariant.within).0)
 
 pub loop-i-preserved : goal.loop-i-preserved
 loop-i-preserved c =
-    elim c.match-plain_step.branch [
-      | in-Some w ↦ rw w.s-is (seek_plain c.loop-i.invariant _ _ c.loop-i-test.true c.plain_step.ensures w.in-Some.is)
-      | in-None+else-f-strength w ↦
+    let q = seek_run c.loop-i.invariant c.run_at-run.ensures in
+    let h = c.if-line-i.false in
+    let e = c.step.ensures in
+    elim c.if-step.branch [
+      | then-step+else-take-strength w ↦
           rw w.s-is
-          (seek_read c.loop-i.invariant _ c.loop-i-test.true
-          (read_token _ _ _ _ _ c.loop-i-test.true c.loop-i.invariant.breaks _ c.plain_step.ensures w.in-None.is _ w.token_at.ensures _ w.found-f.ensures) w.if-f-strength.false)
+          (seek_read q _ h
+          (read_token _ _ _ _ _ h q.breaks _ _ e.stepped w.if-step.true (e.same w.if-step.true) _ w.token_at-token.ensures _ _ w.take.ensures) w.if-take-strength.false)
+      | else-step w ↦ rw w.s-is (seek_plain q _ _ h e.stepped w.if-step.false)
     ]
 
-pub returns : goal.returns
-returns c = search (rules, seek_end)
+pub returns-then-take-strength : goal.returns-then-take-strength
+returns-then-take-strength c =
+    let q = seek_run c.loop-i.invariant c.run_at-run.ensures in
+    let h = c.if-line-i.false in
+    let e = c.step.ensures in
+    seek_found q _ h
+    (read_token _ _ _ _ _ h q.breaks _ _ e.stepped c.if-step.true (e.same c.if-step.true) _ c.token_at-token.ensures _ _ c.take.ensures) c.if-take-strength.true

@@ -1,5 +1,5 @@
 -- `next_op` meets its contract: the invariant is `Seeking` of specs/Pass.antt, no operator of the strength stands from
--- `from` up to i; its laws are in proofs/PassLaws.antt and IdentLaws.antt.
+-- `from` up to i; its laws are in proofs/PassLaws.antt and RunLaws.antt.
 use Prim.Native.Nat.{◌-◌}
 use lib.ListN.{length}
 use Rattle.split_operation.specs.Pass.{Seeking}

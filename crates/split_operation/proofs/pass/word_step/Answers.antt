@@ -1,13 +1,10 @@
 use mathlib.Core.Path.{refl}
-use Rattle.split_operation.proofs.PassLaws.{word_on_law, word_keyword, word_end, word_short}
+use Rattle.split_operation.proofs.WordLaws.{word_on_law, word_end, word_short}
 use Rattle.split_operation.proofs.pass.word_step.Goals.{else-start-i-via-then-start-i+else-is_keyword, else-start-i-via-else-start-i}
 use Rattle.split_operation.proofs.pass.word_step.Goals as goal
 
 pub returns-then-in_word : goal.returns-then-in_word
 returns-then-in_word c = word_on_law _ _ _ _ c.requires _ c.in_word.ensures refl c.if-in_word.true
-
-pub returns-then-is_keyword : goal.returns-then-is_keyword
-returns-then-is_keyword c = word_keyword _ _ _ _ c.requires _ c.in_word.ensures c.if-in_word.false _ c.is_keyword.ensures c.if-is_keyword.true
 
 pub returns : goal.returns
 returns c =

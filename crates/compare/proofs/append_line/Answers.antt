@@ -1,6 +1,0 @@
-use Rattle.compare.proofs.WriterLaws.{compared_model}
-use borrow.Author.Rules.{rules}
-use Rattle.compare.proofs.append_line.Goals as goal
-
-pub returns-then-model-eq0 : goal.returns-then-model-eq0
-returns-then-model-eq0 c = search (rules, compared_model)

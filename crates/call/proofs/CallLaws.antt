@@ -50,6 +50,7 @@ use Rattle.lines.specs.Lines.{Passed, LinesDone, AllRead}
 use Rattle.lines.specs.declared.LinesRead.{LinesRead}
 use Rattle.call.specs.Tests.{tested_options}
 use Rattle.call.specs.Formatted.{outcome_in, Told, Fitted, RefusedCall}
+use Rattle.call.specs.Styled.{style_of}
 use Rattle.call.specs.Ran.{call_of, Ran}
 use Rattle.call.specs.FormatAnswered.{FormatAnswered}
 
@@ -99,7 +100,7 @@ module _
     (source indent : List ℕ) (chosen : FormatOptions) (own : indent ≡ chosen.indent) (ending : LineEnding) (last : Bool) (st : Record)
     (out₀ list₀ scratch₀ out₁ scratch₁ out₂ list₁ scratch₂ : List ℕ) (n r : ℕ)
     (e : ending ≡ ending_of chosen.end_of_line (decode source))
-    (l : LinesDone source indent (record { width = chosen.print_width; ruler = chosen.ruler_tab; ending = ending; strengths = chosen.strengths }) [] st out₁ scratch₁)
+    (l : LinesDone source indent (style_of chosen ending) [] st out₁ scratch₁)
     (k : (eol : List ℕ) → choose last eol [] ≡ last_ending chosen.insert_final_newline (decode source) eol)
     (w : Finished (as_str ending) (choose last (as_str ending) []) out₁ st.text out₂ n)
     (eo : length out₁ ≡ length out₀) (es : length scratch₁ ≡ length scratch₀) (ef : length out₂ ≡ length out₁)

@@ -9,6 +9,7 @@ ghost use Rattle.brackets.specs.Stack.{entry_size, stacked};
 ghost use Rattle.lines.specs.Lines.{Passed};
 ghost use Rattle.options.specs.Held.{options_in};
 ghost use Rattle.call.specs.Formatted.{Told, Fitted};
+ghost use Rattle.call.specs.Styled.{style_of};
 
 use line::scratch::STACK;
 use line::style::Style;
@@ -34,6 +35,19 @@ pub fn has_last_ending(newline: FinalNewline, source: &[u8]) -> bool
         FinalNewline::AsSource => own,
         FinalNewline::Always => true,
         FinalNewline::Never => false,
+    }
+}
+
+// What the options ask of each line, with the ending that the text's lines get.
+pub fn style_of(options: FormatOptions, ending: LineEnding) -> Style
+    requires { options.ruler_tab ≤ max_ruler }
+    ensures { result ≡ style_of options ending }
+{
+    Style {
+        width: options.print_width,
+        ruler: options.ruler_tab as u8,
+        ending,
+        strengths: options.strengths,
     }
 }
 
@@ -64,12 +78,7 @@ pub fn format_with(
         output.new opened.new scratch.new }
 {
     let ending = ending_of(options.end_of_line, source);
-    let style = Style {
-        width: options.print_width,
-        ruler: options.ruler_tab as u8,
-        ending,
-        strengths: options.strengths,
-    };
+    let style = style_of(options, ending);
     let indent = options.indent.as_bytes();
     let read = lines::read_lines(source, indent, style, false, b"", output, scratch);
     let st = read.st;

@@ -68,6 +68,7 @@ fn behind(b: u8, n: u8, k: u8) -> u8
 }
 
 // How many of the 16 bytes from `at` on stand up to and with the last kept one.
+// kept: 0 is a count here, no byte, and an Option of it would be a branch, which stops the vector code
 fn last_kept(s: &[u8], at: usize) -> u8
     requires { at + 16 ≤ length s.now }
     ensures { LastKept s.now at result }
@@ -119,6 +120,7 @@ pub fn write_changes(source: &[u8], text: &[u8], list: &mut [u64]) -> usize
     let mut j = 0;
     let mut a = gaps::gap_end(source, 0);
     let mut b = gaps::gap_end(text, 0);
+    // kept: a range is no plainer, since a step takes a gap and the run behind it, in two texts
     loop {
         n = note_gap(
             source,

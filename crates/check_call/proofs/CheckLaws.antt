@@ -32,6 +32,7 @@ use Rattle.line.specs.Holds.{Uses}
 use Rattle.lines.specs.Lines.{Passed, whole_text, answer_at, AllRead}
 use Rattle.lines.specs.declared.LinesRead.{LinesRead}
 use Rattle.call.specs.Tests.{tested_options}
+use Rattle.call.specs.Styled.{style_of}
 use Rattle.call.specs.Ran.{call_of}
 use Rattle.call.proofs.CallLaws.{chosen_tests, passed, ruler_small, admits, options_held}
 use Rattle.check_rules.specs.Check.{Checked, is_formatted}
@@ -55,9 +56,9 @@ module _
     o = options_in chosen
 
     module _ (work : List ℕ)
-        (w : AllRead source indent (record { width = chosen.print_width; ruler = chosen.ruler_tab; ending = ending; strengths = chosen.strengths }) true source r cell work)
+        (w : AllRead source indent (style_of chosen ending) true source r cell work)
       where
-        uses : Uses o indent (record { width = chosen.print_width; ruler = chosen.ruler_tab; ending = ending; strengths = chosen.strengths })
+        uses : Uses o indent (style_of chosen ending)
         uses = record { indents = sym own; breaks = refl; ruled = refl; strengths = refl }
 
         text_is : (format_with o (decode source)).text ≡ whole_text o (decode source) (as_str ending)

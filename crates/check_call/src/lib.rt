@@ -12,7 +12,6 @@ ghost use Rattle.check_call.specs.CheckAnswered.{choices_of, CheckAnswered};
 
 use call::Request;
 use compare::CELL;
-use line::style::Style;
 use options::FormatOptions;
 use rules::{Refusal, Strengths};
 
@@ -73,12 +72,7 @@ fn check_with(source: &[u8], options: FormatOptions, scratch: &mut [u8]) -> Find
     ensures { CheckedWith (options_in options) source.now result }
 {
     let ending = call::assembly::ending_of(options.end_of_line, source);
-    let style = Style {
-        width: options.print_width,
-        ruler: options.ruler_tab as u8,
-        ending,
-        strengths: options.strengths,
-    };
+    let style = call::assembly::style_of(options, ending);
     let indent = options.indent.as_bytes();
     let mut cell = [0u8; CELL];
     let lines = lines::read_lines(source, indent, style, true, source, &mut cell, scratch);

@@ -5,7 +5,7 @@
 use Rattle.std.specs.Prelude.{Option, Some, None}
 use denote.Ref.{Bor}
 use Prim.Native.Nat.{ℕ, suc, ◌+◌, ◌-◌, ◌≤◌, ◌<◌}
-use mathlib.Core.Bool.{Bool, true, false, ◌||◌}
+use mathlib.Core.Bool.{Bool, true, false, ◌||◌, or-false}
 use mathlib.Core.List.{List, [], ◌∷◌, map}
 use mathlib.Core.Logic.{◌⊎◌, inl, inr, ⊎_elim}
 use mathlib.Core.Path.{◌≡◌, refl, sym, ap, ◌∙◌}
@@ -14,7 +14,6 @@ use native.Mathlib.Numerals.{add-one}
 use native.Mathlib.Omega.{arith}
 use Rattle.std.specs.Slice.{IsGetRangeResult}
 use borrow.Author.Tests.{eq-eqb, ne_eqb, eqb-true}
-use lib.Dec.{ltb}
 use lib.ListN.{length, take, drop, get_or}
 use lib.Seq.{take_all}
 use Rattle.utf8.specs.Unicode.{chars, code_at, encode, decode, WellFormed, trim}
@@ -157,8 +156,8 @@ module _ (s : Lines) (text : Bor (List ℕ)) (a : s.rest ≡ Some text) (w : Lin
   module _ (e : ℕ) (q : LineEnd text.now 0 e) (line : List ℕ) (kind : Option LineKind) (t : Trimmed (take e text.now) line) (k : KindOf line kind)
       (r : Option (Bor (List ℕ))) (g : IsGetRangeResult text.now (e + 1) (length text.now) r)
     where
-      pub next_is : lines_left s ≡ line_in kind ∷ lines_left (record { rest = r })
-      next_is = rw a (go r g)
+      pub lines_next : lines_left s ≡ line_in kind ∷ lines_left (record { rest = r })
+      lines_next = rw a (go r g)
         where
           go : (r : Option (Bor (List ℕ))) → IsGetRangeResult text.now (e + 1) (length text.now) r
               → lines_in text.now ≡ line_in kind ∷ lines_left (record { rest = r })
@@ -179,11 +178,7 @@ module _ (s : Lines) (text : Bor (List ℕ)) (a : s.rest ≡ Some text) (w : Lin
 long_cons : (l : Line) (ls : List Line) → long_name (l ∷ ls) ≡ (long_name (l ∷ []) || long_name ls)
 unfolding long_name
 long_cons nothing ls = refl
-long_cons (header name) ls = or_assoc (ltb 1024 (length name)) (long_name ls)
-  where
-    or_assoc : (a b : Bool) → (a || b) ≡ ((a || false) || b)
-    or_assoc true b = refl
-    or_assoc false b = refl
+long_cons (header name) ls = rw or-false
 long_cons (pair k v) ls = refl
 
 long_nil : long_name [] ≡ false

@@ -6,8 +6,8 @@ use mathlib.Core.Path.{◌≡◌, refl, sym, ap, ◌∙◌}
 use native.Mathlib.Numerals.{add-one}
 use native.Mathlib.Omega.{arith}
 use borrow.Author.Tests.{eq-eqb, ne_eqb}
-use lib.ListN.{length, drop, take, get_or, set, length-set, length-take, length-append, replicate, length-replicate, drop_of_length-le}
-use lib.Seq.{take-suc-set}
+use lib.ListN.{length, drop, take, get_or, set, length-set, length-append, replicate, length-replicate, drop_of_length-le}
+use lib.Seq.{length-take-le, take-suc-set}
 use Rattle.utf8.specs.Unicode.{decode, WellFormed, code_at, chars}
 use Rattle.utf8.specs.Places.{Step}
 use Rattle.utf8.proofs.Tests.{by_test}
@@ -204,9 +204,6 @@ decoded_room name old new k n b e f h d =
     some [] q = absurd (true≢false (sym q ∙ (unfold first_is in refl)))
     some (c ∷ l) q = omega arith
 
-take_long : {A : Type 0} (n : ℕ) (l : List A) → n ≤ length l → n ≡ length (take n l)
-take_long n l h = sym (simp length-take (omega arith))
-
 pub slices : (name new : List ℕ) (k n : ℕ) (b : Bool) → b ≡ first_is (is "/") (decode name) → (k ≡ first_place b) × (k ≤ 1) → length (decode name) ≤ 1024
     → Decoded name k (set (replicate 1025 0) 0 47) new n
     → (n ≡ length (take n new)) × (n ≡ length (take {A = Kind} n (replicate 1025 (Kind.Item ItemKind.Plain)))) × (n < 1026) × (0 < n)
@@ -214,7 +211,7 @@ slices name new k n b e f h d =
     let r : (n ≤ 1025) × (0 < n) = decoded_room name (replicate 1025 0) new k n b e f h d in
     let z : length {A = ℕ} (replicate 1025 0) ≡ 1025 = length-replicate {A = ℕ} 1025 0 in
     let l : length new ≡ length {A = ℕ} (replicate 1025 0) = d.long ∙ length-set {A = ℕ} (replicate 1025 0) 0 47 in
-    (take_long n new (omega (arith, r.0)), take_long n (replicate 1025 (Kind.Item ItemKind.Plain)) (let y : length {A = Kind} (replicate 1025 (Kind.Item ItemKind.Plain)) ≡ 1025 = length-replicate {A = Kind} 1025 (Kind.Item ItemKind.Plain) in omega (arith, r.0)), omega (arith, r.0), r.1)
+    (sym (length-take-le n new (omega (arith, r.0))), sym (length-take-le n (replicate 1025 (Kind.Item ItemKind.Plain)) (let y : length {A = Kind} (replicate 1025 (Kind.Item ItemKind.Plain)) ≡ 1025 = length-replicate {A = Kind} 1025 (Kind.Item ItemKind.Plain) in omega (arith, r.0))), omega (arith, r.0), r.1)
 
 pub rooted_are : (name new : List ℕ) (k n : ℕ) (b : Bool) → b ≡ first_is (is "/") (decode name) → (k ≡ first_place b) × (k ≤ 1)
     → Decoded name k (set (replicate 1025 0) 0 47) new n → take n new ≡ rooted (decode name)

@@ -1,5 +1,5 @@
 -- A path read from its end: the values at what is read of it.
-use Prim.Native.Nat.{ℕ, zero, suc, ◌-◌, ◌≤◌}
+use Prim.Native.Nat.{ℕ, ◌-◌, ◌≤◌}
 use mathlib.Core.Bool.{Bool, true, false, ◌||◌, or_comm}
 use mathlib.Core.List.{List, [], ◌∷◌, ◌++◌, append_assoc, append-nil}
 use mathlib.Core.Path.{◌≡◌, refl, sym, ap, ◌∙◌}
@@ -13,15 +13,11 @@ use Rattle.config_rules.specs.Globs.{suffix}
 use Rattle.glob_pass.specs.Kinds.{held}
 use Rattle.glob_pass.specs.declared.kinds.Kind.{Kind}
 use Rattle.glob_pass.specs.Pass.{here_at, before, Values, Passed}
+use Rattle.ranges.proofs.StepLaws.{none_kept}
 use Rattle.ranges.specs.Ranges.{Empty}
 use Rattle.ranges.specs.declared.State.{State}
 use Rattle.glob_match.specs.Match.{SlotsAt, RangesNext, matches_at}
 use Rattle.glob_match.proofs.SlotsLaws.{slots_start, hits_start}
-
-none_yet : (n j : ℕ) → get_or (replicate n false) j false ≡ false
-none_yet zero j = refl
-none_yet (suc n) zero = refl
-none_yet (suc n) (suc j) = none_yet n j
 
 -- what is known after s is read
 pub record ReadAt (ks : List Kind) (cs : List ℕ) (s : List ℕ) (v : List Bool) (found : Bool) (t : State) : Type 0 where
@@ -35,7 +31,7 @@ pub read_none : (ks : List Kind) (cs : List ℕ) (t : State) (m : ℕ) (new : Li
 unfolding before suffix
 read_none ks cs t m new e z p =
     let U : Values (held ks cs) [] new =
-    p.is [] (record { first = refl; last = refl; without = record { at = λ j x. none_yet m j }; ranges = hits_start (held ks cs) (replicate m false) (none_yet m) }) in
+    p.is [] (record { first = refl; last = refl; without = record { at = λ j x. none_kept m j false }; ranges = hits_start (held ks cs) (replicate m false) (λ j. none_kept m j false) }) in
     record {
       same = e;
       values = U;

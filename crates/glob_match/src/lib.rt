@@ -7,11 +7,12 @@ ghost use Rattle.std.specs.Prelude.{◌≡◌, ◌∷◌, ◌≤◌, ◌<◌, le
 ghost use Rattle.std.specs.Bool.{MatchBool};
 ghost use Rattle.utf8.specs.Unicode.{WellFormed, decode};
 ghost use Rattle.config_rules.specs.Globs.{matches};
-ghost use Rattle.glob_pass.specs.Kinds.{held};
+ghost use Rattle.glob_pass.specs.Held.{tokens_held};
 ghost use Rattle.glob_name.specs.Read.{Spaced};
 ghost use Rattle.glob_match.specs.Match.{range_kind, RangesNext, matches_at, first_place, NameMatches};
 
 use glob_pass::kinds::{ItemKind, Kind};
+use glob_pass::name::Name;
 use glob_pass::{Braces, CHARS, PLACES, Side, pass};
 use ranges::State;
 use utf8::{code_at, size_before};
@@ -23,33 +24,22 @@ fn is_range(k: Kind) -> bool
 }
 
 // What the ranges of a name say of one character more, from the values without it.
-fn ranges_next(
-    kinds: &[Kind],
-    chars: &[u32],
-    state: &mut State,
-    hits: &mut [bool; PLACES],
-    v: &[bool; PLACES],
-    c: u32,
-)
-    requires { (length kinds.now ≡ length chars.now) × (length chars.now < PLACES) × Spaced chars.now
-        kinds.now }
-    ensures { RangesNext kinds.now chars.now v.now c state.old
-        state.new hits.new }
+fn ranges_next(name: Name, state: &mut State, hits: &mut [bool; PLACES], v: &[bool; PLACES], c: u32)
+    requires { Spaced name.chars.now name.kinds.now }
+    ensures { RangesNext name.entry.kinds.now name.entry.chars.now v.now c state.old state.new hits.new }
 {
-    for p in 0..kinds.len() {
-        if is_range(kinds[p]) {
-            hits[p] = state.range_next(chars, p, v[p + 1], c);
+    for p in 0..name.kinds.len() {
+        if is_range(name.kinds[p]) {
+            hits[p] = state.range_next(name.chars, p, v[p + 1], c);
         }
     }
 }
 
 // Whether a name matches the path with a `/` before it, or, where `levels` says so, what follows from some place of it
 // on.
-fn matches_at(kinds: &[Kind], chars: &[u32], path: &[u8], levels: bool) -> bool
-    requires { (length kinds.now ≡ length chars.now) × (length chars.now < PLACES) × Spaced chars.now
-        kinds.now × WellFormed path.now }
-    ensures { result ≡ matches_at (held kinds.now chars.now) levels
-        (47 ∷ decode path.now) }
+fn matches_at(name: Name, path: &[u8], levels: bool) -> bool
+    requires { Spaced name.chars.now name.kinds.now × WellFormed path.now }
+    ensures { result ≡ matches_at (tokens_held name.entry) levels (47 ∷ decode path.now) }
 {
     let mut state = State::empty();
     let mut hits = [false; PLACES];
@@ -61,19 +51,19 @@ fn matches_at(kinds: &[Kind], chars: &[u32], path: &[u8], levels: bool) -> bool
         }; PLACES],
         depth: 0,
     };
-    pass(kinds, chars, 0, true, &hits, &mut v, &mut braces);
+    pass(name, 0, true, &hits, &mut v, &mut braces);
     let mut found = v[0];
     let mut e = path.len();
     // kept: the new form is no plainer: characters take one to four bytes, and an own iterator from the end is longer
     while 0 < e {
         e -= size_before(path, e);
         let c = code_at(path, e);
-        ranges_next(kinds, chars, &mut state, &mut hits, &v, c);
-        pass(kinds, chars, c, false, &hits, &mut v, &mut braces);
+        ranges_next(name, &mut state, &mut hits, &v, c);
+        pass(name, c, false, &hits, &mut v, &mut braces);
         found = found | v[0];
     }
-    ranges_next(kinds, chars, &mut state, &mut hits, &v, 47);
-    pass(kinds, chars, 47, false, &hits, &mut v, &mut braces);
+    ranges_next(name, &mut state, &mut hits, &v, 47);
+    pass(name, 47, false, &hits, &mut v, &mut braces);
     if levels {
         return found | v[0];
     }
@@ -88,7 +78,8 @@ fn matches_name(chars: &[u32], kinds: &mut [Kind], slash: bool, path: &[u8]) -> 
 {
     glob_name::kinds_of(chars, kinds);
     let own = name::has_slash(kinds, chars);
-    matches_at(kinds, chars, path, !(slash | own))
+    let held = Name { kinds, chars };
+    matches_at(held, path, !(slash | own))
 }
 
 // Whether a name of at most 1,024 characters matches a path relative to the text's directory.

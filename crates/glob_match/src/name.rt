@@ -53,6 +53,7 @@ fn slash_at(k: Kind, chars: &[u32], i: usize) -> bool
 }
 
 // Whether one of the tokens behind the first is a slash.
+// kept: a rule of the project: a `Name` has fewer than `PLACES` characters, and a public function may not ask more
 pub fn has_slash(kinds: &[Kind], chars: &[u32]) -> bool
     requires { (length kinds.now ≡ length chars.now) × (0 < length chars.now) }
     ensures { result ≡ has_slash (drop 1 (held kinds.now chars.now)) }

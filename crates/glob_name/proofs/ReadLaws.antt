@@ -7,7 +7,6 @@ use Rattle.std.specs.Prelude.{Option, Some, None}
 use Rattle.std.specs.Option.{MatchOption}
 use mathlib.Core.Path.{◌≡◌, refl, sym, ap, ◌∙◌, subst}
 use mathlib.Core.Logic.{◌⊎◌, inl, inr, ⊎_elim}
-use native.Mathlib.Numerals.{add-one}
 use native.Mathlib.Omega.{arith}
 use borrow.Author.Tests.{ne_eqb, lt-ltb, le-ltb, le-leb, lt-leb, eqb-true, eqb-false, ltb-true, ltb-false}
 use lib.Dec.{eqb, ltb, leb}
@@ -15,6 +14,7 @@ use mir.Val.{bool_byte}
 use lib.ListN.{length, drop, get_or, set, length-set, drop_of_length-le}
 use lib.Seq.{drop-cons, drop-drop, drop-length, get_or-set_same, get_or-set_other}
 use Rattle.utf8.proofs.Tests.{by_test, split, neither_left, neither_right, and_right}
+use Rattle.blocks.specs.Blocks.{FirstFrom}
 use Rattle.rules.specs.Basics.{choose, is, at, first_is, starts_with}
 use Rattle.rules.proofs.Choose.{choose_true, choose_false}
 use Rattle.config_rules.specs.Numbers.{is_digit, digit_count, sign, number_len}
@@ -40,47 +40,41 @@ module _ (cs : List ℕ) (i c : ℕ) where
 
 -- ---- digits
 
-pub record Counting (cs : List ℕ) (from i : ℕ) : Type 0 where
-  pub start : from ≤ i
-  pub bound : i ≤ length cs
-  pub is : digit_count (drop from cs) ≡ (i - from) + digit_count (drop i cs)
+abbrev pub no_digit_at : List ℕ → ℕ → Bool
+no_digit_at cs i = ltb (get_or cs i 0) 48 || ltb 57 (get_or cs i 0)
 
-pub counting_start : (cs : List ℕ) (from : ℕ) → from ≤ length cs → Counting cs from from
-counting_start cs from h =
-    let e : from - from ≡ 0 = omega arith in
-    record { start = omega arith; bound = h; is = omega arith }
+digit_is : (c : ℕ) → (ltb c 48 || ltb 57 c) ≡ false → is_digit c ≡ true
+digit_is c e =
+    rw (le-leb 48 c (ltb-false c 48 (neither_left _ _ e)), le-leb c 57 (ltb-false 57 c (neither_right (ltb c 48) _ e)))
 
-module _ (cs : List ℕ) (from i : ℕ) (w : Counting cs from i) where
-  digit_at : i < length cs → digit_count (drop i cs) ≡ choose (is_digit (get_or cs i 0)) (suc (digit_count (drop (suc i) cs))) 0
-  unfolding digit_count
-  digit_at h = rw (drop-cons cs i 0)
+digit_not : (c : ℕ) → (ltb c 48 || ltb 57 c) ≡ true → is_digit c ≡ false
+digit_not c e =
+    by_test (ltb c 48) (λ a. rw (lt-leb 48 c (ltb-true c 48 a))) (λ a. rw (lt-leb c 57 (ltb-true 57 c (rw a at e)), and-false (leb 48 c)))
 
-  pub counting_more : i < length cs → (ltb (get_or cs i 0) 48 || ltb 57 (get_or cs i 0)) ≡ false → Counting cs from (i + 1)
-  counting_more h e =
-      let s : from ≤ i = w.start in
-      let a : 48 ≤ get_or cs i 0 = ltb-false (get_or cs i 0) 48 (neither_left _ _ e) in
-      let b : get_or cs i 0 ≤ 57 = ltb-false 57 (get_or cs i 0) (neither_right (ltb (get_or cs i 0) 48) _ e) in
-      let t : is_digit (get_or cs i 0) ≡ true = rw (le-leb 48 (get_or cs i 0) a, le-leb (get_or cs i 0) 57 b) in
-      let n : digit_count (drop i cs) ≡ suc (digit_count (drop (i + 1) cs)) = rw (add-one i) (digit_at h ∙ choose_true _ _ _ t) in
-      record { start = omega arith; bound = omega arith; is = omega (arith, w.is, n) }
+-- n digits, and none behind them
+digits_run : (cs : List ℕ) (from n : ℕ) → from + n ≤ length cs → ((j : ℕ) → j < n → is_digit (get_or cs (from + j) 0) ≡ true)
+    → (from + n < length cs → is_digit (get_or cs (from + n) 0) ≡ false) → n ≡ digit_count (drop from cs)
+unfolding digit_count choose
+digits_run cs from zero h are then =
+    let z : from + 0 ≡ from = omega arith in
+    ⊎_elim (λ (l : from < length cs). rw (drop-cons cs from 0 l, rw z at (then (omega arith)))) (λ (l : length cs ≤ from). rw (drop_of_length-le cs {i = from} l))
+    (split from (length cs))
+digits_run cs from (suc n) h are then =
+    let z : from + 0 ≡ from = omega arith in
+    let y : from + suc n ≡ suc from + n = omega arith in
+    rw (drop-cons cs from 0 (omega arith), rw z at (are 0 (omega arith)))
+    (ap suc (digits_run cs (suc from) n (omega arith)
+    (λ j l. let x : from + suc j ≡ suc from + j = omega arith in rw x at (are (suc j) (omega arith)))
+    (λ l. rw y at (then (omega arith)))))
 
-  stops : digit_count (drop i cs) ≡ 0 → Counted cs from (digit_count (drop from cs)) (i - from)
-  stops e = let s : from ≤ i = w.start in record { is = omega (arith, w.is, e); fits = omega (arith, w.bound) }
-
-  pub counting_stop : i < length cs → (ltb (get_or cs i 0) 48 || ltb 57 (get_or cs i 0)) ≡ true → Counted cs from (digit_count (drop from cs)) (i - from)
-  counting_stop h e =
-      let t : is_digit (get_or cs i 0) ≡ false =
-      by_test (ltb (get_or cs i 0) 48)
-      (λ a. rw (lt-leb 48 (get_or cs i 0) (ltb-true (get_or cs i 0) 48 a)))
-      (λ a. rw (lt-leb (get_or cs i 0) 57 (ltb-true 57 (get_or cs i 0) (rw a at e)), and-false (leb 48 (get_or cs i 0)))) in
-      stops (digit_at h ∙ choose_false _ _ _ t)
-
-  pub counting_end : length cs ≤ i → Counted cs from (digit_count (drop from cs)) (length cs - from)
-  unfolding digit_count
-  counting_end h =
-      let b : i ≤ length cs = w.bound in
-      let e : i ≡ length cs = omega arith in
-      rw (← e) (stops (rw (drop_of_length-le cs {i = i})))
+pub digits_first : (cs : List ℕ) (from r : ℕ) → FirstFrom (no_digit_at cs) from (length cs) r → Counted cs from (digit_count (drop from cs)) (r - from)
+digits_first cs from r f =
+    let e : from + (r - from) ≡ r = omega (arith, f.from) in
+    record {
+      is = digits_run cs from (r - from) (rw e f.within) (λ j l. digit_is (get_or cs (from + j) 0) (f.none (from + j) (omega arith) (omega arith)))
+          (rw e (λ l. digit_not (get_or cs r 0) (f.passes l)));
+      fits = rw e f.within;
+    }
 
 -- ---- a number
 

@@ -14,6 +14,7 @@ use glob_pass::PLACES;
 use glob_pass::kinds::Kind;
 
 // The kinds of a name.
+// kept: the new form is no plainer: the kinds are still written here, and a `Name` lends them to be read alone
 pub fn kinds_of(chars: &[u32], kinds: &mut [Kind])
     requires { (length kinds.old ≡ length chars.now) × (length chars.now < PLACES) }
     ensures { (length kinds.new ≡ length chars.now) ×

@@ -29,13 +29,7 @@ fn digit_count(chars: &[u32], from: usize) -> usize
     requires { from ≤ length chars.now }
     ensures { Counted chars.now from (digit_count (drop from chars.now)) result }
 {
-    for i in from..chars.len() {
-        let c = chars[i];
-        if (c < 48) | (57 < c) {
-            return i - from;
-        }
-    }
-    chars.len() - from
+    blocks::first_from(from, chars.len(), &|i| (chars[i] < 48) | (57 < chars[i])) - from
 }
 
 // How long the number is that stands at `from`, if one does.
@@ -53,6 +47,8 @@ pub fn number_len(chars: &[u32], from: usize) -> Option<usize>
 }
 
 // The same behind the first number of a range, m characters long, and `..`.
+// kept: the new form is no plainer: with a struct that says how many characters there are, here and below, `chars.now`
+// becomes `name.entry.chars.now`, and the functions that ask nothing of them, half of this file, are given `name.chars`
 fn range_rest(chars: &[u32], from: usize, m: usize) -> Option<usize>
     requires { (from + m + 2 ≤ length chars.now) × (length chars.now < PLACES) }
     ensures { Told (rest_more chars.now from m) result }

@@ -1,9 +1,10 @@
 -- One pass: from the end of the name to its start, each place's value at s, and the stack of open braces.
-use Prim.Native.Nat.{ℕ, zero, suc, ◌+◌, ◌-◌, ◌≤◌, ◌<◌}
+use Prim.Native.Nat.{ℕ, suc, ◌+◌, ◌-◌, ◌≤◌, ◌<◌}
 use mathlib.Core.Bool.{Bool, false}
 use mathlib.Core.List.{List, ◌∷◌}
-use mathlib.Core.Logic.{◌⊎◌, inl, inr, ⊎_elim}
-use mathlib.Core.Path.{◌≡◌, refl, sym, ap, ◌∙◌}
+use mathlib.Core.Logic.{⊎_elim}
+use mathlib.Core.Path.{◌≡◌, sym, ap, ◌∙◌}
+use native.Mathlib.Nat.{eq-or-lt_of_le}
 use native.Mathlib.Omega.{arith}
 use lib.ListN.{length, drop, get_or, set, length-set}
 use lib.Seq.{get_or-set_same, get_or-set_other, drop-length, set-set, set-get_or}
@@ -81,12 +82,6 @@ going_end ks cs c base hits olds p v prior b x w z =
       is = λ s g. record { at = λ j h. (w.at s g).done j (omega arith) h };
     }
 
-either_is : (q j : ℕ) → q ≤ j → (j ≡ q) ⊎ (suc q ≤ j)
-either_is zero zero h = inl refl
-either_is zero (suc j) h = inr (omega arith)
-either_is (suc q) zero h = absurd (omega arith)
-either_is (suc q) (suc j) h = ⊎_elim (λ r. inl (ap suc r)) (λ r. inr (omega arith)) (either_is q j (omega arith))
-
 here_back : (ts : List Token) (q : ℕ) (t : Token) (r : List Token) → drop q ts ≡ t ∷ r → place_of (drop q ts) ≡ place_at t (place_of r)
 unfolding place_of
 here_back ts q t r e = ap place_of e
@@ -115,10 +110,10 @@ module _ (ks : List Kind) (cs : List ℕ) (c : ℕ) (base : Bool) (hits olds : L
           kept = λ j n. get_or-set_other v q j y false (λ x. absurd (omega arith)) ∙ m.kept j (omega arith);
           done = λ j n l.
               ⊎_elim
-              (λ (x : j ≡ q). ap (λ (i : ℕ). get_or (set v q y) i false) x ∙ get_or-set_same v q y false (omega arith) ∙ z
-              ∙ ap (λ (i : ℕ). here_at (held ks cs) i s) (sym x))
+              (λ (x : q ≡ j). ap (λ (i : ℕ). get_or (set v q y) i false) (sym x) ∙ get_or-set_same v q y false (omega arith) ∙ z
+              ∙ ap (λ (i : ℕ). here_at (held ks cs) i s) x)
               (λ (x : suc q ≤ j). get_or-set_other v q j y false (λ y. absurd (omega arith)) ∙ m.done j x l)
-              (either_is q j n);
+              (eq-or-lt_of_le n);
         }
 
     going_back : Going ks cs c base hits olds q (set v q y) (get_or v q false) b' y

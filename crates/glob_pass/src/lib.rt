@@ -3,13 +3,16 @@
 #![tactic(auto)]
 
 pub mod kinds;
+pub mod name;
 pub mod set;
 
 ghost use Rattle.std.specs.Prelude.{◌≡◌, ◌+◌, ◌<◌, length, drop, get_or};
-ghost use Rattle.glob_pass.specs.Kinds.{plain_at, held};
+ghost use Rattle.glob_pass.specs.Kinds.{plain_at};
+ghost use Rattle.glob_pass.specs.Held.{tokens_held};
 ghost use Rattle.glob_pass.specs.Pass.{value_at, Braced, Passed};
 
 use kinds::{Brace, ItemKind, Kind};
+use name::Name;
 
 // The characters of a name of at most 1,024, with a slash before it.
 pub const CHARS: usize = 1025;
@@ -100,25 +103,22 @@ fn value_at(k: ItemKind, chars: &[u32], p: usize, c: u32, known: Known) -> bool
 // One character more of the path: v holds the values without it, and then with it. For the end of the path, base is
 // true and c is 0. `braces` is room, which a caller clears once and not for each character.
 pub fn pass(
-    kinds: &[Kind],
-    chars: &[u32],
+    name: Name,
     c: u32,
     base: bool,
     hits: &[bool; PLACES],
     v: &mut [bool; PLACES],
     braces: &mut Braces,
 )
-    requires { (length kinds.now ≡ length chars.now) × (length chars.now < PLACES) }
-    ensures { Passed (held kinds.now chars.now) c base hits.now v.old
-        v.new }
+    ensures { Passed (tokens_held name.entry) c base hits.now v.old v.new }
 {
     braces.depth = 0;
     let mut next = base;
-    let mut prior = v[kinds.len()];
-    v[kinds.len()] = base;
-    for p in (0..kinds.len()).rev() {
+    let mut prior = v[name.kinds.len()];
+    v[name.kinds.len()] = base;
+    for p in (0..name.kinds.len()).rev() {
         let old = v[p];
-        next = match kinds[p] {
+        next = match name.kinds[p] {
             Kind::Brace(brace) => braces.step(brace, next),
             Kind::Item(item) => {
                 let known = Known {
@@ -127,7 +127,7 @@ pub fn pass(
                     prior,
                     hit: hits[p],
                 };
-                value_at(item, chars, p, c, known)
+                value_at(item, name.chars, p, c, known)
             }
         };
         v[p] = next;

@@ -2,7 +2,7 @@
 --     refused_by_tests, no_text_law                a source that is refused
 --     codes_ready, text_short, text_fits           the text of the codes in the output
 --     refused_output; answered the answer
-use Prim.Native.Nat.{ℕ, ◌+◌, ◌*◌, ◌-◌, ◌≤◌, ◌<◌}
+use Prim.Native.Nat.{ℕ, ◌*◌, ◌-◌, ◌≤◌, ◌<◌}
 use native.Mathlib.Omega.{arith}
 use mathlib.Core.List.{List, [], ◌∷◌, ◌++◌}
 use mathlib.Core.Path.{◌≡◌, refl, sym, ap, ◌∙◌, subst}
@@ -15,7 +15,7 @@ use Rattle.utf8.specs.Unicode.{size, decode, encode}
 use Rattle.utf8.proofs.Decode.{test_wf}
 use Rattle.buffer.specs.Buffer.{part, Appended, Finishes, Agree}
 use Rattle.buffer.proofs.AgreeLaws.{agree_nil, appended_agree, finishes_text}
-use Rattle.rules.specs.Refusals.{Verdict, scratch_needed, number_of, tested, long_source, short_scratch, ill_formed}
+use Rattle.rules.specs.Refusals.{Verdict, number_of, tested, long_source, short_scratch, ill_formed}
 use Rattle.rules.specs.Call.{filled}
 use Rattle.rules.specs.declared.Refusal.{Refusal}
 use Rattle.rules.proofs.Choose.{choose_true, choose_false, choose_case}
@@ -24,7 +24,7 @@ use Rattle.group_rules.specs.Expression.{Token, Reading, read, refused_at, readi
 use Rattle.group_rules.specs.Grouping.{text, grouping_of, grouping, tree_of, written}
 use Rattle.group_rules.specs.Passes.{opened_text, closed_text}
 use Rattle.group_rules.specs.Promises.{Groups, Longest}
-use Rattle.group_rules.specs.Outcome.{GroupOutcome, group_scratch, group_tests, grouping_in, group_after, group_outcome, group_answer, grouped_text, group_output_for, group_output}
+use Rattle.group_rules.specs.Outcome.{GroupOutcome, group_each, group_scratch, group_tests, grouping_in, group_after, group_outcome, group_answer, grouped_text, group_output_for, group_output}
 use Rattle.group_rules.specs.Answered.{GroupAnswered}
 use Rattle.group_rules.specs.declared.Fault.{Fault}
 use Rattle.group_rules.specs.declared.NoText.{NoText}
@@ -52,7 +52,7 @@ outcome_of_length k = Ok k
 
 module _ (source : List ℕ) (scratch : ℕ) where
   abbrev source_tests : List Verdict
-  source_tests = short_scratch (scratch_needed group_scratch source) scratch ∷ ill_formed source ∷ []
+  source_tests = short_scratch (group_scratch source) scratch ∷ ill_formed source ∷ []
 
   refused_by_tests : (n : ℕ) (why : Refusal) → tested (group_tests source scratch) ≡ Err why → Err (GroupRefusal.Call why) ≡ group_outcome source n scratch
   unfolding group_outcome
@@ -66,8 +66,8 @@ module _ (source : List ℕ) (scratch : ℕ) where
   refused_then n why e f = refused_by_tests n why (pass (long_source source) source_tests (sym e) ∙ sym f)
 
   module _ (short : Ok tt ≡ long_source source) (passed : Ok tt ≡ tested source_tests) where
-    pub admitted : Readable group_scratch source scratch
-    admitted = readable group_scratch source scratch (sym short) (sym passed)
+    pub admitted : Readable group_each source scratch
+    admitted = readable group_each source scratch (sym short) (sym passed)
 
     pub no_test : tested (group_tests source scratch) ≡ Ok tt
     no_test = pass (long_source source) source_tests (sym short) ∙ sym passed
@@ -102,10 +102,10 @@ module _ (source : List ℕ) (scratch : ℕ) where
 
 -- ---- the codes of its tokens, and the text
 
-pub source_fits : {source l : List ℕ} → Readable group_scratch source (length l) → SourceFits source l
+pub source_fits : {source l : List ℕ} → Readable group_each source (length l) → SourceFits source l
 source_fits p = record { fits = omega (arith, p.room); small = omega (arith, p.short) }
 
-module _ {source l l₁ : List ℕ} {m : ℕ} (p : Readable group_scratch source (length l)) (c : CodedAs source l l₁ (Ok m)) where
+module _ {source l l₁ : List ℕ} {m : ℕ} (p : Readable group_each source (length l)) (c : CodedAs source l l₁ (Ok m)) where
   abbrev codes : Codes l₁ (reading source) (length source) m
   codes = c.is.yes m refl
 

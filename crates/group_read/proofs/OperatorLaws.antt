@@ -4,10 +4,12 @@ use mathlib.Core.Bool.{Bool, true, false, ◌||◌}
 use mathlib.Core.List.{List, [], ◌∷◌, ◌++◌, reverse, append-nil}
 use mathlib.Core.Path.{◌≡◌, refl, ap, sym, ◌∙◌, subst}
 use native.Mathlib.Omega.{arith}
-use native.Mathlib.Numerals.{add-one}
-use lib.ListN.{length, take, get_or, set}
-use lib.Seq.{take-suc-set}
+use lib.ListN.{length, take, get_or, length-drop, length-take, length-append}
+use lib.Seq.{length-take-le}
+use borrow.Rule.Slice.PartMut.{put_mid}
+use Rattle.std.proofs.lemmas.Slice.{take-put_mid, drop-put_mid}
 use Rattle.std.specs.Prelude.{Err}
+use Rattle.std.proofs.lemmas.List.{get_or_past}
 use Rattle.rules.specs.Basics.{choose, same, one_of}
 use Rattle.rules.specs.Operators.{operators, strengths, index_in}
 use Rattle.rules.specs.Strengths.{strengths_in, built_in}
@@ -31,6 +33,10 @@ use Rattle.group_read.proofs.ReadLaws.{coded_more, went, stopped}
 pub strength_of_law : (w : List ℕ) (k s : ℕ) → k ≡ index_in operators w → s ≡ get_or strengths k 0 → s ≡ strength_of w
 unfolding precedence
 strength_of_law w k s e h = h ∙ ap (λ n. get_or strengths n 0) e
+
+-- past the table there is none
+pub past_table : (k : ℕ) → 21 ≤ k → 0 ≡ get_or strengths k 0
+past_table k h = sym (get_or_past strengths k 0 h)
 
 pub built_read : (k r : ℕ) → r ≡ get_or (strengths_in built_in) k 0 → r ≡ get_or strengths k 0
 built_read k r e = e ∙ ap (λ l. get_or l k 0) built_in_read
@@ -81,14 +87,17 @@ strength_small w s e = go (one_of operators w) refl
 
 -- ---- the codes
 
-more : (l past : List ℕ) (at v : ℕ) → at < length l → take at l ≡ past → take (at + 1) (set l at v) ≡ past ++ v ∷ []
-more l past at v h e = ap (λ n. take n (set l at v)) (add-one at) ∙ take-suc-set l at v h ∙ ap (λ x. x ++ v ∷ []) e
-
-next_more : (l past : List ℕ) (at k v : ℕ) → at + k < length l → take (at + k) l ≡ past → take (at + suc k) (set l (at + k) v) ≡ past ++ v ∷ []
-next_more l past at k v h e = ap (λ n. take n (set l (at + k) v)) same_place ∙ more l past (at + k) v h e
-  where
-    same_place : at + suc k ≡ at + k + 1
-    same_place = omega arith
+pub written : (l codes ys : List ℕ) (at n m : ℕ) → at + n ≤ length l → m ≡ n → length codes ≡ n → ys ≡ codes → Written l (put_mid at m l ys) at codes (at + n)
+written l codes ys at n m h e g q =
+    let k : length ys ≡ m = omega (arith, ap length q) in
+    let a : at ≤ length l = omega arith in
+    let x = ap length (drop-put_mid at m l ys (at + n) (omega arith) a k) in
+    let y = ap length (take-put_mid at m l ys (at + n) (omega arith) a) in
+    record {
+      place = omega arith;
+      is = take-put_mid at m l ys (at + n) (omega arith) a ∙ ap (λ x. take at l ++ x) q;
+      size = omega (arith, h, x, y, length-drop (at + n) (put_mid at m l ys), length-drop (at + n) l, length-take (at + n) (put_mid at m l ys), length-append (take at l) ys, length-take-le at l a);
+    }
 
 -- ---- the step after an operator's first character
 

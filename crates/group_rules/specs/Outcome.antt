@@ -11,8 +11,11 @@ use Rattle.group_rules.specs.declared.GroupRefusal.{GroupRefusal}
 use Rattle.group_rules.specs.declared.GroupAnswer.{GroupAnswer}
 
 -- 12 times the source's length and 256: the sum for formatting
-abbrev pub group_scratch : ℕ
-group_scratch = 12
+abbrev pub group_each : ℕ
+group_each = 12
+
+abbrev pub group_scratch : List ℕ → ℕ
+group_scratch source = scratch_needed group_each source
 
 -- ---- the refusals: 1, 3, 4, then 14 or 15, whichever place comes first, then 5
 
@@ -22,7 +25,7 @@ GroupOutcome = Result ℕ GroupRefusal
 
 abbrev pub group_tests : List ℕ → ℕ → List Verdict
 group_tests source scratch =
-    long_source source ∷ short_scratch (scratch_needed group_scratch source) scratch ∷ ill_formed source ∷ []
+    long_source source ∷ short_scratch (group_scratch source) scratch ∷ ill_formed source ∷ []
 
 unfoldable pub grouping_in : ℕ → Grouping → GroupOutcome
 grouping_in room (text t) =

@@ -32,7 +32,7 @@ impl Indent {
     pub const MAX: usize = 64;
 
     #[tactic(auto, using(crate::proofs::ListLaws::made_view, crate::proofs::ListLaws::made_filled))]
-    pub(crate) fn new(bytes: &[u8]) -> Self
+    pub fn new(bytes: &[u8]) -> Self
         requires { length bytes.now ≤ max_indent }
         ensures { result ≡ bytes.now }
     {
@@ -45,7 +45,7 @@ impl Indent {
     }
 
     #[tactic(auto, using(crate::proofs::ListLaws::made_view, crate::proofs::ListLaws::made_filled, crate::proofs::ListLaws::length_spaces))]
-    pub(crate) fn spaces(n: usize) -> Self
+    pub fn spaces(n: usize) -> Self
         requires { n ≤ max_indent }
         ensures { result ≡ spaces n }
     {
@@ -58,7 +58,7 @@ impl Indent {
         Self { bytes, len: n }
     }
 
-    pub(crate) fn len(&self) -> usize
+    pub fn len(&self) -> usize
         ensures value { result ≡ length self.now }
         ensures within { result ≤ max_indent }
     {

@@ -101,8 +101,8 @@ fn push_one(
     text::push_line(model, out, slot.text, indent, line, how)
 }
 
-// kept: line and class, layout and indent are not one struct each: no plainer, since of a struct that holds a lent slice
-// the contracts say `k.entry.line.now` (tried), and the facts on both are one record already
+// kept: line and class, layout and indent are not one struct each: no plainer. `Pad` and `Request` took clauses or names
+// away; here the facts on both are one record already, and each contract would say `k.entry.line.now` (tried)
 
 // A plain else joined to the newest line.
 fn join_one(line: &[u8], class: &[u8], model: &[u8], out: &mut [u8], t: Written) -> Written

@@ -1,18 +1,18 @@
 -- The ends of a range: their digits, and the zeros before them.
 use Prim.Native.Nat.{ℕ, zero, suc, ◌+◌, ◌-◌, ◌*◌, ◌≤◌, ◌<◌, max}
-use mathlib.Core.Bool.{Bool, true, false, true≢false}
+use mathlib.Core.Bool.{Bool, true, false, not, true≢false}
 use mathlib.Core.List.{List, [], ◌∷◌, ◌++◌, foldl}
 use mathlib.Core.Logic.{⊎_elim}
 use mathlib.Core.Path.{◌≡◌, refl, sym, ap, ◌∙◌}
-use native.Mathlib.Numerals.{add-one}
 use native.Mathlib.Omega.{arith}
-use borrow.Author.Tests.{lt-ltb, le-ltb, eq-eqb, ne_eqb, eqb-false}
+use borrow.Author.Tests.{lt-ltb, le-ltb, eq-eqb, ne_eqb, eqb-true, eqb-false, not-false, not-true}
 use lib.Dec.{eqb, ltb}
 use lib.ListN.{length, drop, take, get_or, length-drop, drop_of_length-le}
-use lib.Seq.{drop-cons, take-suc, get_or-drop, drop-drop}
+use lib.Seq.{take-nil, drop-cons, take-suc, get_or-drop, drop-drop}
 use Rattle.utf8.proofs.Tests.{split, by_test, in_range_law}
 use Rattle.std.specs.Prelude.{Option, Some, None}
 use Rattle.std.specs.Option.{MatchOption, IsSome}
+use Rattle.blocks.specs.Blocks.{FirstFrom}
 use Rattle.rules.specs.Basics.{choose, is, first_is}
 use Rattle.rules.proofs.Choose.{choose_case, choose_true, choose_false}
 use Rattle.config_rules.specs.Numbers.{is_digit, digit_count, sign, number_len, value}
@@ -142,13 +142,9 @@ first_take p zero s h = absurd (omega arith)
 first_take p (suc n) [] h = refl
 first_take p (suc n) (c ∷ s) h = refl
 
-take_none : (n : ℕ) → take {A = ℕ} n [] ≡ []
-take_none zero = refl
-take_none (suc n) = refl
-
 drop_take_one : (n : ℕ) (s : List ℕ) → drop 1 (take n s) ≡ take (n - 1) (drop 1 s)
 drop_take_one zero s = refl
-drop_take_one (suc n) [] = sym (take_none (suc n - 1))
+drop_take_one (suc n) [] = sym (take-nil (suc n - 1))
 drop_take_one (suc n) (c ∷ s) = let z : suc n - 1 ≡ n = omega arith in rw z
 
 module _ (cs : List ℕ) (from n i : ℕ) (e : n ≡ number_len (drop from cs)) (some : 0 < n) (k : from + n ≤ length cs) where
@@ -228,56 +224,37 @@ module _ (cs : List ℕ) (from n i : ℕ) (e : n ≡ number_len (drop from cs)) 
 
 -- ---- zeros
 
-pub record Zeros (cs : List ℕ) (from end i : ℕ) : Type 0 where
-  pub start : from ≤ i
-  pub stop : i ≤ end
-  pub inside : end ≤ length cs
-  pub zeros : (j : ℕ) → from ≤ j → j < i → get_or cs j 0 ≡ 48
-  pub is : past_zeros cs from (end - from) ≡ past_zeros cs i (end - i)
+past_first : (cs : List ℕ) (from n i : ℕ) → from ≤ i → i ≤ from + n → ((j : ℕ) → from ≤ j → j < i → get_or cs j 0 ≡ 48)
+    → (i < from + n → get_or cs i 0 ≡ 48 → ⊥) → i ≡ past_zeros cs from n
+unfolding past_zeros choose
+past_first cs from zero i a b zeros other = omega arith
+past_first cs from (suc n) i a b zeros other =
+    ⊎_elim
+    (λ (h : from < i).
+    rw (eq-eqb (get_or cs from 0) 48 (zeros from (omega arith) h))
+    (past_first cs (suc from) n i (omega arith) (omega arith) (λ j x y. zeros j (omega arith) y) (λ x. other (omega arith))))
+    (λ (h : i ≤ from). let e : from ≡ i = omega arith in rw (e, ne_eqb (get_or cs i 0) 48 (other (omega arith))) refl)
+    (split from i)
 
-pub zeros_start : (cs : List ℕ) (from end : ℕ) → from ≤ end → end ≤ length cs → Zeros cs from end from
-zeros_start cs from end h k = record { start = omega arith; stop = h; inside = k; zeros = λ j a b. absurd (omega arith); is = refl }
+-- what a search for another character gives
+abbrev pub nonzero_at : List ℕ → ℕ → Bool
+nonzero_at cs i = not (eqb (get_or cs i 0) 48)
 
-module _ (cs : List ℕ) (from end i : ℕ) (w : Zeros cs from end i) where
-  past_here : i < end → past_zeros cs i (end - i) ≡ choose (eqb (get_or cs i 0) 48) (past_zeros cs (suc i) (end - suc i)) i
-  unfolding past_zeros
-  past_here h = let e : end - i ≡ suc (end - suc i) = omega arith in rw e
+pub zeros_first : (cs : List ℕ) (from end i : ℕ) → FirstFrom (nonzero_at cs) from end i → PastZeros cs from end i
+zeros_first cs from end i f =
+    record {
+      start = f.from;
+      stop = f.within;
+      zeros = zeros;
+      other = other;
+      is = past_first cs from (end - from) i f.from (omega (arith, f.from, f.within)) zeros (λ h. other (omega (arith, f.from, f.within)));
+    }
+  where
+    zeros : (j : ℕ) → from ≤ j → j < i → get_or cs j 0 ≡ 48
+    zeros j a b = eqb-true _ _ (not-false _ (f.none j a b))
 
-  past_none : end ≤ i → past_zeros cs i (end - i) ≡ i
-  unfolding past_zeros
-  past_none h = let e : end - i ≡ 0 = omega arith in rw e
-
-  pub zeros_found : i < end → (get_or cs i 0 ≡ 48 → ⊥) → PastZeros cs from end i
-  zeros_found h n =
-      record {
-        start = w.start;
-        stop = w.stop;
-        zeros = w.zeros;
-        other = λ x. n;
-        is = sym (w.is ∙ past_here h ∙ choose_false _ _ _ (ne_eqb (get_or cs i 0) 48 n));
-      }
-
-  pub zeros_more : i < end → get_or cs i 0 ≡ 48 → Zeros cs from end (i + 1)
-  zeros_more h e =
-      let s : from ≤ i = w.start in
-      record {
-        start = omega arith;
-        stop = omega arith;
-        inside = w.inside;
-        zeros = λ j a b.
-            ⊎_elim (λ (t : j < i). w.zeros j a t) (λ (t : i ≤ j). let z : j ≡ i = omega arith in rw z e) (split j i);
-        is = w.is ∙ past_here h ∙ choose_true _ _ _ (eq-eqb (get_or cs i 0) 48 e) ∙ rw (add-one i);
-      }
-
-  pub zeros_end : end ≤ i → PastZeros cs from end i
-  zeros_end h =
-      record {
-        start = w.start;
-        stop = w.stop;
-        zeros = w.zeros;
-        other = λ x. absurd (omega arith);
-        is = sym (w.is ∙ past_none h);
-      }
+    other : i < end → get_or cs i 0 ≡ 48 → ⊥
+    other h = eqb-false _ _ (not-true _ (f.passes h))
 
 -- ---- the range
 

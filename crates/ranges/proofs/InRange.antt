@@ -1,13 +1,13 @@
 -- A range by the orders of a number against its two ends: what `inRange` says, said without large numbers.
 use Prim.Native.Nat.{ℕ, zero, suc, ◌+◌, ◌≤◌, ◌<◌}
-use mathlib.Core.Bool.{Bool, true, false, not, ◌&&◌, ◌||◌, and-false, and-true, and_comm, or_comm}
+use mathlib.Core.Bool.{Bool, true, false, not, ◌&&◌, ◌||◌, and-false, and-true, and_assoc, and_comm, or_assoc, or_comm}
 use mathlib.Core.List.{List, [], ◌∷◌}
 use mathlib.Core.Logic.{⊎_elim}
 use mathlib.Core.Path.{◌≡◌, refl, sym, ap, ◌∙◌}
 use native.Mathlib.Nat.{zero-add, add-zero, add_comm}
 use native.Mathlib.Omega.{arith}
-use borrow.Author.Tests.{lt-ltb, le-leb, lt-leb, eq-eqb, ne_eqb, eqb-true, eqb-false}
-use lib.Dec.{eqb, ltb, leb}
+use borrow.Author.Tests.{lt-ltb, le-leb, lt-leb, ne_eqb}
+use lib.Dec.{eqb, eqb-suc-suc, ltb, leb}
 use lib.ListN.{length, drop, take}
 use Rattle.std.specs.declared.cmp.Ordering.{Ordering}
 use Rattle.utf8.proofs.Tests.{split, by_test}
@@ -17,20 +17,15 @@ use Rattle.config_rules.specs.Numbers.{is_digit, digit_count, sign, number_len, 
 use Rattle.config_rules.specs.Globs.{Strings, some_then}
 use Rattle.std.specs.Ordering.{nat_cmp, is_eq, is_le, is_ge}
 use Rattle.ranges.specs.Slots.{all_digits, all, number, from, minus, size, in_plain, in_minus, valid, not_above, not_below, inside, near}
-use Rattle.ranges.proofs.OrderLaws.{whole_at, whole_at_law, at, from_next, at_number, order_less, order_more, order_same, some_same, and_assoc}
+use Rattle.ranges.proofs.OrderLaws.{whole_at, whole_at_law, at, from_next, at_number, order_less, order_more, order_same, some_same}
 
 -- ---- a number is digits
-
-eqb_suc : (a b : ℕ) → eqb (suc a) (suc b) ≡ eqb a b
-eqb_suc a b =
-    by_test (eqb a b) (λ t. let e : a ≡ b = eqb-true a b t in eq-eqb (suc a) (suc b) (ap suc e) ∙ sym t)
-    (λ t. ne_eqb (suc a) (suc b) (λ q. eqb-false a b t (omega arith)) ∙ sym t)
 
 digits_all : (l : List ℕ) → eqb (digit_count l) (length l) ≡ all_digits l
 unfolding digit_count all_digits
 digits_all [] = refl
 digits_all (c ∷ l) =
-    by_test (is_digit c) (λ t. rw (choose_true (is_digit c) (suc (digit_count l)) 0 t, t) (eqb_suc (digit_count l) (length l) ∙ digits_all l))
+    by_test (is_digit c) (λ t. rw (choose_true (is_digit c) (suc (digit_count l)) 0 t, t) (eqb-suc-suc (digit_count l) (length l) ∙ digits_all l))
     (λ t. rw (choose_false (is_digit c) (suc (digit_count l)) 0 t, t) (ne_eqb 0 (suc (length l)) (λ q. absurd (omega arith))))
 
 plain_len : (d n : ℕ) → (ltb 0 (choose (eqb d 0) 0 (0 + d)) && eqb (choose (eqb d 0) 0 (0 + d)) n) ≡ (eqb d n && ltb 0 n)
@@ -47,7 +42,7 @@ minus_len zero (suc n) = rw (ne_eqb 0 (suc n) (λ q. absurd (omega arith)))
 minus_len (suc d) zero = rw (ne_eqb (suc d) 0 (λ q. absurd (omega arith)), ne_eqb (1 + suc d) 1 (λ q. absurd (omega arith)), and-false (ltb 0 (1 + suc d)))
 minus_len (suc d) (suc n) =
     let e : 1 + suc d ≡ suc (suc d) = omega arith in
-    rw (ne_eqb (suc d) 0 (λ q. absurd (omega arith)), e, lt-ltb 0 (suc (suc d)) (omega arith), lt-ltb 0 (suc n) (omega arith), and-true (eqb (suc d) (suc n))) (eqb_suc (suc d) (suc n))
+    rw (ne_eqb (suc d) 0 (λ q. absurd (omega arith)), e, lt-ltb 0 (suc (suc d)) (omega arith), lt-ltb 0 (suc n) (omega arith), and-true (eqb (suc d) (suc n))) (eqb-suc-suc (suc d) (suc n))
 
 -- ---- an end of the range: its sign, and the order of a number against its value
 
@@ -155,10 +150,6 @@ range_else m n k c s h =
     (some_same (λ (l : List ℕ). in_range m n (c ∷ l)) (λ (l : List ℕ). number (in_plain m n) (c ∷ l)) k s (λ l. range_plain m n (c ∷ l) (minus_first c l h)))
 
 -- ---- the numbers of 1 to w characters, each by what is kept of it, and the longer ones
-
-or_assoc : (a b c : Bool) → ((a || b) || c) ≡ (a || (b || c))
-or_assoc true b c = refl
-or_assoc false b c = refl
 
 pub some_number : (f : ℕ → Bool) (k : Strings) (w : ℕ) (s : List ℕ) → some_then (number f) k s ≡ (near f k w s || from (number f) k (suc w) s)
 unfolding near

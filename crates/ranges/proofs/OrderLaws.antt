@@ -2,7 +2,7 @@
 -- lowest on. Reading the path from its end, each digit is put before the ones read: the new digit decides, and where it
 -- equals the end's digit of that place the order so far stays.
 use Prim.Native.Nat.{ℕ, zero, suc, ◌+◌, ◌-◌, ◌*◌, ◌≤◌, ◌<◌}
-use mathlib.Core.Bool.{Bool, true, false, ◌&&◌, ◌||◌, and-false, and-true, or-false, true≢false}
+use mathlib.Core.Bool.{Bool, true, false, ◌&&◌, ◌||◌, and-false, and-true, and_assoc, or-false, true≢false}
 use mathlib.Core.List.{List, [], ◌∷◌, foldl}
 use mathlib.Core.Logic.{⊎_elim}
 use mathlib.Core.Path.{◌≡◌, refl, sym, ap, ◌∙◌}
@@ -244,10 +244,6 @@ unfolding at fits
 at_is p k zero s = refl
 at_is p k (suc j) [] = refl
 at_is p k (suc j) (c ∷ s) = at_is (λ (l : List ℕ). p (c ∷ l)) k j s
-
-pub and_assoc : (a b c : Bool) → ((a && b) && c) ≡ (a && (b && c))
-and_assoc true b c = refl
-and_assoc false b c = refl
 
 and_swap : (a b c : Bool) → (a && (b && c)) ≡ (b && (a && c))
 and_swap true true c = refl

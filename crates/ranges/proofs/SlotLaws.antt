@@ -2,7 +2,7 @@
 use Prim.Native.Nat.{ℕ, zero, suc, ◌+◌, ◌-◌, ◌≤◌, ◌<◌}
 use mathlib.Core.Bool.{Bool, false, ◌&&◌, ◌||◌}
 use mathlib.Core.List.{List}
-use mathlib.Core.Logic.{◌⊎◌, inl, inr, ⊎_elim}
+use mathlib.Core.Logic.{⊎_elim}
 use mathlib.Core.Path.{◌≡◌, refl, sym, ap, ◌∙◌}
 use native.Mathlib.Numerals.{add-one}
 use native.Mathlib.Omega.{arith}
@@ -80,16 +80,13 @@ module _ (cs : List ℕ) (p : ℕ) (r : Range) (c : ℕ) (l₀ : List (Option Or
         above = λ i a. get_or-set_other l (p + j) i x None (λ q. absurd (omega arith)) ∙ w.above i a;
         slots = λ i a k.
             ⊎_elim
-            (λ (t : j ≤ i). get_or-set_other l (p + j) (p + suc i) x None (λ q. absurd (omega arith)) ∙ w.slots i t k)
             (λ (t : i < j).
             let z : i ≡ j - 1 = omega arith in
             let u : p + suc i ≡ p + j = omega arith in
             rw (u, get_or-set_same l (p + j) x None (omega arith), z) y)
-            (swap (split i j));
+            (λ (t : j ≤ i). get_or-set_other l (p + j) (p + suc i) x None (λ q. absurd (omega arith)) ∙ w.slots i t k)
+            (split i j);
       }
-    where
-      swap : {A B : Type 0} → A ⊎ B → B ⊎ A
-      swap t = ⊎_elim (λ a. inr a) (λ b. inl b) t
 
   pub moving_end : j ≤ 0 → Moved cs p r c l₀ l
   moving_end z =

@@ -170,6 +170,8 @@ fn slot_in(slot: Option<Orders>, j: usize, range: Range) -> bool
 }
 
 // The slots of the range at p, one character more of the path: each is moved one up, the highest first.
+// kept: the new form is no plainer: no kind is read here or below, and a `Name` without kinds makes `chars.now`
+// `name.entry.chars.now`
 fn slots_next(chars: &[u32], slots: &mut [Option<Orders>; PLACES], p: usize, range: Range, c: u32)
     requires { RangeOf chars.now p range × (length chars.now < PLACES) }
     ensures { Moved chars.now p range c slots.old slots.new }
@@ -212,12 +214,7 @@ fn past_zeros(chars: &[u32], from: usize, end: usize) -> usize
     requires { (from ≤ end) × (end ≤ length chars.now) }
     ensures { PastZeros chars.now from end result }
 {
-    for i in from..end {
-        if chars[i] != 48 {
-            return i;
-        }
-    }
-    end
+    blocks::first_from(from, end, &|i| chars[i] != 48)
 }
 
 // The end of a range that stands at `from` and is n characters long.

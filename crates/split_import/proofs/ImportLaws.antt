@@ -8,6 +8,7 @@ use Rattle.std.specs.Prelude.{Some, None}
 use Rattle.std.specs.Prelude as code
 use mathlib.Core.Path.{◌≡◌, refl, sym, ap, ◌∙◌, subst}
 use native.Mathlib.Numerals.{add-one}
+use native.Mathlib.Nat.{add-zero}
 use native.Mathlib.Omega.{arith}
 use lib.Dec.{eqb, ltb}
 use lib.ListN.{length, get_or, take, drop, length-append, length-drop, length-take, drop_of_length-le}
@@ -20,7 +21,7 @@ use Rattle.buffer.proofs.RegionLaws.{part_from}
 use Rattle.compare.proofs.WriterLaws.{compared_append}
 use Rattle.utf8.specs.Unicode.{encode_char, encode, decode, Scalars, trim_end}
 use Rattle.utf8.specs.Places.{TrimmedEnd}
-use Rattle.blocks.specs.Blocks.{NoneFrom}
+use Rattle.blocks.specs.Blocks.{NoneFrom, FirstFrom}
 use Rattle.utf8.proofs.Tests.{and_right}
 use Rattle.utf8.proofs.Table.{encode_char_1, Bytes, single, several}
 use Rattle.utf8.proofs.Table.{bytes as bytes_of}
@@ -41,7 +42,7 @@ use Rattle.split.specs.Text.{indented, lay, following, last_of, LineRoom, LineWr
 use Rattle.split.proofs.TextLaws.{following_append, last_append, written_lines, lay_encode, indent_short, level_fits, deeper_fits}
 use Rattle.split_import.specs.declared.NameLines.{NameLines}
 use Rattle.split_import.specs.declared.ImportLines.{ImportLines}
-use Rattle.split_import.specs.Names.{code_byte, byte_at, parts, CountableNames, names_text, NamesFit, NamesWritten}
+use Rattle.split_import.specs.Names.{code_byte, byte_at, code_at, parts, CountableNames, names_text, NamesFit, NamesWritten}
 use Rattle.split_import.specs.Import.{Given, ImportFits, HeadFits, head_line, HeadWritten, Braces, parts_of}
 
 -- ---- the word
@@ -68,18 +69,6 @@ code_yes c b k e = rw (code_byte_law k, eq-eqb k 0 e)
 pub code_no : (c b k : ℕ) → (k ≡ 0 → ⊥) → false ≡ (is_code (class_of k) && eqb b c)
 code_no c b k n = rw (code_byte_law k, ne_eqb k 0 n)
 
-module _ (c : ℕ) (line class : List ℕ) (i : ℕ) (q : Finding (code_byte c) line class i) (room : length line ≤ length class) where
-  pub code_more : (r : Bool) → i < length line → r ≡ (is_code (class_of (get_or class i 0)) && eqb (get_or line i 0) c) → r ≡ false → Finding (code_byte c) line class (i + 1)
-  code_more r h e f = find_more q h room (sym e ∙ f)
-
-  pub code_found : (r : Bool) → i < length line → r ≡ (is_code (class_of (get_or class i 0)) && eqb (get_or line i 0) c) → r ≡ true → FirstAt (code_byte c) line class i
-  code_found r h e f = find_stop q h room (sym e ∙ f)
-
-  pub code_end : length line ≤ i → FirstAt (code_byte c) line class (length line)
-  code_end h =
-      let e : i ≡ length line = omega (arith, q.within) in
-      subst (FirstAt (code_byte c) line class) e (find_end q h)
-
 -- ---- blocks without a byte
 
 -- where the byte isn't, no code character is that byte
@@ -92,8 +81,32 @@ code_skip c line class room (suc i) h f =
     other true e = e
     other false e = refl
 
-pub code_begin : (c : ℕ) (line class : List ℕ) (i : ℕ) → length line ≤ length class → NoneFrom (byte_at c line) 0 (length line) i → Finding (code_byte c) line class i
+code_begin : (c : ℕ) (line class : List ℕ) (i : ℕ) → length line ≤ length class → NoneFrom (byte_at c line) 0 (length line) i → Finding (code_byte c) line class i
 code_begin c line class i room q = code_skip c line class room i q.within (λ j l. q.none j zero-le l)
+
+-- ---- the first code character after them
+
+module _ (c : ℕ) (line class : List ℕ) (start : ℕ) (room : length line ≤ length class) (b : NoneFrom (byte_at c line) 0 (length line) start)
+    (r : ℕ) (f : FirstFrom (code_at c line class) start (length line) r)
+  where
+    code_run : (n : ℕ) → start + n ≤ r → Finding (code_byte c) line class (start + n)
+    code_run zero h = rw (add-zero start) (code_begin c line class start room b)
+    code_run (suc n) h =
+        let e : start + suc n ≡ start + n + 1 = omega arith in
+        rw e (find_more (code_run n (omega arith)) (omega (arith, f.within)) room (f.none (start + n) (omega arith) (omega arith)))
+
+    code_scan : Finding (code_byte c) line class r
+    code_scan =
+        let e : start + (r - start) ≡ r = omega (arith, f.from) in
+        subst (λ (i : ℕ). Finding (code_byte c) line class i) e (code_run (r - start) (omega arith))
+
+    pub code_found : r < length line → FirstAt (code_byte c) line class r
+    code_found h = find_stop code_scan h room (f.passes h)
+
+    pub code_end : length line ≤ r → FirstAt (code_byte c) line class (length line)
+    code_end h =
+        let e : r ≡ length line = omega (arith, f.within) in
+        subst (FirstAt (code_byte c) line class) e (find_end code_scan h)
 
 -- ---- the lines of an import
 

@@ -1,5 +1,5 @@
 -- Laws of the names of an import.
-use Prim.Native.Nat.{ℕ, ◌+◌, ◌-◌, ◌*◌, ◌^◌, ◌≤◌, ◌<◌, zero-le}
+use Prim.Native.Nat.{ℕ, zero, suc, ◌+◌, ◌-◌, ◌*◌, ◌^◌, ◌≤◌, ◌<◌, zero-le}
 use mathlib.Core.Bool.{Bool, true, false, cond}
 use mathlib.Core.List.{List, [], ◌∷◌, ◌++◌, map, map-append, foldl, reverse, reverse-cons, append-nil, append_assoc}
 use Rattle.std.specs.Prelude.{Option, Some, None}
@@ -9,7 +9,7 @@ use native.Mathlib.Omega.{arith}
 use lib.Dec.{eqb, leb, ltb}
 use lib.ListN.{length, get_or, take, drop, length-append, length-drop, drop_of_length-le}
 use lib.Seq.{drop-cons, drop-drop, take-suc}
-use borrow.Author.Tests.{eq-eqb, ne_eqb, eqb-true, le-leb, lt-leb, leb-true, leb-false, le-ltb, lt-ltb}
+use borrow.Author.Tests.{eq-eqb, ne_eqb, eqb-true, eqb-false, le-leb, lt-leb, ltb-true, ltb-false, leb-true, leb-false, le-ltb, lt-ltb}
 use Rattle.buffer.specs.Buffer.{part}
 use Rattle.compare.specs.Common.{Compared}
 use Rattle.buffer.specs.Repeat.{times}
@@ -33,7 +33,12 @@ use Rattle.rules.proofs.SplitSizes.{blank_ascii}
 use Rattle.rules.proofs.Scalars.{AllScalars, all_decode, split_scalars}
 use Rattle.split.proofs.TextLaws.{all_well, following_append, indent_short}
 use Rattle.split_import.specs.declared.Filled.{Filled}
-use Rattle.split_import.specs.Names.{left, NameLen, parts, CountableNames, Spaced, NamePlace, Named, NameMeasured, NewestAt, column_of, NameFits, names_text, OnNewLine, AddedTo, Added, NamesFit, NamesWritten}
+use Rattle.std.specs.Bool.{MatchBool}
+use Rattle.std.specs.List.{All, slice_split, onto_first, IsFirstMatchOrLen}
+use Rattle.std.proofs.lemmas.Grind.{common_steps}
+use Rattle.std.proofs.lemmas.List.Splits.{slice_split_none, slice_split_at, slice_split-cons_yes, slice_split-cons_no}
+use Rattle.blocks.specs.Blocks.{FirstFrom}
+use Rattle.split_import.specs.Names.{byte_at, left, NameLen, parts, CountableNames, Spaced, NamePlace, Named, NameMeasured, NewestAt, column_of, NameFits, names_text, OnNewLine, AddedTo, Added, NamesFit, NamesWritten}
 
 -- ---- pieces between commas
 
@@ -66,7 +71,7 @@ name_fits s a n h q = omega (arith, q.fits, ap length (part_from s a), length-dr
 
 -- ---- the first piece: no comma stands before i
 
-pub record NameScan (s : List ℕ) (i : ℕ) : Type 0 where
+record NameScan (s : List ℕ) (i : ℕ) : Type 0 where
   pub within : i ≤ length s
   pub first : (split_on "," s).first ≡ take i s ++ (split_on "," (drop i s)).first
   pub rest : (split_on "," s).rest ≡ (split_on "," (drop i s)).rest
@@ -75,11 +80,11 @@ split_cons : (s : List ℕ) (i : ℕ) → i < length s → split_on "," (drop i 
 unfolding split_on
 split_cons s i h = rw (add-one, drop-cons s i 0)
 
-pub name_begin : (s : List ℕ) → NameScan s 0
+name_begin : (s : List ℕ) → NameScan s 0
 name_begin s = record { within = zero-le; first = refl; rest = refl }
 
 module _ (s : List ℕ) (i : ℕ) (q : NameScan s i) where
-  pub name_more : i < length s → (get_or s i 0 ≡ 44 → ⊥) → NameScan s (i + 1)
+  name_more : i < length s → (get_or s i 0 ≡ 44 → ⊥) → NameScan s (i + 1)
   unfolding at_sep
   name_more h n =
       let e : split_on "," (drop i s) ≡ at_sep false (get_or s i 0) (split_on "," (drop (i + 1) s)) = rw (ne_eqb (get_or s i 0) 44 n) at (split_cons s i h) in
@@ -89,7 +94,7 @@ module _ (s : List ℕ) (i : ℕ) (q : NameScan s i) where
         rest = q.rest ∙ ap (λ (p : Pieces). p.rest) e;
       }
 
-  pub name_found : i < length s → get_or s i 0 ≡ 44 → NameLen s i
+  name_found : i < length s → get_or s i 0 ≡ 44 → NameLen s i
   unfolding at_sep
   name_found h n =
       let e : split_on "," (drop i s) ≡ at_sep true (get_or s i 0) (split_on "," (drop (i + 1) s)) = rw (eq-eqb (get_or s i 0) 44 n) at (split_cons s i h) in
@@ -97,13 +102,26 @@ module _ (s : List ℕ) (i : ℕ) (q : NameScan s i) where
       let r : (split_on "," s).rest ≡ pieces (split_on "," (drop (i + 1) s)) = q.rest ∙ ap (λ (p : Pieces). p.rest) e in
       record { fits = q.within; is = rw (f, r, left_some s (i + 1) (omega arith)) }
 
-  pub name_end : length s ≤ i → NameLen s i
+  name_end : length s ≤ i → NameLen s i
   unfolding split_on
   name_end h =
       let d : drop i s ≡ [] = drop_of_length-le s {i = i} h in
       let f : (split_on "," s).first ≡ take i s = q.first ∙ rw (d, append-nil) in
       let r : (split_on "," s).rest ≡ [] = q.rest ∙ rw d in
       record { fits = q.within; is = rw (f, r, left_none s (i + 1) (omega arith)) }
+
+-- the first comma, as `first_from` finds it
+module _ (s : List ℕ) (r : ℕ) (f : FirstFrom (byte_at 44 s) 0 (length s) r) where
+  name_run : (n : ℕ) → n ≤ r → NameScan s n
+  name_run zero h = name_begin s
+  name_run (suc n) h =
+      rw (← (add-one n)) (name_more s n (name_run n (omega arith)) (omega (arith, f.within)) (eqb-false (get_or s n 0) 44 (f.none n zero-le (omega arith))))
+
+  pub name_first : NameLen s r
+  name_first =
+      by_test (ltb r (length s))
+      (λ t. let h : r < length s = ltb-true r (length s) t in name_found s r (name_run r (omega arith)) h (eqb-true (get_or s r 0) 44 (f.passes h)))
+      (λ t. name_end s r (name_run r (omega arith)) (ltb-false r (length s) t))
 
 -- ---- the pieces' characters
 
@@ -206,47 +224,91 @@ module _ (s : List ℕ) (a n : ℕ) (h : a ≤ length s) (l : NameLen (take (len
     blanks_name z =
         ap (λ (ps : List (List ℕ)). blanks_of (map decode ps)) cons ∙ blanks_some chars later (name_piece s a (a + n) p u (name_fits s a n h l) z)
 
--- ---- whether there are two names: one of the pieces before a is, or none
+-- ---- the pieces as `split` gives them
 
-pub record Counting (s : List ℕ) (some : Bool) (a : ℕ) : Type 0 where
-  pub pre : CountableNames s
-  pub within : a ≤ length s + 1
-  pub well : AllWell (left s a)
-  pub named : length (names_of (parts s)) ≡ cond some 1 0 + length (names_of (map decode (left s a)))
+abbrev pub comma : ℕ → Bool
+comma b = eqb b 44
 
-pub counting_start : (s : List ℕ) → CountableNames s → Counting s false 0
+split_list : (s : List ℕ) → slice_split comma s ≡ pieces (split_on "," s)
+unfolding split_on at_sep
+split_list [] = refl
+split_list (b ∷ s) =
+    by_test (comma b)
+    (λ t. slice_split-cons_yes comma b s t ∙ ap (λ (l : List (List ℕ)). [] ∷ l) (split_list s) ∙ sym (ap (λ (c : Bool). pieces (at_sep c b (split_on "," s))) t))
+    (λ t. slice_split-cons_no comma b s t ∙ ap (onto_first b) (split_list s) ∙ sym (ap (λ (c : Bool). pieces (at_sep c b (split_on "," s))) t))
+
+-- those that are left; none once all are given
+abbrev pub unread : Bool → List ℕ → List (List ℕ)
+unread done rest = cond done [] (slice_split comma rest)
+
+-- what `split` says of the piece x that it gives
+abbrev pub Cut : List ℕ → List ℕ → List ℕ → Bool → Type 0
+Cut rest x rest' done = MatchBool done (rest ≡ x) ((y : ℕ) × (rest ≡ x ++ (y ∷ rest')))
+
+split_step : (rest x rest' : List ℕ) (done : Bool) → Cut rest x rest' done → IsFirstMatchOrLen comma rest (length x) → slice_split comma rest ≡ x ∷ unread done rest'
+split_step rest x rest' true e h = ap (slice_split comma) e ∙ slice_split_none comma x (λ k d l. subst (λ (ys : List ℕ). comma (get_or ys k d) ≡ false) e (h.0 k d (omega arith) l))
+split_step rest x rest' false e h =
+    let front : All (λ z. comma z ≡ false) x = λ k d l. let a = h.0 k d (omega arith) l in let b = e.1 in grind (arith, common_steps) in
+    let hit : comma e.0 ≡ true = let b = e.1 in let a = h.1 (grind (arith, common_steps)) e.0 in grind (arith, common_steps) in
+    ap (slice_split comma) e.1 ∙ slice_split_at comma x e.0 rest' front hit
+
+-- ---- whether there are two names: one of the pieces that were given is, or none
+
+pub record Counting (s : List ℕ) (some done : Bool) (rest : List ℕ) : Type 0 where
+  pub well : AllWell (unread done rest)
+  pub named : length (names_of (parts s)) ≡ cond some 1 0 + length (names_of (map decode (unread done rest)))
+
+pub counting_start : (s : List ℕ) → CountableNames s → Counting s false false s
 counting_start s c =
     let q : AllPieces s = all_pieces s c.well in
-    record { pre = c; within = zero-le; well = q.well; named = rw (← q.chars) (omega arith) }
+    let e : left s 0 ≡ slice_split comma s = left_some s 0 zero-le ∙ sym (split_list s) in
+    let n : length (names_of (parts s)) ≡ length (names_of (map decode (slice_split comma s))) = ap (λ (l : List (List ℕ)). length (names_of l)) (sym q.chars ∙ ap (map decode) e) in
+    record { well = subst AllWell e q.well; named = omega (arith, n) }
 
-module _ (s : List ℕ) (some : Bool) (a : ℕ) (q : Counting s some a) (n : ℕ) (h : a ≤ length s) (l : NameLen (take (length s - a) (drop a s)) n) (p : Part) (u : Trimmed s a (a + n) p) where
-  pub counting_blank : p.start ≡ p.end → Counting s some (a + n + 1)
-  counting_blank z =
-      record {
-        pre = q.pre;
-        within = omega (arith, name_fits s a n h l);
-        well = well_left s a n h l q.well;
-        named = q.named ∙ ap (λ (ns : List (List ℕ)). cond some 1 0 + length ns) (names_blank s a n h l p u z);
-      }
+module _ (s : List ℕ) (some done done' : Bool) (rest rest' x : List ℕ) (q : Counting s some done rest) (d : done ≡ false) (c : Cut rest x rest' done') (f : IsFirstMatchOrLen comma rest (length x)) where
+  cut : unread done rest ≡ x ∷ unread done' rest'
+  cut = ap (λ (b : Bool). unread b rest) d ∙ split_step rest x rest' done' c f
 
-  module _ (z : p.start ≡ p.end → ⊥) where
-    pub counting_first : some ≡ false → Counting s true (a + n + 1)
-    counting_first e =
+  whole : part x 0 (length x) ≡ x
+  whole = part_from x 0
+
+  wells : AllWell (x ∷ unread done' rest')
+  wells = subst AllWell cut q.well
+
+  named_now : length (names_of (parts s)) ≡ cond some 1 0 + length (names_of (decode x ∷ map decode (unread done' rest')))
+  named_now = q.named ∙ ap (λ (l : List (List ℕ)). cond some 1 0 + length (names_of (map decode l))) cut
+
+  pub piece_whole : Within x 0 (length x)
+  piece_whole = record { order = zero-le; fits = omega arith; well = rw whole (wells.0) }
+
+  module _ (p : Part) (u : Trimmed x 0 (length x) p) where
+    pub counting_blank : p.start ≡ p.end → Counting s some done' rest'
+    counting_blank z =
+        let t : trim (decode x) ≡ [] = rw whole at (blank_piece x 0 (length x) p u (omega arith) z) in
         record {
-          pre = q.pre;
-          within = omega (arith, name_fits s a n h l);
-          well = well_left s a n h l q.well;
-          named = q.named ∙ rw (e, names_name s a n h l p u z) (omega arith);
+          well = wells.1;
+          named = named_now ∙ ap (λ (l : List (List ℕ)). cond some 1 0 + length l) (names_cons (decode x) (map decode (unread done' rest')) ∙ cons_none (trim (decode x)) (names_of (map decode (unread done' rest'))) t);
         }
 
-    pub counting_second : some ≡ true → false ≡ ltb (length (names_of (parts s))) 2
-    counting_second e =
-        let one : length (names_of (parts s)) ≡ 1 + length (names_of (map decode (left s a))) = rw e at q.named in
-        sym (le-ltb (length (names_of (parts s))) 2 (omega (arith, ap length (names_name s a n h l p u z))))
+    module _ (z : p.start ≡ p.end → ⊥) where
+      one_more : names_of (decode x ∷ map decode (unread done' rest')) ≡ trim (decode x) ∷ names_of (map decode (unread done' rest'))
+      one_more =
+          let t : 0 < length (trim (decode x)) = rw whole at (name_piece x 0 (length x) p u (omega arith) z) in
+          names_cons (decode x) (map decode (unread done' rest')) ∙ cons_some (trim (decode x)) (names_of (map decode (unread done' rest'))) t
 
-pub counting_end : (s : List ℕ) (some : Bool) (a : ℕ) → Counting s some a → length s < a → true ≡ ltb (length (names_of (parts s))) 2
+      pub counting_first : some ≡ false → Counting s true done' rest'
+      counting_first e =
+          let n = rw e at named_now in
+          record { well = wells.1; named = omega (arith, n, ap length one_more) }
+
+      pub counting_second : some ≡ true → false ≡ ltb (length (names_of (parts s))) 2
+      counting_second e =
+          let n = rw e at named_now in
+          sym (le-ltb (length (names_of (parts s))) 2 (omega (arith, n, ap length one_more)))
+
+pub counting_end : (s : List ℕ) (some done : Bool) (rest : List ℕ) → Counting s some done rest → done ≡ true → true ≡ ltb (length (names_of (parts s))) 2
 unfolding names_of
-counting_end s some a q h = sym (lt-ltb (length (names_of (parts s))) 2 (go some (q.named ∙ rw (left_none s a h))))
+counting_end s some done rest q d = sym (lt-ltb (length (names_of (parts s))) 2 (go some (rw d at q.named)))
   where
     go : (some : Bool) → length (names_of (parts s)) ≡ cond some 1 0 + 0 → length (names_of (parts s)) < 2
     go true e = omega arith

@@ -7,7 +7,7 @@ use Rattle.utf8.specs.Unicode.{encode, decode, WellFormed}
 use Rattle.rules.specs.Basics.{choose, pieces, split_on}
 use Rattle.rules.specs.Options.{measure}
 use Rattle.rules.specs.Scan.{Cell, is_code}
-use Rattle.rules.specs.ClassBytes.{FirstAt}
+use Rattle.rules.specs.ClassBytes.{class_of, FirstAt}
 use Rattle.rules.specs.SplitImport.{names_of, blanks_of, with_comma, add_name, fill_names}
 use Rattle.utf8.specs.declared.Utf16Column.{Utf16Column}
 use Rattle.split.specs.declared.Part.{Part}
@@ -24,6 +24,10 @@ code_byte c x = is_code x.class && eqb x.ch c
 abbrev pub FoundCode : ℕ → List ℕ → List ℕ → Option ℕ → Type 0
 FoundCode c line class None = FirstAt (code_byte c) line class (length line)
 FoundCode c line class (Some i) = FirstAt (code_byte c) line class i × (i < length line)
+
+-- the code character c stands at i
+abbrev pub code_at : ℕ → List ℕ → List ℕ → ℕ → Bool
+code_at c line class i = is_code (class_of (get_or class i 0)) && eqb (get_or line i 0) c
 
 -- the byte at i is b
 abbrev pub byte_at : ℕ → List ℕ → ℕ → Bool

@@ -54,25 +54,17 @@ fn find_code(line: &[u8], class: &[u8], c: u8) -> Option<usize>
     requires { length line.now ≤ length class.now }
     ensures { FoundCode c line.now class.now result }
 {
-    let start = blocks::past_blocks::<16, _>(0, line.len(), &|i| line[i] == c);
-    for i in start..line.len() {
-        if code_is(c, line[i], class[i]) {
-            return Some(i);
-        }
-    }
-    None
+    let end = line.len();
+    let start = blocks::past_blocks::<16, _>(0, end, &|i| line[i] == c);
+    let i = blocks::first_from(start, end, &move |i| code_is(c, line[i], class[i]));
+    if i < end { Some(i) } else { None }
 }
 
 // How many bytes stand before the first comma.
 fn name_len(s: &[u8]) -> usize
     ensures { NameLen s.now result }
 {
-    for (i, &b) in s.iter().enumerate() {
-        if b == b',' {
-            return i;
-        }
-    }
-    s.len()
+    blocks::first_from(0, s.len(), &|i| s[i] == b',')
 }
 
 // Whether fewer than two pieces are names.
@@ -81,12 +73,8 @@ fn few_names(s: &[u8]) -> bool
     ensures { result ≡ ltb (length (names_of (parts s.now))) 2 }
 {
     let mut some = false;
-    let mut a = 0;
-    // kept: a range is no plainer, since a step takes a piece, however long, and the comma behind it
-    while a <= s.len() {
-        let e = a + name_len(&s[a..]);
-        let p = trim_part(s, a, e);
-        a = e + 1;
+    for piece in s.split(|&b| b == b',') {
+        let p = trim_part(piece, 0, piece.len());
         if p.start != p.end {
             if some {
                 return false;

@@ -8,7 +8,7 @@ ghost use Rattle.rules.specs.Strengths.{strengths_in};
 ghost use Rattle.rules.specs.SplitOperation.{in_word, keywords, has_word};
 ghost use Rattle.split_operation.specs.Pass.{PlainTest, NonePending, is_operand, in_gap, QuietRun, Balances};
 ghost use Rattle.split_operation.specs.Pass.{WordStep, starts_keyword, NoKeyword, IsLooser, broken_at, strength_of};
-ghost use Rattle.split_operation.specs.Pass.{Breakable, PassEnd, BreakFound, Cutting, NextOp};
+ghost use Rattle.split_operation.specs.Pass.{Breakable, PassEnd, BreakFound, Cutting, NextOp, Strong};
 
 use basics::{is_blank, is_closer, is_ident, is_opener};
 use rules::Strengths;
@@ -181,18 +181,23 @@ pub struct Cut {
     pub after: OpState,
 }
 
-// Whether an operator of strength a takes over from one of strength b; 0 is none.
-fn is_looser(a: u8, b: u8) -> bool
-    ensures { IsLooser a b result }
-{
-    a != 0 && (b == 0 || a < b)
-}
-
 // The strength that a line is broken at, and the first operator of that strength.
 #[derive(Clone, Copy)]
 pub struct Break {
     pub strength: u8,
     pub cut: Cut,
+}
+
+// Whether an operator of strength a takes over from what was found so far; one of strength 0 never does.
+fn is_looser(a: u8, b: Option<Break>) -> bool
+    requires { Strong b }
+    ensures { IsLooser a (strength_of b) result }
+{
+    a != 0
+        && match b {
+            None => true,
+            Some(b) => a < b.strength,
+        }
 }
 
 fn break_at(i: usize, strength: u8, after: OpState) -> Break
@@ -202,13 +207,6 @@ fn break_at(i: usize, strength: u8, after: OpState) -> Break
         strength,
         cut: Cut { place: i, after },
     }
-}
-
-// The strength of the operator that is kept so far, or 0.
-fn strength_of(b: Option<Break>) -> u8
-    ensures { result ≡ strength_of b }
-{
-    b.map_or(0, |b| b.strength)
 }
 
 // What a pass over the whole line says.
@@ -243,7 +241,7 @@ pub fn find_break(table: &[u8; Strengths::LENGTH], line: &[u8], class: &[u8]) ->
         if s.step(class[i], line[i]) {
             let token = token_at(table, s.operand, &line[i..]);
             let strength = s.take(token);
-            if is_looser(strength, strength_of(b)) {
+            if is_looser(strength, b) {
                 b = Some(break_at(i, strength, s));
             }
         }

@@ -233,8 +233,8 @@ fn ends_outside(class: &[u8]) -> bool
     n != 0 && class[n - 1] != scan::LINE_COMMENT
 }
 
-// kept: line and class, layout and indent are not one struct each: no plainer, since of a struct that holds a lent slice
-// the contracts say `k.entry.line.now` (tried), and the facts on both are one record already
+// kept: line and class, layout and indent are not one struct each: no plainer. `Pad` and `Request` took clauses or names
+// away; here the facts on both are one record already, and each contract would say `k.entry.line.now` (tried)
 
 // The marker of a line with its class bytes.
 fn marker_in(line: &[u8], class: &[u8]) -> Option<Marker>

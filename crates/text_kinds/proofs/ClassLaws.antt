@@ -167,8 +167,6 @@ kind_other (suc (suc zero)) l m n = absurd (m refl)
 kind_other (suc (suc (suc zero))) l m n = absurd (n refl)
 kind_other (suc (suc (suc (suc b)))) l m n = refl
 
--- ---- the loop of `past_clear`
-
 pub without_none : (p : ℕ → Bool) (at : ℕ) → Without p at at
 without_none p at = record { none = λ j l m. absurd (omega arith) }
 

@@ -2,12 +2,15 @@
 use Prim.Native.Nat.{ℕ, zero, suc, ◌+◌, ◌-◌, ◌*◌, ◌/◌, ◌<◌, ◌≤◌, zero-le}
 use native.Mathlib.Omega.{arith}
 use native.Mathlib.Numerals.{add-one}
-use mathlib.Core.Bool.{Bool, true, false, ◌&&◌, ◌||◌}
+use mathlib.Core.Bool.{Bool, true, false, not, ◌&&◌, ◌||◌}
 use mathlib.Core.List.{List, [], ◌∷◌}
 use mathlib.Core.Logic.{◌⊎◌, inl, inr}
 use mathlib.Core.Path.{◌≡◌, refl, sym, ap, ◌∙◌}
-use borrow.Author.Tests.{eq-eqb, ne_eqb, ltb-true, leb-true, eqb-true, eqb-false}
+use borrow.Author.Tests.{eq-eqb, ne_eqb, lt-ltb, le-ltb, le-leb, lt-leb, ltb-true, leb-true, eqb-true, eqb-false}
 use Rattle.std.specs.Prelude.{Some, None}
+use Rattle.std.proofs.Common.{Ordering}
+use Rattle.std.specs.Ordering.{nat_cmp, partial_ordering_then, is_some_and, is_lt}
+use Rattle.std.proofs.lemmas.Cmp.{ranked}
 use lib.Dec.{eqb, leb, ltb}
 use lib.ListN.{length, get_or, drop, length-drop}
 use lib.Seq.{drop-cons}
@@ -47,6 +50,35 @@ not_after_from p q h = later (ltb p.line q.line) refl h
         let a : Bool = eqb p.line q.line in
         let b : Bool = leb p.column q.column in
         inr (eqb-true _ _ (and_left a b f), leb-true _ _ (and_right a b f))
+
+-- `q < p`, which goes by the line, then by the column
+abbrev pub before : Place → Place → Bool
+before q p = is_some_and is_lt (partial_ordering_then (Some (nat_cmp q.line p.line)) (Some (nat_cmp q.column p.column)))
+
+not_before : (p q : Place) → not (before q p) ≡ not_after p q
+unfolding not_after
+not_before p q = go (nat_cmp q.line p.line) (nat_cmp q.column p.column) refl refl
+  where
+    go : (o u : Ordering) → o ≡ nat_cmp q.line p.line → u ≡ nat_cmp q.column p.column
+        → not (is_some_and is_lt (partial_ordering_then (Some o) (Some u))) ≡ (ltb p.line q.line || (eqb p.line q.line && leb p.column q.column))
+    go Ordering.Less u e f =
+        let h : q.line < p.line = ranked _ _ Ordering.Less e in
+        rw (le-ltb p.line q.line (omega arith), ne_eqb p.line q.line (λ z. omega arith)) refl
+    go Ordering.Greater u e f =
+        let h : p.line < q.line = ranked _ _ Ordering.Greater e in
+        rw (lt-ltb p.line q.line h) refl
+    go Ordering.Equal Ordering.Less e f =
+        let h : q.line ≡ p.line = ranked _ _ Ordering.Equal e in
+        let k : q.column < p.column = ranked _ _ Ordering.Less f in
+        rw (le-ltb p.line q.line (omega arith), lt-leb p.column q.column k, eq-eqb p.line q.line (sym h)) refl
+    go Ordering.Equal Ordering.Equal e f =
+        let h : q.line ≡ p.line = ranked _ _ Ordering.Equal e in
+        let k : q.column ≡ p.column = ranked _ _ Ordering.Equal f in
+        rw (le-ltb p.line q.line (omega arith), le-leb p.column q.column (omega arith), eq-eqb p.line q.line (sym h)) refl
+    go Ordering.Equal Ordering.Greater e f =
+        let h : q.line ≡ p.line = ranked _ _ Ordering.Equal e in
+        let k : p.column < q.column = ranked _ _ Ordering.Greater f in
+        rw (le-ltb p.line q.line (omega arith), le-leb p.column q.column (omega arith), eq-eqb p.line q.line (sym h)) refl
 
 -- one place after the other, in a list in order
 ascending_next : (ps : List Place) (k : ℕ) (d : Place) → ascending ps ≡ true → suc k < length ps → not_after (get_or ps k d) (get_or ps (suc k) d) ≡ true
@@ -118,7 +150,7 @@ module _ (list : List ℕ) (k : ℕ) where
           other = λ f h e. eqb-false p.line line f (line_is ∙ e);
         }
 
-    is_place_some : (line column : ℕ) → IsPlace list k line column (eqb p.line line && eqb p.column column)
+    pub is_place_some : (line column : ℕ) → IsPlace list k line column (eqb p.line line && eqb p.column column)
     is_place_some line column =
         record {
           there = λ f. (q.some p refl).0;
@@ -129,14 +161,6 @@ module _ (list : List ℕ) (k : ℕ) where
               let y : eqb p.column column ≡ true = eq-eqb p.column column (column_is ∙ d) in
               never (sym f ∙ rw (x, y));
         }
-
-    pub is_place_same : (line column : ℕ) → p.line ≡ line → IsPlace list k line column (eqb p.column column)
-    is_place_same line column e = rw (eq-eqb p.line line e) at (is_place_some line column)
-
-    pub is_place_other : (line column : ℕ) → (p.line ≡ line → ⊥) → IsPlace list k line column (eqb p.line line)
-    is_place_other line column n =
-        let z : (eqb p.line line && eqb p.column column) ≡ eqb p.line line = rw (ne_eqb p.line line n) refl in
-        rw z at (is_place_some line column)
 
   module _ (q : EntryAt list k None) where
     pub is_on_none : (line : ℕ) → IsOn list k line false
@@ -170,26 +194,26 @@ pub record Ascends (list : List ℕ) (k : ℕ) : Type 0 where
   pub same : ascending (places_in list) ≡ ascending (drop (k - 1) (places_in list))
 
 module _ {list : List ℕ} {k : ℕ} (r : Ascends list k) (h : k < length list / 2) (b : Bool)
-    (e : b ≡ not_after (place_at (get_or list (2 * k - 2) 0) (get_or list (2 * k - 1) 0)) (place_at (get_or list (2 * k) 0) (get_or list (2 * k + 1) 0)))
+    (e : b ≡ before (place_at (get_or list (2 * k) 0) (get_or list (2 * k + 1) 0)) (place_at (get_or list (2 * k - 2) 0) (get_or list (2 * k - 1) 0)))
   where
-    two : ascending (places_in list) ≡ (b && ascending (drop k (places_in list)))
+    two : ascending (places_in list) ≡ (not b && ascending (drop k (places_in list)))
     two =
         let d : Place = place_at 0 0 in
         let n : k < place_count list = omega (arith, count_half list) in
         let j : k ≡ suc (k - 1) = omega (arith, r.first) in
         let x : 2 * (k - 1) ≡ 2 * k - 2 = omega (arith, r.first) in
         let y : 2 * (k - 1) + 1 ≡ 2 * k - 1 = omega (arith, r.first) in
-        let t : not_after (get_or (places_in list) (k - 1) d) (get_or (places_in list) k d) ≡ b =
-        rw (place_at_law list (k - 1) d (omega arith), place_at_law list k d n, y, x) (sym e)
+        let t : not_after (get_or (places_in list) (k - 1) d) (get_or (places_in list) k d) ≡ not b =
+        rw (place_at_law list (k - 1) d (omega arith), place_at_law list k d n, y, x) (sym (ap not e ∙ not_before _ _))
         in
         r.same ∙ ascending_two (places_in list) (k - 1) k d j n ∙ ap (λ (u : Bool). u && ascending (drop k (places_in list))) t
 
-    pub ascends_more : b ≡ true → Ascends list (k + 1)
+    pub ascends_more : b ≡ false → Ascends list (k + 1)
     ascends_more t =
         let j : k + 1 - 1 ≡ k = omega arith in
         record { first = omega arith; same = rw (j, two, t) }
 
-    pub ascends_not : b ≡ false → false ≡ ascending (places_in list)
+    pub ascends_not : b ≡ true → false ≡ ascending (places_in list)
     ascends_not f = rw (two, f)
 
 pub ascends_end : (list : List ℕ) (k : ℕ) → Ascends list k → length list / 2 ≤ k → true ≡ ascending (places_in list)

@@ -54,7 +54,7 @@ pub struct Progress {
 }
 
 // A line and a character column, both from 0.
-#[derive(Clone, Copy)]
+#[derive(Clone, Copy, PartialEq, Eq, PartialOrd, Ord)]
 pub struct Place {
     pub line: u64,
     pub column: u64,
@@ -65,14 +65,6 @@ pub struct Place {
 struct Told {
     kind: Option<TextKind>,
     clear: usize,
-}
-
-// Whether the first place is not after the second.
-#[tactic(auto, unfolding(crate::specs::Places::not_after))]
-fn not_after(p: Place, q: Place) -> bool
-    ensures { result ≡ not_after p q }
-{
-    p.line < q.line || (p.line == q.line && p.column <= q.column)
 }
 
 // Whether the list is in order: no place is before the one in front of it.
@@ -89,7 +81,7 @@ fn is_ascending(places: &[u64]) -> bool
             line: places[i],
             column: places[i + 1],
         };
-        if !not_after(before, here) {
+        if here < before {
             return false;
         }
     }
@@ -115,7 +107,7 @@ fn is_place(places: &[u64], k: usize, line: u64, column: u64) -> bool
     ensures { IsPlace places.now k line column result }
 {
     match entry(places, k) {
-        Some(p) => p.line == line && p.column == column,
+        Some(p) => p == Place { line, column },
         None => false,
     }
 }
@@ -203,12 +195,7 @@ fn past_clear(line: &[u8], at: usize, to: usize) -> usize
     requires { to ≤ length line.now }
     ensures { Without (dollar_at line.now) at result }
 {
-    for i in at..to {
-        if line[i] == b'$' {
-            return i;
-        }
-    }
-    to
+    blocks::first_from(at.min(to), to, &|i| line[i] == b'$')
 }
 
 // The kind that a class byte stands for outside `${..}`.

@@ -1,14 +1,14 @@
 -- Laws of one step of top_level_ops.
-use Prim.Native.Nat.{ℕ, zero, suc, ◌+◌, ◌-◌, ◌≤◌, ◌<◌}
+use Prim.Native.Nat.{ℕ, zero, suc, ◌+◌, ◌-◌, ◌≤◌, ◌<◌, zero-le}
 use mathlib.Core.Bool.{Bool, true, false, not, ◌&&◌, ◌||◌, and-true, and-false, true≢false}
 use mathlib.Core.List.{List, [], ◌∷◌}
 use Rattle.std.specs.Prelude.{Some}
-use mathlib.Core.Path.{◌≡◌, refl, sym, ap, ◌∙◌}
+use mathlib.Core.Path.{◌≡◌, refl, sym, ap, subst, ◌∙◌}
 use native.Mathlib.Omega.{arith}
 use native.Mathlib.Numerals.{add-one}
 use lib.Dec.{eqb, ltb}
 use lib.ListN.{length, get_or, take, drop, length-drop}
-use borrow.Author.Tests.{ne_eqb, eq-eqb, eqb-true, lt-ltb}
+use borrow.Author.Tests.{ne_eqb, eq-eqb, eqb-true, lt-ltb, ltb-true, ltb-false, not-false, not-true}
 use Rattle.rules.specs.Basics.{choose, is, codes, at, same, one_of, starts_with, first_is}
 use Rattle.rules.specs.ClassBytes.{class_of}
 use Rattle.rules.specs.Scan.{Cell, is_str}
@@ -18,14 +18,15 @@ use Rattle.rules.specs.OperatorBytes.{byte_step}
 use Rattle.rules.proofs.CellsLaws.{str_byte}
 use Rattle.rules.proofs.Choose.{choose_true, choose_false}
 use Rattle.rules.proofs.StartsBytes.{choose_both}
-use Rattle.rules.proofs.Leading.{Passing, passing_more, passing_stop, passing_end}
+use Rattle.rules.proofs.Leading.{Passing, passing_start, passing_more, passing_stop, passing_end}
 use Rattle.utf8.specs.Unicode.{tail}
 use Rattle.utf8.proofs.Tests.{by_test, and_left}
 use Rattle.buffer.proofs.RegionLaws.{part_from}
+use Rattle.blocks.specs.Blocks.{FirstFrom}
 use Rattle.operators.specs.Places.{place_of}
 use Rattle.operators.specs.declared.Operator.{Operator}
 use Rattle.operators.proofs.OperatorLaws.{strength_index, one_of_index, place_below, is_operator, no_operator}
-use Rattle.top_level_ops.specs.Steps.{AtomLen, AtomAt, sign_step, token_step, step_with, goes_on, LongToken, ops_of, step_or, passed, found_as, code_or, fresh_or, skip_or, byte_or}
+use Rattle.top_level_ops.specs.Steps.{AtomLen, AtomAt, atom_ends_at, sign_step, token_step, step_with, goes_on, LongToken, ops_of, step_or, passed, found_as, code_or, fresh_or, skip_or, byte_or}
 use Rattle.top_level_ops.specs.declared.OpState.{OpState}
 use Rattle.top_level_ops.specs.declared.Token.{Token}
 
@@ -124,20 +125,22 @@ assign_long (a ∷ b ∷ l) h = refl
 pub unary_at : (b v w r : Bool) → v ≡ w → r ≡ (b && not w) → r ≡ (b && not v)
 unary_at b v w r e f = rw e f
 
--- ---- an atom's name: the scan is at i
+-- ---- an atom's name, as `first_from` finds its end
 
-abbrev pub AtomScan : List ℕ → ℕ → Type 0
-AtomScan s i = Passing atom_char s i
+module _ (s : List ℕ) (r : ℕ) (f : FirstFrom (atom_ends_at s) 0 (length s) r) where
+  atom_run : (n : ℕ) → n ≤ r → Passing atom_char s n
+  atom_run zero h = passing_start atom_char s
+  atom_run (suc n) h =
+      rw (← (add-one n)) (passing_more (atom_run n (omega arith)) (omega (arith, f.within)) (not-false (atom_char (get_or s n 0)) (f.none n zero-le (omega arith))))
 
-module _ (s : List ℕ) (i : ℕ) (q : AtomScan s i) where
-  pub atom_more : (r : Bool) → i < length s → r ≡ atom_char (get_or s i 0) → r ≡ true → AtomScan s (i + 1)
-  atom_more r h p e = passing_more q h (sym p ∙ e)
+  atom_scan : Passing atom_char s r
+  atom_scan = atom_run r (omega arith)
 
-  pub atom_stop : (r : Bool) → i < length s → r ≡ atom_char (get_or s i 0) → r ≡ false → AtomLen s i
-  atom_stop r h p e = record { is = passing_stop q h (sym p ∙ e); fits = q.within }
-
-  pub atom_end : length s ≤ i → AtomLen s i
-  atom_end h = record { is = passing_end q h; fits = q.within }
+  pub atom_first : AtomLen s r
+  atom_first =
+      by_test (ltb r (length s))
+      (λ t. let h : r < length s = ltb-true r (length s) t in record { is = passing_stop atom_scan h (not-true (atom_char (get_or s r 0)) (f.passes h)); fits = f.within })
+      (λ t. record { is = passing_end atom_scan (ltb-false r (length s) t); fits = f.within })
 
 module _ (operand : Bool) (l : List ℕ) (some : 0 < length l) where
   pub atom_operand : operand ≡ true → AtomAt operand l 0
@@ -150,6 +153,9 @@ module _ (operand : Bool) (l : List ℕ) (some : 0 < length l) where
         is = q.is ∙ ap atom_len d ∙ sym (choose_true _ _ _ (rw (h, e)));
         fits = omega (arith, q.fits, ap length d, length-drop 1 l);
       }
+
+  pub atom_none : (r : ℕ) → get_or l 0 0 ≡ 58 → operand ≡ false → AtomLen (take (length l - 1) (drop 1 l)) r → r ≡ 0 → AtomAt operand l 0
+  atom_none r h e q z = subst (λ (n : ℕ). AtomAt operand l n) z (atom_colon r h e q)
 
   pub atom_other : (get_or l 0 0 ≡ 58 → ⊥) → AtomAt operand l 0
   atom_other h = record { is = sym (choose_false _ _ _ (rw (ne_eqb (get_or l 0 0) 58 h))); fits = some }

@@ -3,7 +3,7 @@ use Rattle.std.specs.Prelude.{ℕ, zero, suc, ◌<◌, ◌≤◌, ◌^◌, Bool,
 use Rattle.utf8.specs.Unicode.{tail}
 use Rattle.rules.specs.Basics.{choose, is, at, first_is, is_blank, is_opener, is_closer}
 use Rattle.rules.specs.Scan.{Cell, is_str}
-use Rattle.rules.specs.SplitOperation.{Ops, OpStep, ends_operand, token, escape, bracket, atom_len, starts_pair}
+use Rattle.rules.specs.SplitOperation.{Ops, OpStep, ends_operand, token, escape, bracket, atom_char, atom_len, starts_pair}
 use Rattle.rules.specs.SplitOperation.{two_char_step, one_char_step}
 use Rattle.top_level_ops.specs.declared.OpState.{OpState}
 use Rattle.top_level_ops.specs.declared.Token.{Token}
@@ -32,6 +32,15 @@ pub record AtomLen (s : List ℕ) (r : ℕ) : Type 0 where
 pub record AtomAt (operand : Bool) (l : List ℕ) (r : ℕ) : Type 0 where
   pub is : r ≡ choose (is ":" (get_or l 0 0) && not operand) (atom_len (drop 1 l)) 0
   pub fits : r < length l
+
+-- the length of that name, if it has a character
+abbrev pub AtomFound : Bool → List ℕ → Option ℕ → Type 0
+AtomFound operand l None = AtomAt operand l 0
+AtomFound operand l (Some n) = (0 < n) × AtomAt operand l n
+
+-- the byte at i is none of an atom's name
+abbrev pub atom_ends_at : List ℕ → ℕ → Bool
+atom_ends_at s i = not (atom_char (get_or s i 0))
 
 -- the tests of `code_step` that follow those of brackets
 unfoldable pub sign_step : List ℕ → Ops → List ℕ → OpStep

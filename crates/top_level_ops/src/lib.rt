@@ -9,7 +9,7 @@ ghost use Rattle.rules.specs.Operators.{operators, index_in};
 ghost use Rattle.rules.specs.Strengths.{strengths_in};
 ghost use Rattle.rules.specs.SplitOperation.{Ops, OpStep, ends_operand, atom_char, token, is_sign, one_char_step};
 ghost use Rattle.operators.specs.Places.{place_in};
-ghost use Rattle.top_level_ops.specs.Steps.{ops_of, AtomLen, AtomAt, sign_step, token_step, step_with};
+ghost use Rattle.top_level_ops.specs.Steps.{ops_of, AtomLen, AtomFound, sign_step, token_step, step_with};
 ghost use Rattle.top_level_ops.specs.Steps.{step_or, code_or, fresh_or, byte_or, passed, unless, found_as, FewBrackets};
 ghost use Rattle.top_level_ops.specs.Steps.{goes_on, LongToken};
 
@@ -55,12 +55,7 @@ fn in_atom(c: u8) -> bool
 fn atom_len(s: &[u8]) -> usize
     ensures { AtomLen s.now result }
 {
-    for (i, &c) in s.iter().enumerate() {
-        if !in_atom(c) {
-            return i;
-        }
-    }
-    s.len()
+    blocks::first_from(0, s.len(), &|i| !in_atom(s[i]))
 }
 
 // A token of n + 1 bytes that is no operator.
@@ -85,16 +80,16 @@ fn two_at(s: &[u8]) -> Option<Operator>
     Operator::of_two(s[0], s[1])
 }
 
-// The length of the atom's name after a `:` where no operand ends, or 0.
-fn atom_at(operand: bool, l: &[u8]) -> usize
+// The length of the atom's name after a `:` where no operand ends.
+fn atom_at(operand: bool, l: &[u8]) -> Option<usize>
     requires { 0 < length l.now }
-    ensures { AtomAt operand l.now result }
+    ensures { AtomFound operand l.now result }
 {
-    if l[0] == b':' && !operand {
-        atom_len(&l[1..])
-    } else {
-        0
+    if l[0] != b':' || operand {
+        return None;
     }
+    let n = atom_len(&l[1..]);
+    if n == 0 { None } else { Some(n) }
 }
 
 fn is_arrow(l: &[u8]) -> bool
@@ -174,11 +169,9 @@ fn long_token(table: &[u8; Strengths::LENGTH], operand: bool, l: &[u8]) -> Token
     ensures { (s : Ops) → s.operand ≡ operand → step_with s result ≡ token_step (strengths_in table.now) s
         l.now }
 {
-    let n = atom_at(operand, l);
-    if 0 < n {
-        plain_token(ends_operand(l[n]), n)
-    } else {
-        sign_step(table, operand, l)
+    match atom_at(operand, l) {
+        Some(n) => plain_token(ends_operand(l[n]), n),
+        None => sign_step(table, operand, l),
     }
 }
 

@@ -39,6 +39,7 @@ pub extern "C" fn wirescript_text_kind_at(
 // as the source, 1 always, 2 never. ruler_tab: 0 a tab is one column, else how far apart the ruler's tab stops are.
 // strengths: 11 bytes, as `Strengths` of crate rules says. opened gets the source lines, from 0, of the brackets that
 // are still open at the end, the oldest first, as many as it has room for.
+// kept: the C interface takes each of these by itself, here and in the other exported calls
 #[unsafe(no_mangle)]
 pub extern "C" fn wirescript_format(
     source: &[u8],

@@ -15,6 +15,7 @@ pub const MAX_INPUT: usize = 4096;
 pub const MAX_TEXT: usize = 16384;
 
 // Writes `refused N at P` and LF over the front of out, and gives its length.
+// kept: numbers, since the program's own limit gives `refused 1 at 4096`, and `Refusal::SourceTooLong` has 1048576
 fn put_refusal(out: &mut [u8], number: u64, place: u64) -> usize
     ensures { Wrote out.old out.new (refusal number place) result }
 {

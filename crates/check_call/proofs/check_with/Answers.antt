@@ -16,10 +16,10 @@ end_text-n-requires c =
 pub returns-then-lines : goal.returns-then-lines
 returns-then-lines c =
     let p : Passed c.args.source.now c.as_bytes-indent.result.now c.args.scratch.now = rw c.as_bytes-indent.ensures c.requires.passed in
-    found_late _ _ c.args.options c.as_bytes-indent.ensures _ _ _ _ p c.ending_of-ending.ensures _ c.read_lines-lines.ensures c.if-lines.true _ c.has_last_ending-last.ensures _ _
+    found_late _ _ c.args.options c.as_bytes-indent.ensures _ _ _ _ p c.ending_of-ending.ensures _ (rw c.style_of-style.ensures at c.read_lines-lines.ensures) c.if-lines.true _ c.has_last_ending-last.ensures _ _
     c.end_text-n.ensures _ c.equals.ensures
 
 pub returns : goal.returns
 returns c =
     let p : Passed c.args.source.now c.as_bytes-indent.result.now c.args.scratch.now = rw c.as_bytes-indent.ensures c.requires.passed in
-    found_early _ _ c.args.options c.as_bytes-indent.ensures _ _ _ _ p c.ending_of-ending.ensures _ c.read_lines-lines.ensures c.if-lines.false
+    found_early _ _ c.args.options c.as_bytes-indent.ensures _ _ _ _ p c.ending_of-ending.ensures _ (rw c.style_of-style.ensures at c.read_lines-lines.ensures) c.if-lines.false

@@ -4,7 +4,7 @@ use Rattle.glob_match.proofs.PathLaws.{Reading}
 use Rattle.glob_match.proofs.matches_at.Given as goal
 
 abbrev pub invariant-loop-e : goal.invariant-loop-e
-invariant-loop-e l = Reading l.kinds l.chars l.path l.e l.v l.found l.state
+invariant-loop-e l = Reading l.name.kinds.now l.name.chars.now l.path l.e l.v l.found l.state
 
 abbrev pub decreases-loop-e : goal.decreases-loop-e
 decreases-loop-e l = l.e

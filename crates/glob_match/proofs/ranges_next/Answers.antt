@@ -8,7 +8,7 @@ pub loop-p-init : goal.loop-p-init
 loop-p-init c = search (rules, ranging_start)
 
 pub range_next-requires : goal.range_next-requires
-range_next-requires c = (c.requires.2.some _ c.if-is_range.ensures, omega arith, omega arith)
+range_next-requires c = (c.requires.some _ c.if-is_range.ensures, omega arith, omega arith)
 
 pub loop-p-preserved : goal.loop-p-preserved
 loop-p-preserved c =

@@ -4,4 +4,4 @@ use Rattle.glob_match.proofs.SlotsLaws.{Ranging}
 use Rattle.glob_match.proofs.ranges_next.Given as goal
 
 abbrev pub invariant-loop-p : goal.invariant-loop-p
-invariant-loop-p l = Ranging l.kinds l.chars l.v l.c l.initial.state l.p l.state l.hits
+invariant-loop-p l = Ranging l.name.kinds.now l.name.chars.now l.v l.c l.initial.state l.p l.state l.hits

@@ -5,11 +5,11 @@ use Rattle.glob_pass.proofs.pass.Goals as goal
 use Rattle.glob_pass.proofs.pass.Goals.{in-Brace, in-Item}
 
 pub loop-p-init : goal.loop-p-init
-loop-p-init c = going_start _ _ _ _ _ _ c.args.v.now _ c.requires.0 (omega arith) (omega arith) refl
+loop-p-init c = going_start _ _ _ _ _ _ c.args.v.now _ c.args.name.same (omega arith) (omega arith) refl
 
 pub loop-p-preserved : goal.loop-p-preserved
 loop-p-preserved c =
-    elim c.match-kinds-p.branch [
+    elim c.match-name-p.branch [
       | in-Brace w ↦
           rw (w.braces-is, w.next-is) (going_brace _ _ _ _ _ _ _ _ _ _ _ c.loop-p.invariant c.loop-p-test.true _ _ w.in-Brace.is _ _ w.step-next.ensures)
       | in-Item w ↦

@@ -5,4 +5,4 @@ use Rattle.glob_pass.proofs.PassLaws.{Going}
 use Rattle.glob_pass.proofs.pass.Given as goal
 
 abbrev pub invariant-loop-p : goal.invariant-loop-p
-invariant-loop-p l = Going l.kinds l.chars l.c l.base l.hits (set l.initial.v (length l.kinds) l.initial.prior) l.p l.v l.prior l.braces l.next
+invariant-loop-p l = Going l.name.kinds.now l.name.chars.now l.c l.base l.hits (set l.initial.v (length l.name.kinds.now) l.initial.prior) l.p l.v l.prior l.braces l.next

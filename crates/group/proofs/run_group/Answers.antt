@@ -1,5 +1,5 @@
 use Prim.Native.Nat.{ℕ}
-use mathlib.Core.Path.{ap, sym, ◌∙◌}
+use mathlib.Core.Path.{ap, ◌∙◌}
 use lib.ListN.{replicate}
 use Rattle.group.proofs.GroupCall.{ran_refused, ran_text}
 use Rattle.group.proofs.run_group.Goals.{then-is_err, else-is_err}

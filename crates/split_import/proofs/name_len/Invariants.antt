@@ -1,7 +1,6 @@
--- `name_len` meets its contract: the invariant is `NameScan`, no comma stands before i; its laws are in
--- proofs/NameLaws.antt.
-use Rattle.split_import.proofs.NameLaws.{NameScan}
+-- `name_len` meets its contract: its law is in proofs/NameLaws.antt.
+use Rattle.split_import.specs.Names.{byte_at}
 use Rattle.split_import.proofs.name_len.Given as goal
 
-abbrev pub invariant-loop-i : goal.invariant-loop-i
-invariant-loop-i l = NameScan l.s l.i
+abbrev pub ghost-first_from : goal.ghost-first_from
+ghost-first_from a = byte_at 44 a.test.now.0.now

@@ -2,8 +2,8 @@ use borrow.Author.Rules.{rules}
 use Rattle.text_kinds.proofs.PlaceLaws.{ascends_more, ascends_not, ascends_end}
 use Rattle.text_kinds.proofs.is_ascending.Goals as goal
 
-pub returns-then-not-not_after : goal.returns-then-not-not_after
-returns-then-not-not_after c = search (rules, ascends_not)
+pub returns-then-lt : goal.returns-then-lt
+returns-then-lt c = search (rules, ascends_not)
 
 pub loop-k-preserved : goal.loop-k-preserved
 loop-k-preserved c = search (rules, ascends_more)

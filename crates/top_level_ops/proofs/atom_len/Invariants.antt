@@ -1,7 +1,6 @@
--- `atom_len` meets its contract: the invariant is `AtomScan`, the first i bytes are of an atom's name; its laws are in
--- proofs/StepLaws.antt.
-use Rattle.top_level_ops.proofs.StepLaws.{AtomScan}
+-- `atom_len` meets its contract: its law is in proofs/StepLaws.antt.
+use Rattle.top_level_ops.specs.Steps.{atom_ends_at}
 use Rattle.top_level_ops.proofs.atom_len.Given as goal
 
-abbrev pub invariant-loop-i : goal.invariant-loop-i
-invariant-loop-i l = AtomScan l.s l.i
+abbrev pub ghost-first_from : goal.ghost-first_from
+ghost-first_from a = atom_ends_at a.test.now.0.now

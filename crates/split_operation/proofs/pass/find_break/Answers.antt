@@ -33,12 +33,10 @@ loop-i-preserved c =
     let e = c.step.ensures in
     elim c.if-step.branch [
       | then-step+then-is_looser w ↦
-          let l = rw w.strength_of.ensures at w.is_looser.ensures in
           rw (w.b-is, w.s-is)
-          (pass_taken c.loop-i.b q h _ c.in_ok-depth.ensures _ _ e.stepped w.if-step.true (e.same w.if-step.true) _ w.token_at-token.ensures _ _ w.take-strength.ensures _ l w.if-is_looser.true _ w.break_at.ensures)
+          (pass_taken c.loop-i.b q h _ c.in_ok-depth.ensures _ _ e.stepped w.if-step.true (e.same w.if-step.true) _ w.token_at-token.ensures _ _ w.take-strength.ensures _ w.is_looser.ensures w.if-is_looser.true _ w.break_at.ensures)
       | then-step+else-is_looser w ↦
-          let l = rw w.strength_of.ensures at w.is_looser.ensures in
           rw (w.b-is, w.s-is)
-          (pass_left c.loop-i.b q h _ c.in_ok-depth.ensures _ _ e.stepped w.if-step.true (e.same w.if-step.true) _ w.token_at-token.ensures _ _ w.take-strength.ensures _ l w.if-is_looser.false, c.loop-i.invariant.1)
+          (pass_left c.loop-i.b q h _ c.in_ok-depth.ensures _ _ e.stepped w.if-step.true (e.same w.if-step.true) _ w.token_at-token.ensures _ _ w.take-strength.ensures _ w.is_looser.ensures w.if-is_looser.false, c.loop-i.invariant.1)
       | else-step w ↦ rw (w.b-is, w.s-is) (pass_plain c.loop-i.b q h _ c.in_ok-depth.ensures _ _ e.stepped w.if-step.false, c.loop-i.invariant.1)
     ]

@@ -1,12 +1,13 @@
+use mathlib.Core.Path.{refl}
 use borrow.Author.Tests.{eq-eqb}
 use Rattle.split_operation.proofs.PassLaws.{never_looser, first_looser, less_looser}
 use Rattle.split_operation.proofs.pass.is_looser.Goals as goal
 
-pub returns-then-b-eq0 : goal.returns-then-b-eq0
-returns-then-b-eq0 c = rw (eq-eqb _ _ c.if-b-eq0.true) (first_looser _ _ c.if-a-ne0.true c.if-b-eq0.true)
+pub returns-in-None : goal.returns-in-None
+returns-in-None c = rw c.in-None.is (first_looser _ _ c.if-a-ne0.true refl)
 
-pub returns-else-b-eq0 : goal.returns-else-b-eq0
-returns-else-b-eq0 c = less_looser _ _ c.if-a-ne0.true c.if-b-eq0.false
+pub returns-in-Some : goal.returns-in-Some
+returns-in-Some c = rw c.in-Some.is (less_looser _ _ c.if-a-ne0.true (rw c.in-Some.is at c.requires))
 
 pub returns-else-a-ne0 : goal.returns-else-a-ne0
 returns-else-a-ne0 c = rw (eq-eqb _ _ c.if-a-ne0.false) (never_looser _ _ c.if-a-ne0.false)

@@ -8,13 +8,6 @@ use call::Request;
 use caret::LineColumn;
 use rules::{Formatted, Refusal};
 
-// Where the caret stands in the source: a line and a character column, both from 0.
-#[derive(Clone, Copy)]
-pub struct Caret {
-    pub line: u64,
-    pub column: u64,
-}
-
 // What a call gives beside the text in its output: the text's length and counts, and where the caret goes in it.
 #[derive(Clone, Copy)]
 pub struct WithCaret {
@@ -65,7 +58,7 @@ impl From<Result<WithCaret, Refusal>> for CaretAnswer {
 // The text, and where the caret that stands at a line and a column of the source goes in it.
 fn move_caret(
     request: Request<'_>,
-    at: Caret,
+    at: LineColumn,
     output: &mut [u8],
     scratch: &mut [u8],
 ) -> Result<WithCaret, Refusal>
@@ -74,7 +67,7 @@ fn move_caret(
 {
     let text = crate::format_text(request, output, scratch)?;
     let taken = &output[..text.length];
-    match caret::caret_in_text(request.source, taken, at.line as usize, at.column as usize) {
+    match caret::caret_in_text(request.source, taken, at) {
         Some(to) => Ok(WithCaret { text, to }),
         None => {
             buffer::zero(output);
@@ -86,7 +79,7 @@ fn move_caret(
 // The same, with its answer in numbers.
 pub fn format_caret(
     request: Request<'_>,
-    at: Caret,
+    at: LineColumn,
     output: &mut [u8],
     scratch: &mut [u8],
 ) -> CaretAnswer

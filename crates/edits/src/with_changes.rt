@@ -54,6 +54,8 @@ impl From<Result<WithChanges, Refusal>> for ChangesAnswer {
 
 // The text, and in the list, four numbers to each, the changes that turn the source into it. Refused, the list is
 // cleared.
+// kept: output, list and scratch stay parameters of their own. A struct of the three is no plainer: it would hold three
+// `&mut`, and each function that it is lent to would need a clause for each that its name stays.
 fn list_changes(
     request: Request<'_>,
     output: &mut [u8],

@@ -101,5 +101,5 @@ pub fn glob_matches(name: &[u8], path: &[u8]) -> bool
 fn first_place(slash: bool) -> usize
     ensures { (result ≡ first_place slash) × (result ≤ 1) }
 {
-    if slash { 0 } else { 1 }
+    usize::from(!slash)
 }

@@ -7,6 +7,7 @@ use glob_pass::kinds::{Brace, ItemKind, Kind};
 
 // The braces that are open on one side of a place: the first `depth` of `commas` say of each, the innermost last,
 // whether it has a comma there.
+// kept: fixed memory: there is no heap, and a name has at most 1,024 characters
 #[derive(Clone, Copy)]
 pub struct Open {
     pub commas: [bool; PLACES],

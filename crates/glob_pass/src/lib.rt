@@ -37,6 +37,7 @@ pub struct Side {
 }
 
 // The open braces, the first `depth` of `sides`, the innermost last.
+// kept: fixed memory: there is no heap, and a name has at most 1,024 characters
 #[derive(Clone, Copy)]
 pub struct Braces {
     pub sides: [Side; PLACES],

@@ -47,6 +47,7 @@ pub struct Far {
 
 // What is kept of the ranges of a name. The j-th place behind the brace of a range has slot j, for numbers of j
 // characters; the brace's own place has the rest.
+// kept: fixed memory: there is no heap, and a name has at most 1,024 characters
 #[derive(Clone, Copy)]
 pub struct State {
     pub slots: [Option<Orders>; PLACES],

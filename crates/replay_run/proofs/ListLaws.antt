@@ -5,11 +5,16 @@ use Prim.Native.Nat.{ℕ, ◌+◌, ◌*◌, ◌-◌, ◌<◌, ◌≤◌}
 use native.Mathlib.Omega.{arith}
 use native.Mathlib.Nat.{le_refl}
 use native.Mathlib.Numerals.{add-one}
+use mathlib.Core.Bool.{true, false, true≢false}
 use mathlib.Core.List.{List}
+use mathlib.Core.Logic.{◌⊎◌, inl, inr}
 use mathlib.Core.Path.{◌≡◌, refl, sym, ◌∙◌}
 use borrow.Author.Tests.{lt-ltb, le-ltb, le-leb, lt-leb}
+use lib.Dec.{ltb}
 use lib.ListN.{length, get_or, drop, drop_of_length-le}
 use lib.Seq.{drop-cons}
+use Rattle.utf8.specs.Unicode.{within}
+use Rattle.utf8.proofs.Tests.{split, range, in_range_law}
 use Rattle.rules.specs.Basics.{choose}
 use Rattle.replay_run.specs.Stored.{number_at, number_in, NumberRead, case_of, case_at, CaseRead}
 use Rattle.replay_run.specs.declared.list.Number.{Number}
@@ -30,23 +35,28 @@ module _ (list : List ℕ) (at n i : ℕ) (r : Reading list at n i) where
   read_here : i < length list → stopped ≡ number_at n i (drop i list) → NumberRead list at stopped
   read_here h e = record { is = e ∙ sym r.same; from = omega (arith, r.from); fits = omega arith; small = r.small }
 
-  pub reading_low : i < length list → get_or list i 0 < 48 → NumberRead list at stopped
+  pub reading_other : i < length list → within 48 57 (get_or list i 0) ≡ false → NumberRead list at stopped
   unfolding number_at choose
-  reading_low h k = read_here h (rw (drop-cons list i 0, lt-ltb (get_or list i 0) 48 k))
+  reading_other h t = read_here h (rw (drop-cons list i 0) (go _ (split (get_or list i 0) 48) (split 57 (get_or list i 0))))
+    where
+      go : (x : Number) → (get_or list i 0 < 48) ⊎ (48 ≤ get_or list i 0) → (57 < get_or list i 0) ⊎ (get_or list i 0 ≤ 57)
+          → stopped ≡ choose (ltb (get_or list i 0) 48) stopped (choose (ltb 57 (get_or list i 0)) stopped x)
+      go x (inl j) k = rw (lt-ltb (get_or list i 0) 48 j)
+      go x (inr j) (inl k) = rw (le-ltb (get_or list i 0) 48 j, lt-ltb 57 (get_or list i 0) k)
+      go x (inr j) (inr k) = absurd (true≢false (sym (range 48 57 _ j k) ∙ t))
 
-  pub reading_high : i < length list → 48 ≤ get_or list i 0 → 57 < get_or list i 0 → NumberRead list at stopped
+  pub reading_full : i < length list → within 48 57 (get_or list i 0) ≡ true → 100000000 ≤ n → NumberRead list at stopped
   unfolding number_at choose
-  reading_high h j k = read_here h (rw (drop-cons list i 0, le-ltb (get_or list i 0) 48 j, lt-ltb 57 (get_or list i 0) k))
+  reading_full h t l =
+      let d = in_range_law 48 57 (get_or list i 0) t in
+      read_here h (rw (drop-cons list i 0, le-ltb (get_or list i 0) 48 d.0, le-ltb 57 (get_or list i 0) d.1, le-leb 100000000 n l))
 
-  pub reading_full : i < length list → 48 ≤ get_or list i 0 → get_or list i 0 ≤ 57 → 100000000 ≤ n → NumberRead list at stopped
+  pub reading_more : i < length list → within 48 57 (get_or list i 0) ≡ true → n < 100000000 → Reading list at (n * 10 + (get_or list i 0 - 48)) (i + 1)
   unfolding number_at choose
-  reading_full h j k l = read_here h (rw (drop-cons list i 0, le-ltb (get_or list i 0) 48 j, le-ltb 57 (get_or list i 0) k, le-leb 100000000 n l))
-
-  pub reading_more : i < length list → 48 ≤ get_or list i 0 → get_or list i 0 ≤ 57 → n < 100000000 → Reading list at (n * 10 + (get_or list i 0 - 48)) (i + 1)
-  unfolding number_at choose
-  reading_more h j k l =
+  reading_more h t l =
+      let d = in_range_law 48 57 (get_or list i 0) t in
       let e : number_at n i (drop i list) ≡ number_at (n * 10 + (get_or list i 0 - 48)) (i + 1) (drop (i + 1) list) =
-      rw (drop-cons list i 0, le-ltb (get_or list i 0) 48 j, le-ltb 57 (get_or list i 0) k, lt-leb 100000000 n l) (rw (add-one i))
+      rw (drop-cons list i 0, le-ltb (get_or list i 0) 48 d.0, le-ltb 57 (get_or list i 0) d.1, lt-leb 100000000 n l) (rw (add-one i))
       in
       record { from = omega (arith, r.from); within = omega arith; small = omega arith; same = r.same ∙ e }
 

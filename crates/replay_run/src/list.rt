@@ -31,7 +31,7 @@ fn number_at(list: &[u8], at: usize) -> Number
     let mut n = 0;
     for i in at..list.len() {
         let c = list[i];
-        if c < b'0' || b'9' < c || 100000000 <= n {
+        if !c.is_ascii_digit() || 100000000 <= n {
             return Number {
                 value: n,
                 next: i + 1,

@@ -1,8 +1,9 @@
 // The resolved values of .editorconfig that numbers name.
 ghost use Rattle.std.specs.Prelude.{◌≡◌};
-ghost use Rattle.wirescript.specs.Config.{indent_style_named, indent_size_named, tab_width_named, max_line_len_named};
+ghost use Rattle.wirescript.specs.Config.{indent_style_named, indent_size_named, max_line_len_named};
 ghost use Rattle.wirescript.specs.Config.{config_ending_named, insert_newline_named, config_named};
 
+use options::numbers::print_width_named;
 use rules::{ConfigEnding, IndentSize, IndentStyle, MaxLineLen, Resolved};
 
 // The values in numbers. style: 0 unset, 1 tabs, 2 spaces. size_kind: 0 unset, 1 the tab width, 2 size. tab_set: 0
@@ -44,16 +45,6 @@ fn size_named(size_kind: u64, size: u64) -> Option<Option<IndentSize>>
     }
 }
 
-fn tab_named(tab_set: u64, tab: u64) -> Option<Option<usize>>
-    ensures { result ≡ tab_width_named tab_set tab }
-{
-    match tab_set {
-        0 => Some(None),
-        1 => Some(Some(tab as usize)),
-        _ => None,
-    }
-}
-
 fn max_named(max_kind: u64, max: u64) -> Option<Option<MaxLineLen>>
     ensures { result ≡ max_line_len_named max_kind max }
 {
@@ -88,7 +79,7 @@ fn newline_named(newline: u64) -> Option<Option<bool>>
     }
 }
 
-// The values that the numbers name, if each names one.
+// The values that the numbers name, if each names one. A tab width is numbered as a print width is.
 #[tactic(auto, unfolding(rules::specs::Basics::choose, crate::specs::Config::valid_config, crate::specs::Config::resolved_of))]
 pub fn named(numbers: ConfigNumbers) -> Option<Resolved>
     ensures { result ≡ config_named numbers }
@@ -96,7 +87,7 @@ pub fn named(numbers: ConfigNumbers) -> Option<Resolved>
     Some(Resolved {
         style: style_named(numbers.style)?,
         size: size_named(numbers.size_kind, numbers.size)?,
-        tab: tab_named(numbers.tab_set, numbers.tab)?,
+        tab: print_width_named(numbers.tab_set, numbers.tab)?,
         max: max_named(numbers.max_kind, numbers.max)?,
         ending: ending_named(numbers.ending)?,
         newline: newline_named(numbers.newline)?,

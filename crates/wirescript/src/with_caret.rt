@@ -4,7 +4,8 @@ ghost use Rattle.call.specs.Ran.{call_of, numbers_of};
 ghost use Rattle.edits.specs.CaretAnswered.{CaretAnswered};
 
 use call::Request;
-use edits::with_caret::{Caret, CaretAnswer};
+use caret::LineColumn;
+use edits::with_caret::CaretAnswer;
 use rules::OptionNumbers;
 
 // The text of a source, and the line and the character column, both from 0, that the caret gets in it. The options are
@@ -42,6 +43,9 @@ pub extern "C" fn wirescript_format_caret(
         numbers,
         strengths,
     };
-    let at = Caret { line, column };
+    let at = LineColumn {
+        line: line as usize,
+        column: column as usize,
+    };
     edits::with_caret::format_caret(request, at, output, scratch)
 }

@@ -5,8 +5,8 @@ use Rattle.caret.proofs.find_place.Goals as goal
 pub returns-then-start-ne0 : goal.returns-then-start-ne0
 returns-then-start-ne0 c = search (rules, no_line)
 
-pub returns-then-line_chars-column : goal.returns-then-line_chars-column
-returns-then-line_chars-column c = search (rules, no_column)
+pub returns-then-line_chars-place : goal.returns-then-line_chars-place
+returns-then-line_chars-place c = search (rules, no_column)
 
 pub returns : goal.returns
 returns c = search (rules, place_found)

@@ -14,11 +14,11 @@ returns-then-depth-ge-MAX_DEPTH c = search (rules, due_deep)
 pub returns-then-c-eq40 : goal.returns-then-c-eq40
 returns-then-c-eq40 c = search (rules, due_open)
 
-pub returns-then-is_digit : goal.returns-then-is_digit
-returns-then-is_digit c = search (rules, due_number)
+pub returns-then-is_ascii_digit : goal.returns-then-is_ascii_digit
+returns-then-is_ascii_digit c = search (rules, due_number)
 
 pub returns-then-is_ident : goal.returns-then-is_ident
-returns-then-is_ident c = due_name _ _ _ _ _ c.requires _ c.is_blank.ensures c.if-is_blank.false _ c.is_sign.ensures c.if-is_sign.false c.if-c-eq40.false _ c.is_digit.ensures c.if-is_digit.false _ c.is_ident.ensures c.if-is_ident.true _ c.goes-then-is_ident.ensures
+returns-then-is_ident c = due_name _ _ _ _ _ c.requires _ c.is_blank.ensures c.if-is_blank.false _ c.is_sign.ensures c.if-is_sign.false c.if-c-eq40.false _ c.is_ascii_digit.ensures.value c.if-is_ascii_digit.false _ c.is_ident.ensures c.if-is_ident.true _ c.goes-then-is_ident.ensures
 
 pub returns : goal.returns
 returns c = search (rules, due_refused)

@@ -50,11 +50,3 @@ only_past {x} {y} {a} {e} w i h =
 pub only_part_before : {x y : List ℕ} {a e : ℕ} → Only x y a e → (b f : ℕ) → b ≤ f → f ≤ a → part y b f ≡ part x b f
 only_part_before {x} {y} {a} w b f h k =
     rw (← part_front y b f h, ← part_front x b f h, (only_wider f _ w k (le_refl _)).front)
-
--- an element of a part
-part_at : (x : List ℕ) (a e i : ℕ) → a + i < e → get_or (part x a e) i 0 ≡ get_or x (a + i) 0
-part_at x a e i h = get_or-take (e - a) (drop a x) i 0 (omega arith) ∙ get_or-drop a x i 0
-
--- what a part before the region held is read from the buffer as it is now
-pub read_now : {x y : List ℕ} {base e : ℕ} (a n i : ℕ) → Only x y base e → a + n ≤ base → i < n → get_or (part x a (a + n)) i 0 ≡ get_or y (a + i) 0
-read_now {x} a n i w h k = part_at x a (a + n) i (omega arith) ∙ sym (only_at w (a + i) (omega arith))

@@ -1,6 +1,9 @@
 // A search for a place that passes a test, in blocks: the test is a closure, which the caller's loop takes in.
 #![tactic(auto)]
 
+pub mod lanes;
+pub mod others;
+
 ghost use Rattle.std.specs.Prelude.{◌≡◌, ◌+◌, ◌*◌, ◌≤◌, ◌<◌, ◌^◌, ℕ, Bool};
 ghost use Rattle.blocks.specs.Blocks.{Tells, NoneAmong, NoneFrom, FirstFrom, NoneBefore};
 

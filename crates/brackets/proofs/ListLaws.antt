@@ -7,8 +7,8 @@ use mathlib.Core.Logic.{◌⊎◌, inl, inr}
 use mathlib.Core.Path.{◌≡◌, refl, sym, ap, ◌∙◌}
 use native.Mathlib.Omega.{arith}
 use borrow.Author.Tests.{lt-ltb, le-ltb}
-use lib.ListN.{length, get_or, take, set, replicate, length-append, length-take, length-replicate, length-set, get_or-replicate, get_or-eq_default, get_or-append}
-use lib.Seq.{get_or-append-add, get_or-append_seam, get_or-take, get_or-set_same, get_or-set_other, ext_get_or}
+use lib.ListN.{length, get_or, take, replicate, length-append, length-take, length-replicate, get_or-replicate, get_or-eq_default, get_or-append}
+use lib.Seq.{get_or-append-add, get_or-append_seam, get_or-take, ext_get_or}
 use Rattle.utf8.proofs.Tests.{split}
 use Rattle.rules.specs.Basics.{choose}
 use Rattle.rules.specs.Brackets.{open_lines}
@@ -77,19 +77,7 @@ pub record Listing (buf : List ℕ) (base depth : ℕ) (list₀ list : List ℕ)
   pub long : length list ≡ length list₀
   pub done : (j : ℕ) → j < i → get_or list j 0 ≡ line_at buf base depth j
 
-pub listing_start : (buf : List ℕ) (base depth : ℕ) (list : List ℕ) → Listing buf base depth list list 0
-listing_start buf base depth list = record { long = refl; done = λ j h. absurd (omega arith) }
-
 module _ (buf : List ℕ) (base depth : ℕ) (list₀ list : List ℕ) (i : ℕ) (w : Listing buf base depth list₀ list i) where
-  pub listing_more : (v : ℕ) → i < length list → v ≡ line_at buf base depth i → Listing buf base depth list₀ (set list i v) (i + 1)
-  listing_more v h e = record { long = length-set list i v ∙ w.long; done = λ j k. go j k (split j i) }
-    where
-      go : (j : ℕ) → j < i + 1 → (j < i) ⊎ (i ≤ j) → get_or (set list i v) j 0 ≡ line_at buf base depth j
-      go j k (inl l) = get_or-set_other list i j v 0 (λ q. absurd (omega arith)) ∙ w.done j l
-      go j k (inr l) =
-          let q : i ≡ j = omega arith in
-          ap (λ (m : ℕ). get_or (set list i v) m 0) (sym q) ∙ get_or-set_same list i v 0 h ∙ e ∙ ap (line_at buf base depth) q
-
   pub listing_end : length list ≤ i → Listed (open_lines (stacked buf base depth)) (length list₀) depth list
   listing_end h =
       let l = open_lines (stacked buf base depth) in

@@ -1,28 +1,28 @@
 -- Laws of the stack in scratch, and the loops over a line's brackets.
-use Prim.Native.Nat.{ℕ, zero, suc, ◌+◌, ◌-◌, ◌*◌, ◌/◌, ◌%◌, ◌≤◌, ◌<◌, min, zero-le}
+use Prim.Native.Nat.{ℕ, zero, suc, ◌+◌, ◌-◌, ◌*◌, ◌/◌, ◌%◌, ◌≤◌, ◌<◌, zero-le}
 use mathlib.Core.Bool.{Bool, true, false, not, ◌||◌, true≢false}
 use mathlib.Core.List.{List, [], ◌∷◌, ◌++◌, foldl}
 use mathlib.Core.Path.{◌≡◌, refl, sym, ap, subst, ◌∙◌}
-use native.Mathlib.Nat.{zero-add, add-zero}
+use native.Mathlib.Nat.{add-zero}
 use native.Mathlib.Numerals.{add-one}
 use native.Mathlib.Omega.{arith}
-use borrow.Author.Tests.{eqb-true, le-leb, lt-leb, leb-true, leb-false, ltb-true, ltb-false}
+use borrow.Author.Tests.{eqb-true, le-leb, lt-leb, leb-true, leb-false, ltb-true, ltb-false, not-false, not-true}
 use lib.Dec.{eqb, leb, ltb}
-use lib.ListN.{length, get_or, take, drop, set, length-set, length-drop, drop_of_length-le}
-use lib.Seq.{get_or-set_same, get_or-set_other, get_or-drop, drop-cons}
-use Rattle.blocks.specs.Blocks.{NoneFrom}
+use lib.ListN.{length, get_or, take, drop, set, length-set, length-drop}
+use lib.Seq.{get_or-set_same, get_or-set_other, get_or-drop}
+use Rattle.blocks.specs.Blocks.{NoneFrom, FirstFrom}
 use Rattle.std.specs.Int.{from_bool}
-use Rattle.utf8.specs.Unicode.{within}
-use Rattle.utf8.proofs.Tests.{by_test, in_range_law}
-use Rattle.rules.specs.Basics.{choose, is_closer, leading}
+use Rattle.utf8.proofs.Tests.{by_test}
+use Rattle.rules.specs.Basics.{choose, is_closer}
 use Rattle.rules.specs.Scan.{Cell, cell, is_code}
 use Rattle.rules.specs.ClassBytes.{class_of, cells_of}
 use Rattle.rules.specs.Brackets.{Entry, Open, opened, escaped, push, pop_from, pop, bracket_step, scan_brackets, leading_closers, levels}
-use Rattle.rules.proofs.Choose.{choose_case, choose_true, choose_false}
+use Rattle.rules.proofs.Choose.{choose_case, choose_false}
+use Rattle.rules.proofs.Leading.{Passing, passing_start, passing_more, passing_stop, passing_end}
 use Rattle.rules.proofs.CellsLaws.{drop_cells, cells_at, cells_end}
 use Rattle.basics.specs.Region.{Only}
 use Rattle.basics.specs.Closers.{Closers}
-use Rattle.brackets.specs.Stack.{entry_size, adds_of, entry_at, stacked, EntryRoom, EntryPut, Nested, Popped, Tallies, may_turn, turns_at, Apart, TurnKey, TurnPlace, NoTurn, StackRoom, Turned, StackFits, ScanFits, BracketsDone, opened_by}
+use Rattle.brackets.specs.Stack.{entry_size, adds_of, entry_at, stacked, EntryRoom, EntryPut, Tallies, may_turn, turns_at, solid_at, StackRoom, Turned, StackFits, ScanFits, BracketsDone, opened_by}
 use Rattle.brackets.specs.declared.Nesting.{Nesting}
 use Rattle.brackets.specs.declared.Tally.{Tally}
 use Rattle.basics.proofs.SplitLaws.{after_back, only_from}
@@ -30,34 +30,18 @@ use Rattle.basics.proofs.OnlyLaws.{only_same, only_set, only_wider, only_then, o
 
 -- ---- leading closers
 
-pub record Closing (line : List ℕ) (i : ℕ) : Type 0 where
-  pub within : i ≤ length line
-  pub same : leading_closers line ≡ i + leading_closers (drop i line)
+module _ (line : List ℕ) (r : ℕ) (f : FirstFrom (solid_at line) 0 (length line) r) where
+  closing : (n : ℕ) → n ≤ r → Passing is_closer line n
+  closing zero h = passing_start is_closer line
+  closing (suc n) h =
+      rw (← (add-one n)) (passing_more (closing n (omega arith)) (omega (arith, f.within)) (not-false (is_closer (get_or line n 0)) (f.none n zero-le (omega arith))))
 
-pub closing_start : (line : List ℕ) → Closing line 0
-closing_start line = record { within = zero-le; same = sym (zero-add (leading_closers line)) }
-
-closers_at : (line : List ℕ) (i : ℕ) → i < length line
-    → leading_closers (drop i line) ≡ choose (is_closer (get_or line i 0)) (suc (leading_closers (drop (i + 1) line))) 0
-unfolding leading_closers leading
-closers_at line i h = rw (add-one, drop-cons line i 0)
-
-module _ (line : List ℕ) (i : ℕ) (w : Closing line i) where
-  pub closing_more : (r : Bool) → i < length line → r ≡ is_closer (get_or line i 0) → r ≡ true → Closing line (i + 1)
-  closing_more r h e q =
-      let k : leading_closers (drop i line) ≡ suc (leading_closers (drop (i + 1) line)) = closers_at line i h ∙ choose_true _ _ _ (sym e ∙ q) in
-      record { within = omega arith; same = omega (arith, w.same) }
-
-  pub closing_stop : (r : Bool) → i < length line → r ≡ is_closer (get_or line i 0) → r ≡ false → Closers line i
-  closing_stop r h e q =
-      let k : leading_closers (drop i line) ≡ 0 = closers_at line i h ∙ choose_false _ _ _ (sym e ∙ q) in
-      record { is = omega (arith, w.same); fits = w.within }
-
-  pub closing_end : length line ≤ i → Closers line i
-  unfolding leading_closers leading
-  closing_end h =
-      let k : leading_closers (drop i line) ≡ 0 = rw (drop_of_length-le line {i = i}) in
-      record { is = omega (arith, w.same); fits = w.within }
+  pub closers_first : Closers line r
+  unfolding leading_closers
+  closers_first =
+      by_test (ltb r (length line))
+      (λ t. let h : r < length line = ltb-true r (length line) t in record { is = passing_stop (closing r (omega arith)) h (not-true (is_closer (get_or line r 0)) (f.passes h)); fits = f.within })
+      (λ t. record { is = passing_end (closing r (omega arith)) (ltb-false r (length line) t); fits = f.within })
 
 -- ---- the stack
 
@@ -141,9 +125,6 @@ pub record Popping (buf : List ℕ) (base end depth levels₁ : ℕ) : Type 0 wh
   pub fits : base + entry_size * depth ≤ length buf
   pub runs : levels₁ ≡ levels (stacked buf base depth)
 
-pub popping_start : (buf : List ℕ) (base : ℕ) (b : Nesting) (n end : ℕ) → Nested buf base b → end ≡ b.depth - n → Popping buf base end b.depth b.levels
-popping_start buf base b n end w e = record { from = omega (arith, e); fits = w.fits; runs = w.runs }
-
 module _ (buf : List ℕ) (base end depth levels₁ : ℕ) (w : Popping buf base end depth levels₁) where
   module _ (h : end < depth) (r : ℕ) (e : r ≡ choose (adds_of (get_or buf (base + entry_size * (depth - 1)) 0)) 1 0) where
     top : levels₁ ≡ r + levels (stacked buf base (depth - 1))
@@ -154,10 +135,6 @@ module _ (buf : List ℕ) (base end depth levels₁ : ℕ) (w : Popping buf base
 
     pub popping_more : Popping buf base end (depth - 1) (levels₁ - r)
     popping_more = record { from = omega arith; fits = omega (arith, w.fits); runs = omega (arith, top) }
-
-  pub popping_end : (b : Nesting) (n : ℕ) → Nested buf base b → end ≡ b.depth - n → depth ≤ end → Popped buf base b n (record { depth = depth; levels = levels₁; line = b.line })
-  popping_end b n k e h =
-      record { depth = omega (arith, w.from); nested = record { fits = w.fits; runs = w.runs; line = k.line }; line = refl }
 
 -- ---- an entry
 
@@ -506,55 +483,3 @@ module _ (buf x : List ℕ) (class n base : ℕ) (b : Nesting) (f : StackFits bu
 
   pub scan_fits : (line ks : List ℕ) → length line ≡ n → length ks ≡ n → ScanFits line ks x b
   scan_fits line ks e k = record { classes = omega arith; stack = omega (arith, tail_long, f.stack); runs = tail_runs; line = f.line }
-
--- ---- the first of them in a block
-
--- a byte that may be one stands in one of the three ranges
-pub turn_key : (c x y z m r : ℕ) → Apart c 40 1 x → Apart c 91 2 y → Apart c 123 2 z → m ≡ min y z → r ≡ min x m → TurnKey c r
-unfolding may_turn
-turn_key c x y z m r u v w p q =
-    record {
-      zero = λ e.
-          by_test (within 40 41 c) (λ a. (let l = in_range_law 40 41 c a in let k = u.zero l.0 l.1 in omega arith))
-          (λ a. by_test (within 91 93 c) (λ b. (let l = in_range_law 91 93 c b in let k = v.zero l.0 l.1 in omega arith))
-          (λ b. (let l = in_range_law 123 125 c (rw (a, b) at e) in let k = w.zero l.0 l.1 in omega arith)));
-    }
-
-module _ (p : ℕ → Bool) (from a at : ℕ) where
-  pub no_turn_start : (m : ℕ) → NoTurn p from a a at m
-  no_turn_start m = record { none = λ j h l. absurd (omega arith) }
-
-  no_turn_more : (e m r n : ℕ) → NoTurn p from a e at m → (at ≤ e → e < at + r → p (from + e) ≡ false) → n ≤ m → n ≤ r → NoTurn p from a (e + 1) at n
-  no_turn_more e m r n w q h k =
-      record {
-        none = λ j x y u v. by_test (ltb j e) (λ l. w.none j x (ltb-true j e l) u (omega arith))
-            (λ l. (let i : j ≡ e = (let z = ltb-false j e l in omega arith) in rw i (q (rw i at u) (let z = rw i at v in omega arith))));
-      }
-
-pub first_more : (line : List ℕ) (from at k m r n : ℕ) → NoTurn (turns_at line) from 0 k at m → TurnPlace (get_or line (from + k) 0) k at r → n ≡ min m r
-    → NoTurn (turns_at line) from 0 (k + 1) at n
-first_more line from at k m r n w t e = no_turn_more (turns_at line) from 0 at k m r n w t.none (omega arith) (omega arith)
-
--- of the loop over the first eight and the last eight bytes
-pub record Halves (line : List ℕ) (last at k m : ℕ) : Type 0 where
-  pub front : NoTurn (turns_at line) 0 0 k at m
-  pub back : NoTurn (turns_at line) 0 last (last + k) at m
-
-pub turn_next : (line : List ℕ) (at from m n : ℕ) → (16 ≤ length line) × (at ≤ length line) → from ≡ min at (length line - 16)
-    → NoTurn (turns_at line) from 0 16 (at - from) m → n ≡ min m (16 - (at - from)) → NoneFrom (turns_at line) at (length line) (at + n)
-turn_next line at from m n h e w f =
-    record {
-      from = omega arith;
-      within = omega (arith, h.0, h.1);
-      none = λ j k l. (let q : from + (j - from) ≡ j = omega (arith, h.0, h.1) in
-          rw q at (w.none (j - from) (omega arith) (omega (arith, h.0, h.1)) (omega arith) (omega (arith, h.0, h.1))));
-    }
-
-pub short_next : (line : List ℕ) (at m n : ℕ) → at ≤ length line → NoTurn (turns_at line) 0 0 (length line) at m → n ≡ min m (length line - at)
-    → NoneFrom (turns_at line) at (length line) (at + n)
-short_next line at m n h w f =
-    record {
-      from = omega arith;
-      within = omega arith;
-      none = λ j k l. rw (zero-add j) at (w.none j (omega arith) (omega arith) k (omega arith));
-    }

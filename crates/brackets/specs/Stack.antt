@@ -1,7 +1,7 @@
 -- The stack of open brackets as it lies in scratch: from base on, the oldest first, three bytes for each.
-use Rattle.std.specs.Prelude.{ℕ, zero, suc, ◌+◌, ◌-◌, ◌*◌, ◌/◌, ◌%◌, ◌≤◌, ◌<◌, Bool, not, ◌||◌, true, false, List, [], ◌∷◌, ◌≡◌, eqb, ltb, length, get_or}
+use Rattle.std.specs.Prelude.{ℕ, zero, suc, ◌+◌, ◌-◌, ◌*◌, ◌/◌, ◌%◌, ◌≤◌, Bool, not, ◌||◌, true, List, [], ◌∷◌, ◌≡◌, eqb, ltb, length, get_or}
 use Rattle.utf8.specs.Unicode.{within}
-use Rattle.rules.specs.Basics.{choose}
+use Rattle.rules.specs.Basics.{choose, is_closer}
 use Rattle.rules.specs.Brackets.{Entry, Open, levels}
 use Rattle.rules.specs.Call.{listed}
 use Rattle.rules.specs.Refusals.{max_source}
@@ -76,23 +76,9 @@ may_turn c = within 40 41 c || within 91 93 c || within 123 125 c
 abbrev pub turns_at : List ℕ → ℕ → Bool
 turns_at s i = may_turn (get_or s i 0)
 
--- ---- the first of them in a block
-
--- 0 for a number c from low to low + more
-pub record Apart (c low more r : ℕ) : Type 0 where
-  pub zero : low ≤ c → c ≤ low + more → r ≡ 0
-
-pub record TurnKey (c r : ℕ) : Type 0 where
-  pub zero : may_turn c ≡ true → r ≡ 0
-
--- the byte c at the place k is none, if k stands before at + r and not before `at`
-pub record TurnPlace (c k at r : ℕ) : Type 0 where
-  pub none : at ≤ k → k < at + r → may_turn c ≡ false
-
--- none of the places from a up to e passes the test p, counted from `from` on, that stand before at + r and not before
--- `at`
-pub record NoTurn (p : ℕ → Bool) (from a e at r : ℕ) : Type 0 where
-  pub none : (j : ℕ) → a ≤ j → j < e → at ≤ j → j < at + r → p (from + j) ≡ false
+-- the byte at i is no closer
+abbrev pub solid_at : List ℕ → ℕ → Bool
+solid_at s i = not (is_closer (get_or s i 0))
 
 -- there is room for one more
 pub record StackRoom (buf : List ℕ) (t : Tally) : Type 0 where

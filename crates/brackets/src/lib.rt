@@ -12,9 +12,14 @@ ghost use Rattle.rules.specs.Brackets.{push, pop, bracket_step, scan_brackets, o
 ghost use Rattle.basics.specs.Closers.{Closers};
 ghost use Rattle.brackets.specs.Stack.{adds_of, entry_at, entry_size, stacked, Nested, Popped, EntryRoom, EntryPut};
 ghost use Rattle.brackets.specs.Stack.{StackRoom, Turned, StackFits, ScanFits, BracketsDone, may_turn, turns_at};
-ghost use Rattle.brackets.specs.Stack.{Apart, TurnKey, TurnPlace, NoTurn, line_at, Listed, opened_by};
+ghost use Rattle.brackets.specs.Stack.{line_at, Listed, opened_by};
+
+mod turns;
 
 use basics::{is_closer, is_opener};
+use blocks::lanes;
+use rules::class_byte::CODE;
+use turns::{Turns, may_turn};
 
 // The bytes of an entry.
 pub const ENTRY: usize = 3;
@@ -40,12 +45,7 @@ pub struct Tally {
 pub fn leading_closers(line: &[u8]) -> usize
     ensures { Closers line.now result }
 {
-    for i in 0..line.len() {
-        if !is_closer(line[i]) {
-            return i;
-        }
-    }
-    line.len()
+    blocks::first_from(0, line.len(), &|i| !is_closer(line[i]))
 }
 
 // 1 for an entry that added a level, else 0; of its first byte.
@@ -146,13 +146,6 @@ fn pop(stack: &[u8], t: Tally) -> Tally
     }
 }
 
-// Whether c may be a bracket or a backslash, which stand in three ranges.
-fn may_turn(c: u8) -> bool
-    ensures { result ≡ may_turn c }
-{
-    ((40 <= c) & (c <= 41)) | ((91 <= c) & (c <= 93)) | ((123 <= c) & (c <= 125))
-}
-
 // Whether c changes nothing, whatever its class: it is not escaped, and neither a bracket nor a backslash. Most bytes
 // are such, and their class is not looked at.
 fn is_idle(c: u8, esc: bool) -> bool
@@ -161,97 +154,12 @@ fn is_idle(c: u8, esc: bool) -> bool
     !(esc | may_turn(c))
 }
 
-// The first byte of a block that may be one is found by the least of sixteen numbers, without a branch: these functions
-// compile to a few instructions for all sixteen.
-
-// 0 for c among the bytes from low on, `more` after it.
-fn apart(c: u8, low: u8, more: u8) -> u8
-    ensures { Apart c low more result }
-{
-    c.wrapping_sub(low).saturating_sub(more)
-}
-
-// 0 for a byte that may be one.
-fn turn_key(c: u8) -> u8
-    ensures { TurnKey c result }
-{
-    apart(c, 40, 1).min(apart(c, 91, 2).min(apart(c, 123, 2)))
-}
-
-// How far from `at` on the byte c stands at place k, if it may be one; else 255.
-fn turn_place(c: u8, k: u8, at: u8) -> u8
-    ensures { TurnPlace c k at result }
-{
-    if turn_key(c) == 0 {
-        k.wrapping_sub(at)
-    } else {
-        255
-    }
-}
-
-// How far from the place `at` of the sixteen bytes from `from` on the first one that may be one stands, or more than
-// are left.
-fn first_turn(line: &[u8], from: usize, at: u8) -> u8
-    requires { from + 16 ≤ length line.now }
-    ensures { NoTurn (turns_at line.now) from 0 16 at result }
-{
-    let mut m: u8 = 255;
-    for k in 0..16u8 {
-        m = m.min(turn_place(line[from + k as usize], k, at));
-    }
-    m
-}
-
-// The same of a line of 8 to 16 bytes, its first eight and its last eight, which start at `last`.
-fn first_short(line: &[u8], last: u8, at: u8) -> u8
-    requires { (last + 8 ≡ length line.now) × (last ≤ 8) }
-    ensures { NoTurn (turns_at line.now) 0 0 (length line.now) at result }
-{
-    let mut m: u8 = 255;
-    for k in 0..8u8 {
-        let i = last + k;
-        let front = turn_place(line[k as usize], k, at);
-        m = m.min(front.min(turn_place(line[i as usize], i, at)));
-    }
-    m
-}
-
-// Up to the next byte that may be one, or past the sixteen bytes that are tested: those from `at` on, or the last ones.
-fn next_turn(line: &[u8], at: usize) -> usize
-    requires { (16 ≤ length line.now) × (at ≤ length line.now) }
-    ensures { NoneFrom (turns_at line.now) at (length line.now) result }
-{
-    let from = buffer::place(at, line.len() - 16);
-    let k = at - from;
-    let m = first_turn(line, from, k as u8) as usize;
-    at + buffer::place(m, 16 - k)
-}
-
-fn next_short(line: &[u8], at: usize) -> usize
-    requires in_bounds { (8 ≤ length line.now) × (length line.now ≤ 16) }
-    requires at_in_bounds { at ≤ length line.now }
-    ensures { NoneFrom (turns_at line.now) at (length line.now) result }
-{
-    let n = line.len();
-    let m = first_short(line, (n - 8) as u8, at as u8) as usize;
-    at + buffer::place(m, n - at)
-}
-
 // Past the bytes that are none.
 fn idle_to(line: &[u8], at: usize) -> usize
     requires { at ≤ length line.now }
     ensures { NoneFrom (turns_at line.now) at (length line.now) result }
 {
-    let n = line.len();
-    let test = |i: usize| may_turn(line[i]);
-    if 16 <= n {
-        let i = blocks::past_blocks::<16, _>(at, n, &test);
-        return next_turn(line, i);
-    }
-    if 8 <= n {
-        return next_short(line, at);
-    }
-    blocks::first_from(at, n, &test)
+    lanes::first(&Turns { line }, at, line.len())
 }
 
 // A byte c of class k.
@@ -260,7 +168,7 @@ fn bracket_step(c: u8, k: u8, stack: &mut [u8], t: Tally) -> Tally
     ensures { Turned (λ o. bracket_step o (cell c (class_of k))) stack.old t
         stack.new result }
 {
-    if k != 0 {
+    if k != CODE {
         return t;
     }
     if t.esc {
@@ -383,8 +291,8 @@ pub fn list_lines(scratch: &[u8], base: usize, count: usize, list: &mut [u64]) -
     ensures { Listed (open_lines (stacked scratch.now base count)) (length list.old) result
         list.new }
 {
-    for i in 0..list.len() {
-        list[i] = line_at(scratch, base, count, i);
+    for (i, line) in list.iter_mut().enumerate() {
+        *line = line_at(scratch, base, count, i);
     }
     count
 }

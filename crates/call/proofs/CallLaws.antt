@@ -23,7 +23,7 @@ use Rattle.rules.specs.Line.{Formatter, start}
 use Rattle.rules.specs.Assembly.{ending_of, drop_empty, joined, last_ending, finish, format_lines, format_with}
 use Rattle.std.specs.Prelude.{Some, None, Result, Ok, Err}
 use Rattle.std.specs.Option.{MatchOption}
-use Rattle.rules.specs.Refusals.{Verdict, scratch_needed, refuse_if, tested, and_then, long_source, wide_ruler, short_scratch, ill_formed, short_output, wrong_length, bits_set}
+use Rattle.rules.specs.Refusals.{Verdict, scratch_needed, refuse_if, tested, and_then, long_source, wide_ruler, short_scratch, ill_formed, short_output, wrong_length, bits_set, bad_option}
 use Rattle.rules.specs.Strengths.{table_length}
 use Rattle.rules.specs.Choices.{Choices, valid_options, options_of}
 use Rattle.rules.specs.Call.{Call, Outcome, formatted, text_of, format_scratch, format_tests, verdict_of, outcome_after, outcome_of, answer_of, filled, listed, output_of, opened_of}
@@ -90,8 +90,8 @@ pub refused_call : (why : Refusal) (scratch : List ℕ) (n k m : ℕ) {r : ℕ} 
 refused_call why scratch n k m z w = record { outcome = refl; zeros = z; none = none_told scratch w; cleared = w.cleared }
 
 -- without a comparison all lines are read
-pub all_done : {source indent : List ℕ} {style : Style} {model : List ℕ} {r : LinesRead} {out scratch : List ℕ}
-    → AllRead source indent style false model r out scratch → LinesDone source indent style model r.st out scratch
+pub all_done : {source indent : List ℕ} {style : Style} {r : LinesRead} {out scratch : List ℕ}
+    → AllRead source indent style None r out scratch → LinesDone source indent style [] r.st out scratch
 all_done w = w.done (w.all refl)
 
 -- out₁ is what `read_lines` leaves of the output, out₂ what `finish_text` leaves of it; list₁ and scratch₂ are what
@@ -194,6 +194,20 @@ one_refuses (Err q) b l why ts x = refl
 one_refuses (Ok _) (Err q) l why ts x = refl
 one_refuses (Ok _) (Ok _) (Err q) why ts x = refl
 one_refuses (Ok _) (Ok _) (Ok _) why ts x = refl
+
+fifth_refuses : (w b l r : Verdict) (why : Refusal) (ts : List Verdict) → tested (w ∷ b ∷ []) ≡ Ok tt → l ≡ Ok tt → r ≡ Err why
+    → tested (w ∷ b ∷ l ∷ Ok tt ∷ r ∷ ts) ≡ Err why
+fifth_refuses (Ok _) (Ok _) l r why ts e f g = rw (f, g) refl
+fifth_refuses (Ok _) (Err q) l r why ts e f g = absurd (cc)
+fifth_refuses (Err q) b l r why ts e f g = absurd (cc)
+
+-- the ruler's test, behind those of the table, of the source's length and of the options
+pub test_ruler : (table source : List ℕ) (bad : Bool) (ruler scratch : ℕ) → tested (wrong_length table ∷ bits_set table ∷ []) ≡ Ok tt → long_source source ≡ Ok tt
+    → bad ≡ false → max_ruler < ruler → tested (format_tests table source bad ruler scratch) ≡ Err Refusal.RulerTooWide
+unfolding choose
+test_ruler table source bad ruler scratch e f g h =
+    rw g (fifth_refuses (wrong_length table) (bits_set table) (long_source source) (wide_ruler ruler) Refusal.RulerTooWide
+    (short_scratch (scratch_needed format_scratch source) scratch ∷ ill_formed source ∷ []) e f (rw (lt-ltb max_ruler ruler h)))
 
 -- `tested_options`, of options that are refused or given
 pub chosen_tests : (table source : List ℕ) (bad : Bool) (o : FormatOptions) (scratch : ℕ)

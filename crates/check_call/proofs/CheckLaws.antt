@@ -1,5 +1,5 @@
 -- What a check comes to, by its tests in their order, and its answer.
-use Prim.Native.Nat.{ℕ, ◌≤◌}
+use Prim.Native.Nat.{ℕ, zero, suc, ◌≤◌}
 use native.Mathlib.Omega.{arith}
 use mathlib.Core.Bool.{Bool, true, false, not, ◌||◌, true≢false}
 use mathlib.Core.List.{List, [], ◌∷◌, ◌++◌}
@@ -14,9 +14,9 @@ use Rattle.rules.specs.Options.{Options, max_ruler}
 use Rattle.rules.specs.Strengths.{table_length}
 use Rattle.rules.specs.Line.{start}
 use Rattle.rules.specs.Assembly.{ending_of, drop_empty, joined, last_ending, finish, format_lines, format_with}
-use Rattle.rules.specs.Choices.{Choices, valid_options, options_of}
-use Rattle.std.specs.Prelude.{Result, Ok, Err}
-use Rattle.rules.specs.Refusals.{Verdict, tested, wrong_length, bits_set, long_source, bad_option, and_then}
+use Rattle.rules.specs.Choices.{Choices, valid_options, options_of, end_of_line_named}
+use Rattle.std.specs.Prelude.{Result, Ok, Err, Option, Some, None, is_some, is_none, unwrap_or}
+use Rattle.rules.specs.Refusals.{Verdict, wrong_length, bits_set, long_source, bad_option, and_then}
 use Rattle.rules.specs.Call.{Call, formatted, text_of, format_tests}
 use Rattle.rules.specs.declared.LineEnding.{LineEnding}
 use Rattle.rules.specs.declared.OptionNumbers.{OptionNumbers}
@@ -42,7 +42,7 @@ use Rattle.check_call.specs.declared.Finding.{Finding}
 use Rattle.check_call.specs.CheckCall.{CheckOutcome, verdict_of, checked_options, finding_of, outcome_after, outcome_of, one_if, answer_of, Compares, CheckedWith, Found}
 use Rattle.check_call.specs.CheckAnswered.{choices_of, CheckAnswered}
 use Rattle.check_call.proofs.SameLaws.{same_chars}
-use Rattle.utf8.proofs.Tests.{neither_left}
+use Rattle.utf8.proofs.Tests.{by_test, and_left, and_right, neither_left}
 
 -- ---- the lines, and the finish
 
@@ -56,7 +56,7 @@ module _
     o = options_in chosen
 
     module _ (work : List ℕ)
-        (w : AllRead source indent (style_of chosen ending) true source r cell work)
+        (w : AllRead source indent (style_of chosen ending) (Some source) r cell work)
       where
         uses : Uses o indent (style_of chosen ending)
         uses = record { indents = sym own; breaks = refl; ruled = refl; strengths = refl }
@@ -67,7 +67,7 @@ module _
 
         answer_is : Scalars (format_with o (decode source)).text → is_formatted o (decode source) ≡ answer_at o (decode source) (as_str ending) r.all r.st.nesting.line
         unfolding is_formatted
-        answer_is s = rw (← e) (w.answer refl refl o uses (subst Scalars text_is s))
+        answer_is s = rw (← e) (w.answer refl o uses (subst Scalars text_is s))
 
         -- the settled text differs
         pub found_early : r.all ≡ false → CheckedWith o source (record { yes = false; read = r.st.nesting.line })
@@ -94,6 +94,38 @@ module _
           pub found_late : CheckedWith o source (record { yes = b; read = r.st.nesting.line })
           unfolding choose
           found_late = record { is = λ s. rw (yes_is s) (sym (ap finding_of (answer_is s) ∙ rw all)) }
+
+-- ---- the options
+
+-- what the options that were named come to: an ending that is kept is refused
+abbrev pub refuse_kept : Result FormatOptions Refusal → Result FormatOptions Refusal
+refuse_kept (Err why) = Err why
+refuse_kept (Ok o) = choose (is_none o.end_of_line) (Err Refusal.BadOption) (Ok o)
+
+-- of the numbers that name an ending, 0 alone names one that is kept
+kept_number : (n : ℕ) (d : Option LineEnding) → is_some (end_of_line_named n) ≡ true → is_none (unwrap_or (end_of_line_named n) d) ≡ eqb n 0
+kept_number zero d e = refl
+kept_number (suc zero) d e = refl
+kept_number (suc (suc zero)) d e = refl
+kept_number (suc (suc (suc n))) d e = absurd cc
+
+ending_named : (c : Choices) → valid_options c ≡ true → is_some (end_of_line_named c.numbers.line_ending) ≡ true
+unfolding valid_options
+ending_named c e = and_right _ _ (and_left _ _ e)
+
+checked_is : (c : Choices) → refuse_kept (held_named c) ≡ checked_options c
+unfolding choose options_of
+checked_is c =
+    by_test (valid_options c)
+    (λ e. rw (e, kept_number c.numbers.line_ending None (ending_named c e)))
+    (λ e. rw e)
+
+-- kept tells whether the ending that was named is kept
+pub kept_refused : (c : Choices) (o : FormatOptions) (kept : Bool) → held_named c ≡ Ok o → is_some o.end_of_line ≡ not kept → kept ≡ true → Err Refusal.BadOption ≡ checked_options c
+kept_refused c o kept e i k = sym (ap refuse_kept e ∙ choose_true _ _ _ (ap not (i ∙ ap not k))) ∙ checked_is c
+
+pub set_passed : (c : Choices) (o : FormatOptions) (kept : Bool) → held_named c ≡ Ok o → is_some o.end_of_line ≡ not kept → kept ≡ false → Ok o ≡ checked_options c
+set_passed c o kept e i k = sym (ap refuse_kept e ∙ choose_false _ _ _ (ap not (i ∙ ap not k))) ∙ checked_is c
 
 -- ---- the tests
 

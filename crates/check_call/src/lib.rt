@@ -75,7 +75,7 @@ fn check_with(source: &[u8], options: FormatOptions, scratch: &mut [u8]) -> Find
     let style = call::assembly::style_of(options, ending);
     let indent = options.indent.as_bytes();
     let mut cell = [0u8; CELL];
-    let lines = lines::read_lines(source, indent, style, true, source, &mut cell, scratch);
+    let lines = lines::read_lines(source, indent, style, Some(source), &mut cell, scratch);
     let st = lines.st;
     let read = st.nesting.line;
     if lines.all {
@@ -94,10 +94,11 @@ fn check_with(source: &[u8], options: FormatOptions, scratch: &mut [u8]) -> Find
 fn options_of(request: Request<'_>, table: Strengths) -> Result<FormatOptions, Refusal>
     ensures { result ≡ checked_options (choices_of request.entry.indent.now request.entry.numbers table.table) }
 {
-    if request.numbers.line_ending == 0 {
+    let options = FormatOptions::from_numbers(request.indent, request.numbers, table)?;
+    if options.end_of_line.is_none() {
         return Err(Refusal::BadOption);
     }
-    FormatOptions::from_numbers(request.indent, request.numbers, table)
+    Ok(options)
 }
 
 // The tests, then the lines.

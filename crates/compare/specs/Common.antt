@@ -25,13 +25,6 @@ differ_at m l i = not (eqb (get_or m i 0) (get_or l i 0))
 pub record StartsAlike (m l : List ℕ) (r : Bool) : Type 0 where
   pub is : r ≡ true → length l ≤ common m l
 
-abbrev pub other_at : List ℕ → ℕ → ℕ → Bool
-other_at m b i = not (eqb (get_or m i 0) b)
-
--- r tells that the first n elements are b
-pub record RunOf (m : List ℕ) (b n : ℕ) (r : Bool) : Type 0 where
-  pub is : r ≡ true → (j : ℕ) → j < n → get_or m j 0 ≡ b
-
 -- a number below 2 ^ 24 in three bytes
 abbrev pub cell_size : ℕ
 cell_size = 3

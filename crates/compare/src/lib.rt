@@ -1,17 +1,21 @@
 // Where a text goes. With no model, to an output that may be too short. With a model, it is compared with that as it
 // comes, and nothing of it is written: three bytes keep how many of its first bytes are the model's. A text is cut back
 // by going on from a smaller place.
+// kept: an empty model is the sign for none, here and up to crate step. An `Option` is no plainer: `Some` of an empty
+// model would be a third case, to be compared, and each contract would say `option_copied model.entry` for `model.now`
 #![tactic(auto)]
 
 ghost use Rattle.std.specs.Prelude.{◌≡◌, [], ◌++◌, ◌+◌, ◌*◌, ◌<◌, ◌≤◌, ◌^◌, min, length, drop, replicate};
 ghost use Rattle.buffer.specs.Pad.{spelled};
 ghost use Rattle.compare.specs.Common.{common, Agreeing, EndsAlike, StartsAlike};
-ghost use Rattle.compare.specs.Common.{RunOf, cell_size, cell_of, CellPut, CellKept, Compared};
+ghost use Rattle.compare.specs.Common.{cell_size, cell_of, CellPut, CellKept, Compared};
 ghost use Rattle.compare.specs.Common.{LineAlike, Tells};
 ghost use Rattle.compare.specs.Rows.{ending_of, written};
 
 pub mod ending;
 
+use blocks::lanes;
+use blocks::others::Others;
 use buffer::pad::Pad;
 use ending::{ending_bytes, ending_len};
 use rules::LineEnding;
@@ -72,38 +76,14 @@ fn agree(model: &[u8], line: &[u8]) -> usize
     blocks::first_from(from, n, &|i| model[i] != line[i])
 }
 
-// Whether the first n bytes, at most 16, are b. It makes no branch: indents differ from line to line.
-#[tactic(auto, using(crate::proofs::MaskLaws::run_told))]
-fn run_of(model: &[u8], b: u8, n: usize) -> bool
-    requires in_bounds { 16 ≤ length model.now }
-    requires n_bound { n ≤ 16 }
-    ensures { RunOf model.now b n result }
-{
-    let m = utf8::byte_mask(model, 0, b);
-    n <= u32::trailing_zeros(m + 1) as usize
-}
-
-// Whether the first n bytes, at least 16, are b: block by block, of which the last may overlap.
-fn run_long(model: &[u8], b: u8, n: usize) -> bool
-    requires { (16 ≤ n) × (n ≤ length model.now) }
-    ensures { RunOf model.now b n result }
-{
-    blocks::none_before::<16, _>(n, &|i| model[i] != b)
-}
-
-// Whether the model, of at least 16 bytes, starts with n times b.
-#[tactic(auto, using(crate::proofs::CommonLaws::starts_run))]
+// Whether the model, of at least 16 bytes, starts with n times b. A run of at most 16 is told without a branch: indents
+// differ from line to line.
+#[tactic(auto, using(crate::proofs::CommonLaws::run_first))]
 fn run_alike(model: &[u8], b: u8, n: usize) -> bool
     requires { 16 ≤ length model.now }
     ensures { StartsAlike model.now (replicate n b) result }
 {
-    if n <= 16 {
-        return run_of(model, b, n);
-    }
-    if model.len() < n {
-        return false;
-    }
-    run_long(model, b, n)
+    n <= model.len() && n <= lanes::first_in::<16, _>(&Others { bytes: model, b }, 0, n.max(16))
 }
 
 // Whether the model starts with the indent, levels times over. It is told where that is of one kind of byte, and the
@@ -374,9 +354,9 @@ fn write_line(
 }
 
 // The line goes behind a text that reaches up to at. Gives the next place.
-// kept: (model, out, at) as three parameters: a struct of them with methods is no plainer. The text is cut back by going
-// on from a smaller place, which text's own record keeps, so that the struct's place would be set anew for each line; and
-// each method would also have to say that the model and the reference to out stay what they were
+// kept: (model, out, at) as three parameters: a struct of them with methods is no plainer. The text is cut back by
+// going on from a smaller place, which text's own record keeps, so that the struct's place would be set anew for each
+// line; and each method would also have to say that the model and the reference to out stay what they were
 pub fn append(model: &[u8], out: &mut [u8], at: usize, line: &[u8]) -> usize
     requires { at + length line.now < 2 ^ 64 }
     ensures { Compared model.now out.old out.new at line.now result }
@@ -398,6 +378,8 @@ pub fn append_indented(model: &[u8], out: &mut [u8], at: usize, pad: Pad<'_>, li
 // The same with a line ending before it, if there is one.
 // kept: (ending, pad, line) as three parameters: tried as one struct, which goes through memory: 2.2 to 7.2 % more
 // instructions of a call (declarations 4.5 %, deep nesting 7.2 %)
+// kept: the ending as an `Option`: tried as its bytes, a slice: 1.1 % more instructions to 2.4 % fewer, more in half of
+// the inputs (wide operator lines 1.0 %, grammar 0.5 %), so no faster, and what is told of it needs at most two bytes
 pub fn append_line(
     model: &[u8],
     out: &mut [u8],

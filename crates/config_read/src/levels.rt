@@ -41,6 +41,7 @@ pub fn nearest(p: &[u8]) -> usize
 }
 
 // The same one directory up: none above the top, and none that counts above a root.
+#[tactic(auto, using(crate::proofs::LevelLaws::above_top, crate::proofs::LevelLaws::above_root, crate::proofs::LevelLaws::above_next))]
 pub fn above(p: &[u8], from: usize, text: &[u8]) -> Option<usize>
     requires { WellFormed p.now × LevelAt p.now from × Readable text.now }
     ensures { Above p.now text.now from result }

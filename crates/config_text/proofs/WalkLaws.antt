@@ -13,6 +13,10 @@ use native.Mathlib.Nat.{zero-add}
 use native.Mathlib.Numerals.{add-one}
 use native.Mathlib.Omega.{arith}
 use Rattle.std.specs.Slice.{IsGetRangeResult}
+use Rattle.std.specs.Fn.{Called, Mut}
+use Rattle.std.specs.Option.{MatchOption}
+use Rattle.std.specs.Iterator.{Yields, ChecksAny}
+use Rattle.std.specs.List.{FoldsTo}
 use borrow.Author.Tests.{eq-eqb, ne_eqb, eqb-true}
 use lib.ListN.{length, take, drop, get_or}
 use lib.Seq.{take_all}
@@ -36,7 +40,7 @@ use Rattle.config_rules.specs.Sections.{long_name, root_at, settings}
 use Rattle.config_lines.specs.Words.{Trimmed}
 use Rattle.config_lines.specs.Kinds.{line_in, Parts, KindOf}
 use Rattle.config_lines.specs.declared.kinds.LineKind.{LineKind}
-use Rattle.config_text.specs.Walk.{Unmarked, lines_in, lines_left, LinesWell}
+use Rattle.config_text.specs.Walk.{Unmarked, lines_in, lines_left, LinesWell, NextLine}
 use Rattle.config_text.specs.declared.walk.Lines.{Lines}
 use Rattle.config_text.specs.Steps.{starts_section, root_after, applies_after, values_after, Named}
 
@@ -185,23 +189,27 @@ long_nil : long_name [] ≡ false
 unfolding long_name
 long_nil = refl
 
-pub record Names (text : List ℕ) (s : Lines) : Type 0 where
-  pub well : LinesWell s
-  pub is : long_name (lines_of (decode text)) ≡ long_name (lines_left s)
+-- a search for a line that f calls long, by calls that tell so
+module _ {F : Type 0} (g : Mut F (Option LineKind × Unit {0}) Bool)
+    (tells : (f : F) (line : Option LineKind) (b : Bool) (f' : F) → Parts line → Called g f (line, tt) b f' → b ≡ long_name (line_in line ∷ []))
+  where
+    names_passed : (xs : List (Option LineKind)) (s t : Lines) (f f' : F) → Yields NextLine s xs t → FoldsTo (λ p x q. Called g p (x, tt) false q) f xs f'
+        → long_name (lines_left s) ≡ long_name (lines_left t)
+    names_passed [] s t f f' y c = ap (λ (x : Lines). long_name (lines_left x)) y
+    names_passed (x ∷ xs) s t f f' y c =
+        ap long_name y.1.0 ∙ long_cons (line_in x) (lines_left y.0)
+        ∙ ap (λ (b : Bool). b || long_name (lines_left y.0)) (sym (tells f x false c.0 y.1.1 c.1))
+        ∙ names_passed xs y.0 t c.0 f' y.2 c.2
 
-module _ (text : List ℕ) (s : Lines) (w : Names text s) where
-  pub names_end : lines_left s ≡ [] → false ≡ long_name (lines_of (decode text))
-  names_end e = sym (w.is ∙ ap long_name e ∙ long_nil)
-
-  module _ (line : Option LineKind) (t : Lines) (n : lines_left s ≡ line_in line ∷ lines_left t) (b : Bool) (p : b ≡ long_name (line_in line ∷ [])) where
-    names_next : long_name (lines_of (decode text)) ≡ (b || long_name (lines_left t))
-    names_next = w.is ∙ ap long_name n ∙ long_cons (line_in line) (lines_left t) ∙ ap (λ (x : Bool). x || long_name (lines_left t)) (sym p)
-
-    pub names_found : b ≡ true → true ≡ long_name (lines_of (decode text))
-    names_found y = sym (names_next ∙ ap (λ (x : Bool). x || long_name (lines_left t)) y)
-
-    pub names_more : b ≡ false → LinesWell t → Names text t
-    names_more f v = record { well = v; is = names_next ∙ ap (λ (x : Bool). x || long_name (lines_left t)) f }
+    pub names_any : (s u : Lines) (f : F) (r : Bool) → ChecksAny NextLine g s f r u → r ≡ long_name (lines_left s)
+    names_any s u f r d = last d.1 d.3.2 d.5 ∙ sym (names_passed d.0 s d.3.0 f d.2 d.3.1 d.4)
+      where
+        last : (o : Option (Option LineKind)) → NextLine d.3.0 o u
+            → MatchOption o (r ≡ false) (λ x. (r ≡ true) × ((h : F) × Called g d.2 (x, tt) true h)) → r ≡ long_name (lines_left d.3.0)
+        last None n e = e ∙ sym (ap long_name n.0 ∙ long_nil)
+        last (Some x) n e =
+            e.0 ∙ sym (ap long_name n.0 ∙ long_cons (line_in x) (lines_left u)
+            ∙ ap (λ (b : Bool). b || long_name (lines_left u)) (sym (tells d.2 x true e.1.0 n.1 e.1.1)))
 
 -- ---- root
 

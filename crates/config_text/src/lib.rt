@@ -19,12 +19,7 @@ pub fn has_long_name(text: &[u8]) -> bool
     requires { Readable text.now }
     ensures { result ≡ long_name (lines_of (decode text.now)) }
 {
-    for line in Lines::of(text) {
-        if steps::is_long(line) {
-            return true;
-        }
-    }
-    false
+    Lines::of(text).any(steps::is_long)
 }
 
 // Whether the preamble ends with `root` set to true.

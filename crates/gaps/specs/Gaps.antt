@@ -1,7 +1,7 @@
 -- The gaps between the characters that are kept: a source and its text differ in gaps alone.
-use Rattle.std.specs.Prelude.{ℕ, ◌≤◌, ◌<◌, ◌^◌, Bool, true, false, not, List, [], ◌∷◌, ◌++◌, ◌≡◌, Option, Some, is_some, length, drop}
+use Rattle.std.specs.Prelude.{ℕ, ◌≤◌, ◌<◌, ◌^◌, Bool, true, false, not, List, [], ◌∷◌, ◌++◌, ◌≡◌, Option, length, drop}
 use Rattle.utf8.specs.Unicode.{encode, decode, WellFormed, code_at}
-use Rattle.utf8.specs.Places.{Step}
+use Rattle.utf8.specs.Places.{TakenAt}
 use Rattle.buffer.specs.Buffer.{part}
 use Rattle.rules.specs.Basics.{choose}
 use Rattle.rules.specs.Demand3.{is_kept, strike}
@@ -15,7 +15,11 @@ unfoldable pub after : List ℕ → List ℕ
 after [] = []
 after (c ∷ cs) = choose (is_kept c) cs (after cs)
 
--- none is kept: each is White_Space or a comma
+-- White_Space or a comma
+abbrev pub is_unkept : ℕ → Bool
+is_unkept c = not (is_kept c)
+
+-- none is kept
 abbrev pub Unkept : List ℕ → Type 0
 Unkept [] = Unit {0}
 Unkept (c ∷ cs) = (is_kept c ≡ false) × Unkept cs
@@ -39,9 +43,8 @@ pub record From (s : List ℕ) (i : ℕ) : Type 0 where
   pub well : WellFormed (drop i s)
 
 -- the character at i is not kept and takes so many bytes, or it is kept and r is None
-pub record UnkeptAt (s : List ℕ) (i : ℕ) (r : Option ℕ) : Type 0 where
-  pub is : is_kept (code_at (drop i s)) ≡ not (is_some r)
-  pub step : (n : ℕ) → r ≡ Some n → Step s i n
+abbrev pub UnkeptAt : List ℕ → ℕ → Option ℕ → Type 0
+UnkeptAt s i r = TakenAt is_unkept s i r
 
 -- the gap that starts at i ends at a
 pub record GapEnd (s : List ℕ) (i a : ℕ) : Type 0 where

@@ -29,13 +29,5 @@ pub fn gap_end(s: &[u8], i: usize) -> usize
     requires { From s.now i }
     ensures { GapEnd s.now i result }
 {
-    let mut a = i;
-    // kept: a range is no plainer, since a step takes the bytes of a character
-    while a < s.len() {
-        let Some(n) = unkept_at(s, a) else {
-            return a;
-        };
-        a += n;
-    }
-    a
+    utf8::past_chars(s, i, &|a| unkept_at(s, a))
 }

@@ -26,7 +26,9 @@ lone_brace ItemKind.Set = None
 lone_brace ItemKind.Range = None
 lone_brace ItemKind.Escape = None
 lone_brace ItemKind.Ahead = None
-lone_brace (ItemKind.Lone b) = Some b
+lone_brace (ItemKind.Lone Brace.Closes) = None
+lone_brace (ItemKind.Lone Brace.Comma) = Some Brace.Comma
+lone_brace (ItemKind.Lone Brace.Opens) = Some Brace.Opens
 
 abbrev pub left_event : Kind → Option Brace
 left_event (Kind.Brace b) = Some b

@@ -41,7 +41,9 @@ fn left_event(k: Kind) -> Option<Brace>
     ensures { result ≡ left_event k }
 {
     match k {
-        Kind::Brace(b) | Kind::Item(ItemKind::Lone(b)) => Some(b),
+        Kind::Brace(b) => Some(b),
+        Kind::Item(ItemKind::Lone(Brace::Comma)) => Some(Brace::Comma),
+        Kind::Item(ItemKind::Lone(Brace::Opens)) => Some(Brace::Opens),
         Kind::Item(_) => None,
     }
 }
@@ -100,6 +102,7 @@ pub fn mark_right(kinds: &mut [Kind])
     ensures { kinds.new ≡ mark_right kinds.old }
 {
     let mut open = Open::none();
+    // kept: `iter_mut().rev()` is an adapter, behind which nothing is known of what the loop wrote
     for p in (0..kinds.len()).rev() {
         let k = kinds[p];
         let lone = open.happen(right_event(k));
@@ -113,9 +116,8 @@ pub fn mark_left(kinds: &mut [Kind])
     ensures { kinds.new ≡ mark_left [] kinds.old }
 {
     let mut open = Open::none();
-    for i in 0..kinds.len() {
-        let k = kinds[i];
-        let lone = open.happen(left_event(k));
-        kinds[i] = marked(k, lone);
+    for k in kinds.iter_mut() {
+        let lone = open.happen(left_event(*k));
+        *k = marked(*k, lone);
     }
 }

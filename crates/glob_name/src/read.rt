@@ -76,7 +76,7 @@ fn range_more(chars: &[u32], from: usize) -> Option<usize>
 
 // The next longer distance.
 fn up(n: Option<usize>) -> Option<usize>
-    requires { MatchOption n (Unit {0}) (λ m. m < PLACES) }
+    requires { MatchOption n (Unit {0}) (λ m. m < 2000) }
     ensures { result ≡ longer n }
 {
     Some(n? + 1)
@@ -90,6 +90,7 @@ fn set_ends(chars: &[u32], ends: &mut [Option<usize>; PLACES])
     let mut plain = None;
     let mut escaped = None;
     ends[chars.len()] = None;
+    // kept: as in `mark_right`, from the right nothing would be known of what an iterator's loop wrote
     for i in (0..chars.len()).rev() {
         let c = chars[i];
         let before = plain;
@@ -226,14 +227,14 @@ pub fn raw_kinds(chars: &[u32], kinds: &mut [Kind])
     set_ends(chars, &mut ends);
     let mut more: usize = 0;
     let mut deep = false;
-    for i in 0..chars.len() {
+    for (i, k) in kinds.iter_mut().enumerate() {
         if 0 < more {
-            kinds[i] = Kind::Item(ItemKind::Covered);
+            *k = Kind::Item(ItemKind::Covered);
             more -= 1;
             continue;
         }
         let r = read_at(chars, &ends, i, deep);
-        kinds[i] = r.kind;
+        *k = r.kind;
         more = r.more;
         deep = r.deep;
     }

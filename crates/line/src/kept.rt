@@ -1,4 +1,7 @@
 // Lines that go out as they are: inside a comment or a prefab, blank, protected.
+// kept: `WellFormed` of a line stays a clause, here and in the crates above. A `&str` has it by its type, but a
+// respaced line stands in scratch, which is lent as bytes: `from_utf8` would read each such line once more, and its
+// unchecked form is unsafe. Each slice of a `&str` owes that no character is cut, and blocks are tested on its bytes
 ghost use Rattle.std.specs.Prelude.{◌≡◌, not, ◌&&◌, ◌||◌, length, take};
 ghost use Rattle.utf8.specs.Unicode.{decode, WellFormed};
 ghost use Rattle.rules.specs.Lines.{as_str};

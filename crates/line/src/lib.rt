@@ -3,6 +3,7 @@
 #![tactic(auto)]
 
 pub mod formatter;
+pub mod indent;
 pub mod kept;
 pub mod lone;
 pub mod scratch;

@@ -5,10 +5,11 @@ ghost use Rattle.rules.specs.Basics.{choose, is_closer};
 ghost use Rattle.rules.specs.Lines.{as_str};
 ghost use Rattle.rules.specs.Options.{Options};
 ghost use Rattle.brackets.specs.Stack.{stacked, StackFits, BracketsDone, opened_by};
-ghost use Rattle.line.specs.Holds.{Ready, Stepped, Uses, ValidIndent};
+ghost use Rattle.line.specs.Holds.{Ready, Stepped, Uses};
 ghost use Rattle.line.specs.Lone.{is_lone, lone_by};
 
 use crate::formatter::{Formatter, Prev};
+use crate::indent::LineIndent;
 use crate::scratch::STACK;
 use crate::style::Setup;
 use basics::{is_closer, is_opener};
@@ -23,10 +24,11 @@ pub fn is_lone(line: &[u8]) -> bool
 }
 
 // How many leading closers it has.
+#[tactic(auto, unfolding(rules::specs::Basics::choose))]
 fn closers_in(c: u8) -> usize
     ensures { result ≡ choose (is_closer c) 1 0 }
 {
-    if is_closer(c) { 1 } else { 0 }
+    usize::from(is_closer(c))
 }
 
 // Its bracket, after a leading closer popped.
@@ -46,7 +48,7 @@ fn turn(c: u8, scratch: &mut [u8], base: usize, left: Nesting) -> Nesting
 // The line, which no marker protects.
 pub fn lone_line(
     line: &[u8],
-    indent: &[u8],
+    indent: LineIndent<'_>,
     setup: Setup,
     model: &[u8],
     out: &mut [u8],
@@ -55,8 +57,7 @@ pub fn lone_line(
 ) -> Formatter
     requires ready { Ready st scratch.old setup.unit (length line.now) }
     requires line_value { is_lone line.now ≡ true }
-    requires valid_indent { ValidIndent indent.now }
-    ensures { (o : Options) → Uses o indent.now setup.style → Stepped
+    ensures { (o : Options) → Uses o indent.entry.bytes.now setup.style → Stepped
         (lone_by o (decode line.now)) (length line.now) setup.unit model.now
         (as_str setup.style.ending) st out.old scratch.old result out.new
         scratch.new }
@@ -72,7 +73,7 @@ pub fn lone_line(
         tail: 1,
         joins: brace,
     };
-    let text = text::push_line(model, out, st.text, indent, line, how);
+    let text = text::push_line(model, out, st.text, indent.bytes, line, how);
     Formatter {
         text,
         nesting: turn(c, scratch, base, left),

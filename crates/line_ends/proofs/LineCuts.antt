@@ -82,14 +82,6 @@ ending_first s at e h f =
         let k : at + (e - at) ≡ e = omega (arith, f.from) in
         rw k at q
 
--- from one place to another, and on
-pub ending_then : {s : List ℕ} {at i j : ℕ} → Ending s at i → Ending s i j → Ending s at j
-ending_then p q = record { from = omega (arith, p.from, q.from); within = q.within; same = p.same ∙ q.same }
-
--- and on to the line's end
-pub ending_line : {s : List ℕ} {at i e : ℕ} → Ending s at i → LineEnd s i e → LineEnd s at e
-ending_line p q = record { is = q.is ∙ sym p.same; from = omega (arith, p.from, q.from); fits = q.fits }
-
 -- ---- the pieces of a text, by the length of the first
 
 abbrev pub Last : List ℕ → Type 0

@@ -14,6 +14,9 @@ pub record Ending (s : List ℕ) (at i : ℕ) : Type 0 where
   pub within : i ≤ length s
   pub same : at + length (split_on "\n" (drop at s)).first ≡ i + length (split_on "\n" (drop i s)).first
 
+abbrev pub is_lf : ℕ → Bool
+is_lf b = eqb b 10
+
 -- the byte at i is an LF
 abbrev pub lf_at : List ℕ → ℕ → Bool
-lf_at s i = eqb (get_or s i 0) 10
+lf_at s i = is_lf (get_or s i 0)

@@ -1,4 +1,5 @@
 -- The loop over the lines, where the text is compared with the source: what is settled after each line.
+use Rattle.std.specs.Prelude.{Option, Some}
 use Prim.Native.Nat.{ℕ, suc, ◌+◌, ◌≤◌, ◌<◌}
 use native.Mathlib.Omega.{arith}
 use mathlib.Core.Bool.{Bool, true, false, not, true≢false}
@@ -25,7 +26,7 @@ use Rattle.line.specs.Holds.{Record, Holds, Stepped, Uses, initial}
 use Rattle.line.proofs.HoldsLaws.{initial_holds}
 use Rattle.line.specs.declared.style.Style.{Style}
 use Rattle.line_ends.specs.LineEnds.{LineEnd}
-use Rattle.lines.specs.Lines.{Passed, Starts, whole_text, answer_at, Differs, AllRead}
+use Rattle.lines.specs.Lines.{Passed, given, Starts, whole_text, answer_at, Differs, AllRead}
 use Rattle.lines.proofs.LineChars.{lines_decode}
 use Rattle.lines.proofs.LoopLaws.{next_line, Reached, reached_start, reached_end, next_line_law, lines_left, read_on_law, stepped, next_reached, next_left}
 
@@ -46,18 +47,6 @@ settled_chars : (source eol : List ℕ) (ls : List (List ℕ)) (text : List ℕ)
 settled_chars source eol ls text w s b =
     ap (λ (x : List ℕ). starts_with x (encode (closed eol (settled_lines ls)))) (sym w)
     ∙ starts_bytes (decode source) (closed eol (settled_lines ls)) (decode_scalars source) (scalars_left (closed eol (settled_lines ls)) b.more (rw b.is at s))
-
--- in the terms of `differs`
-not_not : (b : Bool) → not (not b) ≡ b
-not_not true = refl
-not_not false = refl
-
-pub differs_told : (checks : Bool) (model out : List ℕ) (k : ℕ) (r : Bool) → checks ≡ true → Tells model out k r → Differs checks model out k (not r)
-differs_told checks model out k r e t =
-    record { off = λ h. absurd (true≢false (sym e ∙ h)); told = λ h. subst (Tells model out k) (sym (not_not r)) t }
-
-pub differs_off : (checks : Bool) (model out : List ℕ) (k : ℕ) → checks ≡ false → Differs checks model out k false
-differs_off checks model out k e = record { off = λ h. refl; told = λ h. absurd (true≢false (sym h ∙ e)) }
 
 -- ---- the definition's answer, after some lines
 
@@ -100,18 +89,18 @@ pub record Checking (o : Options) (source eol : List ℕ) (left : List (List ℕ
   pub holds : Holds source eol (length source) f st out scratch
   pub checks : check_lines o (decode source) eol (lines_of (decode source)) start 0 ≡ check_lines o (decode source) eol (map decode left) f st.nesting.line
 
-pub record Looked (source indent : List ℕ) (style : Style) (checks : Bool) (model out₀ scratch₀ out scratch : List ℕ) (st : Record) (at : ℕ) : Type 0 where
-  pub reached : Reached source indent style model out₀ scratch₀ out scratch st at
-  pub check : checks ≡ true → model ≡ source → (o : Options) → Uses o indent style → Scalars (whole_text o (decode source) (as_str style.ending))
+pub record Looked (source indent : List ℕ) (style : Style) (model : Option (List ℕ)) (out₀ scratch₀ out scratch : List ℕ) (st : Record) (at : ℕ) : Type 0 where
+  pub reached : Reached source indent style (given model) out₀ scratch₀ out scratch st at
+  pub check : model ≡ Some source → (o : Options) → Uses o indent style → Scalars (whole_text o (decode source) (as_str style.ending))
       → Checking o source (as_str style.ending) reached.left st out scratch
 
-pub looked_start : (source indent : List ℕ) (style : Style) (checks : Bool) (model out scratch : List ℕ) (st : Record) → Passed source indent scratch → Starts model out → st ≡ initial
-    → Looked source indent style checks model out scratch out scratch st 0
-looked_start source indent style checks model out scratch st p s e =
-    let r = reached_start source indent style model out scratch st p s.none e in
-    record { reached = r; check = λ c m o u t. first r m o u }
+pub looked_start : (source indent : List ℕ) (style : Style) (model : Option (List ℕ)) (out scratch : List ℕ) (st : Record) → Passed source indent scratch → Starts model out → st ≡ initial
+    → Looked source indent style model out scratch out scratch st 0
+looked_start source indent style model out scratch st p s e =
+    let r = reached_start source indent style (given model) out scratch st p s.none e in
+    record { reached = r; check = λ m o u t. first r m o u }
   where
-    first : (r : Reached source indent style model out scratch out scratch st 0) → model ≡ source → (o : Options) → Uses o indent style
+    first : (r : Reached source indent style (given model) out scratch out scratch st 0) → model ≡ Some source → (o : Options) → Uses o indent style
         → Checking o source (as_str style.ending) r.left st out scratch
     first r m o u =
         let k = r.run o u in
@@ -119,20 +108,20 @@ looked_start source indent style checks model out scratch st p s e =
         record {
           f = start;
           lines = ap (λ (ls : List (List ℕ)). format_lines o ls start) (sym l);
-          holds = subst (λ (x : List ℕ). Holds x (as_str style.ending) (length source) start st out scratch) m (initially o u);
+          holds = subst (λ (x : List ℕ). Holds x (as_str style.ending) (length source) start st out scratch) (ap given m) (initially o u);
           checks = rw (l, e);
         }
       where
-        initially : (o : Options) → Uses o indent style → Holds model (as_str style.ending) (length source) start st out scratch
-        initially o u = rw e (initial_holds model (as_str style.ending) (length source) out scratch s.none)
+        initially : (o : Options) → Uses o indent style → Holds (given model) (as_str style.ending) (length source) start st out scratch
+        initially o u = rw e (initial_holds (given model) (as_str style.ending) (length source) out scratch s.none)
 
 module _
-    {source indent : List ℕ} {style : Style} {checks : Bool} {model out₀ scratch₀ out scratch : List ℕ} {st : Record} {at : ℕ}
-    (r : Looked source indent style checks model out₀ scratch₀ out scratch st at) (p : Passed source indent scratch₀) (more : at ≤ length source)
+    {source indent : List ℕ} {style : Style} {model : Option (List ℕ)} {out₀ scratch₀ out scratch : List ℕ} {st : Record} {at : ℕ}
+    (r : Looked source indent style model out₀ scratch₀ out scratch st at) (p : Passed source indent scratch₀) (more : at ≤ length source)
     {e : ℕ} (q : LineEnd source at e) {raw : List ℕ} (l : raw ≡ drop_cr (part source at e))
     {st' : Record} {out' scratch' : List ℕ}
-    (w : (o : Options) → Uses o indent style → Stepped (λ f. any_line o f (decode raw)) (length raw) (length source) model (as_str style.ending) st out scratch st' out' scratch')
-    {d : Bool} (t : Differs checks model out' st'.text.settled d)
+    (w : (o : Options) → Uses o indent style → Stepped (λ f. any_line o f (decode raw)) (length raw) (length source) (given model) (as_str style.ending) st out scratch st' out' scratch')
+    {d : Bool} (t : Differs model out' st'.text.settled d)
   where
     abbrev eol : List ℕ
     eol = as_str style.ending
@@ -143,9 +132,9 @@ module _
     number : suc st.nesting.line ≡ st'.nesting.line + 1
     number = omega (arith, (stepped r.reached p more q l w).line)
 
-    module _ (c : checks ≡ true) (m : model ≡ source) (o : Options) (u : Uses o indent style) (s : Scalars (whole_text o (decode source) eol)) where
+    module _ (m : model ≡ Some source) (o : Options) (u : Uses o indent style) (s : Scalars (whole_text o (decode source) eol)) where
       abbrev now : Checking o source eol r.reached.left st out scratch
-      now = r.check c m o u s
+      now = r.check m o u s
 
       abbrev after : Formatter
       after = format_line o now.f (decode raw)
@@ -156,8 +145,8 @@ module _
       holds_on : Holds source eol (length source) after (next_line st') out' scratch'
       unfolding format_line
       holds_on =
-          subst (λ (x : List ℕ). Holds x eol (length source) after (next_line st') out' scratch') m
-          (read_on_law ((w o u).holds now.f (subst (λ (x : List ℕ). Holds x eol (length source) now.f st out scratch) (sym m) now.holds)))
+          subst (λ (x : List ℕ). Holds x eol (length source) after (next_line st') out' scratch') (ap given m)
+          (read_on_law ((w o u).holds now.f (subst (λ (x : List ℕ). Holds x eol (length source) now.f st out scratch) (sym (ap given m)) now.holds)))
 
       lines_on : format_lines o (lines_of (decode source)) start ≡ format_lines o (map decode rest) after
       lines_on = now.lines ∙ ap (λ (ls : List (List ℕ)). format_lines o ls now.f) left_is ∙ line_next o (decode raw) (map decode rest) now.f
@@ -172,45 +161,44 @@ module _
 
       test : not d ≡ starts_with (decode source) (settled eol after)
       test =
-          settled_test source eol after.lines st'.text out' (not d) holds_on.text
-          (subst (λ (x : List ℕ). Tells x out' st'.text.settled (not d)) m (t.told c))
+          settled_test source eol after.lines st'.text out' (not d) holds_on.text (t.told source m)
           ∙ settled_chars source eol after.lines (whole_text o (decode source) eol) p.well s begins_on
 
     pub looked_more : d ≡ false → length out' ≡ length out → length scratch' ≡ length scratch
-        → Looked source indent style checks model out₀ scratch₀ out' scratch' (next_line st') (e + 1)
+        → Looked source indent style model out₀ scratch₀ out' scratch' (next_line st') (e + 1)
     looked_more f eo es =
         record {
           reached = next_reached r.reached p more q l w eo es;
-          check = λ c m o u s. subst (λ (ls : List (List ℕ)). Checking o source eol ls (next_line st') out' scratch') (sym (next_left r.reached p more q l w eo es)) (record {
-            f = after c m o u s;
-            lines = lines_on c m o u s;
-            holds = holds_on c m o u s;
+          check = λ m o u s. subst (λ (ls : List (List ℕ)). Checking o source eol ls (next_line st') out' scratch') (sym (next_left r.reached p more q l w eo es)) (record {
+            f = after m o u s;
+            lines = lines_on m o u s;
+            holds = holds_on m o u s;
             checks =
-                checks_on c m o u s
-                ∙ check_next o (decode source) eol (decode raw) (map decode rest) (now c m o u s).f st.nesting.line (sym (test c m o u s) ∙ ap not f)
-                ∙ ap (check_lines o (decode source) eol (map decode rest) (after c m o u s)) number;
+                checks_on m o u s
+                ∙ check_next o (decode source) eol (decode raw) (map decode rest) (now m o u s).f st.nesting.line (sym (test m o u s) ∙ ap not f)
+                ∙ ap (check_lines o (decode source) eol (map decode rest) (after m o u s)) number;
           });
         }
 
-    pub looked_stop : d ≡ true → AllRead source indent style checks model (record { st = next_line st'; all = false }) out' scratch'
+    pub looked_stop : d ≡ true → AllRead source indent style model (record { st = next_line st'; all = false }) out' scratch'
     looked_stop f =
         record {
           done = λ h. absurd (true≢false (sym h));
           all = λ h. absurd (true≢false (sym f ∙ t.off h));
-          answer = λ c m o u s.
-              checks_on c m o u s
-              ∙ check_stop o (decode source) eol (decode raw) (map decode rest) (now c m o u s).f st.nesting.line (sym (test c m o u s) ∙ ap not f)
+          answer = λ m o u s.
+              checks_on m o u s
+              ∙ check_stop o (decode source) eol (decode raw) (map decode rest) (now m o u s).f st.nesting.line (sym (test m o u s) ∙ ap not f)
               ∙ answer_stop o (decode source) eol (suc st.nesting.line) (st'.nesting.line + 1) number;
         }
 
-pub looked_end : {source indent : List ℕ} {style : Style} {checks : Bool} {model out₀ scratch₀ out scratch : List ℕ} {st : Record} {at : ℕ}
-    → Looked source indent style checks model out₀ scratch₀ out scratch st at → Passed source indent scratch₀ → length source < at
-    → AllRead source indent style checks model (record { st = st; all = true }) out scratch
-looked_end {source = source} {indent = indent} {style = style} {checks = checks} {model = model} {out = out} {scratch = scratch} {st = st} r p h =
+pub looked_end : {source indent : List ℕ} {style : Style} {model : Option (List ℕ)} {out₀ scratch₀ out scratch : List ℕ} {st : Record} {at : ℕ}
+    → Looked source indent style model out₀ scratch₀ out scratch st at → Passed source indent scratch₀ → length source < at
+    → AllRead source indent style model (record { st = st; all = true }) out scratch
+looked_end {source = source} {indent = indent} {style = style} {model = model} {out = out} {scratch = scratch} {st = st} r p h =
     record {
       done = λ _. reached_end r.reached p h;
       all = λ _. refl;
-      answer = λ c m o u s. end o (r.check c m o u s);
+      answer = λ m o u s. end o (r.check m o u s);
     }
   where
     end : (o : Options) → Checking o source (as_str style.ending) r.reached.left st out scratch

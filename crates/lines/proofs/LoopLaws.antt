@@ -1,5 +1,6 @@
 -- The loop over the lines: `Reached` before the line that starts at `at`.
-use Rattle.std.specs.Prelude.{None}
+use Rattle.std.specs.Prelude.{Option, Some, None, unwrap_or, option_copied}
+use denote.Ref.{Bor}
 use Prim.Native.Nat.{ℕ, suc, ◌+◌, ◌-◌, ◌*◌, ◌^◌, ◌≤◌, ◌<◌, zero-le}
 use native.Mathlib.Omega.{arith}
 use mathlib.Core.List.{List, [], ◌∷◌, map}
@@ -23,7 +24,7 @@ use Rattle.line.specs.Holds.{Record, Holds, Runs, Ready, Stepped, Uses, initial,
 use Rattle.line.proofs.HoldsLaws.{initial_holds, initial_runs}
 use Rattle.line.specs.declared.style.Style.{Style}
 use Rattle.line_ends.specs.LineEnds.{LineEnd}
-use Rattle.lines.specs.Lines.{Passed, LinesDone}
+use Rattle.lines.specs.Lines.{Passed, given, LinesDone}
 use Rattle.line_ends.proofs.LineCuts.{Last, More, whole, part_of, cr_fits}
 use Rattle.lines.proofs.LineChars.{lines_well, lines_decode}
 
@@ -93,12 +94,18 @@ read_on_law h =
       blanks = h.blanks;
     }
 
--- a step, where its record is made anew
-pub as_made : {indent model out scratch out' scratch' : List ℕ} {style : Style} {n : ℕ} {st a r : Record} (raw : List ℕ) → r ≡ a
-    → ((o : Options) → Uses o indent style → Stepped (λ f. any_line o f (decode raw)) (length raw) n model (as_str style.ending) st out scratch a out' scratch')
+-- a step, where its record is made anew, with the model that it is given
+pub as_made : {indent text model out scratch out' scratch' : List ℕ} {style : Style} {n : ℕ} {st a r : Record} (raw : List ℕ) → r ≡ a → text ≡ model
+    → ((o : Options) → Uses o indent style → Stepped (λ f. any_line o f (decode raw)) (length raw) n text (as_str style.ending) st out scratch a out' scratch')
     → (o : Options) → Uses o indent style → Stepped (λ f. any_line o f (decode raw)) (length raw) n model (as_str style.ending) st out scratch r out' scratch'
-as_made {model = model} {out} {scratch} {out'} {scratch'} {style} {n} {st} raw e w o u =
-    subst (λ (x : Record). Stepped (λ f. any_line o f (decode raw)) (length raw) n model (as_str style.ending) st out scratch x out' scratch') (sym e) (w o u)
+as_made {model = model} {out} {scratch} {out'} {scratch'} {style} {n} {st} {a} raw e m w o u =
+    subst (λ (x : Record). Stepped (λ f. any_line o f (decode raw)) (length raw) n model (as_str style.ending) st out scratch x out' scratch') (sym e)
+    (subst (λ (x : List ℕ). Stepped (λ f. any_line o f (decode raw)) (length raw) n x (as_str style.ending) st out scratch a out' scratch') m (w o u))
+
+-- the text of a model that there may not be
+pub given_is : (model : Option (Bor (List ℕ))) (none text : Bor (List ℕ)) → text ≡ unwrap_or model none → none.now ≡ [] → text.now ≡ given (option_copied model)
+given_is None none text e z = ap (λ (b : Bor (List ℕ)). b.now) e ∙ z
+given_is (Some m) none text e z = ap (λ (b : Bor (List ℕ)). b.now) e
 
 -- ---- the invariant
 

@@ -1,5 +1,5 @@
 -- What the loop over the lines gives.
-use Rattle.std.specs.Prelude.{ℕ, ◌+◌, ◌*◌, ◌≤◌, Bool, true, false, not, List, [], ◌≡◌, length}
+use Rattle.std.specs.Prelude.{ℕ, ◌+◌, ◌*◌, ◌≤◌, Bool, true, false, not, List, [], ◌≡◌, length, Option, Some, None, unwrap_or}
 use Rattle.utf8.specs.Unicode.{Scalars, decode, WellFormed}
 use Rattle.rules.specs.Basics.{choose, same}
 use Rattle.rules.specs.Lines.{as_str, lines_of}
@@ -22,9 +22,13 @@ pub record Passed (source indent scratch : List ℕ) : Type 0 where
   pub indents : ValidIndent indent
   pub room : scratch_used (length source) ≤ length scratch
 
+-- the model that the steps are given: an empty one stands for none
+abbrev pub given : Option (List ℕ) → List ℕ
+given model = unwrap_or model []
+
 -- an output, or what a comparison with the model keeps, before anything is written
-pub record Starts (model out : List ℕ) : Type 0 where
-  pub none : Keeps model out []
+pub record Starts (model : Option (List ℕ)) (out : List ℕ) : Type 0 where
+  pub none : Keeps (given model) out []
 
 -- all lines of the source are formatted: the state and the output hold the definition's record
 pub record LinesDone (source indent : List ℕ) (style : Style) (model : List ℕ) (st : Record)
@@ -45,17 +49,17 @@ answer_at o source eol all read = record { yes = choose all (same (whole_text o 
 
 -- r tells whether the first k bytes of a text that is compared with the model differ from it; without a comparison they
 -- don't
-pub record Differs (checks : Bool) (model out : List ℕ) (k : ℕ) (r : Bool) : Type 0 where
-  pub off : checks ≡ false → r ≡ false
-  pub told : checks ≡ true → Tells model out k (not r)
+pub record Differs (model : Option (List ℕ)) (out : List ℕ) (k : ℕ) (r : Bool) : Type 0 where
+  pub off : model ≡ None → r ≡ false
+  pub told : (text : List ℕ) → model ≡ Some text → Tells text out k (not r)
 
 -- The lines of the source were read: all of them, or, where the text is compared with the source, up to the first whose
 -- settled text differs. Then the definition's answer is known but for the finished text.
-pub record AllRead (source indent : List ℕ) (style : Style) (checks : Bool) (model : List ℕ) (r : LinesRead)
+pub record AllRead (source indent : List ℕ) (style : Style) (model : Option (List ℕ)) (r : LinesRead)
     (out scratch : List ℕ) : Type 0 where
-  pub done : r.all ≡ true → LinesDone source indent style model r.st out scratch
-  pub all : checks ≡ false → r.all ≡ true
-  pub answer : checks ≡ true → model ≡ source → (o : Options) → Uses o indent style
+  pub done : r.all ≡ true → LinesDone source indent style (given model) r.st out scratch
+  pub all : model ≡ None → r.all ≡ true
+  pub answer : model ≡ Some source → (o : Options) → Uses o indent style
       → Scalars (whole_text o (decode source) (as_str style.ending))
       → check_lines o (decode source) (as_str style.ending) (lines_of (decode source)) start 0
       ≡ answer_at o (decode source) (as_str style.ending) r.all r.st.nesting.line

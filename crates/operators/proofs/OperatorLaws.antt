@@ -1,8 +1,9 @@
 -- The places of the operators in the list of the rules.
-use Prim.Native.Nat.{ℕ, suc, ◌<◌}
+use Prim.Native.Nat.{ℕ, suc, ◌<◌, ◌≤◌}
 use mathlib.Core.Bool.{Bool, true, false, ◌&&◌, ◌||◌, and-false}
 use mathlib.Core.List.{List, [], ◌∷◌}
 use mathlib.Core.Path.{◌≡◌, refl, sym, ◌∙◌}
+use native.Mathlib.Nat.{le_refl}
 use native.Mathlib.Omega.{arith}
 use lib.Dec.{eqb, ltb}
 use Rattle.std.proofs.Common.{lit<}
@@ -65,12 +66,12 @@ place_below Pow = lit< tt
 pub is_operator : (w : List ℕ) (o : Operator) → place_of o ≡ index_in operators w → one_of operators w ≡ true
 is_operator w o e = one_of_index operators w ∙ rw (← e) (lt-ltb (place_of o) 21 (place_below o))
 
-pub no_operator : (w : List ℕ) → 21 ≡ index_in operators w → one_of operators w ≡ false
-no_operator w e = one_of_index operators w ∙ rw (← e)
+pub no_operator : (w : List ℕ) (k : ℕ) → k ≡ index_in operators w → 21 ≤ k → one_of operators w ≡ false
+no_operator w k e h = one_of_index operators w ∙ rw (← e) (le-ltb k 21 h)
 
 pub found_operator : (w : List ℕ) (r : Option Operator) (b : Bool) → place_in r ≡ index_in operators w → b ≡ is_some r → b ≡ one_of operators w
 found_operator w (Some o) b e f = f ∙ sym (is_operator w o e)
-found_operator w None b e f = f ∙ sym (no_operator w e)
+found_operator w None b e f = f ∙ sym (no_operator w 21 e (le_refl 21))
 
 -- ---- the places of the operators
 

@@ -1,17 +1,13 @@
 -- Laws on lists of bytes.
-use Rattle.std.proofs.Common.{ℕ, zero, suc, ◌+◌, ◌≤◌, ◌<◌, ◌≡◌, List, [], ◌∷◌, length, get_or, take, drop, replicate, refl, ap, ◌∙◌, add-one, arith}
+use Rattle.std.proofs.Common.{ℕ, zero, suc, ◌≤◌, ◌≡◌, List, [], ◌∷◌, length, take, replicate, refl, ap, ◌∙◌, arith}
 use native.Mathlib.Nat.{sub-zero, suc-sub-suc, not-suc-le-zero, le_of_suc-le-suc, mul-one}
-use lib.Seq.{drop-cons, take_at}
+use lib.Seq.{take_at}
 use Rattle.buffer.specs.Buffer.{over}
 use Rattle.buffer.proofs.OverLaws.{over_nil}
 use Rattle.buffer.proofs.RepeatLaws.{length_times}
 use Rattle.rules.specs.Call.{filled}
 use Rattle.rules.specs.Options.{max_indent, spaces}
 use Rattle.options.specs.Indents.{IsFilled}
-
--- what is left at i is the byte there and what is left after it
-pub drop_next : (s : List ℕ) (i : ℕ) → i < length s → drop i s ≡ get_or s i 0 ∷ drop (i + 1) s
-drop_next s i h = rw (add-one i) (drop-cons s i 0 h)
 
 -- a text written over zeros
 pub over_zeros : (n : ℕ) (t : List ℕ) → length t ≤ n → over (replicate n 0) t ≡ filled n t

@@ -1,7 +1,7 @@
 // Line endings.
-ghost use Rattle.std.specs.Prelude.{◌≡◌, ◌<◌, length};
+ghost use Rattle.std.specs.Prelude.{◌≡◌, ◌≤◌, length};
 ghost use Rattle.rules.specs.Lines.{dominant_in, ends_in_lf};
-ghost use Rattle.options.specs.Endings.{Block, Counted};
+ghost use Rattle.options.specs.Endings.{Counted};
 
 use rules::LineEnding;
 
@@ -13,37 +13,28 @@ pub struct Endings {
     pub last: u8,
 }
 
-// Those of the block from `from` to `end`, with `last` before it. Counters of a byte let 16 bytes be counted at a time.
-fn count_endings(source: &[u8], from: usize, end: usize, last: u8) -> Endings
-    requires { Block (length source.now) from end }
-    ensures { Counted source.now from last result.lf result.crlf result.last end }
+// Those of a block, with `last` before it. Counters of a byte let 16 bytes be counted at a time, and hold those of 255.
+fn count_endings(block: &[u8], last: u8) -> Endings
+    requires { length block.now ≤ 255 }
+    ensures { Counted block.now last result.lf result.crlf result.last }
 {
     let mut lf: u8 = 0;
     let mut crlf: u8 = 0;
     let mut before = last;
-    for i in from..end {
-        let b = source[i];
-        if b == b'\n' {
+    for b in block {
+        if *b == b'\n' {
             lf += 1;
             if before == b'\r' {
                 crlf += 1;
             }
         }
-        before = b;
+        before = *b;
     }
     Endings {
         lf,
         crlf,
         last: before,
     }
-}
-
-// Where the block from `from` on ends: counters of a byte hold what is in 240 bytes.
-fn block_end(from: usize, len: usize) -> usize
-    requires { from < len }
-    ensures { Block len from result × (from < result) }
-{
-    if len - from <= 240 { len } else { from + 240 }
 }
 
 // The ending most of the source's lines have: LF on a tie or with none.
@@ -53,15 +44,11 @@ pub fn dominant_in(source: &[u8]) -> LineEnding
     let mut lf: usize = 0;
     let mut crlf: usize = 0;
     let mut last: u8 = 0;
-    let mut i = 0;
-    // kept: a range is no plainer, since a step takes a block of at most 240 bytes
-    while i < source.len() {
-        let end = block_end(i, source.len());
-        let e = count_endings(source, i, end, last);
+    for block in source.chunks(240) {
+        let e = count_endings(block, last);
         lf += e.lf as usize;
         crlf += e.crlf as usize;
         last = e.last;
-        i = end;
     }
     if lf - crlf < crlf {
         LineEnding::Crlf

@@ -103,9 +103,8 @@ impl FormatOptions {
     // How many spaces `indent_style = space` gives.
     #[tactic(auto, unfolding(rules::specs::Basics::choose))]
     fn spaces_for(&self, size: Option<usize>) -> usize
-        requires { too_large size ≡ false }
         ensures value { result ≡ spaces_for size (options_in self.now) }
-        ensures within { result ≤ max_indent }
+        ensures within { too_large size ≡ false → result ≤ max_indent }
     {
         match size {
             Some(n) => n,

@@ -12,7 +12,6 @@ ghost use Rattle.rules.specs.Else.{is_plain_else};
 ghost use Rattle.rules.specs.Refusals.{max_source};
 ghost use Rattle.rules.specs.Scan.{classify, all_code_or_str};
 ghost use Rattle.rules.specs.declared.Carry.{Carry};
-ghost use Rattle.line.specs.Holds.{ValidIndent};
 ghost use Rattle.split.specs.Measure.{Indent};
 ghost use Rattle.place.specs.Placing.{GoesOn, Short, Heads, Asks, Puts, spaced_by, placed_by, drops_blank, alone_in};
 ghost use Rattle.place.specs.Placing.{break_width, fit_by, layout_of, Lays, Breaks};
@@ -20,6 +19,7 @@ ghost use Rattle.place.specs.Placing.{after_placed};
 
 use format::words::Declaration;
 use line::formatter::{Formatter, Prev};
+use line::indent::LineIndent;
 use line::style::Style;
 use rules::LineEnding;
 use split::{Layout, over_wide};
@@ -58,11 +58,12 @@ pub struct Slot {
 }
 
 // The levels left after the leading closers, and one more if the line continues the one before.
+#[tactic(auto, unfolding(rules::specs::Basics::choose))]
 fn level_of(levels: usize, continued: bool) -> usize
     requires { levels < max_source }
     ensures { result ≡ levels + choose continued 1 0 }
 {
-    if continued { levels + 1 } else { levels }
+    levels + usize::from(continued)
 }
 
 // Whether a blank between this line and the one before goes: no bracket is open, and both declare the same.
@@ -76,19 +77,18 @@ fn drops_blank(depth: usize, d: Option<Declaration>, before: Option<Declaration>
 // The line indented, alone. It is trimmed at its end.
 fn push_one(
     line: &[u8],
-    indent: &[u8],
+    indent: LineIndent<'_>,
     ending: LineEnding,
     slot: Slot,
     model: &[u8],
     out: &mut [u8],
 ) -> Written
-    requires valid_indent { ValidIndent indent.now }
     requires level_le_max_source { slot.level ≤ max_source }
     requires well_formed { WellFormed line.now × (length line.now ≤ 2 * max_source) }
     requires line_value { trim_end (decode line.now) ≡ decode line.now }
     requires ordered { Ordered slot.text × (slot.text.at.0 ≤ far_place) }
     ensures { Adds (as_str ending) slot.drops
-        (times slot.level indent.now ++ decode line.now) model.now
+        (times slot.level indent.entry.bytes.now ++ decode line.now) model.now
         out.old slot.text out.new result }
 {
     let how = Adding {
@@ -98,7 +98,7 @@ fn push_one(
         tail: line.len(),
         joins: format::else_line::trimmed_takes_else(line),
     };
-    text::push_line(model, out, slot.text, indent, line, how)
+    text::push_line(model, out, slot.text, indent.bytes, line, how)
 }
 
 // kept: line and class, layout and indent are not one struct each: no plainer. `Pad` and `Request` took clauses or names
@@ -166,23 +166,22 @@ fn layout(style: Style, level: usize, max: usize) -> Layout
 fn fit_of(
     line: &[u8],
     class: &[u8],
-    indent: &[u8],
+    indent: LineIndent<'_>,
     style: Style,
     level: usize,
     width: Option<usize>,
 ) -> Option<usize>
-    requires valid_indent { ValidIndent indent.now }
     requires level_le_max_source { level ≤ max_source }
     requires goes_on { GoesOn line.now class.now }
     ensures { result ≡ fit_by width (measure style.ruler 0
-        (times level indent.now ++ decode line.now))
+        (times level indent.entry.bytes.now ++ decode line.now))
         (all_code_or_str (classify Carry.Code line.now)) }
 {
     let max = width?;
-    if is_short(line, indent, level, style.ruler, max) {
+    if is_short(line, indent.bytes, level, style.ruler, max) {
         return None;
     }
-    if over_wide(layout(style, level, max), indent, line) && scan::all_code_or_str(class) {
+    if over_wide(layout(style, level, max), indent.bytes, line) && scan::all_code_or_str(class) {
         Some(max)
     } else {
         None
@@ -194,18 +193,17 @@ fn fit_of(
 fn fit_line(
     line: &[u8],
     class: &[u8],
-    indent: &[u8],
+    indent: LineIndent<'_>,
     style: Style,
     slot: Slot,
     model: &[u8],
     out: &mut [u8],
 ) -> Placed
-    requires valid_indent { ValidIndent indent.now }
     requires level_le_max_source { slot.level ≤ max_source }
     requires goes_on { GoesOn line.now class.now }
     requires ordered { Ordered slot.text × (slot.text.at.0 ≤ far_place) }
     ensures { Lays style.ruler (choose (all_code_or_str (classify Carry.Code (decode line.now)))
-        slot.width None) indent.now style.strengths (decode line.now)
+        slot.width None) indent.entry.bytes.now style.strengths (decode line.now)
         slot.level model.now (as_str style.ending) slot.drops (length line.now)
         out.old slot.text result out.new }
 {
@@ -222,17 +220,16 @@ fn fit_line(
 fn lay_line(
     line: &[u8],
     class: &[u8],
-    indent: &[u8],
+    indent: LineIndent<'_>,
     k: Placing,
     model: &[u8],
     out: &mut [u8],
     st: Formatter,
 ) -> Placed
-    requires valid_indent { ValidIndent indent.now }
     requires goes_on { GoesOn line.now class.now }
     requires heads { Heads line.now k }
     requires asks { Asks k st (length line.now) }
-    ensures { Puts (placed_by k.marker (decode line.now)) indent.now
+    ensures { Puts (placed_by k.marker (decode line.now)) indent.entry.bytes.now
         model.now (length line.now) k st out.old (after_placed st result)
         out.new }
 {
@@ -258,17 +255,16 @@ fn joins_newest(line: &[u8], last: Last) -> bool
 fn join_or_lay(
     line: &[u8],
     class: &[u8],
-    indent: &[u8],
+    indent: LineIndent<'_>,
     k: Placing,
     model: &[u8],
     out: &mut [u8],
     st: Formatter,
 ) -> Placed
-    requires valid_indent { ValidIndent indent.now }
     requires goes_on { GoesOn line.now class.now }
     requires heads { Heads line.now k }
     requires asks { Asks k st (length line.now) }
-    ensures { Puts (spaced_by k.marker (decode line.now)) indent.now
+    ensures { Puts (spaced_by k.marker (decode line.now)) indent.entry.bytes.now
         model.now (length line.now) k st out.old (after_placed st result)
         out.new }
 {
@@ -298,17 +294,16 @@ fn after_placed(st: Formatter, p: Placed) -> Formatter
 pub fn place_line(
     line: &[u8],
     class: &[u8],
-    indent: &[u8],
+    indent: LineIndent<'_>,
     k: Placing,
     model: &[u8],
     out: &mut [u8],
     st: Formatter,
 ) -> Formatter
-    requires valid_indent { ValidIndent indent.now }
     requires goes_on { GoesOn line.now class.now }
     requires heads { Heads line.now k }
     requires asks { Asks k st (length line.now) }
-    ensures { Puts (spaced_by k.marker (decode line.now)) indent.now
+    ensures { Puts (spaced_by k.marker (decode line.now)) indent.entry.bytes.now
         model.now (length line.now) k st out.old result out.new }
 {
     let p = join_or_lay(line, class, indent, k, model, out, st);
@@ -320,29 +315,28 @@ fn break_line(
     line: &[u8],
     class: &[u8],
     s: Layout,
-    indent: &[u8],
+    indent: LineIndent<'_>,
     slot: Slot,
     model: &[u8],
     out: &mut [u8],
 ) -> Placed
-    requires valid_indent { ValidIndent indent.now }
     requires level_le_max_source { s.level ≤ max_source }
     requires goes_on { GoesOn line.now class.now }
     requires ordered { Ordered slot.text × (slot.text.at.0 ≤ far_place) }
     requires line_value { all_code_or_str (classify Carry.Code line.now) ≡ true }
-    ensures { Breaks s.ruler s.max.0 indent.now s.strengths (decode line.now)
+    ensures { Breaks s.ruler s.max.0 indent.entry.bytes.now s.strengths (decode line.now)
         s.level model.now (as_str s.ending) slot.drops (length line.now)
         out.old slot.text result out.new }
 {
     let start = text::continue_text(model, out, slot.text, s.ending, slot.drops);
     let brace = format::else_line::ends_in_brace(line);
-    match split_import(line, class, s, indent, model, out, start) {
+    match split_import(line, class, s, indent.bytes, model, out, start) {
         Some(m) => Placed {
             text: text::after_lines(m.last, m.next, brace),
             imports: 1,
             blanks: m.blanks,
         },
-        None => match split_operation(line, class, s, indent, model, out, start) {
+        None => match split_operation(line, class, s, indent.bytes, model, out, start) {
             OperationSplit::Broken(w) => alone(text::after_lines(w.start, w.next, brace)),
             OperationSplit::Whole(w) => {
                 let joins = format::else_line::trimmed_takes_else(line);

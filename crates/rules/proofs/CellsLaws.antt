@@ -1,15 +1,14 @@
 -- A line as the code holds it, bytes and a class byte for each: laws of `cells_of`, and the loops over it.
 --     cells_of_law, cells_classify, cells_bytes     what the class bytes of classify give back
---     code_byte_law, str_byte, comment_byte, code_or_str_byte     the tests of a class, on its byte
+--     str_byte, comment_byte, code_or_str_byte     the tests of a class, on its byte
 --     length_cells, chars_cells, take_cells, drop_cells, get_d_cells     its parts
 --     cells_at, cells_end           the cell at a place, and what is left after it
---     Folding                       a loop that folds over the line
 --     Finding                       a loop that looks for the first cell that passes a test
 use Prim.Native.Nat.{ℕ, zero, suc, ◌+◌, ◌<◌, ◌≤◌, zero-le}
 use native.Mathlib.Omega.{arith}
 use native.Mathlib.Numerals.{add-one}
 use mathlib.Core.Bool.{Bool, true, false}
-use mathlib.Core.List.{List, [], ◌∷◌, ◌++◌, foldl, append-nil, append_assoc}
+use mathlib.Core.List.{List, [], ◌∷◌, ◌++◌, append-nil, append_assoc}
 use mathlib.Core.Path.{◌≡◌, refl, sym, ap, ◌∙◌}
 use lib.Dec.{eqb, leb}
 use borrow.Author.Tests.{ne_eqb, lt-leb}
@@ -19,7 +18,7 @@ use Rattle.utf8.specs.Unicode.{decode, WellFormed}
 use Rattle.rules.specs.declared.Class.{Class}
 use Rattle.rules.specs.declared.Carry.{Carry}
 use Rattle.rules.specs.Basics.{choose}
-use Rattle.rules.specs.Scan.{Cell, cell, chars_of, classes_of, classify, is_code, is_str, is_line_comment, is_code_or_str, before, from}
+use Rattle.rules.specs.Scan.{Cell, cell, chars_of, classes_of, classify, is_str, is_line_comment, is_code_or_str, before, from}
 use Rattle.rules.specs.ClassBytes.{class_byte, class_of, class_bytes, cells_of, cell_at, FirstAt}
 use Rattle.rules.proofs.ScanBytes.{encode_cells, classify_encode, chars_classify}
 
@@ -29,14 +28,6 @@ class_of_byte Class.Str = refl
 class_of_byte Class.LineComment = refl
 class_of_byte Class.BlockComment = refl
 class_of_byte Class.Prefab = refl
-
--- the tests of a class, on its byte
-pub code_byte_law : (k : ℕ) → is_code (class_of k) ≡ eqb k 0
-code_byte_law zero = refl
-code_byte_law (suc zero) = refl
-code_byte_law (suc (suc zero)) = refl
-code_byte_law (suc (suc (suc zero))) = refl
-code_byte_law (suc (suc (suc (suc n)))) = sym (ne_eqb (suc (suc (suc (suc n)))) 0 (omega arith))
 
 pub str_byte : (k : ℕ) → is_str (class_of k) ≡ eqb k 1
 str_byte zero = refl
@@ -135,21 +126,6 @@ cells_at s ks i h l = let k : i < length ks = omega arith in rw (add-one i, drop
 pub cells_end : (s ks : List ℕ) (i : ℕ) → length s ≤ i → cells_of (drop i s) (drop i ks) ≡ []
 unfolding cells_of
 cells_end s ks i h = rw (drop_of_length-le s h)
-
--- before byte i: what is left of the pass f from the state t₀
-pub record Folding {S : Type 0} (f : S → Cell → S) (t₀ : S) (s ks : List ℕ) (t : S) (i : ℕ) : Type 0 where
-  pub within : i ≤ length s
-  pub same : foldl f t₀ (cells_of s ks) ≡ foldl f t (cells_of (drop i s) (drop i ks))
-
-pub fold_start : {S : Type 0} (f : S → Cell → S) (t : S) (s ks : List ℕ) → Folding f t s ks t 0
-fold_start f t s ks = record { within = zero-le; same = refl }
-
-module _ {S : Type 0} {f : S → Cell → S} {t₀ t : S} {s ks : List ℕ} {i : ℕ} (r : Folding f t₀ s ks t i) where
-  pub fold_more : {t' : S} → i < length s → length s ≤ length ks → t' ≡ f t (cell (get_or s i 0) (class_of (get_or ks i 0))) → Folding f t₀ s ks t' (i + 1)
-  fold_more {t'} l k e = record { within = omega arith; same = rw e (r.same ∙ ap (foldl f t) (cells_at s ks i l k)) }
-
-  pub fold_end : length s ≤ i → t ≡ foldl f t₀ (cells_of s ks)
-  fold_end l = sym (r.same ∙ ap (foldl f t) (cells_end s ks i l))
 
 -- of the first cell that passes the test p: none before i does
 pub record Finding (p : Cell → Bool) (s ks : List ℕ) (i : ℕ) : Type 0 where

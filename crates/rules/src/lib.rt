@@ -1,6 +1,7 @@
 // The types that the code and the definitions of document 01 share.
 #![tactic(auto)]
 
+pub mod class_byte;
 mod reading;
 
 ghost use Rattle.std.specs.Prelude.{◌≡◌};
@@ -31,6 +32,7 @@ pub enum Carry {
 
 // Where in a line a character stands. The bools say which quote ends a string: `"` if true, else `'`.
 // Interp and Inner are inside `${..}`, at a depth of braces; Inner is a string in it.
+// kept: an enum of the two quotes is no plainer: the definitions say by the same bool which quote they look for
 #[derive(Clone, Copy, PartialEq, Eq, Debug)]
 pub enum Mode {
     Code,
@@ -250,11 +252,7 @@ impl TextKind {
     pub fn number(self) -> u8
         ensures { result ≡ kind_number self }
     {
-        match self {
-            TextKind::Code => 0,
-            TextKind::Str => 1,
-            TextKind::Comment => 2,
-        }
+        self as u8
     }
 }
 
@@ -292,7 +290,7 @@ pub enum IndentStyle {
     Spaces,
 }
 
-// kept, and so `MaxLineLen`: `Option<usize>` is no plainer, since it would stand in the `Option` of an unset value
+// kept: `Option<usize>` is no plainer, here and in `MaxLineLen`, since it would stand in the `Option` of an unset value
 #[derive(Clone, Copy, PartialEq, Eq, Debug)]
 pub enum IndentSize {
     UseTabWidth,

@@ -1,17 +1,15 @@
 -- What is read in code, in block comments and in prefabs.
-use Prim.Native.Nat.{ℕ, zero, suc, ◌+◌, ◌-◌, ◌<◌, ◌≤◌}
+use Prim.Native.Nat.{ℕ, ◌+◌, ◌-◌, ◌<◌, ◌≤◌}
 use mathlib.Core.Bool.{Bool, true, false, ◌||◌, true≢false}
-use mathlib.Core.Path.{◌≡◌, refl, ap, ◌∙◌}
+use mathlib.Core.Path.{◌≡◌, refl}
 use mathlib.Core.List.{List, [], ◌∷◌, ◌++◌}
-use native.Mathlib.Nat.{le_refl, add-zero}
+use native.Mathlib.Nat.{le_refl}
 use native.Mathlib.Omega.{arith}
 use borrow.Author.Tests.{eqb-false}
 use lib.Dec.{eqb}
-use lib.ListN.{length, get_or, take, drop, set, replicate, length-replicate, length-drop, length-set}
-use lib.Seq.{length-take-le}
+use lib.ListN.{length, get_or, take, drop, set, replicate}
 use Rattle.buffer.specs.Buffer.{put}
-use Rattle.blocks.specs.Blocks.{NoneAmong}
-use Rattle.buffer.proofs.RegionLaws.{put_back, put_nil, put_put, set_put}
+use Rattle.blocks.specs.Blocks.{FirstFrom}
 use Rattle.rules.specs.declared.Class.{Class}
 use Rattle.rules.specs.declared.Carry.{Carry}
 use Rattle.rules.specs.declared.Mode.{Mode}
@@ -19,20 +17,17 @@ use Rattle.rules.specs.Basics.{starts_with, at}
 use Rattle.rules.specs.Scan.{one, quote, mark_at, mode_of}
 use Rattle.basics.specs.Depth.{carry_depth}
 use Rattle.scan.specs.declared.Stop.{Stop}
-use Rattle.scan.specs.Stretch.{Scanned, PairRead, Stretch, fresh, starts_in_code, starts_at}
+use Rattle.scan.specs.Stretch.{Scanned, PairRead, Stretch, PlainComment, fresh, starts_in_code, turns_comment}
+use Rattle.scan.specs.Marked.{Marked}
+use Rattle.utf8.proofs.Tests.{neither_left, neither_right}
+use Rattle.scan.proofs.RunLaws.{run_marked}
 use Rattle.scan.proofs.StartsLaws.{starts_is, starts_not, starts_other, starts_more, starts_reach}
 use Rattle.scan.proofs.MarkLaws.{code_escape, code_double, code_single, code_line_law, code_block, code_prefab, code_plain, block_open, block_end, block_close, block_plain, prefab_end, prefab_plain}
+use Rattle.scan.proofs.MarkedLaws.{filled}
 use Rattle.scan.proofs.ScannedLaws.{scanned_start, scanned_then, scanned_one, then_one, scanned_long, scanned_comment}
 
 abbrev stop : ℕ → Carry → Stop
 stop e y = record { at = e; carry = y }
-
--- class bytes a to e, lent to `fill`, when they are back
-filled : (d y : List ℕ) (a n b : ℕ) → a + n ≤ length d → y ≡ replicate (length (take n (drop a d))) b → take a d ++ (y ++ drop n (drop a d)) ≡ put d a (replicate n b)
-filled d y a n b l e =
-    let m : length (take n (drop a d)) ≡ n = length-take-le n (drop a d) (omega (arith, length-drop a d)) in
-    let f : y ≡ replicate n b = rw m at e in
-    put_back d y a n (ap length f ∙ length-replicate n b) ∙ ap (put d a) f
 
 none_of : (a b c d e : Bool) → (a || b || c || d || e) ≡ false → (a ≡ false) × (b ≡ false) × (c ≡ false) × (d ≡ false) × (e ≡ false)
 none_of true b c d e h = absurd (true≢false h)
@@ -115,10 +110,11 @@ module _ (line : List ℕ) (i : ℕ) (class : List ℕ) (l : i < length line) (r
       to_stop e Carry.Code after (scanned_then (scanned_one line Mode.Code i class Class.Str (Mode.Quoted q) 1 l room (code_quote q f) refl) p)
       (omega (arith, p.moved.on)) (omega (arith, p.moved.on))
 
+  pub plain_pair : (e : ℕ) (after : List ℕ) → get_or line i 0 ≡ 92 → PairRead line i 0 class e after → Scanned line (fresh Mode.Code) i class (fresh Mode.Code) e after
+  plain_pair e after f r = r.scanned Mode.Code Mode.Code Class.Code refl (code_escape (drop i line) (starts_is line i 92 l f))
+
   pub code_escaped : (e : ℕ) (after : List ℕ) → get_or line i 0 ≡ 92 → PairRead line i 0 class e after → Stretch line Carry.Code i class (stop e Carry.Code) after
-  code_escaped e after f r =
-      to_stop e Carry.Code after (r.scanned Mode.Code Mode.Code Class.Code refl (code_escape (drop i line) (starts_is line i 92 l f)))
-      (omega (arith, r.moved.on)) (omega (arith, r.moved.on))
+  code_escaped e after f r = to_stop e Carry.Code after (plain_pair e after f r) (omega (arith, r.moved.on)) (omega (arith, r.moved.on))
 
   -- a byte at which nothing starts
   no_start : (get_or line i 0 ≡ 92 → ⊥) → (get_or line i 0 ≡ 34 → ⊥) → (get_or line i 0 ≡ 39 → ⊥) → (get_or line i 0 ≡ 47 → ⊥) → (get_or line i 0 ≡ 36 → ⊥)
@@ -141,42 +137,26 @@ module _ (line : List ℕ) (i : ℕ) (class : List ℕ) (l : i < length line) (r
   pub plain_one : starts_in_code (get_or line i 0) ≡ false → Scanned line (fresh Mode.Code) i class (fresh Mode.Code) (i + 1) (set class i 0)
   plain_one e = scanned_one line Mode.Code i class Class.Code Mode.Code 0 l room (not_among e) refl
 
--- so many bytes of code
-plain_run : (line : List ℕ) (n i : ℕ) (class : List ℕ) → i + n ≤ length line → length line ≤ length class → ((j : ℕ) → j < n → starts_in_code (get_or line (i + j) 0) ≡ false)
-    → Scanned line (fresh Mode.Code) i class (fresh Mode.Code) (i + n) (put class i (replicate n 0))
-plain_run line zero i class l room none = rw (add-zero, put_nil) (scanned_start line (fresh Mode.Code) i class (omega arith))
-plain_run line (suc n) i class l room none =
-    let z : i + 0 ≡ i = omega arith in
-    let j : i + 1 + n ≡ i + suc n = omega arith in
-    let e : put (set class i 0) (i + 1) (replicate n 0) ≡ put class i (0 ∷ replicate n 0) = rw (set_put class i 0 (omega arith)) (put_put class i (0 ∷ []) (replicate n 0) (omega arith)) in
-    let p = plain_one line i class (omega arith) room (rw z at (none 0 (omega arith))) in
-    let q = plain_run line n (i + 1) (set class i 0) (omega arith) (simp length-set room) (λ k h. rw (shift k) at (none (suc k) (omega arith))) in
-    scanned_then p (rw (j, e) at q)
-  where
-    shift : (k : ℕ) → i + suc k ≡ i + 1 + k
-    shift k = omega arith
+-- bytes of code at which nothing starts
+pub code_run : (line : List ℕ) (a e : ℕ) (d z : List ℕ) → length line ≤ length d → FirstFrom (λ j. starts_in_code (get_or line j 0)) a (length line) e
+    → Marked 0 a e (length line) d z → Scanned line (fresh Mode.Code) a d (fresh Mode.Code) e z
+code_run line a e d z room f m =
+    run_marked line Mode.Code Class.Code a e d z f.from f.within room (λ j h k. not_among line j d (omega (arith, f.within)) room (f.none j h k)) m
 
-pub plain_eight : {line : List ℕ} {a i : ℕ} {x class : List ℕ} → Scanned line (fresh Mode.Code) a x (fresh Mode.Code) i class → (y : List ℕ) (r : Bool) → length line ≤ length x → i + 8 ≤ length line
-    → NoneAmong (starts_at line) i 8 r → r ≡ false → y ≡ replicate (length (take (i + 8 - i) (drop i class))) 0
-    → Scanned line (fresh Mode.Code) a x (fresh Mode.Code) (i + 8) (take i class ++ (y ++ drop (i + 8 - i) (drop i class)))
-plain_eight {line} {a} {i} {x} {class} p y r room l q e f =
-    let n : i + 8 - i ≡ 8 = omega arith in
-    let k : length line ≤ length class = omega (arith, p.moved.as_long) in
-    let g : y ≡ replicate (length (take 8 (drop i class))) 0 = rw n at f in
-    rw (n, filled class y i 8 0 (omega arith) g) (scanned_then p (plain_run line 8 i class l k (q.none e)))
+plain_in_comment : (line : List ℕ) (i d : ℕ) → i < length line → turns_comment (get_or line i 0) ≡ false → mark_at (Mode.Block d) (drop i line) ≡ one Class.BlockComment (Mode.Block d)
+plain_in_comment line i d l h =
+    let b : ℕ = get_or line i 0 in
+    block_plain (drop i line) d (starts_not line i 47 (42 ∷ []) l (eqb-false b 47 (neither_left (eqb b 47) (eqb b 42) h)))
+    (starts_not line i 42 (47 ∷ []) l (eqb-false b 42 (neither_right (eqb b 47) (eqb b 42) h)))
 
--- bytes of code, then what starts there, or the line's end
-module _ {line : List ℕ} {a i : ℕ} {x y : List ℕ} (p : Scanned line (fresh Mode.Code) a x (fresh Mode.Code) i y) where
-  pub code_then : {r : Stop} {z : List ℕ} → Stretch line Carry.Code i y r z → Stretch line Carry.Code a x r z
-  code_then s =
-      record {
-        scanned = scanned_then p s.scanned;
-        further = omega (arith, p.moved.on, s.further);
-        depth = omega (arith, p.moved.on, s.depth);
-      }
-
-  pub code_last : a < length line → length line ≤ i → Stretch line Carry.Code a x (stop i Carry.Code) y
-  code_last h l = record { scanned = p; further = omega arith; depth = omega arith }
+-- bytes of block comments at which none opens or ends
+pub comment_run : (line : List ℕ) (a e : ℕ) (d z : List ℕ) → length line ≤ length d → FirstFrom (λ j. turns_comment (get_or line j 0)) a (length line) e
+    → Marked 3 a e (length line) d z → PlainComment line a d e z
+comment_run line a e d z room f m =
+    record {
+      moved = record { on = f.from; within = f.within; as_long = m.as_long };
+      scanned = λ n. run_marked line (Mode.Block n) Class.BlockComment a e d z f.from f.within room (λ j h k. plain_in_comment line j n (omega (arith, f.within)) (f.none j h k)) m;
+    }
 
 -- in block comments, d of them
 pub record InBlock (line : List ℕ) (a depth : ℕ) (class₀ class : List ℕ) (i d : ℕ) : Type 0 where
@@ -187,6 +167,9 @@ pub block_begins : (line : List ℕ) (a depth : ℕ) (class : List ℕ) → a < 
 block_begins line a depth class l = record { scanned = scanned_start line (fresh (Mode.Block depth)) a class (omega arith); few = le_refl _ }
 
 module _ {line : List ℕ} {a depth : ℕ} {class₀ class : List ℕ} {i d : ℕ} (p : InBlock line a depth class₀ class i d) where
+  pub block_plainly : {e : ℕ} {after : List ℕ} → PlainComment line i class e after → InBlock line a depth class₀ after e d
+  block_plainly r = record { scanned = scanned_then p.scanned (r.scanned d); few = omega (arith, p.few, r.moved.on) }
+
   pub block_opens : {e : ℕ} {after : List ℕ} → true ≡ starts_with (drop i line) (47 ∷ 42 ∷ []) → PairRead line i 3 class e after → InBlock line a depth class₀ after e (d + 1)
   block_opens h r =
       record {

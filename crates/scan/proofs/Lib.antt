@@ -1,6 +1,8 @@
 pub mod StartsLaws
 pub mod MarkLaws
 pub mod ScannedLaws
+pub mod MarkedLaws
+pub mod RunLaws
 pub mod StringLaws
 pub mod CodeLaws
 pub mod ClassifyLaws

@@ -1,18 +1,29 @@
 -- The loops that read strings: their invariants, and what each way through a turn makes of them.
 use Prim.Native.Nat.{ℕ, ◌+◌, ◌-◌, ◌<◌, ◌≤◌}
-use mathlib.Core.Bool.{Bool, true, false}
+use mathlib.Core.Bool.{Bool, true, false, ◌||◌, true≢false}
 use mathlib.Core.Path.{◌≡◌, refl, sym, ◌∙◌}
 use mathlib.Core.List.{List, [], ◌∷◌}
 use native.Mathlib.Omega.{arith}
+use borrow.Author.Tests.{eqb-false}
+use lib.Dec.{eqb}
 use lib.ListN.{length, get_or, drop, set}
 use Rattle.rules.specs.declared.Class.{Class}
 use Rattle.rules.specs.declared.Mode.{Mode}
 use Rattle.rules.specs.Basics.{starts_with, at}
 use Rattle.rules.specs.Scan.{one, quote, mark_at, at_quote}
-use Rattle.scan.specs.Stretch.{Moved, Scanned, PairRead, InnerRead, InterpRead, DollarRead, fresh}
+use Rattle.blocks.specs.Blocks.{FirstFrom}
+use Rattle.scan.specs.Marked.{Marked}
+use Rattle.scan.proofs.RunLaws.{run_marked}
+use Rattle.scan.specs.Stretch.{stops_string, PlainString, Moved, Scanned, PairRead, InnerRead, InterpRead, DollarRead, fresh}
 use Rattle.scan.proofs.StartsLaws.{starts_is, starts_not, starts_other, starts_more}
 use Rattle.scan.proofs.MarkLaws.{inner_escape, inner_end, inner_plain, interp_escape, interp_double, interp_single, interp_open, interp_end, interp_close, interp_plain, quoted_escape, quoted_interp, quoted_end, quoted_plain}
 use Rattle.scan.proofs.ScannedLaws.{moved_start, moved_then, moved_one, scanned_start, scanned_then, scanned_one, scanned_last, then_one}
+
+none_of_four : (a b c d : Bool) → (a || b || c || d) ≡ false → (a ≡ false) × (b ≡ false) × (c ≡ false) × (d ≡ false)
+none_of_four true b c d h = absurd (true≢false h)
+none_of_four false true c d h = absurd (true≢false h)
+none_of_four false false true d h = absurd (true≢false h)
+none_of_four false false false d h = (refl, refl, refl, h)
 
 quote_there : (line : List ℕ) (i e : ℕ) (q : Bool) → i < length line → e ≡ quote q → get_or line i 0 ≡ e → true ≡ at_quote (drop i line) q
 quote_there line i e q l f g = starts_is line i (quote q) l (g ∙ f)
@@ -168,8 +179,8 @@ module _ {line : List ℕ} {a : ℕ} {q : Bool} {class₀ class : List ℕ} {i :
   pub quoted_escapes : {e : ℕ} {after : List ℕ} → i < length line → get_or line i 0 ≡ 92 → PairRead line i 1 class e after → InQuoted line a q class₀ after e
   quoted_escapes l f r = record { scanned = scanned_then p.scanned (r.scanned (Mode.Quoted q) (Mode.Quoted q) Class.Str refl (quoted_escape (drop i line) q (starts_is line i 92 l f))) }
 
-  pub quoted_dollars : {e : ℕ} {after : List ℕ} → DollarRead line i class e after → InQuoted line a q class₀ after e
-  quoted_dollars r = record { scanned = scanned_then p.scanned (r.scanned q) }
+  pub quoted_plainly : {e : ℕ} {after : List ℕ} → PlainString line i class e after → InQuoted line a q class₀ after e
+  quoted_plainly r = record { scanned = scanned_then p.scanned (r.scanned q) }
 
   module _ (l : i < length line) (room : length line ≤ length class₀) (n92 : get_or line i 0 ≡ 92 → ⊥) (n36 : get_or line i 0 ≡ 36 → ⊥) {end : ℕ} (is : end ≡ quote q) where
     pub quoted_ends : get_or line i 0 ≡ end → Scanned line (fresh (Mode.Quoted q)) a class₀ (fresh Mode.Code) (i + 1) (set class i 1)
@@ -180,3 +191,24 @@ module _ {line : List ℕ} {a : ℕ} {q : Bool} {class₀ class : List ℕ} {i :
 
   pub quoted_stops : length line ≤ i → Scanned line (fresh (Mode.Quoted q)) a class₀ (fresh Mode.Code) i class
   quoted_stops l = scanned_last (fresh Mode.Code) p.scanned l refl
+
+not_quote : (b : ℕ) (q : Bool) → (b ≡ 34 → ⊥) → (b ≡ 39 → ⊥) → b ≡ quote q → ⊥
+not_quote b true x y e = x e
+not_quote b false x y e = y e
+
+plain_at : (line : List ℕ) (i : ℕ) (q : Bool) → i < length line → stops_string (get_or line i 0) ≡ false → mark_at (Mode.Quoted q) (drop i line) ≡ one Class.Str (Mode.Quoted q)
+unfolding stops_string
+plain_at line i q l h =
+    let b : ℕ = get_or line i 0 in
+    let n = none_of_four (eqb b 92) (eqb b 34) (eqb b 39) (eqb b 36) h in
+    quoted_plain (drop i line) q (starts_not line i 92 [] l (eqb-false b 92 n.0)) (starts_not line i 36 (123 ∷ []) l (eqb-false b 36 n.3))
+    (quote_not line i (quote q) q l refl (not_quote b q (eqb-false b 34 n.1) (eqb-false b 39 n.2)))
+
+-- bytes of a string at which nothing starts or ends
+pub string_run : (line : List ℕ) (a e : ℕ) (d z : List ℕ) → length line ≤ length d → FirstFrom (λ j. stops_string (get_or line j 0)) a (length line) e
+    → Marked 1 a e (length line) d z → PlainString line a d e z
+string_run line a e d z room f m =
+    record {
+      moved = record { on = f.from; within = f.within; as_long = m.as_long };
+      scanned = λ q. run_marked line (Mode.Quoted q) Class.Str a e d z f.from f.within room (λ j h k. plain_at line j q (omega (arith, f.within)) (f.none j h k)) m;
+    }

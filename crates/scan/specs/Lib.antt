@@ -2,3 +2,4 @@ pub mod Classified
 pub mod CodeEnd
 pub mod Stretch
 pub mod Within
+pub mod Marked

@@ -14,8 +14,13 @@ use Rattle.basics.specs.Depth.{carry_depth}
 unfoldable pub starts_in_code : ℕ → Bool
 starts_in_code b = is "\\" b || is "\"" b || is "'" b || is "/" b || is "$" b
 
-abbrev pub starts_at : List ℕ → ℕ → Bool
-starts_at line i = starts_in_code (get_or line i 0)
+-- and a byte at which a mark of a string may start that is not one character of it
+unfoldable pub stops_string : ℕ → Bool
+stops_string b = is "\\" b || is "\"" b || is "'" b || is "$" b
+
+-- and a byte at which a mark of a block comment may start that is not one character of it
+abbrev pub turns_comment : ℕ → Bool
+turns_comment b = is "/" b || is "*" b
 
 -- `at` is a place of the line or its end, and its class bytes have room
 pub record Room (line : List ℕ) (at : ℕ) (class : List ℕ) : Type 0 where
@@ -74,6 +79,16 @@ pub record InnerRead (line : List ℕ) (a : ℕ) (k : Bool) (before : List ℕ) 
 pub record InterpRead (line : List ℕ) (a : ℕ) (before : List ℕ) (e : ℕ) (after : List ℕ) : Type 0 where
   pub moved : Moved line a before e after
   pub scanned : (q : Bool) → Scanned line (fresh (Mode.Interp q 1)) a before (fresh (Mode.Quoted q)) e after
+
+-- over bytes of a string, whichever quote ends it
+pub record PlainString (line : List ℕ) (a : ℕ) (before : List ℕ) (e : ℕ) (after : List ℕ) : Type 0 where
+  pub moved : Moved line a before e after
+  pub scanned : (q : Bool) → Scanned line (fresh (Mode.Quoted q)) a before (fresh (Mode.Quoted q)) e after
+
+-- over bytes of block comments, however many are open
+pub record PlainComment (line : List ℕ) (a : ℕ) (before : List ℕ) (e : ℕ) (after : List ℕ) : Type 0 where
+  pub moved : Moved line a before e after
+  pub scanned : (d : ℕ) → Scanned line (fresh (Mode.Block d)) a before (fresh (Mode.Block d)) e after
 
 -- from a `$` in a string on
 pub record DollarRead (line : List ℕ) (a : ℕ) (before : List ℕ) (e : ℕ) (after : List ℕ) : Type 0 where

@@ -3,42 +3,31 @@
 // their line, so they are read within code.
 #![tactic(auto)]
 
+mod marked;
+mod starts;
+
 ghost use Rattle.std.specs.Prelude.{◌≡◌, ◌∷◌, [], ◌+◌, ◌<◌, ◌≤◌, ◌^◌, length, drop};
 ghost use Rattle.rules.specs.Basics.{starts_with};
 ghost use Rattle.rules.specs.Scan.{quote};
 ghost use Rattle.basics.specs.Depth.{carry_depth};
 ghost use Rattle.scan.specs.Classified.{Classified};
 ghost use Rattle.scan.specs.CodeEnd.{code_length, NoComment, only_code_or_str};
-ghost use Rattle.scan.specs.Stretch.{Room, Inside, At, Deep, PairRead, InnerRead, InterpRead, DollarRead};
+ghost use Rattle.scan.specs.Stretch.{Room, Inside, At, Deep, PairRead, PlainString, PlainComment, InnerRead, InterpRead, DollarRead};
 ghost use Rattle.scan.specs.Stretch.{Scanned, Stretch, fresh, starts_in_code};
 ghost use Rattle.scan.specs.Within.{ClassRoom, ClassifiedAt};
 
 use basics::quote_of;
-use rules::{Carry, Class, Mode};
-
-// The class bytes.
-pub const CODE: u8 = Class::Code as u8;
-
-pub const STR: u8 = Class::Str as u8;
-
-pub const LINE_COMMENT: u8 = Class::LineComment as u8;
-
-pub const BLOCK_COMMENT: u8 = Class::BlockComment as u8;
-
-pub const PREFAB: u8 = Class::Prefab as u8;
+use blocks::lanes;
+use marked::mark;
+use rules::class_byte::{BLOCK_COMMENT, CODE, LINE_COMMENT, PREFAB, STR};
+use rules::{Carry, Mode};
+use starts::{Starts, Stops, Turns, starts_in_code};
 
 // A place in the line, and what is open there.
 #[derive(Clone, Copy)]
 struct Stop {
     at: usize,
     carry: Carry,
-}
-
-// Whether b can start something in code.
-fn starts_in_code(b: u8) -> bool
-    ensures { result ≡ starts_in_code b }
-{
-    (b == b'\\') | (b == b'"') | (b == b'\'') | (b == b'/') | (b == b'$')
 }
 
 // Whether c stands at the place after `at`.
@@ -158,6 +147,16 @@ fn dollar(line: &[u8], at: usize, class: &mut [u8]) -> usize
     at + 1
 }
 
+// Bytes of a string that start and end nothing.
+fn plain_string(line: &[u8], at: usize, class: &mut [u8]) -> usize
+    requires { Room line.now at class.old }
+    ensures { PlainString line.now at class.old result class.new }
+{
+    let e = lanes::first(&Stops { line }, at, line.len());
+    mark(class, at, e, line.len(), STR);
+    e
+}
+
 // In a string: past the quote that ends it.
 fn quoted(line: &[u8], at: usize, q: bool, class: &mut [u8]) -> usize
     requires { Room line.now at class.old }
@@ -168,6 +167,10 @@ fn quoted(line: &[u8], at: usize, q: bool, class: &mut [u8]) -> usize
     let mut i = at;
     // kept: a range is no plainer, since a mark takes one byte or more
     while i < line.len() {
+        i = plain_string(line, i, class);
+        if i == line.len() {
+            return i;
+        }
         let b = line[i];
         if b == b'\\' {
             i = pair(line, i, STR, class);
@@ -268,36 +271,51 @@ fn start(line: &[u8], at: usize, class: &mut [u8]) -> Stop
     }
 }
 
-// Bytes of code that start nothing, eight at a time.
-fn eights(line: &[u8], at: usize, class: &mut [u8]) -> usize
+// Bytes of code that start nothing.
+fn plain_code(line: &[u8], at: usize, class: &mut [u8]) -> usize
     requires { Room line.now at class.old }
     ensures { Scanned line.now (fresh Mode.Code) at class.old (fresh Mode.Code) result
         class.new }
 {
-    let test = |i: usize| starts_in_code(line[i]);
-    let mut i = at;
-    // kept: filled block by block, since `past_blocks` and one fill took 23 to 37 % more instructions of `classify`
-    while line.len() - i >= 8 && !blocks::any_among::<8, _>(i, &test) {
-        let e = i + 8;
-        buffer::fill(&mut class[i..e], CODE);
-        i = e;
-    }
-    i
+    let e = lanes::first(&Starts { line }, at, line.len());
+    mark(class, at, e, line.len(), CODE);
+    e
 }
 
-// Bytes of code that start nothing, one at a time.
+// Bytes of code that start nothing and escaped characters, one at a time.
 fn ones(line: &[u8], at: usize, class: &mut [u8]) -> usize
     requires { Room line.now at class.old }
     ensures { Scanned line.now (fresh Mode.Code) at class.old (fresh Mode.Code) result
         class.new }
 {
-    for i in at..line.len() {
-        if starts_in_code(line[i]) {
+    let mut i = at;
+    // kept: a range is no plainer, since a mark takes one byte or two
+    while i < line.len() {
+        let b = line[i];
+        if !starts_in_code(b) {
+            class[i] = CODE;
+            i += 1;
+            continue;
+        }
+        if b != b'\\' {
             return i;
         }
-        class[i] = CODE;
+        i = pair(line, i, CODE, class);
     }
-    line.len()
+    i
+}
+
+// Past escaped characters of code, which are read one at a time with what stands between them.
+fn past_escapes(line: &[u8], at: usize, class: &mut [u8]) -> usize
+    requires { Room line.now at class.old }
+    ensures { Scanned line.now (fresh Mode.Code) at class.old (fresh Mode.Code) result
+        class.new }
+{
+    if at < line.len() && line[at] == b'\\' {
+        ones(line, at, class)
+    } else {
+        at
+    }
 }
 
 // In code: past what the first byte starts that can start something.
@@ -305,8 +323,8 @@ fn code(line: &[u8], at: usize, class: &mut [u8]) -> Stop
     requires { Inside line.now at class.old }
     ensures { Stretch line.now Carry.Code at class.old result class.new }
 {
-    let e = eights(line, at, class);
-    let i = ones(line, e, class);
+    let e = plain_code(line, at, class);
+    let i = past_escapes(line, e, class);
     if i < line.len() {
         return start(line, i, class);
     }
@@ -314,6 +332,16 @@ fn code(line: &[u8], at: usize, class: &mut [u8]) -> Stop
         at: i,
         carry: Carry::Code,
     }
+}
+
+// Bytes of block comments that open and end none.
+fn plain_comment(line: &[u8], at: usize, class: &mut [u8]) -> usize
+    requires { Room line.now at class.old }
+    ensures { PlainComment line.now at class.old result class.new }
+{
+    let e = lanes::first(&Turns { line }, at, line.len());
+    mark(class, at, e, line.len(), BLOCK_COMMENT);
+    e
 }
 
 // In block comments, `depth` of them: past the end of the last, or to the line's end.
@@ -325,6 +353,10 @@ fn block(line: &[u8], at: usize, depth: u32, class: &mut [u8]) -> Stop
     let mut d = depth;
     // kept: a range is no plainer, since a mark takes one byte or more
     while i < line.len() {
+        i = plain_comment(line, i, class);
+        if i == line.len() {
+            break;
+        }
         if two_at(line, i, b'/', b'*') {
             i = pair(line, i, BLOCK_COMMENT, class);
             d += 1;

@@ -170,10 +170,6 @@ blank_last line i r h n e =
     let t : take i line ≡ take j line ++ (get_or line j 0 ∷ []) = ap (λ (n : ℕ). take n line) m ∙ sym (take_more line j (omega arith)) in
     record { none = λ q. rw t (trim_snoc (take j line) (get_or line j 0) ∙ choose_false _ _ _ (sym e ∙ q)) }
 
--- a call said that there is none
-pub no_blank : (line : List ℕ) (i : ℕ) (r : Bool) → NoBlank line i r → r ≡ false → NoBlank line i false
-no_blank line i r b e = record { none = λ q. b.none e }
-
 module _ (line ks : List ℕ) (i : ℕ) (w : InCode line ks i 44) (b : NoBlank line i false) where
   comma : respaced_from line ks i ≡ from line ks Gap.Comma (take (i + 1) line) (i + 1)
   comma = code_as w Gap.Comma (take (i + 1) line) (plain_comma (take i line) ∙ rw (b.none refl, here w))
@@ -219,9 +215,6 @@ module _ (line ks : List ℕ) (i : ℕ) (w : InCode line ks i 44) (b : NoBlank l
 pub keeping_start : (line ks : List ℕ) → Keeping line ks 0
 unfolding respaced_from normalize_spacing
 keeping_start line ks = record { within = zero-le; same = refl }
-
-pub keeping_none : (line ks : List ℕ) (i : ℕ) → i ≤ 0 → Keeping line ks i
-keeping_none line ks i h = let e : i ≡ 0 = omega arith in rw e (keeping_start line ks)
 
 pub keeping_more : (line ks : List ℕ) (i n : ℕ) → Keeping line ks i → Kept line ks i n → Keeping line ks (i + n)
 keeping_more line ks i n w k = record { within = k.fits; same = w.same ∙ k.kept }

@@ -1,4 +1,4 @@
 -- The laws that this crate's proofs share.
 pub mod SpacingLaws
 pub mod KeptLaws
-pub mod OddLaws
+pub mod QuietLaws

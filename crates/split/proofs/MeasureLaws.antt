@@ -5,11 +5,14 @@ use mathlib.Core.List.{List, [], ◌∷◌, ◌++◌, append-nil}
 use mathlib.Core.Path.{◌≡◌, refl, sym, ap, ◌∙◌, subst}
 use native.Mathlib.Numerals.{add-one}
 use native.Mathlib.Omega.{arith}
-use native.Mathlib.Nat.{zero-add, mul-le-mul, mod-lt}
+use native.Mathlib.Nat.{zero-add, mul-le-mul}
 use lib.ListN.{length, get_or, take, drop, length-drop, drop_of_length-le}
 use lib.Seq.{take-take, length-take-le, drop-drop, drop-cons}
-use lib.Dec.{T, eqb, ltb}
-use borrow.Author.Tests.{eqb-true, eq-eqb, ne_eqb, lt-ltb, le-ltb}
+use lib.Dec.{T, eqb, leb, ltb}
+use borrow.Author.Tests.{eqb-true, eq-eqb, ne_eqb, lt-ltb, le-ltb, le-leb, lt-leb}
+use Rattle.std.proofs.Common.{Ordering}
+use Rattle.std.specs.Ordering.{nat_cmp, is_le}
+use Rattle.std.proofs.lemmas.Cmp.{ranked}
 use Rattle.buffer.specs.Buffer.{part}
 use Rattle.buffer.specs.Repeat.{times}
 use Rattle.buffer.proofs.RegionLaws.{part_from, drop_take}
@@ -38,9 +41,6 @@ byte_measure r from (b ∷ bs) = byte_measure r (byte_after r from b) bs
 byte_units : (b : ℕ) → units_of b ≤ 2
 unfolding units_of
 byte_units b = by_test (ltb b 0x80) (λ e. rw e (omega arith)) (λ e. rw e (by_test (ltb b 0xC0) (λ f. rw f (omega arith)) (λ f. rw f (by_test (ltb b 0xF0) (λ g. rw g (omega arith)) (λ g. rw g (omega arith))))))
-
-pub stop_left : (r from : ℕ) → 0 < r → from % r ≤ r
-stop_left r from h = omega (arith, mod-lt from h)
 
 module _ (r from b : ℕ) (below : r < 256) where
   pub byte_tab : (b ≡ 9) → (0 < r) × (from + 256 < 2 ^ 64) → ByteMeasured r from b (from + (r - from % r))
@@ -96,13 +96,7 @@ pub record Measuring (r from : ℕ) (l : List ℕ) (column i : ℕ) : Type 0 whe
   pub small : column ≤ from + 255 * i
 
 module _ (r from : ℕ) (l : List ℕ) where
-  pub measuring_start : (0 < r) × Measurable from l → Measuring r from l from 0
-  measuring_start p = record { some = p.0; asks = p.1; within = omega arith; all = refl; small = omega arith }
-
   module _ (column i : ℕ) (q : Measuring r from l column i) where
-    pub measuring_fits : i < length l → (0 < r) × (column + 256 < 2 ^ 64)
-    measuring_fits h = (q.some, omega (arith, q.small, q.asks.fits))
-
     pub measuring_more : (n : ℕ) → i < length l → ByteMeasured r column (get_or l i 0) n → Measuring r from l n (i + 1)
     unfolding byte_measure
     measuring_more n h m =
@@ -254,6 +248,15 @@ module _ {ruler : ℕ} {indent : List ℕ} {level : ℕ} (line : List ℕ) (max 
 
   pub wide_measured : (end : ℕ) → Measured ruler pad line end → Wide ruler indent level line max (ltb max end)
   wide_measured end m = record { is = ap (ltb max) (m.is ∙ sym whole) }
+
+-- `a <= b` of columns, as its derived order tells it
+pub column_le : (a b : ℕ) → is_le (nat_cmp a b) ≡ leb a b
+column_le a b = go (nat_cmp a b) refl
+  where
+    go : (o : Ordering) → o ≡ nat_cmp a b → is_le o ≡ leb a b
+    go Ordering.Less e = let h : a < b = ranked a b Ordering.Less e in sym (le-leb a b (omega arith))
+    go Ordering.Equal e = let h : a ≡ b = ranked a b Ordering.Equal e in sym (le-leb a b (omega arith))
+    go Ordering.Greater e = let h : b < a = ranked a b Ordering.Greater e in sym (lt-leb a b h)
 
 -- ---- parts
 

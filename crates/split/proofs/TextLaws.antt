@@ -8,13 +8,12 @@ use lib.ListN.{length}
 use Rattle.compare.specs.Common.{Compared}
 use Rattle.buffer.specs.Repeat.{times}
 use Rattle.buffer.proofs.RepeatLaws.{length_times}
-use Rattle.compare.proofs.WriterLaws.{compared_append}
 use Rattle.utf8.specs.Unicode.{encode}
 use Rattle.utf8.proofs.Decode.{encode_nil, encode_append, encode_ascii, wf_encode}
 use Rattle.rules.specs.Options.{Options, indent_of}
 use Rattle.rules.specs.Assembly.{joined}
 use Rattle.split.specs.Measure.{Indent}
-use Rattle.split.specs.Text.{lay, AllWell, following, last_of, first_of, LineRoom, LineWritten, Written, Fits}
+use Rattle.split.specs.Text.{lay, AllWell, following, last_of, first_of, LineRoom, Written, Fits}
 use Rattle.rules.proofs.Scalars.{AllScalars}
 use Rattle.rules.proofs.SplitSizes.{blank_ascii}
 use Rattle.split.proofs.MeasureLaws.{ascii_times}
@@ -100,7 +99,3 @@ module _ {line indent : List ℕ} {level : ℕ} {eol : List ℕ} {at : ℕ} (f :
 pub line_room_law : {eol indent : List ℕ} {level : ℕ} {line : List ℕ} {at : ℕ} (q : LineRoom eol indent level line at) (model out out' : List ℕ) (start : ℕ) → Compared model out out' at eol start
     → start + (length (times level indent) + length line) < 2 ^ 64
 line_room_law {eol} {indent} {level} q model out out' start a = omega (arith, a.next, q.end, q.room, indent_short indent level q.indents)
-
-pub line_written : (eol l : List ℕ) {model out out₁ out₂ : List ℕ} {at start next : ℕ} → Compared model out out₁ at eol start → Compared model out₁ out₂ start l next
-    → LineWritten eol l model out out₂ at (record { start = start; next = next })
-line_written eol l a b = record { text = compared_append a b; start = sym b.next }

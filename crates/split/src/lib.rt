@@ -109,7 +109,7 @@ fn measured_wide(s: Layout, indent: &[u8], line: &[u8]) -> bool
 {
     let pad = indent_column(s.ruler, indent, s.level);
     let end = measure_from(s.ruler, pad, line);
-    s.max.0 < end.0
+    s.max < end
 }
 
 // The same. A character takes no more columns than bytes, a tab at most the ruler more, so that most lines are not
@@ -145,7 +145,7 @@ pub fn trim_part(s: &[u8], a: usize, e: usize) -> Part
 }
 
 // Where a line starts, and the next place after it.
-#[derive(Clone, Copy)]
+#[derive(Clone, Copy, PartialEq, Eq, Debug)]
 pub struct NewLine {
     pub start: usize,
     pub next: usize,

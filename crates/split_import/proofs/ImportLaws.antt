@@ -12,8 +12,8 @@ use native.Mathlib.Nat.{add-zero}
 use native.Mathlib.Omega.{arith}
 use lib.Dec.{eqb, ltb}
 use lib.ListN.{length, get_or, take, drop, length-append, length-drop, length-take, drop_of_length-le}
-use lib.Seq.{drop-cons, drop-drop, length-take-le}
-use borrow.Author.Tests.{eq-eqb, ne_eqb, eqb-true, le-leb, lt-leb, ltb-true, ltb-false}
+use lib.Seq.{drop-cons, drop-drop}
+use borrow.Author.Tests.{eqb-true, le-leb, lt-leb, ltb-true, ltb-false}
 use Rattle.buffer.specs.Buffer.{part}
 use Rattle.compare.specs.Common.{Compared}
 use Rattle.buffer.specs.Repeat.{times}
@@ -34,15 +34,15 @@ use Rattle.rules.specs.ClassBytes.{class_of, cells_of, FirstAt}
 use Rattle.rules.specs.SplitImport.{Laid, code_is, before_code, from_code, names_of, add_name, fill_names, import_lines, import_parts, closed_import, opened_import, starts_import, split_import}
 use Rattle.rules.proofs.Choose.{choose_true, choose_false}
 use Rattle.rules.proofs.ScanBytes.{label, encode_cells, encode_cells_cons, chars_classify, chars_encode_cells}
-use Rattle.rules.proofs.CellsLaws.{code_byte_law, cells_bytes, chars_cells, drop_cells, length_class_bytes, length_classify, Finding, find_start, find_more, find_stop, find_end}
+use Rattle.rules.proofs.CellsLaws.{cells_bytes, chars_cells, drop_cells, length_class_bytes, length_classify, Finding, find_start, find_more, find_stop, find_end}
 use Rattle.rules.proofs.WordsBytes.{import_encode, before_code_encode, from_code_encode}
 use Rattle.split.specs.declared.NewLine.{NewLine}
 use Rattle.split.specs.Measure.{InUse}
-use Rattle.split.specs.Text.{indented, lay, following, last_of, LineRoom, LineWritten}
-use Rattle.split.proofs.TextLaws.{following_append, last_append, written_lines, lay_encode, indent_short, level_fits, deeper_fits}
+use Rattle.split.specs.Text.{indented, lay, following, last_of, LineWritten}
+use Rattle.split.proofs.TextLaws.{following_append, last_append, written_lines, lay_encode, indent_short, level_fits}
 use Rattle.split_import.specs.declared.NameLines.{NameLines}
 use Rattle.split_import.specs.declared.ImportLines.{ImportLines}
-use Rattle.split_import.specs.Names.{code_byte, byte_at, code_at, parts, CountableNames, names_text, NamesFit, NamesWritten}
+use Rattle.split_import.specs.Names.{code_byte, byte_at, code_at, parts, names_text, NamesWritten}
 use Rattle.split_import.specs.Import.{Given, ImportFits, HeadFits, head_line, HeadWritten, Braces, parts_of}
 
 -- ---- the word
@@ -62,12 +62,6 @@ module _ (line : List ℕ) (r : Bool) (e : r ≡ starts_with line (codes "import
     import_after h s g = rw (← e, f, drop-cons line 6 0 h, ← g, or-false)
 
 -- ---- a code character
-
-pub code_yes : (c b k : ℕ) → k ≡ 0 → eqb b c ≡ (is_code (class_of k) && eqb b c)
-code_yes c b k e = rw (code_byte_law k, eq-eqb k 0 e)
-
-pub code_no : (c b k : ℕ) → (k ≡ 0 → ⊥) → false ≡ (is_code (class_of k) && eqb b c)
-code_no c b k n = rw (code_byte_law k, ne_eqb k 0 n)
 
 -- ---- blocks without a byte
 
@@ -152,37 +146,6 @@ module _ {head indent : List ℕ} {level at : ℕ} (f : HeadFits head indent lev
         }
 
 module _ {line : List ℕ} {start end : ℕ} {indent : List ℕ} {level : ℕ} {eol : List ℕ} {at : ℕ} (b : Braces line start end indent level eol at) where
-  inside_long : length (part line (start + 1) end) ≡ end - (start + 1)
-  inside_long = length-take-le (end - (start + 1)) (drop (start + 1) line) (omega (arith, length-drop (start + 1) line, b.order, b.within))
-
-  pub inside_countable : CountableNames (part line (start + 1) end)
-  inside_countable = record { well = b.inside; short = omega (arith, inside_long, b.within, b.fits.size) }
-
-  head_long : length (take start line) ≡ start
-  head_long = length-take-le start line (omega (arith, b.order, b.within))
-
-  pub head_fits : HeadFits (take start line) indent level at
-  head_fits = record { well = b.head; indents = level_fits b.fits; room = omega (arith, head_long, b.order, b.within, b.fits.room) }
-
-  module _ {model out out₁ : List ℕ} {n : ℕ} (a₁ : HeadWritten (take start line) indent level model out out₁ at n) where
-    pub names_fit : NamesFit (part line (start + 1) end) indent (level + 1) eol n
-    names_fit =
-        record {
-          well = b.inside;
-          short = inside_countable.short;
-          indents = deeper_fits b.fits;
-          end = b.fits.end;
-          room = omega (arith, a₁.room, head_long, inside_long, b.order, b.within, b.fits.room);
-        }
-
-    pub tail_room : (ruler max : ℕ) {out₂ : List ℕ} {m : NameLines} → NamesWritten ruler (part line (start + 1) end) indent (level + 1) eol max model out₁ out₂ n m → LineRoom eol indent level (take (length line - end) (drop end line)) m.next
-    tail_room ruler max a₂ =
-        record {
-          indents = level_fits b.fits;
-          end = b.fits.end;
-          room = omega (arith, a₂.room, a₁.room, head_long, inside_long, b.order, b.within, b.fits.room, ap length (part_from line end), length-drop end line);
-        }
-
   -- ---- what is written
 
   module _ {few : Bool} (q : few ≡ ltb (length (names_of (parts (part line (start + 1) end)))) 2) where

@@ -6,6 +6,7 @@ use Rattle.std.specs.Prelude.{Option, Some, None}
 use mathlib.Core.Path.{◌≡◌, refl, sym, ap, ◌∙◌, subst}
 use native.Mathlib.Numerals.{add-one}
 use native.Mathlib.Omega.{arith}
+use Rattle.std.specs.Ordering.{nat_cmp, is_le}
 use lib.Dec.{eqb, leb, ltb}
 use lib.ListN.{length, get_or, take, drop, length-append, length-drop, drop_of_length-le}
 use lib.Seq.{drop-cons, drop-drop, take-suc}
@@ -25,10 +26,11 @@ use Rattle.rules.proofs.Choose.{choose_true, choose_false}
 use Rattle.rules.proofs.WordsBytes.{pieces_encode}
 use Rattle.utf8.specs.declared.Utf16Column.{Utf16Column}
 use Rattle.split.specs.declared.Part.{Part}
+use Rattle.split.specs.declared.NewLine.{NewLine}
 use Rattle.split.specs.Measure.{Measured, Indent, last_indent, IndentMeasured, Within, Trimmed}
-use Rattle.split.specs.Text.{indented, lay, AllWell, following, line_room}
+use Rattle.split.specs.Text.{indented, lay, AllWell, following, line_room, LineRoom, LineWritten}
 use Rattle.rules.proofs.Columns.{after_other, measure_append}
-use Rattle.split.proofs.MeasureLaws.{part_length, ascii_times}
+use Rattle.split.proofs.MeasureLaws.{part_length, ascii_times, column_le}
 use Rattle.rules.proofs.SplitSizes.{blank_ascii}
 use Rattle.rules.proofs.Scalars.{AllScalars, all_decode, split_scalars}
 use Rattle.split.proofs.TextLaws.{all_well, following_append, indent_short}
@@ -38,7 +40,7 @@ use Rattle.std.specs.List.{All, slice_split, onto_first, IsFirstMatchOrLen}
 use Rattle.std.proofs.lemmas.Grind.{common_steps}
 use Rattle.std.proofs.lemmas.List.Splits.{slice_split_none, slice_split_at, slice_split-cons_yes, slice_split-cons_no}
 use Rattle.blocks.specs.Blocks.{FirstFrom}
-use Rattle.split_import.specs.Names.{byte_at, left, NameLen, parts, CountableNames, Spaced, NamePlace, Named, NameMeasured, NewestAt, column_of, NameFits, names_text, OnNewLine, AddedTo, Added, NamesFit, NamesWritten}
+use Rattle.split_import.specs.Names.{byte_at, left, NameLen, parts, CountableNames, Spaced, NamePlace, NameMeasured, NewestAt, column_of, NameFits, names_text, OnNewLine, AddedTo, Added, NamesFit, NamesWritten}
 
 -- ---- pieces between commas
 
@@ -351,33 +353,25 @@ module _ (s : List ℕ) (p : Part) where
         };
       }
 
-pub spaced_after : (s : List ℕ) (p : Part) (r : Bool) → Spaced s p r → r ≡ true → 1 ≤ p.start
-spaced_after s p r q e = (q.is e).after
-
 pub spaced_within : (s : List ℕ) (p : Part) (r : Bool) → Spaced s p r → r ≡ true → p.end + 1 ≤ length s
 spaced_within s p r q e = omega (arith, (q.is e).within)
-
-pub put_as_is : (s : List ℕ) (p : Part) (r : Bool) {model x y : List ℕ} {at n : ℕ} → Spaced s p r → r ≡ true → Compared model x y at (part s (p.start - 1) (p.end + 1)) n
-    → Compared model x y at (32 ∷ (part s p.start p.end ++ 44 ∷ [])) n
-put_as_is s p r q e c = rw (q.is e).text at c
 
 pub put_name : (name : List ℕ) {model x y z u : List ℕ} {at n m r : ℕ} → Compared model x y at (32 ∷ []) n → Compared model y z n name m → Compared model z u m (44 ∷ []) r
     → Compared model x u at (32 ∷ (name ++ 44 ∷ [])) r
 put_name name a b c = compared_append (compared_append a b) c
 
-pub put_line : (eol indent : List ℕ) (level : ℕ) (name : List ℕ) {model x y z u : List ℕ} {at n m r : ℕ} → Compared model x y at eol n → Compared model y z n (times level indent ++ name) m → Compared model z u m (44 ∷ []) r
-    → Compared model x u at (eol ++ lay indent level (name ++ 44 ∷ [])) r
-put_line eol indent level name a b c =
-    rw (← (append_assoc (times level indent) name (44 ∷ [])), ← (append_assoc eol (times level indent ++ name) (44 ∷ []))) (compared_append (compared_append a b) c)
+pub put_line : (eol indent : List ℕ) (level : ℕ) (name : List ℕ) {model x y z : List ℕ} {at n r : ℕ} → Compared model x y at (eol ++ lay indent level name) n → Compared model y z n (44 ∷ []) r
+    → Compared model x z at (eol ++ lay indent level (name ++ 44 ∷ [])) r
+put_line eol indent level name a b =
+    rw (← (append_assoc (times level indent) name (44 ∷ [])), ← (append_assoc eol (times level indent ++ name) (44 ∷ []))) (compared_append a b)
 
-pub line_room_law : {eol indent : List ℕ} {level : ℕ} {name : List ℕ} {at : ℕ} (q : NamePlace eol indent level name at) {model x y : List ℕ} {n : ℕ} → Compared model x y at eol n
-    → n + (length (times level indent) + length name) < 2 ^ 64
-line_room_law {indent = indent} {level = level} q a = omega (arith, a.next, q.end, q.room, indent_short indent level q.indents)
+pub line_room_law : {eol indent : List ℕ} {level : ℕ} {name : List ℕ} {at : ℕ} → NamePlace eol indent level name at → LineRoom eol indent level name at
+line_room_law q = record { indents = q.indents; end = q.end; room = omega (arith, q.room) }
 
-pub comma_room : {eol indent : List ℕ} {level : ℕ} {name : List ℕ} {at : ℕ} (q : NamePlace eol indent level name at) {model x y z : List ℕ} {n m : ℕ} → Compared model x y at eol n → Compared model y z n (times level indent ++ name) m
-    → m + 1 < 2 ^ 64
-comma_room {indent = indent} {level = level} {name = name} q a b =
-    omega (arith, a.next, b.next, q.end, q.room, indent_short indent level q.indents, length-append (times level indent) name)
+pub comma_room : {eol indent : List ℕ} {level : ℕ} {name : List ℕ} {at : ℕ} (q : NamePlace eol indent level name at) {model x y : List ℕ} {r : NewLine} → LineWritten eol (lay indent level name) model x y at r
+    → r.next + 1 < 2 ^ 64
+comma_room {eol} {indent} {level} {name} q a =
+    omega (arith, a.text.next, q.end, q.room, indent_short indent level q.indents, length-append eol (times level indent ++ name), length-append (times level indent) name)
 
 pub on_new_line : (ruler : ℕ) (indent : List ℕ) (level : ℕ) (eol name model out out' : List ℕ) (f : Filled) (c : ℕ) (col : Utf16Column) (at : ℕ) → IndentMeasured ruler indent level c → NameMeasured ruler c name col.0
     → Compared model out out' f.at (eol ++ lay indent level (name ++ 44 ∷ [])) at → OnNewLine ruler indent level eol name model out out' f (record { at = at; column = Some col })
@@ -390,10 +384,6 @@ on_new_line ruler indent level eol name model out out' f c col at p q a =
           ∙ sym (measure_append ruler 0 (times level indent) (with_comma (decode name))));
       small = omega (arith, p.small, q.small);
     }
-
--- a name goes on from the column that the newest line reaches
-pub name_named : (indent : List ℕ) (level : ℕ) (eol name : List ℕ) (f : Filled) (w : Utf16Column) → NameFits indent level eol name f → f.column ≡ Some w → Named (w.0 + 1) name
-name_named indent level eol name f w q e = record { well = q.well; fits = omega (arith, q.narrow, q.short, ap column_of e) }
 
 -- the text of one line more
 text_cons : (eol l : List ℕ) (ls : List (List ℕ)) → names_text eol (l ∷ ls) ≡ names_text eol ls ++ (eol ++ encode l)
@@ -471,30 +461,36 @@ module _ (ruler : ℕ) (indent : List ℕ) (level : ℕ) (eol : List ℕ) (max :
           q.is ∙ ap (λ (k : ℕ). measure ruler k (with_comma (decode name))) (ap (λ (k : Option Utf16Column). column_of k + 1) (sym e ∙ c.is) ∙ sym (one_measured ruler (measure ruler 0 cur) 32 refl (omega arith)))
           ∙ sym (measure_append ruler 0 cur (codes " " ++ with_comma (decode name)) ∙ measure_append ruler (measure ruler 0 cur) (codes " ") (with_comma (decode name)))
 
-      pub add_wide : (out' : List ℕ) (r : Filled) → max < n → OnNewLine ruler indent level eol name model out out' f r → Result out' r
+      pub add_wide : (out' : List ℕ) (r : Filled) (b : Bool) → b ≡ is_le (nat_cmp n max) → b ≡ false → OnNewLine ruler indent level eol name model out out' f r → Result out' r
       unfolding add_name over_wide
-      add_wide out' r h l =
+      add_wide out' r b i j l =
           record {
             to = go;
             small = line_small out' r l;
             room = line_at_law out' r l;
           }
         where
+          h : max < n
+          h = leb-false n max (sym (column_le n max) ∙ sym i ∙ j)
+
           go : (lines : List (List ℕ)) → NewestAt ruler lines f → AddedTo ruler lines (add_name opts max cont lines (decode name)) eol model out out' f r
           go [] c = absurd (let y : ◌≡◌ {A = ℕ} 0 1 = cc (c.is, e) in omega arith)
           go (cur ∷ done) c =
               rw (choose_true (ltb max (measure ruler 0 (joined_line cur))) (new_line ∷ cur ∷ done) (joined_line cur ∷ done) (rw (← (column_of_law cur done c)) (lt-ltb max n h)))
               (added_line (cur ∷ done) out' r l)
 
-      pub add_here : (out' : List ℕ) (col : Utf16Column) (at : ℕ) → col.0 ≡ n → n ≤ max → Compared model out out' f.at (32 ∷ (name ++ 44 ∷ [])) at → Result out' (record { at = at; column = Some col })
+      pub add_here : (out' : List ℕ) (col : Utf16Column) (at : ℕ) (b : Bool) → col.0 ≡ n → b ≡ is_le (nat_cmp n max) → b ≡ true → Compared model out out' f.at (32 ∷ (name ++ 44 ∷ [])) at → Result out' (record { at = at; column = Some col })
       unfolding add_name over_wide
-      add_here out' col at k h a =
+      add_here out' col at b k i j a =
           record {
             to = go;
             small = λ m i j. omega (arith, q.small, ap column_of e, k);
             room = omega (arith, a.next, length-append name (44 ∷ []));
           }
         where
+          h : n ≤ max
+          h = leb-true n max (sym (column_le n max) ∙ sym i ∙ j)
+
           go : (lines : List (List ℕ)) → NewestAt ruler lines f → AddedTo ruler lines (add_name opts max cont lines (decode name)) eol model out out' f (record { at = at; column = Some col })
           go [] c = absurd (let y : ◌≡◌ {A = ℕ} 0 1 = cc (c.is, e) in omega arith)
           go (cur ∷ done) c =
@@ -549,20 +545,6 @@ module _ (ruler : ℕ) (s indent : List ℕ) (level : ℕ) (eol : List ℕ) (max
 
   name_long : length name ≤ n
   name_long = omega (arith, part_length s p.start p.end (omega (arith, u.fits, name_fits s a n h l)), u.after, u.fits)
-
-  pub filling_part : Within s p.start p.end
-  filling_part = record { order = u.order; fits = omega (arith, u.fits, name_fits s a n h l); well = u.well }
-
-  pub filling_room : NameFits indent level eol name f
-  filling_room =
-      record {
-        indents = q.pre.indents;
-        end = q.pre.end;
-        well = u.well;
-        short = omega (arith, name_long, name_fits s a n h l, q.pre.short);
-        narrow = omega (arith, q.narrow, q.within, q.pre.short);
-        room = omega (arith, q.room, q.pre.room, name_long, name_fits s a n h l, q.pre.short);
-      }
 
   abbrev add : List (List ℕ) → List ℕ → List (List ℕ)
   add = add_name (indented indent ruler) max (times level indent)

@@ -20,6 +20,7 @@ ghost use Rattle.split_import.specs.Import.{HeadFits, HeadWritten, Braces, parts
 
 use basics::{is_ident, starts_with};
 use buffer::pad::Pad;
+use rules::class_byte::CODE;
 use split::{Layout, Part, indent_column, measure_from, trim_part, write_line};
 use utf8::Utf16Column;
 
@@ -43,11 +44,11 @@ fn starts_import(line: &[u8]) -> bool
 fn code_is(c: u8, b: u8, k: u8) -> bool
     ensures { result ≡ (is_code (class_of k) && eqb b c) }
 {
-    k == 0 && b == c
+    k == CODE && b == c
 }
 
-// kept: line and class, layout and indent are not one struct each: no plainer, since of a struct that holds a lent slice
-// the contracts say `k.entry.line.now` (tried), and the facts on both are one record already
+// kept: line and class, layout and indent are not one struct each: no plainer, since of a struct that holds a lent
+// slice the contracts say `k.entry.line.now` (tried), and the facts on both are one record already
 
 // Where the first code character c stands.
 fn find_code(line: &[u8], class: &[u8], c: u8) -> Option<usize>
@@ -114,13 +115,8 @@ fn put_line(model: &[u8], out: &mut [u8], at: usize, s: Layout, indent: &[u8], n
     ensures { Compared model.now out.old out.new at
         (as_str s.ending ++ lay indent.now s.level (name.now ++ 44 ∷ [])) result }
 {
-    let n = text::append_ending(model, out, at, s.ending);
-    let pad = Pad {
-        indent,
-        levels: s.level,
-    };
-    let m = compare::append_indented(model, out, n, pad, name);
-    compare::append(model, out, m, b",")
+    let line = write_line(model, out, at, s, indent, name);
+    compare::append(model, out, line.next, b",")
 }
 
 // The column after a name and its comma.
@@ -177,7 +173,7 @@ fn add_name(
     match f.column {
         Some(newest) => {
             let column = name_column(s.ruler, Utf16Column(newest.0 + 1), name);
-            if column.0 <= s.max.0 {
+            if column <= s.max {
                 Filled {
                     at: put_name(model, out, f.at, names, p),
                     column: Some(column),

@@ -44,8 +44,8 @@ use Rattle.split.specs.declared.Part.{Part}
 use Rattle.split.specs.declared.NewLine.{NewLine}
 use Rattle.split_operation.specs.declared.OperationSplit.{OperationSplit}
 use Rattle.split.specs.Measure.{InUse, Indent, Wide, Within, Trimmed}
-use Rattle.split.specs.Text.{indented, lay, AllWell, following, last_of, LineRoom, LineWritten, Fits, line_room}
-use Rattle.split_operation.specs.Pass.{line_start, Sound, Breakable, Cutting, break_strength, rest_from, cuts_at, NextOp, BreakFound}
+use Rattle.split.specs.Text.{indented, lay, AllWell, following, last_of, LineWritten, Fits, line_room}
+use Rattle.split_operation.specs.Pass.{line_start, Sound, Breakable, break_strength, rest_from, cuts_at, NextOp, BreakFound}
 use Rattle.split_operation.specs.Operation.{line_of, Broken, trim_bytes, rest_lines, RestFits, After, RestWritten, Classed, OperationFits, LineFits, round_strength, RoundAt, RoundBreak, first_line, other_lines, PiecesWritten, broken_in, FirstBroken}
 use Rattle.split.proofs.MeasureLaws.{part_length}
 use Rattle.rules.proofs.Scalars.{AllScalars}
@@ -365,22 +365,10 @@ writing_start {first = first} model out f =
 
 module _ {table : List ℕ} {strength : ℕ} {line class : List ℕ} {cut : Cut} {indent : List ℕ} {level : ℕ} {eol model out₀ : List ℕ} {first : NewLine} {out : List ℕ} {c : Cut} {r : NewLine}
     (w : Writing table strength line class cut indent level eol model out₀ first out c r) where
-  pub writing_cut : c.place < length line → Cutting strength line class (c.place + 1) c.after
-  writing_cut h = record { some = w.fits.some; within = omega arith; breaks = w.fits.breaks; sound = w.sound h }
-
   pub writing_within : (d : Cut) → c.place < length line → NextOp table strength line class (c.place + 1) c.after d → Within line c.place d.place
   writing_within d h q =
       let e : AllWell (part line c.place d.place ∷ rest_from table strength line class d) = subst AllWell (rest_cons table strength line class c d h q) w.well in
       record { order = omega (arith, q.after); fits = q.fits; well = e.0 }
-
-  pub writing_room : (d : Cut) (p : Part) → c.place < length line → NextOp table strength line class (c.place + 1) c.after d → Trimmed line c.place d.place p
-      → LineRoom eol indent level (part line p.start p.end) r.next
-  writing_room d p h q t =
-      record {
-        indents = w.fits.indents;
-        end = w.fits.end;
-        room = omega (arith, w.room, w.fits.room, w.order, part_length line p.start p.end (omega (arith, t.fits, q.fits)), t.after, t.fits, q.after, q.fits);
-      }
 
   pub writing_more : (d : Cut) (p : Part) (n : NewLine) (out' : List ℕ) → c.place < length line → NextOp table strength line class (c.place + 1) c.after d → Trimmed line c.place d.place p
       → LineWritten eol (lay indent level (part line p.start p.end)) model out out' r.next n → length out' ≡ length out

@@ -256,9 +256,6 @@ module _ {table : List ℕ} {strength : ℕ} {line class : List ℕ} {from : ℕ
 -- ---- the functions
 
 module _ {line class : List ℕ} {from : ℕ} {s : OpState} where
-  pub run_begin : (o : Bool) → o ≡ s.operand → QuietRun line class from s from o
-  run_begin o e = rw e QuietRun.begins
-
   module _ {i : ℕ} {o : Bool} (q : QuietRun line class from s i o) (h : i < length line) (p : NonePending s) (r : Bool) where
     pub run_word : r ≡ is_operand (cell_at line class i) → r ≡ true → QuietRun line class from s (i + 1) true
     run_word e t = QuietRun.word q h p (sym e ∙ t)

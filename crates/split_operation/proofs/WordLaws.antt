@@ -60,9 +60,6 @@ module _ (line : List ℕ) (start i : ℕ) (x : Cell) (pre : (i < length line) �
     unfolding word_on
     ends = ap reverse (part_none line (i + 1)) ∙ sym (choose_false _ _ _ (sym p ∙ q))
 
-    pub word_keyword : (s : Bool) → s ≡ one_of keywords (part line start i) → s ≡ true → keyword_ends line start i x ≡ true
-    word_keyword s u e = rw (← p, q, ← u) e
-
     pub word_end : (s : Bool) → s ≡ one_of keywords (part line start i) → s ≡ false → WordOn line start i x (i + 1)
     word_end s u e = record { start = omega arith; word = ends; other = rw (← p, q, ← u) e }
 

@@ -21,7 +21,7 @@ use split::{Layout, NewLine, over_wide, trim_part, write_line};
 
 // The line whole, or the lines that it is broken into, written: the last of them.
 // kept: the new form is no plainer: both ways have a last line, and an Option would lose one
-#[derive(Clone, Copy)]
+#[derive(Clone, Copy, PartialEq, Eq, Debug)]
 pub enum OperationSplit {
     Whole(NewLine),
     Broken(NewLine),
@@ -35,8 +35,8 @@ fn line_of(r: OperationSplit) -> NewLine
     }
 }
 
-// kept: line and class, layout and indent are not one struct each: no plainer, since of a struct that holds a lent slice
-// the contracts say `k.entry.line.now` (tried), and the facts on both are one record already
+// kept: line and class, layout and indent are not one struct each: no plainer, since of a struct that holds a lent
+// slice the contracts say `k.entry.line.now` (tried), and the facts on both are one record already
 
 // The pieces of a line from an operator on, each a line, one level deeper than the first, which was written last.
 fn write_rest(

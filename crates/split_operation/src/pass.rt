@@ -12,12 +12,13 @@ ghost use Rattle.split_operation.specs.Pass.{Breakable, PassEnd, BreakFound, Cut
 
 use basics::{is_blank, is_closer, is_ident, is_opener};
 use rules::Strengths;
+use rules::class_byte::{CODE, STR};
 use top_level_ops::{OpState, token_at};
 
 fn is_code(k: u8) -> bool
     ensures { result ≡ is_code (class_of k) }
 {
-    k == 0
+    k == CODE
 }
 
 // A letter, digit or underscore of code.
@@ -38,7 +39,7 @@ fn is_plain(s: OpState) -> bool
 fn is_operand(k: u8, c: u8) -> bool
     ensures { result ≡ is_operand (cell c (class_of k)) }
 {
-    in_word(k, c) || k == 1 && !utf8::is_tail(c)
+    in_word(k, c) || k == STR && !utf8::is_tail(c)
 }
 
 // A space or a tab of code, or a byte that starts no character.

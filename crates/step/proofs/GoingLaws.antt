@@ -1,11 +1,11 @@
 -- The line that goes on: spacing, its class bytes, and its brackets.
-use Prim.Native.Nat.{ℕ, ◌+◌, ◌-◌, ◌≤◌}
+use Prim.Native.Nat.{ℕ, ◌+◌, ◌-◌, ◌*◌, ◌≤◌}
 use native.Mathlib.Omega.{arith}
 use mathlib.Core.Bool.{Bool, true, false}
-use mathlib.Core.List.{List}
+use mathlib.Core.List.{List, ◌++◌}
 use mathlib.Core.Path.{◌≡◌, refl, sym, ap, ◌∙◌, subst}
 use lib.ListN.{length, take, drop}
-use lib.Seq.{length-take-le}
+use lib.Seq.{take-take}
 use Rattle.utf8.specs.Unicode.{encode, decode, WellFormed}
 use Rattle.buffer.specs.Buffer.{part}
 use Rattle.rules.specs.Basics.{choose, count, is_opener}
@@ -22,9 +22,10 @@ use Rattle.rules.proofs.SpacedLine.{spaced_bytes, brackets_height, openers_space
 use Rattle.scan.specs.Within.{ClassifiedAt}
 use Rattle.basics.specs.Region.{Only}
 use Rattle.basics.specs.Closers.{Closers}
-use Rattle.spacing.specs.Respaced.{Keeping, Normalized, Unchanged}
+use Rattle.spacing.specs.Respaced.{Normalized, Unchanged}
 use Rattle.brackets.specs.Stack.{stacked, Nested, StackFits, BracketsDone}
 use Rattle.brackets.specs.declared.Nesting.{Nesting}
+use Rattle.basics.proofs.SplitLaws.{after_back, only_from}
 use Rattle.basics.proofs.OnlyLaws.{only_same, only_wider, only_then, only_part_before}
 use Rattle.buffer.proofs.RegionLaws.{length_part}
 use Rattle.line.specs.Holds.{Classes}
@@ -61,19 +62,30 @@ module _ (line scratch : List ℕ) (unit : ℕ) (after : Carry) (well : WellForm
         only = only_same scratch _ _;
       }
 
-  pub goes_spaced : (mid last : List ℕ) (len : ℕ) (carry : Carry)
-      → Normalized (cells_of line (part scratch 0 (0 + length line))) scratch mid (respaced_at unit) (length line) len → ClassifiedAt mid (respaced_at unit) len (reclassed_at unit) last carry
+-- scratch is split where the respaced line goes: the class bytes stand before it, at the front
+module _ (line scratch front back : List ℕ) (unit : ℕ) (room : LineRoom scratch unit (length line)) (f : front ≡ take (respaced_at unit) scratch) (g : back ≡ drop (respaced_at unit) scratch) where
+  front_classes : take (length line) front ≡ take (length line) scratch
+  front_classes = rw f (take-take (length line) (respaced_at unit) scratch (omega (arith, room.short)))
+
+  pub goes_spaced : (after : Carry) → WellFormed line → Classes Carry.Code line scratch 0 after → (out last : List ℕ) (len : ℕ) (carry : Carry)
+      → Normalized (cells_of line (take (length line) front)) back out (length line) len → ClassifiedAt (front ++ out) (respaced_at unit) len (reclassed_at unit) last carry
       → Went line scratch last unit (record { own = false; len = len; class_at = reclassed_at unit; carry = carry })
   unfolding choose
-  goes_spaced mid last len carry n c =
+  goes_spaced after well classes out last len carry n c =
+      let at : ℕ = respaced_at unit in
+      let mid : List ℕ = front ++ out in
+      let fits : at ≤ length scratch = omega (arith, room.room) in
+      let v : Only scratch mid at (at + 2 * length line) = only_from scratch front back out at fits f g (2 * length line) (only_wider 0 (0 + 2 * length line) n.only (omega arith) (omega arith)) in
+      let e : at + len - at ≡ len = omega arith in
+      let i : part mid at (at + len) ≡ normalize_spacing (cells_of line (take (length line) front)) = rw (e, after_back scratch front back out at fits f g) n.is in
+      let b : take (length line) front ≡ class_bytes (classify Carry.Code line) = front_classes ∙ sym (front_part scratch (length line)) ∙ classes.bytes in
       let s = spaced_bytes line well in
       let o : Only mid last (reclassed_at unit) (reclassed_at unit + len) = c.only in
-      let p : part last (respaced_at unit) (respaced_at unit + len) ≡ part mid (respaced_at unit) (respaced_at unit + len) = only_part_before o (respaced_at unit) (respaced_at unit + len) (omega arith) (omega (arith, n.most, room.short)) in
-      let k : part last (respaced_at unit) (respaced_at unit + len) ≡ encode (respaced (decode line)) =
-      p ∙ n.is ∙ ap (λ (ks : List ℕ). normalize_spacing (cells_of line ks)) classes.bytes ∙ s.bytes in
+      let p : part last at (at + len) ≡ part mid at (at + len) = only_part_before o at (at + len) (omega arith) (omega (arith, n.most, room.short)) in
+      let k : part last at (at + len) ≡ encode (respaced (decode line)) = p ∙ i ∙ ap (λ (ks : List ℕ). normalize_spacing (cells_of line ks)) b ∙ s.bytes in
       record {
         goes = record {
-          long = length_part last (respaced_at unit) len (omega (arith, c.only.long, n.only.long, n.most, room.short, room.room));
+          long = length_part last at len (omega (arith, o.long, v.long, n.most, room.short, room.room));
           well = subst WellFormed (sym k) s.well;
           text = ap decode k ∙ s.chars;
           classes = c.bytes ∙ ap (λ (l : List ℕ). class_bytes (classify Carry.Code l)) (sym p);
@@ -82,19 +94,8 @@ module _ (line scratch : List ℕ) (unit : ℕ) (after : Carry) (well : WellForm
           most = n.most;
           fits = omega (arith, n.most, room.short);
         };
-        only = only_then (only_wider 0 (stack_at unit) n.only (omega arith) (omega (arith, room.short))) (only_wider 0 (stack_at unit) o (omega arith) (omega (arith, n.most, room.short)));
+        only = only_then (only_wider 0 (stack_at unit) v (omega arith) (omega (arith, room.short))) (only_wider 0 (stack_at unit) o (omega arith) (omega (arith, n.most, room.short)));
       }
-
--- what stands at the front of scratch, as the respacing takes it
-pub goes_keeping : (line scratch : List ℕ) (k : ℕ) → Keeping line (take (length line) scratch) k → Keeping line (part scratch 0 (0 + length line)) k
-goes_keeping line scratch k w = rw (sym (front_part scratch (length line))) at w
-
--- the class bytes are lent to `spaced_to`
-pub front_fits : (line scratch : List ℕ) (unit : ℕ) → LineRoom scratch unit (length line) → length line ≡ length (take (length line) scratch)
-front_fits line scratch unit r = sym (length-take-le (length line) scratch (omega (arith, r.short, r.room)))
-
-pub front_has : (line scratch : List ℕ) (unit : ℕ) → LineRoom scratch unit (length line) → length line ≤ length (take (length line) scratch)
-front_has line scratch unit r = omega (arith, front_fits line scratch unit r)
 
 -- ---- its brackets
 

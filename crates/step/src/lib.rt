@@ -1,7 +1,7 @@
 // One line of the source, of any kind.
 #![tactic(auto)]
 
-ghost use Rattle.std.specs.Prelude.{◌≡◌, false, not, ◌&&◌, ◌+◌, ◌≤◌, length};
+ghost use Rattle.std.specs.Prelude.{◌≡◌, false, not, ◌&&◌, ◌+◌, ◌≤◌, length, take};
 ghost use Rattle.utf8.specs.Unicode.{encode, decode, WellFormed};
 ghost use Rattle.rules.specs.Lines.{as_str};
 ghost use Rattle.rules.specs.Line.{protects, in_block};
@@ -14,7 +14,7 @@ ghost use Rattle.rules.specs.declared.Carry.{Carry};
 ghost use Rattle.basics.specs.Closers.{Closers};
 ghost use Rattle.brackets.specs.Stack.{Nested};
 ghost use Rattle.line.specs.Scratch.{stack_at};
-ghost use Rattle.line.specs.Holds.{Classes, Ready, Stepped, Uses, ValidIndent};
+ghost use Rattle.line.specs.Holds.{Classes, Ready, Stepped, Uses, TrimmedLine, ShownPart, kept_by, part_of};
 ghost use Rattle.line.specs.Lone.{is_lone};
 ghost use Rattle.place.specs.Placing.{spaced_by};
 ghost use Rattle.step.specs.Going.{marker_in, is_kept, is_alone, SolidLine, Marks, LineRoom, Goes, Went};
@@ -23,10 +23,12 @@ ghost use Rattle.step.specs.Going.{EndsOutside};
 
 use brackets::Nesting;
 use line::formatter::{Formatter, Prev, prev_of};
+use line::indent::LineIndent;
 use line::kept::Kept;
 use line::scratch::{RECLASSED, RESPACED, STACK};
 use line::style::{Setup, Style};
 use place::Placing;
+use rules::class_byte::LINE_COMMENT;
 use rules::{Carry, Ignore};
 
 // A marker in the line's comment: one that stands alone, or one with code before it.
@@ -93,7 +95,8 @@ fn go_on(line: &[u8], scratch: &mut [u8], unit: usize, after: Carry) -> Going
         };
     }
     let at = RESPACED * unit;
-    let len = spacing::normalize_from(line, scratch, 0, at, kept);
+    let (front, out) = scratch.split_at_mut(at);
+    let len = spacing::normalize_from(line, &front[..n], out, kept);
     let class_at = RECLASSED * unit;
     let carry = scan::classify_at(scratch, at, len, class_at);
     Going {
@@ -136,7 +139,7 @@ fn put_going<'a>(
     line: &'a [u8],
     scratch: &'a [u8],
     k: LineSetup,
-    indent: &[u8],
+    indent: LineIndent<'_>,
     model: &[u8],
     out: &mut [u8],
     st: Formatter,
@@ -144,8 +147,7 @@ fn put_going<'a>(
     requires ready { Ready st scratch.now k.unit (length line.now) }
     requires solid_line { SolidLine line.now }
     requires goes { Goes line.now scratch.now k.unit k.going }
-    requires valid_indent { ValidIndent indent.now }
-    ensures { PutOn k.marker (respaced (decode line.now)) indent.now k.style
+    ensures { PutOn k.marker (respaced (decode line.now)) indent.entry.bytes.now k.style
         model.now (length line.now) k.unit st out.old scratch.now result
         out.new }
 {
@@ -203,7 +205,7 @@ fn after_line(p: Put, deep: Nesting, ignore: Ignore, carry: Carry) -> Formatter
 fn spaced_line(
     line: &[u8],
     k: LineSetup,
-    indent: &[u8],
+    indent: LineIndent<'_>,
     model: &[u8],
     out: &mut [u8],
     scratch: &mut [u8],
@@ -213,8 +215,7 @@ fn spaced_line(
     requires solid_line { SolidLine line.now }
     requires marks { Marks k.marker line.now }
     requires goes { Goes line.now scratch.old k.unit k.going }
-    requires valid_indent { ValidIndent indent.now }
-    ensures { (o : Options) → Uses o indent.now k.style → Stepped
+    ensures { (o : Options) → Uses o indent.entry.bytes.now k.style → Stepped
         (spaced_by k.marker (respaced (decode line.now)) o) (length line.now) k.unit
         model.now (as_str k.style.ending) st out.old scratch.old result
         out.new scratch.new }
@@ -230,7 +231,7 @@ fn ends_outside(class: &[u8]) -> bool
     ensures { EndsOutside class.now result }
 {
     let n = class.len();
-    n != 0 && class[n - 1] != scan::LINE_COMMENT
+    n != 0 && class[n - 1] != LINE_COMMENT
 }
 
 // kept: line and class, layout and indent are not one struct each: no plainer. `Pad` and `Request` took clauses or names
@@ -296,10 +297,35 @@ fn goes_alone(line: &[u8], pending: Ignore) -> bool
     line::lone::is_lone(line) && !protects_next(pending)
 }
 
+// `kept_line`, with a copy of the record for the call: st itself is then never lent, and is not copied in memory on other
+// ways. In a function of its own the copies are made ready on this way alone.
+fn keep<'a>(
+    raw: &'a [u8],
+    line: &'a [u8],
+    k: Kept,
+    model: &[u8],
+    out: &mut [u8],
+    scratch: &mut [u8],
+    st: Formatter,
+) -> Formatter
+    requires ready { Ready st scratch.old k.unit (length raw.now) }
+    requires well_formed { WellFormed raw.now }
+    requires trimmed_line { TrimmedLine raw.now line.now }
+    requires classes { Classes st.carry (part_of st.carry raw.now line.now) scratch.old 0 k.after }
+    requires shown_part { ShownPart raw.now k.shown }
+    ensures { Stepped (kept_by (decode (take k.shown raw.now)) (decode raw.now))
+        (length raw.now) k.unit model.now (as_str k.ending) st
+        out.old scratch.old result out.new scratch.new }
+{
+    let before = st;
+    let kept = line::kept::kept_line(raw, line, k, model, out, scratch, before);
+    kept
+}
+
 // A line that starts in code and is not one of a protected block.
 fn code_line(
     raw: &[u8],
-    indent: &[u8],
+    indent: LineIndent<'_>,
     setup: Setup,
     model: &[u8],
     out: &mut [u8],
@@ -310,8 +336,7 @@ fn code_line(
     requires carry_value { st.carry ≡ Carry.Code }
     requires ignore_value { in_block st.ignore ≡ false }
     requires well_formed { WellFormed raw.now }
-    requires valid_indent { ValidIndent indent.now }
-    ensures { (o : Options) → Uses o indent.now setup.style → Stepped
+    ensures { (o : Options) → Uses o indent.entry.bytes.now setup.style → Stepped
         (any_line_by o (decode raw.now)) (length raw.now) setup.unit model.now
         (as_str setup.style.ending) st out.old scratch.old result out.new
         scratch.new }
@@ -333,10 +358,7 @@ fn code_line(
             ending: setup.style.ending,
             unit: setup.unit,
         };
-        // A copy for the call: st itself is then never lent, and is not copied in memory on the other ways.
-        let before = st;
-        let kept = line::kept::kept_line(raw, line, k, model, out, scratch, before);
-        return kept;
+        return keep(raw, line, k, model, out, scratch, st);
     }
     let k = LineSetup {
         style: setup.style,
@@ -350,7 +372,7 @@ fn code_line(
 // One line, of any kind.
 pub fn line_step(
     raw: &[u8],
-    indent: &[u8],
+    indent: LineIndent<'_>,
     setup: Setup,
     model: &[u8],
     out: &mut [u8],
@@ -359,8 +381,7 @@ pub fn line_step(
 ) -> Formatter
     requires ready { Ready st scratch.old setup.unit (length raw.now) }
     requires well_formed { WellFormed raw.now }
-    requires valid_indent { ValidIndent indent.now }
-    ensures { (o : Options) → Uses o indent.now setup.style → Stepped
+    ensures { (o : Options) → Uses o indent.entry.bytes.now setup.style → Stepped
         (any_line_by o (decode raw.now)) (length raw.now) setup.unit model.now
         (as_str setup.style.ending) st out.old scratch.old result out.new
         scratch.new }

@@ -20,6 +20,7 @@ use rules::LineEnding;
 use utf8::ByteOffset;
 
 // The newest line of the text: none, an empty one, one that can take an else, any other.
+// kept: an `Option` of the other three is no plainer: it has the same four cases in two levels
 #[derive(Clone, Copy, PartialEq, Eq)]
 pub enum Last {
     Nothing,

@@ -48,6 +48,8 @@ fn kind_in_line(line: &[u8], carry: Carry, column: CharColumn) -> TextKind
     }
     let mut t = marks::begin(carry);
     let mut left = column.0;
+    // kept: every byte has a mark, told by what stands from it on, so that the place is needed; `char_indices` is of a
+    // `str`, and passes over the bytes within a character
     for i in 0..line.len() {
         let before = t.mode;
         t = marks::next_mark(&line[i..], t);
@@ -81,6 +83,8 @@ pub fn text_kind_at(source: &[u8], line: usize, column: CharColumn, scratch: &mu
 {
     let mut carry = Carry::Code;
     let mut at = 0;
+    // kept: an iterator of lines is no plainer: it would serve this loop alone, and be longer than it, since
+    // `text_kinds` needs each line's place, and `lines` reads one line more behind the last LF and takes a last CR away
     for _ in 0..line {
         let end = line_end(source, at);
         if source.len() <= end {

@@ -11,7 +11,7 @@ ghost use Rattle.rules.specs.Refusals.{tested};
 ghost use Rattle.text_kind.specs.Kind.{SourceFits};
 
 use line_ends::line_end;
-use rules::{Carry, Refusal, TextKind};
+use rules::{Carry, Refusal, TextKind, class_byte};
 use text_kind::{class_kind, in_interpolation, line_at};
 
 // What a host is told.
@@ -174,6 +174,7 @@ fn kinds_in_line(
     let mut t = marks::begin(carry);
     let mut next = k;
     let mut column = 0;
+    // kept: as in `text_kind::kind_in_line`: every byte has a mark, told by what stands from it on
     for i in 0..line.len() {
         let before = t.mode;
         t = marks::next_mark(&line[i..], t);
@@ -204,8 +205,8 @@ fn kind_of_class(class: u8) -> TextKind
     ensures { result ≡ kind_of_class class }
 {
     match class {
-        scan::STR => TextKind::Str,
-        scan::LINE_COMMENT | scan::BLOCK_COMMENT => TextKind::Comment,
+        class_byte::STR => TextKind::Str,
+        class_byte::LINE_COMMENT | class_byte::BLOCK_COMMENT => TextKind::Comment,
         _ => TextKind::Code,
     }
 }
@@ -226,7 +227,7 @@ fn told_kind(line: &[u8], class: &[u8], ascii: usize, clear: usize, column: u64)
     if ascii <= i {
         return Told { kind: None, clear };
     }
-    if class[i] != scan::STR {
+    if class[i] != class_byte::STR {
         return Told {
             kind: Some(kind_of_class(class[i])),
             clear,
@@ -380,7 +381,8 @@ pub fn text_kinds(source: &[u8], places: &[u64], kinds: &mut [u8], scratch: &mut
         next: 0,
         ascii: 0,
     };
-    // kept: a range is no plainer, since a step takes a line, however long
+    // kept: a range is no plainer, since a step takes a line, however long; an iterator of lines would not tell the
+    // place of a line, from which `ascii` reaches over the lines behind it
     while p.at < source.len() && p.next < n {
         p = read_line(source, places, kinds, scratch, p);
     }

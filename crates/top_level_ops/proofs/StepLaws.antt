@@ -5,6 +5,7 @@ use mathlib.Core.List.{List, [], ◌∷◌}
 use Rattle.std.specs.Prelude.{Some}
 use mathlib.Core.Path.{◌≡◌, refl, sym, ap, subst, ◌∙◌}
 use native.Mathlib.Omega.{arith}
+use native.Mathlib.Nat.{le_refl}
 use native.Mathlib.Numerals.{add-one}
 use lib.Dec.{eqb, ltb}
 use lib.ListN.{length, get_or, take, drop, length-drop}
@@ -95,7 +96,7 @@ module _ (table : List ℕ) (s : Ops) (c : ℕ) (cs : List ℕ) (x : OpStep) whe
   unfolding one_char_step
   one_token b e g f =
       f ∙ ap (λ (v : Bool). token s v 0) g
-      ∙ sym (choose_true _ _ _ (ap not (no_operator (c ∷ []) e)))
+      ∙ sym (choose_true _ _ _ (ap not (no_operator (c ∷ []) 21 e (le_refl 21))))
 
   abbrev signed : OpStep
   signed =

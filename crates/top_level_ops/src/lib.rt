@@ -16,6 +16,7 @@ ghost use Rattle.top_level_ops.specs.Steps.{goes_on, LongToken};
 use basics::{is_blank, is_closer, is_ident, is_opener, starts_with};
 use operators::{Operator, is_sign};
 use rules::Strengths;
+use rules::class_byte::STR;
 
 // Before a byte: the brackets opened and closed so far, whether an operand ends here, an escape, and how many more
 // bytes belong to the token before.
@@ -239,7 +240,7 @@ impl OpState {
             (cell c (class_of k)) }
         ensures same { result ≡ true → self.new ≡ self.old }
     {
-        if k == 1 {
+        if k == STR {
             self.pass(true, self.esc, 0);
         } else if self.esc {
             self.pass(self.operand, false, 0);

@@ -130,6 +130,3 @@ module _ (f : ℕ → ℕ) (k : ℕ) (s : List ℕ) where
 
 pub width_end : (s : List ℕ) (n i : ℕ) → SumScan units_of 2 s n i → length s ≤ i → WellFormed s → n ≡ width (decode s)
 width_end s n i q h w = sum_end units_of 2 s n i q h ∙ width_bytes s w
-
-pub count_end : (s : List ℕ) (n i : ℕ) → SumScan lead_of 1 s n i → length s ≤ i → WellFormed s → n ≡ length (decode s)
-count_end s n i q h w = sum_end lead_of 1 s n i q h ∙ count_bytes s w

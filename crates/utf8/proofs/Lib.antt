@@ -1,6 +1,7 @@
 pub mod Tests
 pub mod Table
 pub mod Decode
+pub mod Library
 pub mod Scan
 pub mod Back
 pub mod Cut
@@ -8,5 +9,5 @@ pub mod Bytewise
 pub mod Column
 pub mod Trim
 pub mod TrimScan
+pub mod CharScan
 pub mod Examples
-pub mod Masks

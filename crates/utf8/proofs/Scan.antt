@@ -2,7 +2,6 @@
 --     step         the character at i, where a sequence of n bytes starts there
 --     ascii        a byte below 80 hex is a character
 --     stops        where no sequence starts, nothing is read
---     at_end       at the end nothing is left
 --     wf_sequence  in a well-formed rest a sequence starts
 --     AsciiRun     the loops over bytes that are ASCII
 use Prim.Native.Nat.{ℕ, zero, suc, ◌+◌, ◌-◌, ◌<◌, ◌≤◌}
@@ -14,11 +13,10 @@ use native.Mathlib.Omega.{arith}
 use native.Mathlib.Nat.{le_refl, add-zero}
 use borrow.Author.Tests.{ltb-false}
 use lib.ListN.{length, get_or, drop, length-drop, length-append}
-use lib.Seq.{drop-drop, drop-length, get_or-drop}
-use Rattle.std.specs.Prelude.{Option, Some, None}
-use Rattle.utf8.specs.Unicode.{encode_char, encode, size, seq_len, code_of, seq_at, code_at, chars, decode, prefix_len, WellFormed}
-use Rattle.blocks.specs.Blocks.{NoneAmong, NoneFrom, FirstFrom}
-use Rattle.utf8.specs.Places.{Step, nonzero, SeqAt, high_at, AsciiRun}
+use lib.Seq.{drop-drop, get_or-drop}
+use Rattle.utf8.specs.Unicode.{encode_char, encode, size, code_of, seq_at, code_at, decode, prefix_len, WellFormed}
+use Rattle.blocks.specs.Blocks.{NoneAmong, NoneFrom}
+use Rattle.utf8.specs.Places.{Step, high_at, AsciiRun}
 use Rattle.utf8.proofs.Tests.{split}
 use Rattle.utf8.proofs.Table.{encode_char_1, len_1, code_1, lead_2, lead_3, lead_4}
 use Rattle.utf8.proofs.Decode.{decode_step, decode_stop, Read, read, wf_step}
@@ -69,10 +67,6 @@ wf_sequence s h w = go (seq_at s) refl
     go zero e = absurd (omega (arith, stops s (sym e), ap length w))
     go (suc n) e = omega arith
 
-pub at_end : (s : List ℕ) (i : ℕ) → i ≡ length s → prefix_len (drop i s) ≡ 0
-unfolding chars encode
-at_end s i e = rw (e, drop-length)
-
 -- the size of the character at i, by its first byte, in a well-formed rest
 module _ (s : List ℕ) (i : ℕ) (h : i < length s) (w : WellFormed (drop i s)) where
   sized : (n : ℕ) → 0 < n → (0 < seq_at (drop i s) → seq_at (drop i s) ≡ n) → Step s i n
@@ -90,42 +84,10 @@ module _ (s : List ℕ) (i : ℕ) (h : i < length s) (w : WellFormed (drop i s))
   pub size_4 : 0xF0 ≤ get_or s i 0 → Step s i 4
   size_4 a = sized 4 (omega arith) (lead_4 _ _ _ _ (omega (arith, first)))
 
--- ---- what a call that reads a sequence tells its caller, and the scan for the longest well-formed prefix
-
-pub seq_at_law : (s : List ℕ) (i n : ℕ) → i < length s → n ≡ seq_at (drop i s) → SeqAt s i (nonzero n)
-seq_at_law s i zero h e = record { none = λ q. sym e; some = λ m q. absurd cc }
-seq_at_law s i (suc n) h e =
-    record {
-      none = λ q. absurd cc;
-      some = λ m q. let k : suc n ≡ m = cc in subst (λ (r : ℕ). (r ≡ seq_at (drop i s)) × (0 < r) × (i + r ≤ length s)) k (e, omega arith, (step s i (suc n) h e (omega arith)).fits);
-    }
-
 -- the four bytes at i, as calls and a read return them
 module _ (s : List ℕ) (i b1 b2 b3 : ℕ) (e1 : b1 ≡ get_or s (i + 1) 0) (e2 : b2 ≡ get_or s (i + 2) 0) (e3 : b3 ≡ get_or s (i + 3) 0) where
-  pub seq_at_bytes : (r : Option ℕ) → i < length s → r ≡ nonzero (seq_len (get_or s i 0) b1 b2 b3) → SeqAt s i r
-  seq_at_bytes r h e = let q = seq_at_law s i (seq_len (get_or s i 0) b1 b2 b3) h (simp (e1, e2, e3, get_or-drop, add-zero)) in subst (SeqAt s i) (sym e) q
-
   pub code_at_bytes : (r : ℕ) → r ≡ code_of (get_or s i 0) b1 b2 b3 → r ≡ code_at (drop i s)
   code_at_bytes r e = e ∙ simp (e1, e2, e3, get_or-drop, add-zero)
-
-pub record PrefixScan (s : List ℕ) (i : ℕ) : Type 0 where
-  pub fits : i ≤ length s
-  pub sum : prefix_len s ≡ i + prefix_len (drop i s)
-
-pub prefix_begin : (s : List ℕ) → PrefixScan s 0
-prefix_begin s = record { fits = omega arith; sum = omega arith }
-
-pub prefix_on : (s : List ℕ) (i n : ℕ) → PrefixScan s i → i < length s → (r : Option ℕ) → SeqAt s i r → r ≡ Some n → PrefixScan s (i + n)
-prefix_on s i n q h r a e = let k = a.some n e in let t : Step s i n = step s i n h k.0 k.1 in record { fits = omega arith; sum = omega arith }
-
-pub prefix_ascii : (s : List ℕ) (i : ℕ) → PrefixScan s i → i < length s → get_or s i 0 < 0x80 → PrefixScan s (i + 1)
-prefix_ascii s i q h b = let t : Step s i 1 = ascii_step s i h b in record { fits = omega arith; sum = omega arith }
-
-pub prefix_stop : (s : List ℕ) (i : ℕ) (r : Option ℕ) → PrefixScan s i → SeqAt s i r → r ≡ None → i ≡ prefix_len s
-prefix_stop s i r q a z = omega (arith, stops (drop i s) (sym (a.none z)))
-
-pub prefix_end : (s : List ℕ) (i : ℕ) → PrefixScan s i → length s ≤ i → i ≡ prefix_len s
-prefix_end s i q h = let e : i ≡ length s = omega arith in omega (arith, at_end s i e)
 
 -- ---- a run of ASCII
 
@@ -148,19 +110,3 @@ module _ {s : List ℕ} {at i r : ℕ} (a : AsciiRun s at i) where
   run_block h b e n =
       run_then_law a (run_then_law {i = i + 16} (record { from = omega arith; within = h; ascii = λ j l. low s (i + j) (b.none e j (omega arith)) })
       (record { from = n.from; within = n.within; ascii = λ j l. low s (i + 16 + j) (n.none (i + 16 + j) (omega arith) l) }))
-
-  pub run_first : FirstFrom (high_at s) i (length s) r → AsciiRun s at r
-  run_first f = run_then_law a (record { from = f.from; within = f.within; ascii = λ j l. low s (i + j) (f.none (i + j) (omega arith) l) })
-
--- the prefix goes on past it
-prefix_past : (s : List ℕ) (i n : ℕ) → PrefixScan s i → i + n ≤ length s → ((j : ℕ) → j < n → get_or s (i + j) 0 < 0x80) → PrefixScan s (i + n)
-prefix_past s i zero q h a = rw add-zero q
-prefix_past s i (suc n) q h a =
-    let r = prefix_past s i n q (omega arith) (λ j l. a j (omega arith)) in
-    let e : i + n + 1 ≡ i + suc n = omega arith in
-    rw e at (prefix_ascii s (i + n) r (omega arith) (a n (omega arith)))
-
-pub prefix_run : (s : List ℕ) (i r : ℕ) → PrefixScan s i → AsciiRun s i r → PrefixScan s r
-prefix_run s i r q a =
-    let e : i + (r - i) ≡ r = omega (arith, a.from) in
-    rw e at (prefix_past s i (r - i) q (omega (arith, a.within)) (λ j l. a.ascii j (omega arith)))

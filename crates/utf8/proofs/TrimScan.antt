@@ -2,23 +2,27 @@
 --     low_white                                      White_Space, up to U+1680
 --     white_ascii, other_ascii                         the white space at a place
 --     before_ascii, before_ascii_other, before_more, before_other  the same before a place
---     start_begin, start_turn, start_found, start_end   the scan from the start
+--     spaces_passed, start_past                         the start, past its spaces and its white space
 --     end_begin, end_turn, end_found, end_all           the scan from the end
-use Prim.Native.Nat.{ℕ, ◌+◌, ◌-◌, ◌<◌, ◌≤◌}
+use Prim.Native.Nat.{ℕ, zero, suc, ◌-◌, ◌<◌, ◌≤◌}
 use mathlib.Core.Bool.{Bool, true, false, ◌||◌, or-false}
-use mathlib.Core.List.{List, [], ◌∷◌}
+use mathlib.Core.List.{List, [], ◌∷◌, ◌++◌, append_cancel_left}
 use mathlib.Core.Path.{◌≡◌, refl, sym, ap, ◌∙◌, subst}
 use native.Mathlib.Omega.{arith}
 use borrow.Author.Tests.{lt-leb, ne_eqb}
 use lib.ListN.{length, get_or, take, drop, length-drop}
-use lib.Seq.{take-length, drop-length}
+use lib.Seq.{take-length}
 use lib.Dec.{eqb}
-use Rattle.std.specs.Prelude.{Option, Some, None, is_some}
+use Rattle.std.specs.Prelude.{Option, Some, None, is_some, cond}
 use Rattle.utf8.specs.Unicode.{seq_at, code_at, chars, decode, WellFormed, within, is_white, first_is_white, trim_start, trim_end}
-use Rattle.utf8.specs.Places.{Step, Back, WhiteAt, WhiteBefore, TrimmedStart, TrimmedEnd}
+use Rattle.blocks.specs.Blocks.{FirstFrom}
+use Rattle.blocks.specs.Marks.{other_at}
+use borrow.Author.Tests.{eqb-true, not-false}
+use native.Mathlib.Numerals.{add-one}
+use Rattle.utf8.specs.Places.{Step, Back, WhiteAt, taken, PastChars, WhiteBefore, TrimmedStart, SpacesPassed, TrimmedEnd}
 use Rattle.utf8.proofs.Scan.{step, ascii, ascii_step, wf_sequence}
 use Rattle.utf8.proofs.Back.{back_1}
-use Rattle.utf8.proofs.Trim.{start_nil, start_white, start_other, end_nil, end_white, end_other}
+use Rattle.utf8.proofs.Trim.{end_nil, end_white, end_other}
 
 -- ---- one character
 
@@ -79,33 +83,44 @@ first_none (b ∷ s) h = absurd (omega arith)
 pub first_some : (s : List ℕ) (r : Option ℕ) → WellFormed s → (length s ≡ 0 → ⊥) → WhiteAt s 0 r → is_some r ≡ first_is_white (decode s)
 first_some s r w h q = sym q.is ∙ sym (ap first_is_white (first_char s 0 (omega arith) w).chars)
 
--- ---- the scan from the start, at i: only white space was passed
+-- ---- the start, past its white space
 
-pub record StartScan (s : List ℕ) (i : ℕ) : Type 0 where
-  pub fits : i ≤ length s
-  pub well : WellFormed (drop i s)
-  pub text : trim_start (decode s) ≡ trim_start (decode (drop i s))
+start_taken : (l : List ℕ) → l ≡ taken is_white l ++ trim_start l
+unfolding taken trim_start
+start_taken [] = refl
+start_taken (c ∷ cs) = go (is_white c) refl (start_taken cs)
+  where
+    go : (w : Bool) → is_white c ≡ w → cs ≡ taken is_white cs ++ trim_start cs
+        → c ∷ cs ≡ cond w (c ∷ taken is_white cs) [] ++ cond w (trim_start cs) (c ∷ cs)
+    go true e q = ap {B = List ℕ} (λ l. c ∷ l) q
+    go false e q = refl
 
-pub start_begin : (s : List ℕ) → WellFormed s → StartScan s 0
-start_begin s w = record { fits = omega arith; well = w; text = refl }
+-- spaces at the front
+spaces_gone : (s : List ℕ) (i : ℕ) → i ≤ length s → WellFormed s → ((j : ℕ) → j < i → get_or s j 0 ≡ 32) → WellFormed (drop i s) × (trim_start (decode s) ≡ trim_start (decode (drop i s)))
+unfolding trim_start is_white
+spaces_gone s zero h w none = (w, refl)
+spaces_gone s (suc i) h w none =
+    let q = spaces_gone s i (omega arith) w (λ j l. none j (omega arith)) in
+    let b : get_or s i 0 ≡ 32 = none i (omega arith) in
+    let t = ascii_step s i (omega arith) (omega (arith, b)) in
+    let c : code_at (drop i s) ≡ 32 = (ascii s i (omega (arith, b))).1 ∙ b in
+    let e : decode (drop i s) ≡ 32 ∷ decode (drop (suc i) s) = rw (← add-one i) (t.chars ∙ rw c) in
+    (rw (← add-one i) (t.well q.0), q.1 ∙ ap trim_start e)
 
-pub start_turn : (s : List ℕ) (i n : ℕ) (r : Option ℕ) → StartScan s i → WhiteAt s i r → r ≡ Some n → StartScan s (i + n)
-start_turn s i n r q v z =
-    let t : Step s i n = v.step n z in
-    record { fits = t.fits; well = t.well q.well; text = q.text ∙ ap trim_start t.chars ∙ start_white _ _ (v.is ∙ ap is_some z) }
+-- what a search for another byte than a space has passed
+pub spaces_passed : (s : List ℕ) (i : ℕ) → WellFormed s → FirstFrom (other_at s 32) 0 (length s) i → SpacesPassed s i
+spaces_passed s i w f =
+    let q = spaces_gone s i f.within w (λ j l. eqb-true _ _ (not-false _ (f.none j (omega arith) l))) in
+    record { fits = f.within; well = q.0; text = q.1 }
 
-pub start_found : (s : List ℕ) (i : ℕ) (r : Option ℕ) → StartScan s i → i < length s → WhiteAt s i r → r ≡ None → TrimmedStart s i
-start_found s i r q h v z =
-    let e : is_white (code_at (drop i s)) ≡ false = v.is ∙ ap is_some z in
-    let c : decode (drop i s) ≡ code_at (drop i s) ∷ decode (drop (i + seq_at (drop i s)) s) = (first_char s i h q.well).chars in
-    record { fits = q.fits; well = q.well; text = c ∙ sym (start_other _ _ e) ∙ sym (ap trim_start c) ∙ sym q.text }
-
-pub start_end : (s : List ℕ) (i : ℕ) → StartScan s i → length s ≤ i → TrimmedStart s i
-unfolding chars
-start_end s i q h =
-    let m : i ≡ length s = omega (arith, q.fits) in
-    let d : drop i s ≡ [] = ap (λ (k : ℕ). drop k s) m ∙ drop-length s in
-    record { fits = q.fits; well = q.well; text = ap decode d ∙ sym (q.text ∙ ap (λ (l : List ℕ). trim_start (decode l)) d ∙ start_nil) }
+-- white space behind the spaces at the front
+pub start_past : (s : List ℕ) (i r : ℕ) → SpacesPassed s i → PastChars is_white s i r → TrimmedStart s r
+start_past s i r p q =
+    record {
+      fits = q.fits;
+      well = q.well;
+      text = append_cancel_left (taken is_white (decode (drop i s))) _ _ (sym q.chars ∙ start_taken (decode (drop i s))) ∙ sym p.text;
+    }
 
 -- ---- the scan from the end, at e
 

@@ -1,4 +1,3 @@
 -- Unicode and UTF-8: the definitions that the contracts cite.
 pub mod Unicode
 pub mod Places
-pub mod Masks

@@ -1,18 +1,8 @@
 -- What the contracts say of places in a list s of bytes.
-use Rattle.std.specs.Prelude.{ℕ, zero, suc, ◌+◌, ◌-◌, ◌<◌, ◌≤◌, Bool, true, false, cond, List, [], ◌∷◌, ◌++◌, ◌≡◌, length, get_or, take, drop, T, ltb, Option, None, Some, is_some}
-use Rattle.utf8.specs.Unicode.{is_scalar, encode_char, seq_at, code_at, decode, prefix_len, WellFormed, is_white}
+use Rattle.std.specs.Prelude.{ℕ, ◌+◌, ◌-◌, ◌<◌, ◌≤◌, Bool, true, false, cond, List, [], ◌∷◌, ◌++◌, ◌≡◌, length, get_or, take, drop, T, ltb, Option, None, Some, is_some}
+use Rattle.utf8.specs.Unicode.{is_scalar, encode_char, encode, code_at, decode, prefix_len, WellFormed, is_white}
 use Rattle.utf8.specs.Unicode.{trim_start, trim_end}
 pub use Rattle.blocks.specs.Blocks.{NoneAmong}
-
--- a length that is no sequence's where it is 0
-abbrev pub nonzero : ℕ → Option ℕ
-nonzero zero = None
-nonzero (suc n) = Some (suc n)
-
--- the well-formed sequence at i takes r bytes, or there is none and r is 0
-pub record SeqAt (s : List ℕ) (i : ℕ) (r : Option ℕ) : Type 0 where
-  pub none : r ≡ None → seq_at (drop i s) ≡ 0
-  pub some : (n : ℕ) → r ≡ Some n → (n ≡ seq_at (drop i s)) × (0 < n) × (i + n ≤ length s)
 
 -- the byte at i is not ASCII
 abbrev pub high_at : List ℕ → ℕ → Bool
@@ -42,10 +32,34 @@ pub record Back (s : List ℕ) (e r : ℕ) : Type 0 where
   pub well : WellFormed (take (e - r) s)
   pub text : decode (take e s) ≡ decode (take (e - r) s) ++ (code_at (drop (e - r) s) ∷ [])
 
--- the character at i is white space and takes r bytes, or it is none and r is 0
-pub record WhiteAt (s : List ℕ) (i : ℕ) (r : Option ℕ) : Type 0 where
-  pub is : is_white (code_at (drop i s)) ≡ is_some r
+-- p takes the character at i, which has r bytes, or p does not take it and r is None
+pub record TakenAt (p : ℕ → Bool) (s : List ℕ) (i : ℕ) (r : Option ℕ) : Type 0 where
+  pub is : p (code_at (drop i s)) ≡ is_some r
   pub step : (n : ℕ) → r ≡ Some n → Step s i n
+
+-- a test may be made, by pre, where a character starts, and tells, by post, what p says of it
+abbrev pub TellsChars : (ℕ → Type 0) → (ℕ → Option ℕ → Type 0) → (ℕ → Bool) → List ℕ → Type 0
+TellsChars pre post p s =
+    ((i : ℕ) → i < length s → WellFormed (drop i s) → pre i)
+    × ((i : ℕ) → (r : Option ℕ) → i < length s → post i r → TakenAt p s i r)
+
+-- what p says of white space
+abbrev pub WhiteAt : List ℕ → ℕ → Option ℕ → Type 0
+WhiteAt s i r = TakenAt is_white s i r
+
+-- the characters before the first one that p does not take
+unfoldable pub taken : (ℕ → Bool) → List ℕ → List ℕ
+taken p [] = []
+taken p (c ∷ cs) = cond (p c) (c ∷ taken p cs) []
+
+-- from `from` up to r stand the characters that p takes, and p does not take the one at r, or s ends there
+pub record PastChars (p : ℕ → Bool) (s : List ℕ) (from r : ℕ) : Type 0 where
+  pub on : from ≤ r
+  pub fits : r ≤ length s
+  pub well : WellFormed (drop r s)
+  pub bytes : take (r - from) (drop from s) ≡ encode (taken p (decode (drop from s)))
+  pub chars : decode (drop from s) ≡ taken p (decode (drop from s)) ++ decode (drop r s)
+  pub stop : r < length s → p (code_at (drop r s)) ≡ false
 
 -- the character before e is white space and takes r bytes, or it is none
 pub record WhiteBefore (s : List ℕ) (e : ℕ) (r : Option ℕ) : Type 0 where
@@ -57,6 +71,12 @@ pub record TrimmedStart (s : List ℕ) (r : ℕ) : Type 0 where
   pub fits : r ≤ length s
   pub well : WellFormed (drop r s)
   pub text : decode (drop r s) ≡ trim_start (decode s)
+
+-- behind i no character is gone that trimming at the start would leave
+pub record SpacesPassed (s : List ℕ) (i : ℕ) : Type 0 where
+  pub fits : i ≤ length s
+  pub well : WellFormed (drop i s)
+  pub text : trim_start (decode s) ≡ trim_start (decode (drop i s))
 
 -- up to r, s is its characters trimmed at their end
 pub record TrimmedEnd (s : List ℕ) (r : ℕ) : Type 0 where

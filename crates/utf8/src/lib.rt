@@ -2,23 +2,25 @@
 // `decode` (specs/Unicode.antt).
 #![tactic(auto)]
 
-ghost use Rattle.std.specs.Prelude.{◌≡◌, ◌+◌, ◌≤◌, ◌<◌, ℕ, length, get_or, take, drop};
-ghost use Rattle.utf8.specs.Unicode.{tail, second, seq_len, prefix_len, code_of, code_at, decode};
+ghost use Rattle.std.specs.Prelude.{◌≡◌, ◌+◌, ◌≤◌, ◌<◌, ℕ, Bool, length, get_or, take, drop};
+ghost use Rattle.utf8.specs.Unicode.{tail, prefix_len, code_of, code_at, decode};
 ghost use Rattle.utf8.specs.Unicode.{WellFormed, width, is_white, first_is_white};
-ghost use Rattle.utf8.specs.Places.{nonzero, SeqAt, AsciiRun, Step, Back, WhiteAt, WhiteBefore};
-ghost use Rattle.utf8.specs.Masks.{weight_of, Masked};
-ghost use Rattle.utf8.specs.Places.{TrimmedStart, TrimmedEnd, Column, units_of, lead_of, total};
+ghost use Rattle.utf8.specs.Places.{AsciiRun, Step, Back, TellsChars, PastChars, WhiteAt, WhiteBefore};
+ghost use Rattle.utf8.specs.Places.{TrimmedStart, SpacesPassed, TrimmedEnd, Column, units_of, lead_of, total};
+
+use blocks::lanes;
+use blocks::others::Others;
 
 // A place in a slice: how many bytes stand before it.
-#[derive(Clone, Copy)]
+#[derive(Clone, Copy, PartialEq, Eq, PartialOrd, Ord, Debug)]
 pub struct ByteOffset(pub usize);
 
 // A place in a text: how many characters stand before it.
-#[derive(Clone, Copy)]
+#[derive(Clone, Copy, PartialEq, Eq, PartialOrd, Ord, Debug)]
 pub struct CharColumn(pub usize);
 
 // A length or a place in a text, in UTF-16 units.
-#[derive(Clone, Copy)]
+#[derive(Clone, Copy, PartialEq, Eq, PartialOrd, Ord, Debug)]
 pub struct Utf16Column(pub usize);
 
 // The byte at i, or 0 past the end.
@@ -28,73 +30,12 @@ fn byte_at(s: &[u8], i: usize) -> u8
     s.get(i).copied().unwrap_or(0)
 }
 
-// The highest of sixteen digits where two bytes are the same, else 0.
-fn weight(a: u8, b: u8) -> u32
-    ensures { (result ≡ weight_of a b) × (result ≤ 32768) }
-{
-    if a == b { 32768 } else { 0 }
-}
-
-// A digit for each of the 16 bytes from `at` on, the lowest for the first: 1 where it is b, else 0. It makes no branch,
-// so that the 16 are tested at once.
-#[tactic(auto, using(crate::proofs::Masks::masked_more))]
-pub fn byte_mask(s: &[u8], at: usize, b: u8) -> u32
-    requires { at + 16 ≤ length s.now }
-    ensures { Masked s.now b at 16 result }
-{
-    let mut m: u32 = 0;
-    for k in 0..16 {
-        m = m / 2 + weight(s[at + k], b);
-    }
-    m
-}
-
 // A byte that no sequence starts with.
 #[tactic(auto, unfolding(crate::specs::Unicode::tail))]
 pub fn is_tail(b: u8) -> bool
     ensures { result ≡ tail b }
 {
     matches!(b, 0x80..=0xBF)
-}
-
-// The second byte b1 of a sequence of three or four bytes that starts with b0.
-#[tactic(auto, unfolding(crate::specs::Unicode::second))]
-fn is_second(b0: u8, b1: u8) -> bool
-    ensures { result ≡ second b0 b1 }
-{
-    match b0 {
-        0xE0 => matches!(b1, 0xA0..=0xBF),
-        0xED => matches!(b1, 0x80..=0x9F),
-        0xF0 => matches!(b1, 0x90..=0xBF),
-        0xF4 => matches!(b1, 0x80..=0x8F),
-        _ => matches!(b1, 0x80..=0xBF),
-    }
-}
-
-// The length of the well-formed sequence that the four bytes start with, if they do (Unicode, Table 3-7).
-#[tactic(auto, unfolding(crate::specs::Unicode::seq_len))]
-fn seq_len(b0: u8, b1: u8, b2: u8, b3: u8) -> Option<usize>
-    ensures { result ≡ nonzero (seq_len b0 b1 b2 b3) }
-{
-    match b0 {
-        0..=0x7F => Some(1),
-        0xC2..=0xDF if is_tail(b1) => Some(2),
-        0xE0..=0xEF if is_second(b0, b1) && is_tail(b2) => Some(3),
-        0xF0..=0xF4 if is_second(b0, b1) && is_tail(b2) && is_tail(b3) => Some(4),
-        _ => None,
-    }
-}
-
-// The same at a place of a slice.
-pub fn seq_at(s: &[u8], i: usize) -> Option<usize>
-    requires { i < length s.now }
-    ensures { SeqAt s.now i result }
-{
-    let b0 = s[i];
-    let b1 = byte_at(s, i + 1);
-    let b2 = byte_at(s, i + 2);
-    let b3 = byte_at(s, i + 3);
-    seq_len(b0, b1, b2, b3)
 }
 
 // Past the blocks of 16 bytes that are ASCII; after the first, of 64 where so many are left.
@@ -111,30 +52,17 @@ pub fn past_blocks(s: &[u8], at: usize) -> usize
     i
 }
 
-// Past the bytes that are ASCII. Where there are none, that is told at once.
-fn past_ascii(s: &[u8], at: usize) -> usize
-    requires { at ≤ length s.now }
-    ensures { AsciiRun s.now at result }
-{
-    if at < s.len() && 127 < s[at] {
-        return at;
-    }
-    blocks::first_from(past_blocks(s, at), s.len(), &|i| 127 < s[i])
-}
-
 // The length of the longest well-formed prefix.
 pub fn well_formed_prefix(s: &[u8]) -> usize
     ensures { result ≡ prefix_len s.now }
 {
-    let mut i = past_ascii(s, 0);
-    // kept: a range is no plainer, since a step takes the bytes of a sequence and those of ASCII after it
-    while i < s.len() {
-        let Some(n) = seq_at(s, i) else {
-            return i;
-        };
-        i = past_ascii(s, i + n);
+    if simdutf8::is_utf8_baseline(s) {
+        return s.len();
     }
-    i
+    match str::from_utf8(s) {
+        Ok(text) => text.len(),
+        Err(e) => e.valid_up_to(),
+    }
 }
 
 // The UTF-16 units of the character that a byte starts, and 0 for a byte that starts none.
@@ -255,6 +183,7 @@ pub fn offset_of(s: &[u8], column: CharColumn) -> ByteOffset
     ensures { Column s.now column.0 result.0 }
 {
     let mut i = 0;
+    // kept: `char_indices().nth(..)` is of a `str`, as in `past_chars`
     for _ in 0..column.0 {
         if s.len() <= i {
             return ByteOffset(i);
@@ -331,20 +260,43 @@ pub fn first_is_white(s: &[u8]) -> bool
     !s.is_empty() && white_at(s, 0).is_some()
 }
 
-// Where the white space at the start of a well-formed slice ends.
-pub fn trim_start(s: &[u8]) -> usize
-    requires { WellFormed s.now }
-    ensures { TrimmedStart s.now result }
+// Past the characters from `from` on that the test takes; it tells how many bytes each of them has.
+pub fn past_chars<F: Fn(usize) -> Option<usize>>(s: &[u8], from: usize, test: &F) -> usize
+    ghost takes: { ℕ → Bool }
+    requires starts { (from ≤ length s.now) × WellFormed (drop from s.now) }
+    requires tells { TellsChars (F.pre test.now) (F.post test.now) takes s.now }
+    ensures { PastChars takes s.now from result }
 {
-    let mut i = 0;
-    // kept: a range is no plainer, since a step takes the bytes of a character
+    let mut i = from;
+    // kept: a range is no plainer, since a step takes the bytes of a character; `char_indices` is of a `str`, which
+    // these bytes become by one more pass over them, or by `unsafe`, which no crate has
     while i < s.len() {
-        let Some(n) = white_at(s, i) else {
+        let Some(n) = test(i) else {
             return i;
         };
         i += n;
     }
     i
+}
+
+// Past the spaces at the start, which most white space is. Of a short text it is not said.
+fn past_spaces(s: &[u8]) -> usize
+    requires { WellFormed s.now }
+    ensures { SpacesPassed s.now result }
+{
+    if s.len() < 16 {
+        0
+    } else {
+        lanes::first_in::<16, _>(&Others { bytes: s, b: b' ' }, 0, s.len())
+    }
+}
+
+// Where the white space at the start of a well-formed slice ends.
+pub fn trim_start(s: &[u8]) -> usize
+    requires { WellFormed s.now }
+    ensures { TrimmedStart s.now result }
+{
+    past_chars(s, past_spaces(s), &|i| white_at(s, i))
 }
 
 // Where the white space at the end of a well-formed slice starts.
@@ -353,7 +305,7 @@ pub fn trim_end(s: &[u8]) -> usize
     ensures { TrimmedEnd s.now result }
 {
     let mut e = s.len();
-    // kept: a range is no plainer, since a step takes the bytes of a character
+    // kept: the same from the end, for which `char_indices().rev()` is of a `str`
     while 0 < e {
         let Some(n) = white_before(s, e) else {
             return e;

@@ -67,7 +67,8 @@ pub extern "C" fn wirescript_test_normalize_spacing(line: &[u8], scratch: &mut [
     if MOST < n || scratch.len() < 3 * n {
         return 0;
     }
-    spacing::normalize_spacing(line, scratch, 0, n) as u64
+    let (class, out) = scratch.split_at_mut(n);
+    spacing::normalize_spacing(line, class, out) as u64
 }
 
 // Whether the line is spaced already.

@@ -5,9 +5,9 @@ use Rattle.basics.proofs.ClassPicks.{class-picks}
 use Rattle.brackets.proofs.StackLaws.{turn_same, turn_escaped, turn_by}
 use Rattle.brackets.proofs.bracket_step.Goals as goal
 
-pub returns-then-k-ne0 : goal.returns-then-k-ne0
+pub returns-then-k-ne-CODE : goal.returns-then-k-ne-CODE
 unfolding bracket_step
-returns-then-k-ne0 c = turn_by _ _ (turn_same _ _ c.requires.runs) (λ o h. search (picks, class-picks) depth 20)
+returns-then-k-ne-CODE c = turn_by _ _ (turn_same _ _ c.requires.runs) (λ o h. search (picks, class-picks) depth 20)
 
 pub returns-then-t : goal.returns-then-t
 unfolding bracket_step

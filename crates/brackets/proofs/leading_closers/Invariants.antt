@@ -1,7 +1,6 @@
--- `leading_closers` meets its contract: the invariant is `Closing`, the first i bytes are closers; its laws are in
--- proofs/StackLaws.antt.
-use Rattle.brackets.proofs.StackLaws.{Closing}
+-- `leading_closers` meets its contract: its law is in proofs/StackLaws.antt.
+use Rattle.brackets.specs.Stack.{solid_at}
 use Rattle.brackets.proofs.leading_closers.Given as goal
 
-abbrev pub invariant-loop-i : goal.invariant-loop-i
-invariant-loop-i l = Closing l.line l.i
+abbrev pub ghost-first_from : goal.ghost-first_from
+ghost-first_from a = solid_at a.test.now.0.now

@@ -1,19 +1,15 @@
 use Rattle.place.proofs.FitLaws.{is_broken_law, fit_whole, fit_broken}
 use mathlib.Core.Path.{sym, ◌∙◌}
-use borrow.Author.Rules.{rules}
 use Rattle.place.proofs.fit_line.Goals as goal
-
-pub push_one-requires : goal.push_one-requires
-push_one-requires c = record { valid_indent = search rules; level_le_max_source = search rules; well_formed = (search rules, search rules); line_value = search rules; ordered = search rules }
 
 pub break_line-requires : goal.break_line-requires
 break_line-requires c =
     rw c.layout-s.ensures
-    record { valid_indent = c.requires.valid_indent; level_le_max_source = c.requires.level_le_max_source; goes_on = c.requires.goes_on; ordered = c.requires.ordered; line_value = (is_broken_law _ _ _ _ (sym c.fit_of.ensures ∙ c.in-Some.is)).1.1 }
+    record { level_le_max_source = c.requires.level_le_max_source; goes_on = c.requires.goes_on; ordered = c.requires.ordered; line_value = (is_broken_law _ _ _ _ (sym c.fit_of.ensures ∙ c.in-Some.is)).1.1 }
 
 pub returns-in-None : goal.returns-in-None
 returns-in-None c =
-    fit_whole _ _ _ _ _ _ _ _ _ _ _ _ c.requires.valid_indent c.requires.level_le_max_source c.requires.goes_on c.push_one.ensures _ c.alone.ensures _ _
+    fit_whole _ _ _ _ _ _ _ _ _ _ _ _ c.args.indent.valid c.requires.level_le_max_source c.requires.goes_on c.push_one.ensures _ c.alone.ensures _ _
     (sym c.fit_of.ensures ∙ c.in-None.is)
 
 pub returns-in-Some : goal.returns-in-Some

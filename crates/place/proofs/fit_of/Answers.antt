@@ -6,12 +6,12 @@ use Rattle.place.proofs.fit_of.Goals.{else-over_wide-via-then-over_wide+else-all
 
 pub is_short-requires : goal.is_short-requires
 is_short-requires c =
-    record { indent = record { blank = c.requires.valid_indent.blank; short = c.requires.valid_indent.short; flat = omega (arith, c.requires.level_le_max_source) }; well_formed = (c.requires.goes_on.well, omega (arith, c.requires.goes_on.short)) }
+    record { indent = record { blank = c.args.indent.valid.blank; short = c.args.indent.valid.short; flat = omega (arith, c.requires.level_le_max_source) }; well_formed = (c.requires.goes_on.well, omega (arith, c.requires.goes_on.short)) }
 
 pub over_wide-requires : goal.over_wide-requires
 over_wide-requires c =
     rw c.layout.ensures
-    record { indent = record { blank = c.requires.valid_indent.blank; short = c.requires.valid_indent.short; flat = omega (arith, c.requires.level_le_max_source) }; well_formed = (c.requires.goes_on.well, omega (arith, c.requires.goes_on.short)) }
+    record { indent = record { blank = c.args.indent.valid.blank; short = c.args.indent.valid.short; flat = omega (arith, c.requires.level_le_max_source) }; well_formed = (c.requires.goes_on.well, omega (arith, c.requires.goes_on.short)) }
 
 pub returns-in_err-max : goal.returns-in_err-max
 returns-in_err-max c = c.from_residual.ensures ∙ fit_off _ _ _ (c.in_err-max.was)

@@ -5,7 +5,7 @@ use Rattle.place.proofs.lay_line.Goals as goal
 
 pub fit_line-requires : goal.fit_line-requires
 fit_line-requires c =
-    record { valid_indent = search rules; level_le_max_source = level_small _ _ _ c.level_of.ensures c.requires.asks.few; goes_on = search rules; ordered = (search rules, search rules) }
+    record { level_le_max_source = level_small _ _ _ c.level_of.ensures c.requires.asks.few; goes_on = search rules; ordered = (search rules, search rules) }
 
 pub returns : goal.returns
 returns c =

@@ -1,51 +1,21 @@
 use native.Mathlib.Omega.{arith}
-use Rattle.scan.proofs.StringLaws.{quoted_begins, quoted_escapes, quoted_dollars, quoted_ends, quoted_goes_on, quoted_stops}
+use Rattle.scan.proofs.StringLaws.{quoted_begins, quoted_plainly, quoted_escapes, quoted_ends, quoted_goes_on, quoted_stops}
 use Rattle.scan.proofs.quoted.Goals as goal
 
 pub loop-i-init : goal.loop-i-init
 loop-i-init c = quoted_begins _ _ _ _ (omega arith)
 
-pub bounds-line-i : goal.bounds-line-i
-bounds-line-i c = omega arith
-
-pub pair-i-requires : goal.pair-i-requires
-pair-i-requires c = record { inside = omega arith; room = omega arith }
-
-pub loop-i-smaller-then-b-eq92 : goal.loop-i-smaller-then-b-eq92
-loop-i-smaller-then-b-eq92 c = omega arith
+pub returns-then-i-line : goal.returns-then-i-line
+returns-then-i-line c = quoted_stops (quoted_plainly c.loop-i.invariant c.plain_string-i.ensures) (omega arith)
 
 pub loop-i-preserved-then-b-eq92 : goal.loop-i-preserved-then-b-eq92
-loop-i-preserved-then-b-eq92 c = quoted_escapes c.loop-i.invariant (omega arith) c.if-b-eq92.true c.pair-i.ensures
-
-pub dollar-i-requires : goal.dollar-i-requires
-dollar-i-requires c = record { inside = omega arith; byte = c.if-b-eq36.true; room = omega arith }
-
-pub loop-i-smaller-then-b-eq36 : goal.loop-i-smaller-then-b-eq36
-loop-i-smaller-then-b-eq36 c = omega arith
-
-pub loop-i-preserved-then-b-eq36 : goal.loop-i-preserved-then-b-eq36
-loop-i-preserved-then-b-eq36 c = quoted_dollars c.loop-i.invariant c.dollar-i.ensures
-
-pub bounds-class-i : goal.bounds-class-i
-bounds-class-i c = omega arith
-
-pub overflow_add-i : goal.overflow_add-i
-overflow_add-i c = omega arith
-
-pub shape_of-class-then-b-end : goal.shape_of-class-then-b-end
-shape_of-class-then-b-end c = (quoted_ends c.loop-i.invariant (omega arith) (omega arith) c.if-b-eq92.false c.if-b-eq36.false c.quote_of-end.ensures c.if-b-end.true).moved.as_long
+loop-i-preserved-then-b-eq92 c = quoted_escapes (quoted_plainly c.loop-i.invariant c.plain_string-i.ensures) (omega arith) c.if-b-eq92.true c.pair-i.ensures
 
 pub returns-then-b-end : goal.returns-then-b-end
-returns-then-b-end c = quoted_ends c.loop-i.invariant (omega arith) (omega arith) c.if-b-eq92.false c.if-b-eq36.false c.quote_of-end.ensures c.if-b-end.true
-
-pub loop-i-smaller : goal.loop-i-smaller
-loop-i-smaller c = omega arith
+returns-then-b-end c = quoted_ends (quoted_plainly c.loop-i.invariant c.plain_string-i.ensures) (omega arith) (omega arith) c.if-b-eq92.false c.if-b-eq36.false c.quote_of-end.ensures c.if-b-end.true
 
 pub loop-i-preserved : goal.loop-i-preserved
-loop-i-preserved c = quoted_goes_on c.loop-i.invariant (omega arith) (omega arith) c.if-b-eq92.false c.if-b-eq36.false c.quote_of-end.ensures c.if-b-end.false
-
-pub shape_of-class : goal.shape_of-class
-shape_of-class c = c.loop-i.invariant.scanned.moved.as_long
+loop-i-preserved c = quoted_goes_on (quoted_plainly c.loop-i.invariant c.plain_string-i.ensures) (omega arith) (omega arith) c.if-b-eq92.false c.if-b-eq36.false c.quote_of-end.ensures c.if-b-end.false
 
 pub returns : goal.returns
 returns c = quoted_stops c.loop-i.invariant (omega arith)

@@ -1,5 +1,5 @@
 use borrow.Author.Rules.{rules}
-use Rattle.spacing.proofs.KeptLaws.{comma_end, comma_closer, no_blank}
+use Rattle.spacing.proofs.KeptLaws.{comma_end, comma_closer}
 use Rattle.std.specs.Prelude.{false}
 use Rattle.spacing.specs.Respaced.{NoBlank}
 use Rattle.spacing.proofs.kept_comma.Goals as goal
@@ -12,6 +12,3 @@ returns-then-line-j c =
       | then-line-j-via-then-line-j w ↦ search (rules, comma_end)
       | then-line-j-via-else-line-j+then-is_closer w ↦ search (rules, comma_closer)
     ]
-
-pub kept_gap-requires : goal.kept_gap-requires
-kept_gap-requires c = search (rules, no_blank)

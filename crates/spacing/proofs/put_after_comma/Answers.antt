@@ -6,7 +6,7 @@ use Rattle.spacing.proofs.put_after_comma.Goals as goal
 
 pub returns-then-is_code_blank : goal.returns-then-is_code_blank
 unfolding put_after_comma
-returns-then-is_code_blank c = wrote_none _ _ _ _ _ (search picks depth 20)
+returns-then-is_code_blank c = wrote_none _ _ _ _ (search picks depth 20)
 
 pub returns-then-is_closer : goal.returns-then-is_closer
 unfolding put_after_comma

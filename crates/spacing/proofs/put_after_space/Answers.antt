@@ -6,7 +6,7 @@ use Rattle.spacing.proofs.put_after_space.Goals as goal
 
 pub returns-then-c-eq32 : goal.returns-then-c-eq32
 unfolding put_at
-returns-then-c-eq32 c = wrote_none _ _ _ _ _ (search picks depth 20)
+returns-then-c-eq32 c = wrote_none _ _ _ _ (search picks depth 20)
 
 pub returns : goal.returns
 unfolding put_at

@@ -14,6 +14,3 @@ returns-in-Escape c = rw c.in-Escape.is (wrote_by 2 c.put.ensures (omega arith) 
 pub returns-in-Comma : goal.returns-in-Comma
 unfolding put_at
 returns-in-Comma c = rw c.in-Comma.is c.put_after_comma.ensures
-
-pub returns-in-Space : goal.returns-in-Space
-returns-in-Space c = rw c.in-Space.is c.put_after_space.ensures

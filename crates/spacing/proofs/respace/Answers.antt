@@ -3,7 +3,7 @@ use Rattle.spacing.proofs.SpacingLaws.{reached_kept, reached_plain, reached_run,
 use Rattle.spacing.proofs.respace.Goals as goal
 
 pub loop-i-init : goal.loop-i-init
-loop-i-init c = reached_kept _ _ _ _ _ c.requires.keeping c.requires.copied
+loop-i-init c = reached_kept _ _ _ _ c.requires.keeping c.requires.copied
 
 pub loop-i-preserved-then-is_plain : goal.loop-i-preserved-then-is_plain
 loop-i-preserved-then-is_plain c = search (rules, reached_plain)

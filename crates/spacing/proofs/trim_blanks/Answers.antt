@@ -1,9 +1,6 @@
 use borrow.Author.Rules.{rules}
-use Rattle.spacing.proofs.SpacingLaws.{trimming_start, trimming_more, trimming_stop, trimming_end}
+use Rattle.spacing.proofs.SpacingLaws.{trimming_more, trimming_stop, trimming_end}
 use Rattle.spacing.proofs.trim_blanks.Goals as goal
-
-pub loop-i-init : goal.loop-i-init
-loop-i-init c = search (rules, trimming_start)
 
 pub loop-i-preserved : goal.loop-i-preserved
 loop-i-preserved c = search (rules, trimming_more)

@@ -4,4 +4,4 @@ use Rattle.spacing.proofs.SpacingLaws.{Trimming}
 use Rattle.spacing.proofs.trim_blanks.Given as goal
 
 abbrev pub invariant-loop-i : goal.invariant-loop-i
-invariant-loop-i l = Trimming l.scratch l.at l.n l.i
+invariant-loop-i l = Trimming l.text l.i

@@ -1,8 +1,5 @@
-use Rattle.split.proofs.MeasureLaws.{indent_room, indent_zero}
+use Rattle.split.proofs.MeasureLaws.{indent_zero}
 use Rattle.split.proofs.indent_column.Goals as goal
-
-pub overflow_mul-result : goal.overflow_mul-result
-overflow_mul-result c = record { fits = indent_room c.requires }
 
 pub returns-then-ruler-eq0 : goal.returns-then-ruler-eq0
 returns-then-ruler-eq0 c = indent_zero c.requires _ c.if-ruler-eq0.true

@@ -1,5 +1,4 @@
-use native.Mathlib.Omega.{arith}
-use Rattle.split.proofs.MeasureLaws.{indent_none, first_fits, second_fits, second_after, levels_small, indent_several}
+use Rattle.split.proofs.MeasureLaws.{indent_none, first_fits, second_fits, second_after, indent_several}
 use Rattle.split.proofs.indent_tabs.Goals as goal
 
 pub returns-then-levels-eq0 : goal.returns-then-levels-eq0
@@ -14,18 +13,6 @@ measure_tabs-second-requires c = (c.requires.0, second_fits c.requires.1 c.measu
 pub overflow_sub-result-2 : goal.overflow_sub-result-2
 overflow_sub-result-2 c =
     second_after c.requires.1 c.measure_tabs-first.ensures c.measure_tabs-second.ensures
-
-pub overflow_mul-result : goal.overflow_mul-result
-overflow_mul-result c =
-    record {
-      fits = omega (arith, levels_small c.requires.1 c.measure_tabs-first.ensures c.measure_tabs-second.ensures c.if-levels-eq0.false);
-    }
-
-pub overflow_add-result : goal.overflow_add-result
-overflow_add-result c =
-    let p = c.requires.1 in
-    let a = c.measure_tabs-first.ensures in
-    record { fits = omega (arith, levels_small p a c.measure_tabs-second.ensures c.if-levels-eq0.false, a.small, p.short) }
 
 pub returns : goal.returns
 returns c =

@@ -27,7 +27,7 @@ slice_bounds-line-start c =
 pub lone_line-requires : goal.lone_line-requires
 lone_line-requires c =
     let t = trimmed_line _ _ _ c.trim_end-tail.ensures c.trim_start-start.ensures in
-    record { ready = ready_as _ _ _ c.requires.ready (only_same _ 0 0) (omega arith) t.short; line_value = lone_is t c.args.st.ignore _ c.goes_alone.ensures c.if-goes_alone.true; valid_indent = c.requires.valid_indent }
+    record { ready = ready_as _ _ _ c.requires.ready (only_same _ 0 0) (omega arith) t.short; line_value = lone_is t c.args.st.ignore _ c.goes_alone.ensures c.if-goes_alone.true }
 
 pub returns-then-goes_alone : goal.returns-then-goes_alone
 returns-then-goes_alone c =
@@ -41,8 +41,8 @@ scan_line-s-requires c =
     let t = trimmed_line _ _ _ c.trim_end-tail.ensures c.trim_start-start.ensures in
     record { well_formed = t.well; line_in_bounds = omega (arith, t.short, c.requires.ready.depth, c.requires.ready.room); line_len_bound = omega (arith, t.short, c.requires.ready.depth, c.requires.ready.limit) }
 
-pub kept_line-kept-requires : goal.kept_line-kept-requires
-kept_line-kept-requires c =
+pub keep-requires : goal.keep-requires
+keep-requires c =
     let t = trimmed_line _ _ _ c.trim_end-tail.ensures c.trim_start-start.ensures in
     let k = c.scan_line-s.ensures in
     let w = c.requires.well_formed in
@@ -53,7 +53,7 @@ returns-then-is_kept c =
     let te = c.trim_end-tail.ensures in
     let ts = c.trim_start-start.ensures in
     λ o u. format_code false false (sym c.requires.ignore_value) (raw_code false _ c.requires.carry_value) _ o refl (some_trim _ _ _ te ts c.if-start-tail.false)
-    (code_protected c.requires.ready (trimmed_line _ _ _ te ts) c.scan_line-s.ensures _ c.is_kept.ensures c.if-is_kept.true c.kept_line-kept.ensures o)
+    (code_protected c.requires.ready (trimmed_line _ _ _ te ts) c.scan_line-s.ensures _ c.is_kept.ensures c.if-is_kept.true c.keep.ensures o)
 
 pub go_on-requires : goal.go_on-requires
 go_on-requires c =
@@ -67,7 +67,7 @@ spaced_line-requires c =
     let ts = c.trim_start-start.ensures in
     let t = trimmed_line _ _ _ te ts in
     let k = c.scan_line-s.ensures in
-    record { ready = ready_as _ _ _ (line_ready c.requires.ready t k) c.go_on.ensures.only (le_refl _) (le_refl _); solid_line = solid _ _ t (some_line _ _ _ te ts c.if-start-tail.false); marks = marks_of_law _ _ _ k.marker c.is_alone.ensures; goes = c.go_on.ensures.goes; valid_indent = c.requires.valid_indent }
+    record { ready = ready_as _ _ _ (line_ready c.requires.ready t k) c.go_on.ensures.only (le_refl _) (le_refl _); solid_line = solid _ _ t (some_line _ _ _ te ts c.if-start-tail.false); marks = marks_of_law _ _ _ k.marker c.is_alone.ensures; goes = c.go_on.ensures.goes }
 
 pub shape_of-scratch : goal.shape_of-scratch
 shape_of-scratch c = c.scratch-4-1.given ∙ c.scratch-3-1.given ∙ c.scratch-2-1.given

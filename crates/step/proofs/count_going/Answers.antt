@@ -1,5 +1,3 @@
-use native.Mathlib.Omega.{arith}
-use mathlib.Core.Path.{refl}
 use Rattle.step.proofs.GoingLaws.{count_room, own_length, counts_own, counts_spaced}
 use Rattle.step.proofs.count_going.Goals as goal
 
@@ -11,11 +9,6 @@ scan_brackets-requires c =
 pub returns-then-g : goal.returns-then-g
 returns-then-g c =
     counts_own _ _ _ _ _ _ _ _ c.requires.well_formed c.requires.goes c.requires.closers c.if-g.true c.scan_brackets.ensures
-
-pub scan_brackets_at-requires : goal.scan_brackets_at-requires
-scan_brackets_at-requires c =
-    let s = c.requires in
-    (count_room _ _ _ _ _ _ s.line_room s.goes s.line_bound s.nested refl, omega (arith, s.goes.most, s.line_room.short))
 
 pub returns-else-g : goal.returns-else-g
 returns-else-g c =

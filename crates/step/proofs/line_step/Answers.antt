@@ -16,7 +16,7 @@ pub code_line-requires : goal.code_line-requires
 code_line-requires c =
     let p = c.in_block.result in
     let q = c.is_raw.ensures in
-    record { ready = c.requires.ready; carry_value = code_carry p c.is_raw.result _ q c.if-is_raw.false; ignore_value = code_free p c.is_raw.result c.args.st.carry c.args.st.ignore c.in_block.ensures q c.if-is_raw.false; well_formed = c.requires.well_formed; valid_indent = c.requires.valid_indent }
+    record { ready = c.requires.ready; carry_value = code_carry p c.is_raw.result _ q c.if-is_raw.false; ignore_value = code_free p c.is_raw.result c.args.st.carry c.args.st.ignore c.in_block.ensures q c.if-is_raw.false; well_formed = c.requires.well_formed }
 
 pub returns : goal.returns
 returns c = c.code_line.ensures

@@ -20,7 +20,7 @@ place_line-st-requires c =
     let k = c.leading_closers-closers.ensures in
     let p = c.pop_closers-left.ensures in
     let o = c.prev_of-own.ensures in
-    record { valid_indent = c.requires.valid_indent; goes_on = goes_on_law _ _ _ _ s0 s1 _ s2 _ t; heads = heads _ _ _ _ s0 s1 _ s2 _ t _ _ _ _ _ k p o; asks = asks _ _ _ _ s0 s1 _ s2 _ t _ _ _ _ _ k p o }
+    record { goes_on = goes_on_law _ _ _ _ s0 s1 _ s2 _ t; heads = heads _ _ _ _ s0 s1 _ s2 _ t _ _ _ _ _ k p o; asks = asks _ _ _ _ s0 s1 _ s2 _ t _ _ _ _ _ k p o }
 
 pub returns : goal.returns
 returns c =

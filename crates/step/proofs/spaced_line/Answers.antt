@@ -3,10 +3,6 @@ use native.Mathlib.Omega.{arith}
 use Rattle.step.proofs.StepLaws.{ready_room, spaced_step}
 use Rattle.step.proofs.spaced_line.Goals as goal
 
-pub put_going-p-requires : goal.put_going-p-requires
-put_going-p-requires c =
-    record { ready = c.requires.ready; solid_line = c.requires.solid_line; goes = c.requires.goes; valid_indent = c.requires.valid_indent }
-
 pub count_going-deep-requires : goal.count_going-deep-requires
 count_going-deep-requires c =
     let q = c.put_going-p.ensures in

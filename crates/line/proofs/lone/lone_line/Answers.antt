@@ -9,12 +9,12 @@ bounds-line-0 c = omega (arith, lone_short c.args.line.now c.requires.line_value
 pub push_line-text-requires : goal.push_line-text-requires
 push_line-text-requires c =
     let l = c.pop_closers-left.ensures in
-    record { indent_value = c.requires.valid_indent.blank; line = lone_told c.args.line.now c.requires.line_value _ refl; ordered = c.requires.ready.small.ordered; line_bound = lone_room c.args.line.now c.args.indent.now _ _ _ c.requires.ready c.requires.line_value c.requires.valid_indent _ _ l }
+    record { indent_value = c.args.indent.valid.blank; line = lone_told c.args.line.now c.requires.line_value _ refl; ordered = c.requires.ready.small.ordered; line_bound = lone_room c.args.line.now c.args.indent.bytes.now _ _ _ c.requires.ready c.requires.line_value c.args.indent.valid _ _ l }
 
 pub turn-requires : goal.turn-requires
 turn-requires c =
-    lone_fits c.args.line.now c.args.indent.now _ _ _ c.requires.ready c.requires.line_value c.requires.valid_indent _ _ c.pop_closers-left.ensures
+    lone_fits c.args.line.now c.args.indent.bytes.now _ _ _ c.requires.ready c.requires.line_value c.args.indent.valid _ _ c.pop_closers-left.ensures
 
 pub returns : goal.returns
 returns c =
-    lone_step c.args.line.now c.args.indent.now _ _ _ c.requires.ready c.requires.line_value c.requires.valid_indent _ _ c.pop_closers-left.ensures _ _ _ _ _ _ _ _ _ c.closers_in.ensures refl c.push_line-text.ensures c.turn.ensures
+    lone_step c.args.line.now c.args.indent.bytes.now _ _ _ c.requires.ready c.requires.line_value c.args.indent.valid _ _ c.pop_closers-left.ensures _ _ _ _ _ _ _ _ _ c.closers_in.ensures refl c.push_line-text.ensures c.turn.ensures

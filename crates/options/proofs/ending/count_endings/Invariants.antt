@@ -1,7 +1,7 @@
--- `count_endings` meets its contract: the invariant is `Counting`, lf line feeds stand in the block up to i, crlf of
--- them behind a CR; its laws are in proofs/EndingLaws.antt.
-use Rattle.options.proofs.EndingLaws.{Counting}
+-- The invariant is `Counted` of the bytes up to `b-index`; its laws are in proofs/EndingLaws.antt.
+use Rattle.std.proofs.Common.{take}
+use Rattle.options.specs.Endings.{Counted}
 use Rattle.options.proofs.ending.count_endings.Given as goal
 
-abbrev pub invariant-loop-i : goal.invariant-loop-i
-invariant-loop-i l = Counting l.source l.from l.end l.last l.lf l.crlf l.before l.i
+abbrev pub invariant-loop-b : goal.invariant-loop-b
+invariant-loop-b l = Counted (take l.b-index l.block) l.last l.lf l.crlf l.before

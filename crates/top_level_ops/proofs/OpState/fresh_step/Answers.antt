@@ -3,9 +3,9 @@ use Rattle.top_level_ops.specs.Steps.{fresh_or}
 use Rattle.top_level_ops.proofs.StepLaws.{passed_string, passed_escape, pick_string, pick_code}
 use Rattle.top_level_ops.proofs.OpState.fresh_step.Goals as goal
 
-pub returns-then-k-eq1-clause-stepped : goal.returns-then-k-eq1-clause-stepped
+pub returns-then-k-eq-STR-clause-stepped : goal.returns-then-k-eq-STR-clause-stepped
 unfolding fresh_or
-returns-then-k-eq1-clause-stepped c = λ t. search (picks, passed_string, pick_string) depth 20
+returns-then-k-eq-STR-clause-stepped c = λ t. search (picks, passed_string, pick_string) depth 20
 
 pub returns-then-self-clause-stepped : goal.returns-then-self-clause-stepped
 unfolding fresh_or

@@ -1,0 +1,5 @@
+use Rattle.scan.proofs.CodeLaws.{code_run}
+use Rattle.scan.proofs.plain_code.Goals as goal
+
+pub returns : goal.returns
+returns c = code_run _ _ _ _ _ c.requires.room c.first-e.ensures c.mark.ensures

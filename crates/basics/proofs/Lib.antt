@@ -2,5 +2,6 @@
 pub mod StartsLaws
 pub mod OnlyLaws
 pub mod ClassPicks
+pub mod TableLaws
 pub mod ScanSteps
 pub mod SplitLaws

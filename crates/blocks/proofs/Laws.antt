@@ -1,7 +1,9 @@
 -- One block more without a place that passes the test p.
 use Rattle.std.proofs.Common.{ℕ, ◌+◌, ◌-◌, ◌<◌, ◌≤◌, ◌*◌, min, Bool, true, false, not, ◌||◌, ◌≡◌, ◌⊎◌, inl, inr, refl, arith}
 use Rattle.std.proofs.lemmas.Bool.{cases_lt}
-use Rattle.blocks.specs.Blocks.{NoneAmong, NoneFrom, NoneBefore}
+use Rattle.std.specs.Prelude.{Option, None, Some, MatchOption}
+use Rattle.std.specs.Option.{unwrap_or}
+use Rattle.blocks.specs.Blocks.{NoneAmong, NoneFrom, FirstFrom, NoneBefore}
 
 module _ (p : ℕ → Bool) where
   -- the n places from `at` on are none, and so are those before i, which is no place before `at`
@@ -24,11 +26,6 @@ module _ (p : ℕ → Bool) where
   none_last end i n false f h l a =
       record { none = λ e j m. joined 0 (end - n) i n f.none l (a.none refl) j (omega arith) (omega arith) }
 
-  -- the same of the places from `at` on
-  pub none_rest : (at end i n : ℕ) (any : Bool) → NoneFrom p at end i → n ≤ end → end - n ≤ i → NoneAmong p (end - n) n any → any ≡ false → NoneFrom p at end end
-  none_rest at end i n any f h l a e =
-      record { from = omega (arith, f.from, f.within); within = omega arith; none = λ j k m. joined at (end - n) i n f.none l (a.none e) j k (omega arith) }
-
   -- four blocks, which may overlap
   pub none_four : (n w u v : ℕ) (a b c d : Bool) → (w ≤ n) × (n ≤ 4 * w) → u ≡ min w (n - w) → v ≡ min (w + w) (n - w)
       → NoneAmong p 0 w a → NoneAmong p u w b → NoneAmong p v w c → NoneAmong p (n - w) w d → NoneBefore p n (not ((a || b) || (c || d)))
@@ -42,3 +39,13 @@ module _ (p : ℕ → Bool) where
       let three = joined 0 v (u + w) w two (omega (arith, e, f)) (z.none refl) in
       let four = joined 0 (n - w) (v + w) w three (omega (arith, e, f, h)) (t.none refl) in
       record { none = λ q j l. four j (omega arith) (omega (arith, h)) }
+
+  -- what a search over the range finds
+  pub first_found : (at end : ℕ) (found : Option ℕ) (r : ℕ) → at ≤ end
+      → MatchOption found ((k : ℕ) → at ≤ k → k < end → p k ≡ false)
+      (λ i. (at ≤ i) × (i < end) × (p i ≡ true) × ((k : ℕ) → at ≤ k → k < i → p k ≡ false))
+      → r ≡ unwrap_or found end → FirstFrom p at end r
+  first_found at end None r h f e =
+      rw e (record { from = h; within = omega arith; none = f; passes = λ l. absurd (omega arith) })
+  first_found at end (Some i) r h f e =
+      rw e (record { from = f.0; within = omega (arith, f.1); none = f.3; passes = λ l. f.2 })

@@ -51,20 +51,7 @@ fn passed_last<const N: usize, S: LaneTest<N>>(s: &S, i: usize, end: usize) -> u
     before(s.marks(from) >> (i - from), end - i)
 }
 
-// The first place from `at` on at which the test holds, or `end`, one at a time.
-fn first_by_one<S: PlaceTest>(s: &S, at: usize, end: usize) -> usize
-    requires { (at ≤ end) × (end ≤ S.places s.now) }
-    ensures { FirstFrom (S.holds s.now) at end result }
-{
-    for i in at..end {
-        if s.at(i) {
-            return i;
-        }
-    }
-    end
-}
-
-// The same, N at a time; there are N before `end` or more.
+// The first place from `at` on at which the test holds, or `end`, N at a time; there are N before `end` or more.
 pub fn first_in<const N: usize, S: LaneTest<N>>(s: &S, at: usize, end: usize) -> usize
     requires lanes { (0 < N) × (N ≤ 64) × (N ≤ end) }
     requires in_bounds { (at ≤ end) × (end ≤ S.places s.now) }
@@ -74,7 +61,7 @@ pub fn first_in<const N: usize, S: LaneTest<N>>(s: &S, at: usize, end: usize) ->
         return end;
     }
     let mut i = at;
-    // kept: a range is no plainer, since the loop ends in the block that has one
+    // kept: a range is no plainer, since the place that the last whole block leads to is used behind the loop
     while end - i > N {
         let n = passed::<N, S>(s, i);
         if n < N {
@@ -116,6 +103,6 @@ pub fn first<S: LaneTest<16> + LaneTest<8>>(s: &S, at: usize, end: usize) -> usi
     } else if 8 <= end {
         first_in::<8, S>(s, at, end)
     } else {
-        first_by_one::<S>(s, at, end)
+        (at..end).find(|i| s.at(*i)).unwrap_or(end)
     }
 }

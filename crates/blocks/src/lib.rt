@@ -1,6 +1,7 @@
 // A search for a place that passes a test, in blocks: the test is a closure, which the caller's loop takes in.
 #![tactic(auto)]
 
+pub mod bytes;
 pub mod lanes;
 pub mod others;
 
@@ -30,7 +31,7 @@ pub fn past_blocks<const N: usize, F: Fn(usize) -> bool>(at: usize, end: usize, 
     ensures { NoneFrom meets at end result }
 {
     let mut i = at;
-    // kept: a range is no plainer, since a step takes N places at once
+    // kept: a range is no plainer, since the place behind the last whole block is what the function gives
     while end - i >= N {
         if any_among::<N, F>(i, test) {
             return i;
@@ -38,22 +39,6 @@ pub fn past_blocks<const N: usize, F: Fn(usize) -> bool>(at: usize, end: usize, 
         i += N;
     }
     i
-}
-
-// The same up to `end`: the last block ends there, and may overlap the one before it.
-pub fn past_all<const N: usize, F: Fn(usize) -> bool>(at: usize, end: usize, test: &F) -> usize
-    ghost meets: { ℕ → Bool }
-    requires some { 0 < N }
-    requires in_bounds { at + N ≤ end }
-    requires tells { Tells (F.pre test.now) (F.post test.now) meets at end }
-    ensures { NoneFrom meets at end result }
-{
-    let passed = past_blocks::<N, F>(at, end, test);
-    if end - passed < N && !any_among::<N, F>(end - N, test) {
-        end
-    } else {
-        passed
-    }
 }
 
 // The first place from `at` on that passes the test, or `end`.
@@ -96,13 +81,10 @@ pub fn none_before<const N: usize, F: Fn(usize) -> bool>(end: usize, test: &F) -
     ensures { NoneBefore meets end result }
 {
     let last = end - N;
-    let mut i = 0;
-    // kept: a range is no plainer, since a step takes N places at once, and the last block may overlap
-    while i < last {
+    for i in (0..last).step_by(N) {
         if any_among::<N, F>(i, test) {
             return false;
         }
-        i += N;
     }
     !any_among::<N, F>(last, test)
 }

@@ -1,38 +1,28 @@
 // Bytes other than one.
-ghost use Rattle.std.specs.Prelude.{◌≡◌, ◌≤◌, length, map, not, eqb};
+ghost use Rattle.std.specs.Prelude.{◌≡◌, ◌≤◌, map, not, eqb};
 ghost use Rattle.std.specs.Simd.Lanes.{mask_l};
-ghost use Rattle.blocks.specs.Marks.{other_at};
 
-use crate::lanes::{LaneTest, PlaceTest};
+use crate::bytes::{ByteLanes, ByteTest};
 use std::simd::prelude::*;
 
-fn others_among<const N: usize>(v: Simd<u8, N>, b: u8) -> u64
-    requires { N ≤ 64 }
-    ensures { result ≡ mask_l (map (λ x. not (eqb x b)) v.entry) }
-{
-    v.simd_ne(Simd::splat(b)).to_bitmask()
-}
-
 #[derive(Drop)]
-pub struct Others<'a> {
-    pub bytes: &'a [u8],
+pub struct Other {
     pub b: u8,
 }
 
-impl<'a> PlaceTest for Others<'a> {
-    ghost places = { λ s. length s.bytes.now };
+impl ByteTest for Other {
+    ghost passes = { λ s x. not (eqb x s.b) };
 
-    ghost holds = { λ s. other_at s.bytes.now s.b };
-
-    fn at(&self, i: usize) -> bool {
-        let bytes = self.bytes;
-        bytes[i] != self.b
+    fn test(&self, b: u8) -> bool {
+        b != self.b
     }
 }
 
-impl<'a, const N: usize> LaneTest<N> for Others<'a> {
-    fn marks(&self, i: usize) -> u64 {
-        let bytes = self.bytes;
-        others_among(Simd::<u8, N>::from_slice(&bytes[i..]), self.b)
+impl<const N: usize> ByteLanes<N> for Other {
+    fn mask(&self, v: Simd<u8, N>) -> u64
+        requires { N ≤ 64 }
+        ensures { result ≡ mask_l (map (λ x. not (eqb x self.now.b)) v.entry) }
+    {
+        v.simd_ne(Simd::splat(self.b)).to_bitmask()
     }
 }

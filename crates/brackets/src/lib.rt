@@ -17,6 +17,7 @@ ghost use Rattle.brackets.specs.Stack.{line_at, Listed, opened_by};
 mod turns;
 
 use basics::{is_closer, is_opener};
+use blocks::bytes::Passing;
 use blocks::lanes;
 use rules::class_byte::CODE;
 use turns::{Turns, may_turn};
@@ -26,7 +27,7 @@ pub const ENTRY: usize = 3;
 
 // How many brackets are open, how many of them added a level, and the number of the source line that is read. The stack
 // itself lies in scratch.
-#[derive(Clone, Copy)]
+#[derive(Clone, Copy, Default)]
 pub struct Nesting {
     pub depth: usize,
     pub levels: usize,
@@ -159,7 +160,11 @@ fn idle_to(line: &[u8], at: usize) -> usize
     requires { at ≤ length line.now }
     ensures { NoneFrom (turns_at line.now) at (length line.now) result }
 {
-    lanes::first(&Turns { line }, at, line.len())
+    let turns = Passing {
+        bytes: line,
+        test: Turns,
+    };
+    lanes::first(&turns, at, line.len())
 }
 
 // A byte c of class k.
@@ -249,6 +254,8 @@ pub fn scan_brackets(
 }
 
 // The same of a line that stands in scratch itself, n bytes from line_at on: one that was respaced.
+// Apart from the line step, which seldom needs it.
+#[inline(never)]
 pub fn scan_brackets_at(
     scratch: &mut [u8],
     line_at: usize,

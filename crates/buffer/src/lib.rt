@@ -1,7 +1,7 @@
 // Writing into lent buffers. An output may be too short: what fits is written, and the whole length is given.
 #![tactic(auto)]
 
-ghost use Rattle.std.specs.Prelude.{◌≡◌, ◌+◌, ◌≤◌, ◌<◌, ◌^◌, min, ◌++◌, length, replicate};
+ghost use Rattle.std.specs.Prelude.{◌≡◌, ◌+◌, ◌≤◌, ◌<◌, ◌^◌, ◌++◌, length, replicate};
 ghost use Rattle.buffer.specs.Buffer.{Wrote, Appended, Finishes, AllAre};
 ghost use Rattle.buffer.specs.Copy.{Copies};
 ghost use Rattle.buffer.specs.Pad.{spelled};
@@ -21,14 +21,7 @@ pub fn fill(s: &mut [u8], b: u8)
 pub fn zero(s: &mut [u8])
     ensures { s.new ≡ replicate (length s.old) 0 }
 {
-    s.fill(0);
-}
-
-// The place in a buffer of n bytes that a text of length at has reached: at, or n where the text is longer.
-pub fn place(at: usize, n: usize) -> usize
-    ensures { result ≡ min at n }
-{
-    at.min(n)
+    fill(s, 0);
 }
 
 // Copies W bytes from `at` on. All are read before one is written, so that it is one load and one store.
@@ -48,11 +41,8 @@ fn copy_long(out: &mut [u8], line: &[u8], n: usize)
     ensures { Copies out.old out.new line.now 0 n }
 {
     let last = n - 16;
-    let mut i = 0;
-    // kept: a range is no plainer, since a step takes 16 bytes at once, and the last block may overlap
-    while i < last {
+    for i in (0..last).step_by(16) {
         copy_block::<16>(out, line, i);
-        i += 16;
     }
     copy_block::<16>(out, line, last);
 }

@@ -16,6 +16,9 @@ use line::style::Style;
 use options::FormatOptions;
 use rules::{FinalNewline, Formatted, LineEnding, Refusal};
 
+// kept: `WellFormed source.now` stays a clause: a host lends bytes, and `answer::test_bytes` tells by vectors that they
+// are well-formed, without a `&str`. `from_utf8` would read all of them once more, and its unchecked form is unsafe
+
 // The ending that the text's lines get: set, or the one that most of the source's lines have.
 #[tactic(auto, using(crate::proofs::CallLaws::ending_made))]
 pub fn ending_of(end_of_line: Option<LineEnding>, source: &[u8]) -> LineEnding
@@ -39,6 +42,8 @@ pub fn has_last_ending(newline: FinalNewline, source: &[u8]) -> bool
 }
 
 // What the options ask of each line, with the ending that the text's lines get.
+// kept: the bound of the ruler stays a clause, here, in `format_with` and in check_call: `FormatOptions` can't hold it,
+// since a host may set any ruler before `test`, and a struct of both would be taken apart in each of the three
 pub fn style_of(options: FormatOptions, ending: LineEnding) -> Style
     requires { options.ruler_tab ≤ max_ruler }
     ensures { result ≡ style_of options ending }

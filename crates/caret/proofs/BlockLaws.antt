@@ -74,9 +74,6 @@ module _ (p : ℕ → Bool) (s : List ℕ) (at : ℕ) where
       low : (high || ltb 127 b) ≡ false → get_or s (at + k) 0 < 0x80
       low e = let l = ltb-false 127 b (neither_right high (ltb 127 b) e) in omega arith
 
-  pub block_none : BlockAt p s at None
-  block_none = record { few = λ n e. absurd (cc); fits = λ n e. absurd (cc); counted = λ n e. absurd (cc) }
-
 -- ---- the scans, a block further
 
 module _ (p : ℕ → Bool) (s : List ℕ) (i : ℕ) where

@@ -66,5 +66,5 @@ pub fn count_block<T: CharTest>(s: &[u8], at: usize) -> Option<u8>
         high |= 127 < b;
         n += u8::from(T::passes(b));
     }
-    if high { None } else { Some(n) }
+    (!high).then_some(n)
 }

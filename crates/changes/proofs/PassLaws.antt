@@ -239,9 +239,6 @@ module _ (s : List ℕ) (i : ℕ) (t : List ℕ) (j : ℕ) where
   rest : (l : List ℕ) (k : ℕ) → take (length l - k) (drop k l) ≡ drop k l
   rest l k = take_all (length l - k) (drop k l) (omega (arith, length-drop k l))
 
-  pub block_none : BlockPassed s i t j None
-  block_none = record { some = λ n e. absurd (cc) }
-
   pub block_some : (r : ℕ) (any : Bool) → i ≤ length s → j ≤ length t → 16 ≤ length s - i → 16 ≤ length t - j
       → NoneAmong (differ_at (take (length s - i) (drop i s)) (take (length t - j) (drop j t))) 0 16 any → any ≡ false → LastKept s i r → (r ≡ 0 → ⊥) → BlockPassed s i t j (Some r)
   block_some r any h k a b q e v f =

@@ -80,6 +80,9 @@ fn last_kept(s: &[u8], at: usize) -> u8
     n
 }
 
+// kept: a place in each text, here and in the next, and no slices from there on: the definitions say by places how far both
+// are the same, and each law of a caller would have to lead from the rest of a text back to it
+
 // How many of the next 16 bytes are the same in both, up to and with a kept one; None if they differ, or none is kept.
 #[tactic(auto, using(crate::proofs::PassLaws::block_some))]
 fn same_block(source: &[u8], i: usize, text: &[u8], j: usize) -> Option<usize>
@@ -103,7 +106,7 @@ fn same_run(source: &[u8], i: usize, text: &[u8], j: usize) -> usize
     ensures { Passed source.now i text.now j result }
 {
     let mut k = 0;
-    // kept: a range is no plainer, since a step takes a block up to its last kept byte
+    // kept: how far a step goes is what `same_block` finds, 1 to 16 bytes, which neither a range nor `chunks` gives
     while let Some(n) = same_block(source, i + k, text, j + k) {
         k += n;
     }
@@ -120,7 +123,8 @@ pub fn write_changes(source: &[u8], text: &[u8], list: &mut [u64]) -> usize
     let mut j = 0;
     let mut a = gaps::gap_end(source, 0);
     let mut b = gaps::gap_end(text, 0);
-    // kept: a range is no plainer, since a step takes a gap and the run behind it, in two texts
+    // kept: the next places are what `gap_end` and `same_run` find in each of two texts, of two lengths: no range gives
+    // them, and an iterator of our own would hold the same four places
     loop {
         n = note_gap(
             source,

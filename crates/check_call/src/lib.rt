@@ -59,10 +59,7 @@ impl From<Result<Finding, Refusal>> for CheckAnswer {
 fn equals(source: &[u8], cell: &[u8], n: usize) -> bool
     ensures { Compares source.now cell.now n result }
 {
-    if n == source.len() {
-        return compare::begins(source, cell, n);
-    }
-    false
+    n == source.len() && compare::begins(source, cell, n)
 }
 
 // The lines of the source, compared with it, and the finish.

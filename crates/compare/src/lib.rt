@@ -14,8 +14,9 @@ ghost use Rattle.compare.specs.Rows.{ending_of, written};
 
 pub mod ending;
 
+use blocks::bytes::Passing;
 use blocks::lanes;
-use blocks::others::Others;
+use blocks::others::Other;
 use buffer::pad::Pad;
 use ending::{ending_bytes, ending_len};
 use rules::LineEnding;
@@ -27,6 +28,8 @@ pub const CELL: usize = 3;
 const BLOCK: usize = 32;
 
 // Past the blocks of 16 bytes that agree, of the n that both have.
+// kept: (model, line, n), here, in the next two and in `alike`: tried as one closure and one function with its blocks:
+// one or two instructions more a comparison
 #[tactic(auto, using(crate::proofs::CommonLaws::agreeing_blocks))]
 fn agree_blocks(model: &[u8], line: &[u8], n: usize) -> usize
     requires { n ≡ min (length line.now) (length model.now) }
@@ -83,7 +86,11 @@ fn run_alike(model: &[u8], b: u8, n: usize) -> bool
     requires { 16 ≤ length model.now }
     ensures { StartsAlike model.now (replicate n b) result }
 {
-    n <= model.len() && n <= lanes::first_in::<16, _>(&Others { bytes: model, b }, 0, n.max(16))
+    let others = Passing {
+        bytes: model,
+        test: Other { b },
+    };
+    n <= model.len() && n <= lanes::first_in::<16, _>(&others, 0, n.max(16))
 }
 
 // Whether the model starts with the indent, levels times over. It is told where that is of one kind of byte, and the
@@ -100,10 +107,7 @@ fn pad_alike(model: &[u8], pad: Pad<'_>) -> bool
         return false;
     }
     let b = pad.indent[0];
-    if buffer::all_are(pad.indent, b) {
-        return run_alike(model, b, n);
-    }
-    false
+    buffer::all_are(pad.indent, b) && run_alike(model, b, n)
 }
 
 // The same of the indent, levels times over; no more turns than the model has bytes.
@@ -125,6 +129,8 @@ fn agree_levels(model: &[u8], pad: Pad<'_>) -> usize
     at
 }
 
+// The number kept.
+// kept: tried as `from_le_bytes` here and `to_le_bytes` in `put_cell`: two or three instructions more a comparison
 #[tactic(auto, using(crate::proofs::CellLaws::cell_read))]
 fn read_cell(cell: &[u8]) -> usize
     requires { cell_size ≤ length cell.now }
@@ -179,6 +185,7 @@ fn alike(model: &[u8], line: &[u8], n: usize) -> bool
 }
 
 // Whether the model has the line ending at the place at.
+// kept: tried as `starts_with` of `ending_bytes` here, and as a copy of them in `put_ending`: 10 → 19 instructions of both
 #[tactic(auto, unfolding(rules::specs::Lines::as_str))]
 fn ending_alike(model: &[u8], at: usize, ending: Option<LineEnding>) -> bool
     requires { at + length (ending_of ending) ≤ length model.now }
@@ -244,10 +251,9 @@ fn line_alike(
     if model.len() < next || cell.len() < CELL || read_cell(cell) < next {
         return false;
     }
-    if ending_alike(model, at, ending) && pad_alike(&model[start..], pad) {
-        return alike(&model[from..], line, line.len());
-    }
-    false
+    ending_alike(model, at, ending)
+        && pad_alike(&model[start..], pad)
+        && alike(&model[from..], line, line.len())
 }
 
 // Compares the line ending, the indent and the line.
@@ -281,6 +287,7 @@ fn put_run(out: &mut [u8], at: usize, n: usize, b: u8)
 }
 
 // Writes a line ending, for which there is room.
+// kept: a copy of `ending_bytes` is slower, as `ending_alike` says
 #[tactic(auto, unfolding(rules::specs::Lines::as_str))]
 fn put_ending(out: &mut [u8], at: usize, ending: Option<LineEnding>)
     requires { at + length (ending_of ending) ≤ length out.old }
@@ -378,8 +385,6 @@ pub fn append_indented(model: &[u8], out: &mut [u8], at: usize, pad: Pad<'_>, li
 // The same with a line ending before it, if there is one.
 // kept: (ending, pad, line) as three parameters: tried as one struct, which goes through memory: 2.2 to 7.2 % more
 // instructions of a call (declarations 4.5 %, deep nesting 7.2 %)
-// kept: the ending as an `Option`: tried as its bytes, a slice: 1.1 % more instructions to 2.4 % fewer, more in half of
-// the inputs (wide operator lines 1.0 %, grammar 0.5 %), so no faster, and what is told of it needs at most two bytes
 pub fn append_line(
     model: &[u8],
     out: &mut [u8],

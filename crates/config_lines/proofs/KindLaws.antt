@@ -1,5 +1,5 @@
 -- The kind of a line, told by its bytes.
---     skip_empty, skip_first, skip_not     the tests of `is_skipped`
+--     skip_first, skip_not     the tests of `is_skipped`
 --     header_short, header_first, header_last, header_is     those of `name_in`
 --     kind_skipped, kind_header, kind_pair, kind_other     those of `kind_of`
 use Rattle.std.specs.Prelude.{Some, None}
@@ -68,10 +68,6 @@ header_is s h e l =
 
 abbrev pub skipped : List ℕ → Bool
 skipped s = is_empty s || is_comment s
-
-pub skip_empty : (s : List ℕ) → length s < 1 → true ≡ skipped s
-skip_empty [] h = refl
-skip_empty (c ∷ s) h = absurd (omega arith)
 
 pub skip_first : (s : List ℕ) → 1 ≤ length s → (get_or s 0 0 ≡ 59) ⊎ (get_or s 0 0 ≡ 35) → true ≡ skipped s
 unfolding is_comment first_is

@@ -3,14 +3,21 @@
 --     nearest_is, above_..., unslashed_...
 --     resolved_all  the values of texts outward; relatives_of     the paths of the levels, by characters
 use Rattle.std.specs.Prelude.{Option, Some, None}
-use Prim.Native.Nat.{ℕ, suc, ◌+◌, ◌-◌, ◌≤◌, ◌<◌}
+use Rattle.std.specs.Option.{MatchOption, IsSomeAnd}
+use Rattle.std.specs.Fn.{Called, Mut}
+use Rattle.std.specs.List.{FoldsTo, push}
+use Rattle.std.specs.Iterator.{Yields, FindsPositionBack}
+use Rattle.std.specs.Slice.Iter.{iter_rest, iter_steps_back}
+use Rattle.std.proofs.Common.{Iter, eqb}
+use Rattle.std.proofs.lemmas.List.{length_push, same_from_push}
+use Prim.Native.Nat.{ℕ, zero, suc, ◌+◌, ◌-◌, ◌≤◌, ◌<◌}
 use mathlib.Core.Bool.{Bool, true, false}
 use mathlib.Core.List.{List, [], ◌∷◌, ◌++◌, map, append_assoc, append-nil}
 use mathlib.Core.Path.{◌≡◌, refl, sym, ap, ◌∙◌}
 use native.Mathlib.Omega.{arith}
-use borrow.Author.Tests.{ne_eqb, eq-eqb}
+use borrow.Author.Tests.{ne_eqb, eq-eqb, eqb-true, eqb-false}
 use lib.ListN.{length, take, drop, get_or}
-use lib.Seq.{drop-cons, take-suc, take-length, drop-length}
+use lib.Seq.{drop-cons, take-suc, take-length, drop-length, length-take-le}
 use Rattle.utf8.specs.Unicode.{Scalars, chars, encode_char, encode, decode, WellFormed}
 use Rattle.utf8.proofs.Table.{High, none, also, Bytes, single, several, bytes}
 use Rattle.utf8.proofs.Tests.{by_test}
@@ -116,6 +123,69 @@ module _ (p : List ℕ) (e i : ℕ) (w : LevelScan p e i) (f : e ≤ length p) w
         at = record { fits = omega arith; well = v };
         is = w.is ∙ ap (outward p) z ∙ outward_none p ∙ ap (λ (l : Rels). p ∷ l) (sym (choose_true _ _ _ (eq-eqb 0 0 refl)));
       }
+
+-- a search for a slash from the end of the first e bytes
+module _ {F : Type 0} (g : Mut F (Bor ℕ × Unit {0}) Bool)
+    (tells : (f : F) (x : Bor ℕ) (b : Bool) (f' : F) → Called g f (x, tt) b f' → b ≡ eqb x.now 47) (p : List ℕ)
+  where
+    -- what comes off the back of the first i bytes
+    abbrev Off : ℕ → List ℕ → ℕ → Type 0
+    Off i l x = (0 < i) × (l ≡ take (i - 1) p) × (x ≡ get_or p (i - 1) 0)
+
+    back_one : (i : ℕ) (l : List ℕ) (x : ℕ) → i ≤ length p → take i p ≡ push l x → Off i l x
+    back_one zero l x h e =
+        let a : length (push l x) ≡ length l + 1 = length_push l x in
+        let b : 0 ≡ length (push l x) = ap length e in
+        absurd (omega arith)
+    back_one (suc j) l x h e =
+        let z : suc j - 1 ≡ j = omega arith in
+        let q : take j p ++ (get_or p j 0 ∷ []) ≡ push l x = sym (take-suc p j 0 (omega arith)) ∙ e in
+        let t : (take j p ≡ l) × (get_or p j 0 ≡ x) = same_from_push (take j p) l (get_or p j 0) x q in
+        rw z (omega arith, sym t.0, sym t.1)
+
+    module _ (e : ℕ) (f : e ≤ length p) where
+      scan_back : (xs : List (Bor ℕ)) (s t : Iter ℕ) (k k' : F) (i : ℕ) → Yields iter_steps_back s xs t
+          → FoldsTo (λ q x r. Called g q (x, tt) false r) k xs k' → iter_rest s ≡ take i p → LevelScan p e i
+          → (length xs ≤ i) × (iter_rest t ≡ take (i - length xs) p) × LevelScan p e (i - length xs)
+      scan_back [] s t k k' i y c q w =
+          let z : i - 0 ≡ i = omega arith in
+          rw z (omega arith, sym (ap (λ (a : Iter ℕ). iter_rest a) y) ∙ q, w)
+      scan_back (x ∷ xs) s t k k' i y c q w =
+          let l = iter_rest y.0 in
+          let b : Off i l x.now = back_one i l x.now (omega (arith, w.bound)) (sym q ∙ y.1) in
+          let a : get_or p (i - 1) 0 ≡ 47 → ⊥ = λ z. eqb-false x.now 47 (sym (tells k x false c.0 c.1)) (b.2 ∙ z) in
+          let r = scan_back xs y.0 t c.0 k' (i - 1) y.2 c.2 b.1 (scan_more p e i w f b.0 a) in
+          let z : i - suc (length xs) ≡ i - 1 - length xs = omega arith in
+          rw z (omega (arith, b.0, r.0), r.1, r.2)
+
+      pub level_back : WellFormed p → (s u : Iter ℕ) (k : F) (r : Option ℕ) (n m : ℕ) → iter_rest s ≡ take e p → m ≡ e
+          → FindsPositionBack iter_steps_back g s k m r u → (P : ℕ → Type 0) → MatchOption r (n ≡ 0) P
+          → ((i : ℕ) → P i → n ≡ i + 1) → LevelFrom p e n
+      level_back v s u k r n m q z d P h plus = last d.1 d.3.2 d.5
+        where
+          i : ℕ
+          i = e - length d.0
+
+          found : (length d.0 ≤ e) × (iter_rest d.3.0 ≡ take i p) × LevelScan p e i
+          found = scan_back d.0 s d.3.0 k d.2 e d.3.1 d.4 q (record { bound = omega arith; is = refl })
+
+          behind : (r : Option ℕ) → IsSomeAnd r (λ j. j + 1 + length d.0 ≡ m) → MatchOption r (n ≡ 0) P → n ≡ i
+          behind None a b = absurd a
+          behind (Some j) a b = omega (arith, a, plus j b, z)
+
+          last : (o : Option (Bor ℕ)) → iter_steps_back d.3.0 o u
+              → MatchOption o (r ≡ None)
+              (λ x. IsSomeAnd r (λ j. j + 1 + length d.0 ≡ m) × ((h : F) × Called g d.2 (x, tt) true h))
+              → LevelFrom p e n
+          last None a b =
+              let l : length (take i p) ≡ i = length-take-le i p (omega arith) in
+              let y : length (take i p) ≡ 0 = sym (ap length found.1) ∙ a.0 in
+              rw (rw b at h) (scan_end p e i found.2 f v (omega arith))
+          last (Some x) a b =
+              let l = iter_rest u in
+              let t : Off i l x.now = back_one i l x.now (omega arith) (sym found.1 ∙ a) in
+              let y : n ≡ i - 1 + 1 = behind r b.0 h ∙ omega (arith, t.0) in
+              rw y (scan_found p e i found.2 f v t.0 (sym t.2 ∙ eqb-true x.now 47 (sym (tells d.2 x true b.1.0 b.1.1))))
 
 -- ---- levels
 

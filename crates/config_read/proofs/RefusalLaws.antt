@@ -145,19 +145,6 @@ over_no k t ts h =
     (λ e. lt-ltb k (worst (t ∷ ts)) (omega (arith, worst_cons t ts, ltb-true k (worst ts) e)) ∙ sym e)
     (λ e. le-ltb k (worst (t ∷ ts)) (omega (arith, worst_cons t ts, ltb-false k (worst ts) e)) ∙ sym e)
 
-rank_top : (t : List ℕ) → rank_of t ≤ 3
-rank_top t = go (ranked t)
-  where
-    go : Ranked t → rank_of t ≤ 3
-    go (long a r) = omega arith
-    go (ill a b r) = omega arith
-    go (name a b c r) = omega arith
-    go (fine a b c r) = omega arith
-
-worst_top : (ts : Texts) → worst ts ≤ 3
-worst_top [] = omega (arith, worst_nil)
-worst_top (t ∷ ts) = omega (arith, worst_cons t ts, rank_top t, worst_top ts)
-
 any_long : (ts : Texts) → any_of too_long ts ≡ over 2 ts
 any_long [] = any_nil too_long ∙ sym (le-ltb 2 (worst []) (omega (arith, worst_nil)))
 any_long (t ∷ ts) = go (ranked t) (any_long ts)

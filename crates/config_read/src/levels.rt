@@ -24,12 +24,7 @@ fn level_from(p: &[u8], e: usize) -> usize
     requires e_in_bounds { e ≤ length p.now }
     ensures { LevelFrom p.now e result }
 {
-    for i in (0..e).rev() {
-        if p[i] == b'/' {
-            return i + 1;
-        }
-    }
-    0
+    p[..e].iter().rposition(|c| *c == b'/').map_or(0, |i| i + 1)
 }
 
 // Where the path relative to the file's own directory starts.

@@ -42,7 +42,7 @@ impl ConfigRefusal {
 // What reading comes to, in numbers for a host: those that `wirescript_editorconfig` takes. Where a value is unset, the
 // tab width or off, its number is 0.
 #[repr(C)]
-#[derive(Clone, Copy)]
+#[derive(Clone, Copy, Default)]
 pub struct ConfigAnswer {
     pub refusal: u64,
     pub place: u64,

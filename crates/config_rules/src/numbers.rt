@@ -86,16 +86,7 @@ impl From<Result<Resolved, ConfigRefusal>> for ConfigAnswer {
             }
             Err(why) => ConfigAnswer {
                 refusal: why.number(),
-                place: 0,
-                style: 0,
-                size_kind: 0,
-                size: 0,
-                tab_set: 0,
-                tab: 0,
-                max_kind: 0,
-                max: 0,
-                ending: 0,
-                newline: 0,
+                ..ConfigAnswer::default()
             },
         }
     }

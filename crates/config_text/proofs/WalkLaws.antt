@@ -1,29 +1,31 @@
 -- The walk over the lines of a text.
---     unmarked_mark, unmarked_other, unmarked_empty     where the lines start
+--     unmarked_strip                                    where the lines start
 --     line_well, next_step, next_goes                   one line, and those after it
 --     Names, Root, Setting                              the invariants of the three walks
 use Rattle.std.specs.Prelude.{Option, Some, None}
 use denote.Ref.{Bor}
 use Prim.Native.Nat.{ℕ, suc, ◌+◌, ◌-◌, ◌≤◌, ◌<◌}
 use mathlib.Core.Bool.{Bool, true, false, ◌||◌, or-false}
-use mathlib.Core.List.{List, [], ◌∷◌, map}
-use mathlib.Core.Logic.{◌⊎◌, inl, inr, ⊎_elim}
+use mathlib.Core.List.{List, [], ◌∷◌, ◌++◌, map}
+use mathlib.Core.Logic.{◌⊎◌, inl, inr, ⊎_elim, ◌≢◌}
 use mathlib.Core.Path.{◌≡◌, refl, sym, ap, ◌∙◌}
 use native.Mathlib.Nat.{zero-add}
 use native.Mathlib.Numerals.{add-one}
 use native.Mathlib.Omega.{arith}
 use Rattle.std.specs.Slice.{IsGetRangeResult}
 use Rattle.std.specs.Fn.{Called, Mut}
-use Rattle.std.specs.Option.{MatchOption}
+use Rattle.std.specs.Option.{MatchOption, unwrap_or}
 use Rattle.std.specs.Iterator.{Yields, ChecksAny}
 use Rattle.std.specs.List.{FoldsTo}
 use borrow.Author.Tests.{eq-eqb, ne_eqb, eqb-true}
 use lib.ListN.{length, take, drop, get_or}
 use lib.Seq.{take_all}
-use Rattle.utf8.specs.Unicode.{chars, code_at, encode, decode, WellFormed, trim}
+use Rattle.utf8.specs.Unicode.{tail, second, seq_len, code_of, seq_at, chars, code_at, encode_char, encode, decode}
+use Rattle.utf8.specs.Unicode.{WellFormed, trim}
 use Rattle.utf8.specs.Places.{Step}
 use Rattle.utf8.proofs.Tests.{split, neither_left, neither_right}
 use Rattle.utf8.proofs.Decode.{encode_nil, decode_scalars, decode_encode}
+use Rattle.utf8.proofs.TrimScan.{first_char}
 use Rattle.utf8.proofs.Cut.{AsciiCut, ascii_cut}
 use Rattle.buffer.proofs.RegionLaws.{part_from}
 use Rattle.rules.specs.Basics.{is, first_is, Pieces, pieces, at_sep, split_on}
@@ -54,7 +56,7 @@ well_nil : WellFormed []
 well_nil = rw decode_nil encode_nil
 
 module _ (text : List ℕ) (w : WellFormed text) where
-  pub unmarked_empty : length text ≡ 0 → Unmarked text text
+  unmarked_empty : length text ≡ 0 → Unmarked text text
   unfolding without_bom first_is
   unmarked_empty e = go text e
     where
@@ -62,22 +64,53 @@ module _ (text : List ℕ) (w : WellFormed text) where
       go [] e = record { well = well_nil; is = rw decode_nil (sym (choose_false _ _ _ refl)) }
       go (c ∷ text) e = absurd (omega arith)
 
-  module _ (c : ℕ) (q : c ≡ code_at (drop 0 text)) where
-    text_is : (n : ℕ) → Step text 0 n → decode text ≡ c ∷ decode (drop n text)
-    text_is n s = s.chars ∙ rw (← q, zero-add n)
+  text_is : (n : ℕ) → Step text 0 n → decode text ≡ code_at text ∷ decode (drop n text)
+  text_is n s = s.chars ∙ rw (zero-add n)
 
-    pub unmarked_mark : c ≡ 0xFEFF → (n : ℕ) → Step text 0 n → Unmarked text (take (length text - n) (drop n text))
-    unfolding without_bom first_is
-    unmarked_mark e n s =
-        rw (part_from text n)
-        (record {
-          well = rw (zero-add n) at (s.well w);
-          is = sym (rw (text_is n s) (choose_true _ _ _ (eq-eqb 0xFEFF c (sym e))));
-        })
+  other : (code_at text ≡ 0xFEFF → ⊥) → (n : ℕ) → Step text 0 n → Unmarked text text
+  unfolding without_bom first_is
+  other e n s =
+      record {
+        well = w;
+        is = sym (rw (text_is n s) (choose_false _ _ _ (ne_eqb 0xFEFF (code_at text) (λ z. e (sym z)))));
+      }
 
-    pub unmarked_other : (c ≡ 0xFEFF → ⊥) → (n : ℕ) → Step text 0 n → Unmarked text text
-    unfolding without_bom first_is
-    unmarked_other e n s = record { well = w; is = sym (rw (text_is n s) (choose_false _ _ _ (ne_eqb 0xFEFF c (λ z. e (sym z))))) }
+  marked : code_at text ≡ 0xFEFF → (n : ℕ) → Step text 0 n → Unmarked text (drop n text)
+  unfolding without_bom first_is
+  marked e n s =
+      record {
+        well = rw (zero-add n) at (s.well w);
+        is = sym (rw (text_is n s) (choose_true _ _ _ (eq-eqb 0xFEFF (code_at text) (sym e))));
+      }
+
+-- U+FEFF in UTF-8
+abbrev pub mark : List ℕ
+mark = 239 ∷ 187 ∷ 191 ∷ []
+
+unmarked_mark : (text rest : List ℕ) → WellFormed text → text ≡ mark ++ rest → Unmarked text rest
+unfolding code_of seq_len second tail
+unmarked_mark text rest w e =
+    let v : WellFormed (mark ++ rest) = rw e at w in
+    rw e (marked (mark ++ rest) v refl 3 (first_char (mark ++ rest) 0 (omega arith) v))
+
+unmarked_other : (text : List ℕ) → WellFormed text → ((rest : List ℕ) → text ≢ mark ++ rest) → Unmarked text text
+unfolding encode_char
+unmarked_other text w n =
+    ⊎_elim (λ (h : 0 < length text). some h) (λ (h : length text ≤ 0). unmarked_empty text w (omega arith))
+    (split 0 (length text))
+  where
+    some : 0 < length text → Unmarked text text
+    some h =
+        let t : Step text 0 (seq_at text) = first_char text 0 h w in
+        other text w (λ z. n (drop (seq_at text) text) (t.bytes ∙ rw (z, zero-add (seq_at text)))) (seq_at text) t
+
+-- the text behind the mark, or all of it
+pub unmarked_strip : (text : Bor (List ℕ)) (p : List ℕ) → WellFormed text.now → p ≡ mark → (r : Option (Bor (List ℕ)))
+    → MatchOption r ((rest : List ℕ) → text.now ≢ p ++ rest) (λ x. text.now ≡ p ++ x.now)
+    → Unmarked text.now (unwrap_or r text).now
+unmarked_strip text p w e None m =
+    unmarked_other text.now w (λ rest q. m rest (q ∙ ap (λ (l : List ℕ). l ++ rest) (sym e)))
+unmarked_strip text p w e (Some x) m = unmarked_mark text.now x.now w (m ∙ ap (λ (l : List ℕ). l ++ x.now) e)
 
 -- ---- lines by bytes and by characters
 
@@ -218,13 +251,13 @@ unfolding root_at
 root_nil root = refl
 
 root_ends : (root : Bool) (line : Option LineKind) (ls : List Line) → starts_section line ≡ true → root_at root (line_in line ∷ ls) ≡ root
-unfolding root_at line_in starts_section
+unfolding root_at line_in
 root_ends root None ls e = absurd (let z : ◌≡◌ {A = ℕ} 0 1 = cc in omega arith)
 root_ends root (Some (LineKind.Header name)) ls e = refl
 root_ends root (Some (LineKind.Pair k v)) ls e = absurd (let z : ◌≡◌ {A = ℕ} 0 1 = cc in omega arith)
 
 root_goes : (root : Bool) (line : Option LineKind) (ls : List Line) → starts_section line ≡ false → root_at root (line_in line ∷ ls) ≡ root_at (root_after root (line_in line)) ls
-unfolding root_at root_after line_in starts_section
+unfolding root_at root_after line_in
 root_goes root None ls e = refl
 root_goes root (Some (LineKind.Header name)) ls e = absurd (let z : ◌≡◌ {A = ℕ} 0 1 = cc in omega arith)
 root_goes root (Some (LineKind.Pair k v)) ls e = refl

@@ -11,6 +11,8 @@ use glob_match::glob_matches;
 use rules::Resolved;
 
 // A header whose name is too long.
+// kept: the new form is no plainer: what `Parts` says here and below in one word would take a struct with a ghost field
+// for each variant of `LineKind`
 #[tactic(auto, unfolding(config_lines::specs::Kinds::line_in, config_rules::specs::Sections::long_name))]
 pub fn is_long(line: Option<LineKind<'_>>) -> bool
     requires { Parts line }

@@ -36,14 +36,7 @@ fn unmarked(text: &[u8]) -> &[u8]
     requires { WellFormed text.now }
     ensures { Unmarked text.now result.now }
 {
-    if text.is_empty() {
-        return text;
-    }
-    let n = utf8::size_at(text, 0);
-    if utf8::code_at(text, 0) == 0xFEFF {
-        return &text[n..];
-    }
-    text
+    text.strip_prefix("\u{FEFF}".as_bytes()).unwrap_or(text)
 }
 
 impl<'a> Lines<'a> {

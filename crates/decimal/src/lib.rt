@@ -11,7 +11,7 @@ fn spell(room: &mut [u8], n: u64) -> usize
 {
     let mut i = room.len();
     let mut rest = n;
-    // kept: the loop divides until one digit is left; it counts no index
+    // kept: a range is no plainer, since the digits end before the room may: a `for` would need a value for its end
     while 10 <= rest {
         i -= 1;
         room[i] = b'0' + (rest % 10) as u8;

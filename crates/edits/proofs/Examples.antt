@@ -8,7 +8,7 @@ use Rattle.rules.specs.Strengths.{built_in}
 use Rattle.rules.specs.Choices.{default_numbers}
 use Rattle.rules.specs.Call.{Call, format_call}
 use Rattle.rules.specs.declared.Refusal.{Refusal}
-use Rattle.std.specs.Prelude.{Ok, Err}
+use Rattle.std.specs.Prelude.{Err}
 use Rattle.caret.proofs.Examples as caretExamples
 use Rattle.changes.proofs.Examples as changesExamples
 use Rattle.edits.specs.CaretCall.{caret_verdict, caret_in, caret_answer}

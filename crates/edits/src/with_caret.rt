@@ -17,7 +17,7 @@ pub struct WithCaret {
 
 // The answer of a formatting call, with the caret's line and column in the text.
 #[repr(C)]
-#[derive(Clone, Copy)]
+#[derive(Clone, Copy, Default)]
 pub struct CaretAnswer {
     pub refusal: u64,
     pub place: u64,
@@ -45,11 +45,7 @@ impl From<Result<WithCaret, Refusal>> for CaretAnswer {
             Err(why) => CaretAnswer {
                 refusal: why.number(),
                 place: why.place(),
-                length: 0,
-                imports_split: 0,
-                blank_names: 0,
-                line: 0,
-                column: 0,
+                ..CaretAnswer::default()
             },
         }
     }

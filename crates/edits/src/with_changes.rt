@@ -17,7 +17,7 @@ pub struct WithChanges {
 
 // The answer of a formatting call, with the number of changes.
 #[repr(C)]
-#[derive(Clone, Copy)]
+#[derive(Clone, Copy, Default)]
 pub struct ChangesAnswer {
     pub refusal: u64,
     pub place: u64,
@@ -43,10 +43,7 @@ impl From<Result<WithChanges, Refusal>> for ChangesAnswer {
             Err(why) => ChangesAnswer {
                 refusal: why.number(),
                 place: why.place(),
-                length: 0,
-                imports_split: 0,
-                blank_names: 0,
-                changes: 0,
+                ..ChangesAnswer::default()
             },
         }
     }

@@ -15,8 +15,7 @@ use Rattle.rules.specs.Else.{starts_if, white_or_brace, is_plain_else, joinable}
 use Rattle.rules.proofs.Leading.{last_at}
 use Rattle.rules.proofs.StartsBytes.{on_decode, steady_is, steady_not, steady_ident, starts_encode, starts_length, starts_column, empty_encode, then_encode, last_encode}
 use Rattle.format.specs.Words.{white_or}
-use Rattle.format.specs.Else.{if_word, plain_rest, Facts}
-use Rattle.format.proofs.StartsLaws.{then_no, then_end, then_next}
+use Rattle.format.specs.Else.{plain_rest, Facts}
 use Rattle.format.proofs.WordLaws.{first_white, on_bytes}
 
 -- the first r of l are r
@@ -42,28 +41,12 @@ brace_other s h n = sym (ne_eqb _ _ n) ∙ last_at (is "}") s (λ z. absurd (ome
 -- ---- `if`
 
 module _ (s : List ℕ) where
-  pub if_no : (r : Bool) → r ≡ starts_with s (codes "if") → r ≡ false → false ≡ if_word s
-  unfolding if_word
-  if_no r e q = then_no s (codes "if") _ true (sym e ∙ q)
-
-  pub if_end : (r : Bool) → r ≡ starts_with s (codes "if") → r ≡ true → length s ≤ 2 → true ≡ if_word s
-  unfolding if_word
-  if_end r e q h = then_end s (codes "if") _ true (sym e ∙ q) h
-
-  if_next : (r : Bool) → r ≡ starts_with s (codes "if") → r ≡ true → 2 < length s → not (is_ident (get_or s 2 0)) ≡ if_word s
-  unfolding if_word
-  if_next r e q h = then_next s (codes "if") (λ c. not (is_ident c)) true (sym e ∙ q) h
-
-  pub if_after : (r i : Bool) → r ≡ starts_with s (codes "if") → r ≡ true → 2 < length s → i ≡ is_ident (get_or s 2 0) → not i ≡ if_word s
-  if_after r i e q h f = ap not f ∙ if_next r e q h
-
-module _ (s : List ℕ) where
   pub no_white : (r : Bool) → r ≡ first_is_white (decode s) → r ≡ false → false ≡ starts_if (decode s)
   unfolding starts_if
   no_white r e q = rw (first_white (decode s), ← e, q)
 
-  pub white_if : (r b : Bool) (a : ℕ) → r ≡ first_is_white (decode s) → r ≡ true → TrimmedStart s a → b ≡ if_word (take (length s - a) (drop a s)) → b ≡ starts_if (decode s)
-  unfolding starts_if if_word
+  pub white_if : (r b : Bool) (a : ℕ) → r ≡ first_is_white (decode s) → r ≡ true → TrimmedStart s a → b ≡ starts_then (codes "if") (λ c. not (is_ident c)) true (take (length s - a) (drop a s)) → b ≡ starts_if (decode s)
+  unfolding starts_if
   white_if r b a e q t f =
       f ∙ rw part_from
       (on_decode (starts_then (codes "if") (λ c. not (is_ident c)) true) (starts_then (codes "if") (λ c. not (is_ident c)) true)

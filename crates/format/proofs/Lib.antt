@@ -1,5 +1,4 @@
 -- The laws that this crate's proofs and the crates above share.
-pub mod StartsLaws
 pub mod BoolPicks
 pub mod WordLaws
 pub mod ElseLaws

@@ -1,14 +1,10 @@
 -- A plain `else`, as the code finds it, and the facts of a line.
-use Rattle.std.specs.Prelude.{ℕ, Bool, true, not, ◌&&◌, ◌||◌, List, ◌≡◌}
+use Rattle.std.specs.Prelude.{ℕ, Bool, not, ◌&&◌, ◌||◌, List, ◌≡◌}
 use Rattle.utf8.specs.Unicode.{decode, trim_start, trim_end}
 use Rattle.utf8.specs.Places.{TrimmedEnd}
-use Rattle.rules.specs.Basics.{is, codes, at, is_empty, is_ident, first_is, last_is, starts_then}
+use Rattle.rules.specs.Basics.{is, at, is_empty, first_is, last_is}
 use Rattle.rules.specs.Else.{starts_if, white_or_brace}
 use Rattle.format.specs.declared.else_line.LineFacts.{LineFacts}
-
--- the word `if` comes first
-unfoldable pub if_word : List ℕ → Bool
-if_word text = starts_then (codes "if") (λ c. not (is_ident c)) true text
 
 -- what follows the `else` of a plain one
 unfoldable pub plain_rest : List ℕ → Bool

@@ -3,24 +3,17 @@ ghost use Rattle.std.specs.Prelude.{◌≡◌};
 ghost use Rattle.utf8.specs.Unicode.{decode, trim_end, WellFormed};
 ghost use Rattle.rules.specs.Basics.{is, last_is};
 ghost use Rattle.rules.specs.Else.{starts_if, is_plain_else, joinable};
-ghost use Rattle.format.specs.Else.{if_word, plain_rest, Facts};
+ghost use Rattle.format.specs.Else.{plain_rest, Facts};
 
 use crate::words::starts_white_or;
-use basics::{is_ident, starts_with};
-
-// The word `if`: no ASCII letter, digit or underscore follows.
-fn starts_with_if(text: &[u8]) -> bool
-    ensures { result ≡ if_word text.now }
-{
-    starts_with(text, b"if") && (text.len() <= 2 || !is_ident(text[2]))
-}
+use basics::{starts_with, starts_with_keyword};
 
 // White space and the word `if` follow an `else`.
 fn starts_if(rest: &[u8]) -> bool
     requires { WellFormed rest.now }
     ensures { result ≡ starts_if (decode rest.now) }
 {
-    utf8::first_is_white(rest) && starts_with_if(&rest[utf8::trim_start(rest)..])
+    utf8::first_is_white(rest) && starts_with_keyword(&rest[utf8::trim_start(rest)..], b"if")
 }
 
 // What follows makes an `else` a plain one.
@@ -47,6 +40,8 @@ pub fn ends_in_brace(line: &[u8]) -> bool
 }
 
 // Whether an `else` can be joined to a line that is trimmed at its end. Most lines do not end in `}`.
+// Part of the line step.
+#[inline(always)]
 pub fn trimmed_takes_else(line: &[u8]) -> bool
     requires well_formed { WellFormed line.now }
     requires line_value { trim_end (decode line.now) ≡ decode line.now }

@@ -8,12 +8,14 @@ use mathlib.Core.Bool.{Bool, true, false, not, not-not, ◌&&◌, ◌||◌, or-f
 use mathlib.Core.List.{List, [], ◌∷◌, ◌++◌}
 use mathlib.Core.Path.{◌≡◌, refl, sym, ap, ◌∙◌, subst}
 use Rattle.std.specs.Prelude.{Option, Some, is_some, cond}
+use Rattle.std.specs.List.{take_while}
+use Rattle.std.proofs.lemmas.List.Sums.{take_while-cons}
 use native.Mathlib.Omega.{arith}
 use borrow.Author.Tests.{ne_eqb}
 use lib.Dec.{leb, eqb}
 use lib.ListN.{length, get_or, drop}
 use Rattle.utf8.specs.Unicode.{encode, decode, WellFormed, seq_at, code_at, is_white}
-use Rattle.utf8.specs.Places.{Step, WhiteAt, taken, PastChars}
+use Rattle.utf8.specs.Places.{Step, WhiteAt, PastChars}
 use Rattle.utf8.proofs.Scan.{ascii, ascii_step, not_ascii}
 use Rattle.utf8.proofs.TrimScan.{low_white, first_char}
 use Rattle.rules.specs.Basics.{is, choose}
@@ -68,15 +70,15 @@ kept_is s i r v = sym (not-not _) ∙ ap not v.is
 
 -- ---- a gap's end
 
-gap_taken : (l : List ℕ) → taken is_unkept l ≡ gap l
-unfolding taken gap choose
+gap_taken : (l : List ℕ) → take_while is_unkept l ≡ gap l
+unfolding gap choose
 gap_taken [] = refl
-gap_taken (c ∷ l) = go (is_kept c) refl (gap_taken l)
+gap_taken (c ∷ l) = take_while-cons is_unkept c l ∙ go (is_kept c) (gap_taken l)
   where
-    go : (t : Bool) → is_kept c ≡ t → taken is_unkept l ≡ gap l
-        → cond (not t) (c ∷ taken is_unkept l) [] ≡ choose t [] (c ∷ gap l)
-    go true e r = refl
-    go false e r = ap {B = List ℕ} (λ m. c ∷ m) r
+    go : (t : Bool) → take_while is_unkept l ≡ gap l
+        → cond (not t) (c ∷ take_while is_unkept l) [] ≡ choose t [] (c ∷ gap l)
+    go true r = refl
+    go false r = ap {B = List ℕ} (λ m. c ∷ m) r
 
 pub gap_past : (s : List ℕ) (i a : ℕ) → PastChars is_unkept s i a → GapEnd s i a
 gap_past s i a q =

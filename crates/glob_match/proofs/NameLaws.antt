@@ -1,5 +1,5 @@
 -- A name: its characters, its slashes.
-use Prim.Native.Nat.{ℕ, suc, ◌+◌, ◌≤◌, ◌<◌}
+use Prim.Native.Nat.{ℕ, zero, suc, ◌+◌, ◌≤◌, ◌<◌}
 use mathlib.Core.Bool.{Bool, true, false, not, ◌||◌, true≢false}
 use mathlib.Core.List.{List, [], ◌∷◌, ◌++◌, append_assoc, append-nil}
 use mathlib.Core.Path.{◌≡◌, refl, sym, ap, ◌∙◌}
@@ -8,6 +8,7 @@ use native.Mathlib.Omega.{arith}
 use borrow.Author.Tests.{eq-eqb, ne_eqb}
 use lib.ListN.{length, drop, take, get_or, set, length-set, length-append, replicate, length-replicate, drop_of_length-le}
 use lib.Seq.{length-take-le, take-suc-set}
+use Rattle.std.specs.List.{list_any, range_with_len}
 use Rattle.utf8.specs.Unicode.{decode, WellFormed, code_at, chars}
 use Rattle.utf8.specs.Places.{Step}
 use Rattle.utf8.proofs.Tests.{by_test}
@@ -139,27 +140,18 @@ pub slash_item : (k : Kind) (j : ItemKind) (s : List ℕ) → k ≡ Kind.Item j 
 unfolding held_at
 slash_item k j s e x y z = rw e (item_no j s x y z)
 
-pub record Seeking (ks : List Kind) (cs : List ℕ) (i : ℕ) : Type 0 where
-  pub same : length ks ≡ length cs
-  pub is : has_slash (drop 1 (held ks cs)) ≡ has_slash (drop i (held ks cs))
+abbrev pub slash_in : List Kind → List ℕ → ℕ → Bool
+slash_in ks cs i = is_slash (held_at (kind_at ks i) (drop i cs))
 
-pub seeking_start : (ks : List Kind) (cs : List ℕ) → length ks ≡ length cs → Seeking ks cs 1
-seeking_start ks cs e = record { same = e; is = refl }
-
-module _ (ks : List Kind) (cs : List ℕ) (i : ℕ) (w : Seeking ks cs i) where
-  seek_here : i < length ks → has_slash (drop i (held ks cs)) ≡ (is_slash (held_at (kind_at ks i) (drop i cs)) || has_slash (drop (i + 1) (held ks cs)))
-  unfolding has_slash
-  seek_here h = rw (add-one i) (ap has_slash (held_at_law ks cs i (Kind.Item ItemKind.Plain) w.same h))
-
-  pub seeking_found : (b : Bool) → i < length ks → b ≡ is_slash (held_at (kind_at ks i) (drop i cs)) → b ≡ true → true ≡ has_slash (drop 1 (held ks cs))
-  seeking_found b h e t = sym (w.is ∙ seek_here h ∙ rw (← e, t))
-
-  pub seeking_more : (b : Bool) → i < length ks → b ≡ is_slash (held_at (kind_at ks i) (drop i cs)) → b ≡ false → Seeking ks cs (i + 1)
-  seeking_more b h e t = record { same = w.same; is = w.is ∙ seek_here h ∙ rw (← e, t) }
-
-  pub seeking_end : length ks ≤ i → false ≡ has_slash (drop 1 (held ks cs))
-  unfolding has_slash
-  seeking_end h = sym (w.is ∙ ap has_slash (drop_of_length-le (held ks cs) {i = i} (rw (length_held ks cs w.same) h)))
+-- the slashes among the n tokens from i on, which are the last
+pub slash_among : (ks : List Kind) (cs : List ℕ) → length ks ≡ length cs → (i n : ℕ) → i + n ≡ length ks
+    → list_any (slash_in ks cs) (range_with_len i n) ≡ has_slash (drop i (held ks cs))
+unfolding has_slash
+slash_among ks cs e i zero h =
+    sym (ap has_slash (drop_of_length-le (held ks cs) {i = i} (rw (length_held ks cs e) (omega (arith, h)))))
+slash_among ks cs e i (suc n) h =
+    ap (λ (b : Bool). slash_in ks cs i || b) (slash_among ks cs e (i + 1) n (omega (arith, h)))
+    ∙ sym (rw (add-one i) (ap has_slash (held_at_law ks cs i (Kind.Item ItemKind.Plain) e (omega (arith, h)))))
 
 -- ---- the whole
 

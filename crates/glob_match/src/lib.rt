@@ -11,9 +11,10 @@ ghost use Rattle.glob_pass.specs.Held.{tokens_held};
 ghost use Rattle.glob_name.specs.Read.{Spaced};
 ghost use Rattle.glob_match.specs.Match.{range_kind, RangesNext, matches_at, first_place, NameMatches};
 
+use glob_pass::code_points::SLASH;
 use glob_pass::kinds::{ItemKind, Kind};
 use glob_pass::name::Name;
-use glob_pass::{Braces, CHARS, PLACES, Side, pass};
+use glob_pass::{Braces, CHARS, PLACES, pass};
 use ranges::State;
 use utf8::{code_at, size_before};
 
@@ -44,30 +45,22 @@ fn matches_at(name: Name, path: &[u8], levels: bool) -> bool
     let mut state = State::empty();
     let mut hits = [false; PLACES];
     let mut v = [false; PLACES];
-    let mut braces = Braces {
-        sides: [Side {
-            others: false,
-            after: false,
-        }; PLACES],
-        depth: 0,
-    };
+    let mut braces = Braces::none();
     pass(name, 0, true, &hits, &mut v, &mut braces);
     let mut found = v[0];
     let mut e = path.len();
-    // kept: the new form is no plainer: characters take one to four bytes, and an own iterator from the end is longer
+    // kept: the new form is no plainer: `chars` is of a `str`, which would be tested anew, and an iterator of our own
+    // takes twenty lines, with what it gives and what is left, for the two that find a character here
     while 0 < e {
         e -= size_before(path, e);
         let c = code_at(path, e);
         ranges_next(name, &mut state, &mut hits, &v, c);
         pass(name, c, false, &hits, &mut v, &mut braces);
-        found = found | v[0];
+        found |= v[0];
     }
-    ranges_next(name, &mut state, &mut hits, &v, 47);
-    pass(name, 47, false, &hits, &mut v, &mut braces);
-    if levels {
-        return found | v[0];
-    }
-    v[0]
+    ranges_next(name, &mut state, &mut hits, &v, SLASH);
+    pass(name, SLASH, false, &hits, &mut v, &mut braces);
+    if levels { found | v[0] } else { v[0] }
 }
 
 // The same of a name whose characters are given, with a slash before them; `slash` says whether it has that one itself.
@@ -89,7 +82,7 @@ pub fn glob_matches(name: &[u8], path: &[u8]) -> bool
 {
     let mut chars = [0u32; CHARS];
     let mut kinds = [Kind::Item(ItemKind::Plain); CHARS];
-    chars[0] = 47;
+    chars[0] = SLASH;
     let slash = name::starts_with_slash(name);
     let k = first_place(slash);
     let n = name::decode_into(name, &mut chars, k);

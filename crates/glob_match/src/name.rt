@@ -7,6 +7,7 @@ ghost use Rattle.glob_pass.specs.Kinds.{held_at, held};
 ghost use Rattle.glob_match.specs.Match.{Decoded};
 
 use glob_pass::CHARS;
+use glob_pass::code_points::SLASH;
 use glob_pass::kinds::{ItemKind, Kind};
 use utf8::{code_at, size_at};
 
@@ -25,7 +26,8 @@ pub fn decode_into(name: &[u8], chars: &mut [u32; CHARS], k: usize) -> usize
 {
     let mut n = k;
     let mut i = 0;
-    // kept: the new form is no plainer: characters take one to four bytes, and an own iterator over them is longer
+    // kept: the new form is no plainer: `chars` is of a `str`, which would be tested anew, and an iterator of our own
+    // takes twenty lines, with what it gives and what is left, for the two that find a character here
     while i < name.len() {
         let m = size_at(name, i);
         chars[n] = code_at(name, i);
@@ -45,23 +47,19 @@ fn slash_at(k: Kind, chars: &[u32], i: usize) -> bool
         return false;
     };
     match item {
-        ItemKind::Plain => chars[i] == 47,
-        ItemKind::Escape => i + 1 < chars.len() && chars[i + 1] == 47,
+        ItemKind::Plain => chars[i] == SLASH,
+        ItemKind::Escape => i + 1 < chars.len() && chars[i + 1] == SLASH,
         ItemKind::Ahead => true,
         _ => false,
     }
 }
 
 // Whether one of the tokens behind the first is a slash.
-// kept: a rule of the project: a `Name` has fewer than `PLACES` characters, and a public function may not ask more
+// kept: the new form is no plainer: a `Name` has fewer than `PLACES` characters, which this may not ask of callers, and
+// a struct of the other fact alone would serve no other function
 pub fn has_slash(kinds: &[Kind], chars: &[u32]) -> bool
     requires { (length kinds.now ≡ length chars.now) × (0 < length chars.now) }
     ensures { result ≡ has_slash (drop 1 (held kinds.now chars.now)) }
 {
-    for i in 1..kinds.len() {
-        if slash_at(kinds[i], chars, i) {
-            return true;
-        }
-    }
-    false
+    (1..kinds.len()).any(|i| slash_at(kinds[i], chars, i))
 }

@@ -5,10 +5,11 @@ use mathlib.Core.List.{List, [], ◌∷◌}
 use mathlib.Core.Option.{Option as Found, none, some}
 use Rattle.std.specs.Prelude.{Option, Some, None}
 use Rattle.std.specs.Option.{MatchOption}
+use Rattle.std.specs.Bool.{then_some}
 use mathlib.Core.Path.{◌≡◌, refl, sym, ap, ◌∙◌, subst}
-use mathlib.Core.Logic.{◌⊎◌, inl, inr, ⊎_elim}
+use mathlib.Core.Logic.{⊎_elim}
 use native.Mathlib.Omega.{arith}
-use borrow.Author.Tests.{ne_eqb, lt-ltb, le-ltb, le-leb, lt-leb, eqb-true, eqb-false, ltb-true, ltb-false}
+use borrow.Author.Tests.{ne_eqb, eqb-true, lt-ltb, le-ltb, le-leb, lt-leb, eqb-false, ltb-true, ltb-false}
 use lib.Dec.{eqb, ltb, leb}
 use mir.Val.{bool_byte}
 use lib.ListN.{length, drop, get_or, set, length-set, drop_of_length-le}
@@ -25,7 +26,9 @@ use Rattle.glob_pass.specs.declared.kinds.Brace.{Brace}
 use Rattle.glob_pass.specs.declared.kinds.ItemKind.{ItemKind}
 use Rattle.glob_pass.specs.declared.kinds.Kind.{Kind}
 use Rattle.glob_name.specs.declared.read.Read.{Read}
-use Rattle.glob_name.specs.Read.{Counted, NumberAt, Told, rest_more, range_more, set_end, set_more, longer, Ends, plain_read, star_read, slash_read, single_read, set_read, opened_read, as_reading, is_raw, Good, TokenRead}
+use Rattle.glob_name.specs.Read.{Counted, NumberAt, Told, rest_more, range_more, set_end, set_more, longer, Ends}
+use Rattle.glob_name.specs.Read.{plain_read, star_read, slash_read, escape_read, set_read, brace_read, as_reading}
+use Rattle.glob_name.specs.Read.{is_raw, Good, TokenRead}
 
 -- ---- one character
 
@@ -100,11 +103,11 @@ module _ (cs : List ℕ) (from : ℕ) (b : Bool) (e : b ≡ first_is (λ (d : �
     digits_are : n ≡ digit_count (drop (sign (drop from cs)) (drop from cs))
     digits_are = w.is ∙ rw (← sign_is) (sym (ap digit_count (drop-drop (bool_byte b) from cs)))
 
-    pub number_none : n ≡ 0 → number_len (drop from cs) ≡ 0
+    number_none : n ≡ 0 → number_len (drop from cs) ≡ 0
     unfolding number_len choose
     number_none z = rw (← digits_are, z)
 
-    pub number_some : (n ≡ 0 → ⊥) → NumberAt cs from (bool_byte b + n)
+    number_some : (n ≡ 0 → ⊥) → NumberAt cs from (bool_byte b + n)
     unfolding number_len choose
     number_some z =
         record {
@@ -112,6 +115,12 @@ module _ (cs : List ℕ) (from : ℕ) (b : Bool) (e : b ≡ first_is (λ (d : �
           some = omega arith;
           fits = omega (arith, w.fits);
         }
+
+    pub number_given : (r : Option ℕ) → r ≡ then_some (not (eqb n 0)) (bool_byte b + n) → MatchOption r (number_len (drop from cs) ≡ 0) (NumberAt cs from)
+    number_given r g =
+        by_test (eqb n 0)
+        (λ t. let o : r ≡ None = rw t at g in rw o (number_none (eqb-true n 0 t)))
+        (λ t. let o : r ≡ Some (bool_byte b + n) = rw t at g in rw o (number_some (eqb-false n 0 t)))
 
 -- ---- a range
 
@@ -124,13 +133,19 @@ module _ (cs : List ℕ) (from m n : ℕ) (e : NumberAt cs (from + m + 2) n) (b 
   some_n : n ≡ 0 → ⊥
   some_n z = absurd (omega (arith, e.some))
 
-  pub rest_some : b ≡ true → (m + n + 3 ≡ rest_more cs from m) × (0 < m + n + 3)
+  rest_some : b ≡ true → (m + n + 3 ≡ rest_more cs from m) × (0 < m + n + 3)
   unfolding rest_more choose
   rest_some t = (rw (← e.is, ne_eqb n 0 some_n, ← f, t), omega arith)
 
-  pub rest_other : b ≡ false → rest_more cs from m ≡ 0
+  rest_other : b ≡ false → rest_more cs from m ≡ 0
   unfolding rest_more choose
   rest_other t = rw (← e.is, ne_eqb n 0 some_n, ← f, t)
+
+  pub rest_given : (r : Option ℕ) → r ≡ then_some b (m + n + 3) → Told (rest_more cs from m) r
+  rest_given r g =
+      by_test b
+      (λ t. let o : r ≡ Some (m + n + 3) = rw t at g in rw o (rest_some t))
+      (λ t. let o : r ≡ None = rw t at g in rw o (rest_other t))
 
 -- no first number
 pub range_none : (cs : List ℕ) (from : ℕ) → number_len (drop from cs) ≡ 0 → range_more cs from ≡ 0
@@ -343,18 +358,9 @@ unfolding bracket_at held_at plain_at
 bracket_read s none e = refl
 bracket_read s (some l) e = rw (upto_is false s l e)
 
-module _ (cs : List ℕ) (i c : ℕ) (end : Option ℕ) (x : c ≡ 92 → ⊥) (y : c ≡ 91 → ⊥) where
-  pub opened_brace : range_more cs (i + 1) ≡ 0 → plain_read (Kind.Brace Brace.Opens) 0 ≡ opened_read cs i c end
-  unfolding opened_read choose
-  opened_brace z = rw (ne_eqb c 92 x, ne_eqb c 91 y, z)
-
-  pub opened_range : (m : ℕ) → (m ≡ range_more cs (i + 1)) × (0 < m) → plain_read (Kind.Item ItemKind.Range) m ≡ opened_read cs i c end
-  unfolding opened_read choose
-  opened_range m w = rw (ne_eqb c 92 x, ne_eqb c 91 y, ← w.0, ne_eqb m 0 (λ z. absurd (omega (arith, w.1))))
-
-pub opened_set : (cs : List ℕ) (i c : ℕ) (end : Option ℕ) → c ≡ 91 → set_read end ≡ opened_read cs i c end
-unfolding opened_read choose
-opened_set cs i c end e = rw e
+pub brace_range : (x m : ℕ) → (m ≡ x) × (0 < m) → plain_read (Kind.Item ItemKind.Range) m ≡ brace_read x
+unfolding brace_read choose
+brace_range x m w = rw (← w.0, ne_eqb m 0 (λ z. absurd (omega (arith, w.1))))
 
 -- the kind is one that is read
 good_kind : (x : ℕ) (r : Read) → is_raw r.kind ≡ true → (r.kind ≡ Kind.Item ItemKind.Range → ⊥) → Good x r
@@ -396,30 +402,32 @@ module _ (cs : List ℕ) (i : ℕ) (deep : Bool) (h : i < length cs) where
   brace_token =
       by_test (eqb (range_more cs (i + 1)) 0) (λ t. rw t (sym (brace_is cs (i + 1) ∙ rw t))) (λ t. rw t (sym (brace_is cs (i + 1) ∙ rw t)))
 
-  opened_token : (end : Option ℕ) (r : Read) → ((eqb c 92 || eqb c 91) || eqb c 123) ≡ true → end ≡ set_more false s → r ≡ opened_read cs i c end
-      → TokenRead cs i deep r
-  opened_token end r t e f = go (by_test (eqb c 92) (λ q. inl (eqb-true c 92 q)) (λ q. inr (by_test (eqb c 91) (λ p. inl (eqb-true c 91 p)) (λ p. inr (eqb-true c 123 (rw (q, p) at t))))))
-    where
-      go : (c ≡ 92) ⊎ ((c ≡ 91) ⊎ (c ≡ 123)) → TokenRead cs i deep r
-      go (inl q) =
-          record {
-            is = rw (f, q) (unfold opened_read in unfold reading_at in unfold choose in escape_token q);
-            good = rw (f, q) (unfold opened_read in unfold choose in good_choose _ (ltb (i + 1) (length cs)) (plain_read (Kind.Item ItemKind.Escape) 1) (plain_read (Kind.Item ItemKind.Plain) 0) (good_kind _ _ refl (λ e. cc)) (good_kind _ _ refl (λ e. cc)));
-          }
-      go (inr (inl q)) =
-          record {
-            is = rw (f, q, e) (unfold opened_read in unfold reading_at in unfold choose in unfold set_more in bracket_read s (to_bracket false s) refl);
-            good = rw (f, q) (unfold opened_read in unfold choose in good_set _ end);
-          }
-      go (inr (inr q)) =
-          record {
-            is = rw (f, q) (unfold opened_read in unfold reading_at in unfold choose in brace_token);
-            good = rw (f, q) (unfold opened_read in unfold choose in good_range (range_more cs (i + 1)));
-          }
+  pub token_escape : (r : Read) → c ≡ 92 → r ≡ escape_read (ltb (i + 1) (length cs)) → TokenRead cs i deep r
+  token_escape r q f =
+      record {
+        is = rw (f, q) (unfold escape_read in unfold reading_at in unfold choose in escape_token q);
+        good =
+            rw f
+            (unfold escape_read in
+            good_choose _ (ltb (i + 1) (length cs)) _ _ (good_kind _ _ refl (λ e. cc)) (good_kind _ _ refl (λ e. cc)));
+      }
 
-  pub token_opened : (ends : List (Option ℕ)) (r : Read) → Ends cs ends → ((eqb c 92 || eqb c 91) || eqb c 123) ≡ true
-      → r ≡ opened_read cs i c (get_or ends (i + 1) None) → TokenRead cs i deep r
-  token_opened ends r w t f = opened_token (get_or ends (i + 1) None) r t (w.at (i + 1) (omega arith)) f
+  pub token_set : (ends : List (Option ℕ)) (r : Read) → Ends cs ends → c ≡ 91 → r ≡ set_read (get_or ends (i + 1) None)
+      → TokenRead cs i deep r
+  token_set ends r w q f =
+      record {
+        is =
+            rw (f, q, w.at (i + 1) (omega arith))
+            (unfold reading_at in unfold choose in unfold set_more in bracket_read s (to_bracket false s) refl);
+        good = rw f (good_set _ (get_or ends (i + 1) None));
+      }
+
+  pub token_brace : (r : Read) → c ≡ 123 → r ≡ brace_read (range_more cs (i + 1)) → TokenRead cs i deep r
+  token_brace r q f =
+      record {
+        is = rw (f, q) (unfold brace_read in unfold reading_at in unfold choose in brace_token);
+        good = rw f (unfold brace_read in good_range (range_more cs (i + 1)));
+      }
 
   pub token_star : (r : Read) → c ≡ 42 → r ≡ star_read deep s → TokenRead cs i deep r
   unfolding reading_at star_read star_at choose held_at plain_at
@@ -438,19 +446,35 @@ module _ (cs : List ℕ) (i : ℕ) (deep : Bool) (h : i < length cs) where
       (λ u. record { is = rw (f, e, t, u); good = rw (f, t, u) (good_kind _ _ refl (λ e. cc)) })
       (λ u. record { is = rw (f, e, t, u); good = rw (f, t, u) (good_kind _ _ refl (λ e. cc)) }))
 
-  pub token_single : (r : Read) → ((eqb c 92 || eqb c 91) || eqb c 123) ≡ false → (c ≡ 42 → ⊥) → (c ≡ 47 → ⊥) → r ≡ single_read c → TokenRead cs i deep r
-  unfolding reading_at single_read choose held_at plain_at brace_of
-  token_single r t x y f =
-      let a : (eqb c 92 || eqb c 91) ≡ false = neither_left _ _ t in
-      let n1 : eqb c 92 ≡ false = neither_left _ _ a in
-      let n2 : eqb c 91 ≡ false = neither_right (eqb c 92) _ a in
-      let n3 : eqb c 123 ≡ false = neither_right (eqb c 92 || eqb c 91) _ t in
-      by_test (eqb c 63)
-      (λ u. record { is = rw (f, n1, n2, n3, ne_eqb c 42 x, ne_eqb c 47 y, u); good = rw (f, u) (good_kind _ _ refl (λ e. cc)) })
-      (λ u.
-      by_test (eqb c 44)
-      (λ v. record { is = rw (f, n1, n2, n3, ne_eqb c 42 x, ne_eqb c 47 y, u, v); good = rw (f, u, v) (good_kind _ _ refl (λ e. cc)) })
-      (λ v.
-      by_test (eqb c 125)
-      (λ w. record { is = rw (f, n1, n2, n3, ne_eqb c 42 x, ne_eqb c 47 y, u, v, w); good = rw (f, u, v, w) (good_kind _ _ refl (λ e. cc)) })
-      (λ w. record { is = rw (f, n1, n2, n3, ne_eqb c 42 x, ne_eqb c 47 y, u, v, w); good = rw (f, u, v, w) (good_kind _ _ refl (λ e. cc)) })))
+  module _ (r : Read) where
+    pub token_one : c ≡ 63 → r ≡ plain_read (Kind.Item ItemKind.One) 0 → TokenRead cs i deep r
+    unfolding reading_at choose held_at plain_at
+    token_one q f = record { is = rw (f, q); good = rw f (good_kind _ _ refl (λ e. cc)) }
+
+    pub token_comma : c ≡ 44 → r ≡ plain_read (Kind.Brace Brace.Comma) 0 → TokenRead cs i deep r
+    unfolding reading_at choose held_at brace_of
+    token_comma q f = record { is = rw (f, q); good = rw f (good_kind _ _ refl (λ e. cc)) }
+
+    pub token_closes : c ≡ 125 → r ≡ plain_read (Kind.Brace Brace.Closes) 0 → TokenRead cs i deep r
+    unfolding reading_at choose held_at brace_of
+    token_closes q f = record { is = rw (f, q); good = rw f (good_kind _ _ refl (λ e. cc)) }
+
+    pub token_plain : (c ≡ 92 → ⊥) → (c ≡ 91 → ⊥) → (c ≡ 123 → ⊥) → (c ≡ 42 → ⊥) → (c ≡ 47 → ⊥) → (c ≡ 63 → ⊥)
+        → (c ≡ 44 → ⊥) → (c ≡ 125 → ⊥) → r ≡ plain_read (Kind.Item ItemKind.Plain) 0 → TokenRead cs i deep r
+    unfolding reading_at choose held_at plain_at
+    token_plain n o p q t u v w f =
+        record {
+          is =
+              rw (
+                f,
+                ne_eqb c 92 n,
+                ne_eqb c 91 o,
+                ne_eqb c 123 p,
+                ne_eqb c 42 q,
+                ne_eqb c 47 t,
+                ne_eqb c 63 u,
+                ne_eqb c 44 v,
+                ne_eqb c 125 w,
+              );
+          good = rw f (good_kind _ _ refl (λ e. cc));
+        }

@@ -1,5 +1,5 @@
 -- A name read into kinds.
-use Rattle.std.specs.Prelude.{ℕ, suc, ◌+◌, ◌≤◌, ◌<◌, Bool, true, false, List, ◌∷◌, ◌≡◌, eqb, ltb, length, get_or, drop, Option, Some, None}
+use Rattle.std.specs.Prelude.{ℕ, suc, ◌+◌, ◌≤◌, ◌<◌, Bool, true, false, List, ◌∷◌, ◌≡◌, eqb, length, get_or, drop, Option, Some, None}
 use Rattle.std.specs.Option.{MatchOption}
 use Rattle.std.proofs.Math.Option.{Option as Found, none, some}
 use Rattle.rules.specs.Basics.{choose, is, at, first_is}
@@ -67,20 +67,16 @@ unfoldable pub slash_read : Bool → List ℕ → Read
 slash_read deep s =
     choose deep (plain_read (Kind.Item ItemKind.Plain) 0) (choose (at s "**/") (record { kind = Kind.Item ItemKind.Ahead; more = 0; deep = true }) (plain_read (Kind.Item ItemKind.Plain) 0))
 
-unfoldable pub single_read : ℕ → Read
-single_read c =
-    choose (is "?" c) (plain_read (Kind.Item ItemKind.One) 0)
-    (choose (is "," c) (plain_read (Kind.Brace Brace.Comma) 0) (choose (is "}" c) (plain_read (Kind.Brace Brace.Closes) 0) (plain_read (Kind.Item ItemKind.Plain) 0)))
+unfoldable pub escape_read : Bool → Read
+escape_read more = choose more (plain_read (Kind.Item ItemKind.Escape) 1) (plain_read (Kind.Item ItemKind.Plain) 0)
 
 abbrev pub set_read : Option ℕ → Read
 set_read None = plain_read (Kind.Item ItemKind.Plain) 0
 set_read (Some n) = plain_read (Kind.Item ItemKind.Set) n
 
-unfoldable pub opened_read : List ℕ → ℕ → ℕ → Option ℕ → Read
-opened_read cs i c end =
-    choose (is "\\" c) (choose (ltb (i + 1) (length cs)) (plain_read (Kind.Item ItemKind.Escape) 1) (plain_read (Kind.Item ItemKind.Plain) 0))
-    (choose (is "[" c) (set_read end)
-    (choose (eqb (range_more cs (i + 1)) 0) (plain_read (Kind.Brace Brace.Opens) 0) (plain_read (Kind.Item ItemKind.Range) (range_more cs (i + 1)))))
+-- where a range has n characters more, 0 for none
+unfoldable pub brace_read : ℕ → Read
+brace_read n = choose (eqb n 0) (plain_read (Kind.Brace Brace.Opens) 0) (plain_read (Kind.Item ItemKind.Range) n)
 
 -- the same as the definitions read it, s from the character on
 abbrev pub as_reading : Read → List ℕ → Reading

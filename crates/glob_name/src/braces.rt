@@ -9,9 +9,9 @@ use glob_pass::kinds::{Brace, ItemKind, Kind};
 // whether it has a comma there.
 // kept: fixed memory: there is no heap, and a name has at most 1,024 characters
 #[derive(Clone, Copy)]
-pub struct Open {
-    pub commas: [bool; PLACES],
-    pub depth: usize,
+struct Open {
+    commas: [bool; PLACES],
+    depth: usize,
 }
 
 // What a brace is to those who read from the right.

@@ -1,11 +1,15 @@
 // The tokens of a name, from left to right.
-ghost use Rattle.std.specs.Prelude.{◌≡◌, ℕ, ◌+◌, ◌≤◌, ◌<◌, eqb, length, drop};
+ghost use Rattle.std.specs.Prelude.{◌≡◌, ℕ, ◌+◌, ◌≤◌, ◌<◌, eqb, ltb, length, drop};
 ghost use Rattle.std.specs.Option.{MatchOption};
 ghost use Rattle.rules.specs.Basics.{first_is, at};
 ghost use Rattle.config_rules.specs.Numbers.{digit_count, number_len};
 ghost use Rattle.glob_name.specs.Read.{Counted, NumberAt, Told, rest_more, range_more, longer, Ends, plain_read, star_read};
-ghost use Rattle.glob_name.specs.Read.{slash_read, single_read, opened_read, TokenRead, RawKinds};
+ghost use Rattle.glob_name.specs.Read.{slash_read, escape_read, set_read, brace_read, TokenRead, RawKinds};
 
+use glob_pass::code_points::{
+    BACKSLASH, CLOSE_BRACE, CLOSE_BRACKET, COMMA, DOT, MINUS, NINE, OPEN_BRACE, OPEN_BRACKET,
+    QUESTION, SLASH, STAR, ZERO,
+};
 use glob_pass::kinds::{Brace, ItemKind, Kind};
 use glob_pass::{CHARS, PLACES};
 
@@ -29,7 +33,11 @@ fn digit_count(chars: &[u32], from: usize) -> usize
     requires { from ≤ length chars.now }
     ensures { Counted chars.now from (digit_count (drop from chars.now)) result }
 {
-    blocks::first_from(from, chars.len(), &|i| (chars[i] < 48) | (57 < chars[i])) - from
+    blocks::first_from(
+        from,
+        chars.len(),
+        &|i| (chars[i] < ZERO) | (NINE < chars[i]),
+    ) - from
 }
 
 // How long the number is that stands at `from`, if one does.
@@ -37,13 +45,9 @@ pub fn number_len(chars: &[u32], from: usize) -> Option<usize>
     requires { from ≤ length chars.now }
     ensures { MatchOption result (number_len (drop from chars.now) ≡ 0) (NumberAt chars.now from) }
 {
-    let sign = char_is(chars, from, 45) as usize;
+    let sign = char_is(chars, from, MINUS) as usize;
     let digits = digit_count(chars, from + sign);
-    if digits == 0 {
-        None
-    } else {
-        Some(sign + digits)
-    }
+    (digits != 0).then_some(sign + digits)
 }
 
 // The same behind the first number of a range, m characters long, and `..`.
@@ -54,11 +58,7 @@ fn range_rest(chars: &[u32], from: usize, m: usize) -> Option<usize>
     ensures { Told (rest_more chars.now from m) result }
 {
     let n = number_len(chars, from + m + 2)?;
-    if char_is(chars, from + m + 2 + n, 125) {
-        Some(m + n + 3)
-    } else {
-        None
-    }
+    char_is(chars, from + m + 2 + n, CLOSE_BRACE).then_some(m + n + 3)
 }
 
 // How many more characters the range has whose brace stands before `from`, if it is one.
@@ -67,7 +67,7 @@ fn range_more(chars: &[u32], from: usize) -> Option<usize>
     ensures { Told (range_more chars.now from) result }
 {
     let m = number_len(chars, from)?;
-    if char_is(chars, from + m, 46) & char_is(chars, from + m + 1, 46) {
+    if char_is(chars, from + m, DOT) & char_is(chars, from + m + 1, DOT) {
         range_rest(chars, from, m)
     } else {
         None
@@ -92,22 +92,21 @@ fn set_ends(chars: &[u32], ends: &mut [Option<usize>; PLACES])
     ends[chars.len()] = None;
     // kept: as in `mark_right`, from the right nothing would be known of what an iterator's loop wrote
     for i in (0..chars.len()).rev() {
-        let c = chars[i];
         let before = plain;
-        if c == 93 {
-            plain = Some(1);
-            escaped = up(before);
-            ends[i] = plain;
-            continue;
+        match chars[i] {
+            CLOSE_BRACKET => {
+                plain = Some(1);
+                escaped = up(before);
+            }
+            BACKSLASH => {
+                plain = up(escaped);
+                escaped = up(before);
+            }
+            _ => {
+                plain = up(before);
+                escaped = plain;
+            }
         }
-        if c == 92 {
-            plain = up(escaped);
-            escaped = up(before);
-            ends[i] = plain;
-            continue;
-        }
-        plain = up(before);
-        escaped = plain;
         ends[i] = plain;
     }
 }
@@ -117,7 +116,7 @@ fn stars_at(chars: &[u32], i: usize) -> bool
     requires { i < PLACES }
     ensures { result ≡ at (drop i chars.now) "**/" }
 {
-    char_is(chars, i, 42) & char_is(chars, i + 1, 42) & char_is(chars, i + 2, 47)
+    char_is(chars, i, STAR) & char_is(chars, i + 1, STAR) & char_is(chars, i + 2, SLASH)
 }
 
 fn plain_read(kind: Kind, more: usize) -> Read
@@ -136,7 +135,7 @@ fn star_read(chars: &[u32], i: usize, deep: bool) -> Read
     requires { i < PLACES }
     ensures { result ≡ star_read deep (drop (i + 1) chars.now) }
 {
-    if char_is(chars, i + 1, 42) {
+    if char_is(chars, i + 1, STAR) {
         return Read {
             kind: Kind::Item(ItemKind::Stars),
             more: 1,
@@ -164,36 +163,35 @@ fn slash_read(chars: &[u32], i: usize, deep: bool) -> Read
     plain_read(Kind::Item(ItemKind::Plain), 0)
 }
 
-// A token of one character.
-#[tactic(auto, unfolding(rules::specs::Basics::choose, crate::specs::Read::single_read))]
-fn single_read(c: u32) -> Read
-    ensures { result ≡ single_read c }
+// A backslash at i: it escapes the next character, if there is one.
+#[tactic(auto, unfolding(rules::specs::Basics::choose, crate::specs::Read::escape_read))]
+fn escape_read(chars: &[u32], i: usize) -> Read
+    requires { i < PLACES }
+    ensures { result ≡ escape_read (ltb (i + 1) (length chars.now)) }
 {
-    match c {
-        63 => plain_read(Kind::Item(ItemKind::One), 0),
-        44 => plain_read(Kind::Brace(Brace::Comma), 0),
-        125 => plain_read(Kind::Brace(Brace::Closes), 0),
-        _ => plain_read(Kind::Item(ItemKind::Plain), 0),
+    if i + 1 < chars.len() {
+        plain_read(Kind::Item(ItemKind::Escape), 1)
+    } else {
+        plain_read(Kind::Item(ItemKind::Plain), 0)
     }
 }
 
-// A token whose first character is a backslash or an opening bracket or brace.
-fn opened_read(chars: &[u32], i: usize, c: u32, end: Option<usize>) -> Read
-    requires { (i < length chars.now) × (length chars.now < PLACES) }
-    ensures { result ≡ opened_read chars.now i c end }
+// An opening bracket, where `end` says how far the `]` is that ends the set, if one does.
+fn set_read(end: Option<usize>) -> Read
+    ensures { result ≡ set_read end }
 {
-    if c == 92 {
-        if i + 1 < chars.len() {
-            return plain_read(Kind::Item(ItemKind::Escape), 1);
-        }
-        return plain_read(Kind::Item(ItemKind::Plain), 0);
+    match end {
+        Some(more) => plain_read(Kind::Item(ItemKind::Set), more),
+        None => plain_read(Kind::Item(ItemKind::Plain), 0),
     }
-    if c == 91 {
-        return match end {
-            Some(more) => plain_read(Kind::Item(ItemKind::Set), more),
-            None => plain_read(Kind::Item(ItemKind::Plain), 0),
-        };
-    }
+}
+
+// An opening brace at i.
+#[tactic(auto, unfolding(rules::specs::Basics::choose, crate::specs::Read::brace_read))]
+fn brace_read(chars: &[u32], i: usize) -> Read
+    requires { (i < length chars.now) × (length chars.now < PLACES) }
+    ensures { result ≡ brace_read (range_more chars.now (i + 1)) }
+{
     match range_more(chars, i + 1) {
         Some(more) => plain_read(Kind::Item(ItemKind::Range), more),
         None => plain_read(Kind::Brace(Brace::Opens), 0),
@@ -205,17 +203,17 @@ fn read_at(chars: &[u32], ends: &[Option<usize>; PLACES], i: usize, deep: bool) 
     requires { (i < length chars.now) × (length chars.now < PLACES) × Ends chars.now ends.now }
     ensures { TokenRead chars.now i deep result }
 {
-    let c = chars[i];
-    if (c == 92) | (c == 91) | (c == 123) {
-        return opened_read(chars, i, c, ends[i + 1]);
+    match chars[i] {
+        BACKSLASH => escape_read(chars, i),
+        OPEN_BRACKET => set_read(ends[i + 1]),
+        OPEN_BRACE => brace_read(chars, i),
+        STAR => star_read(chars, i, deep),
+        SLASH => slash_read(chars, i, deep),
+        QUESTION => plain_read(Kind::Item(ItemKind::One), 0),
+        COMMA => plain_read(Kind::Brace(Brace::Comma), 0),
+        CLOSE_BRACE => plain_read(Kind::Brace(Brace::Closes), 0),
+        _ => plain_read(Kind::Item(ItemKind::Plain), 0),
     }
-    if c == 42 {
-        return star_read(chars, i, deep);
-    }
-    if c == 47 {
-        return slash_read(chars, i, deep);
-    }
-    single_read(c)
 }
 
 // The kinds of a name, before any brace is taken for itself.

@@ -2,6 +2,8 @@
 ghost use Rattle.std.specs.Prelude.{◌≡◌};
 ghost use Rattle.glob_pass.specs.Kinds.{code_of};
 
+use crate::code_points::{CLOSE_BRACE, COMMA, OPEN_BRACE};
+
 // A brace or a comma.
 #[derive(Clone, Copy, PartialEq, Eq, Debug)]
 pub enum Brace {
@@ -39,9 +41,9 @@ impl Brace {
         ensures { result ≡ code_of self }
     {
         match self {
-            Brace::Closes => '}' as u32,
-            Brace::Comma => ',' as u32,
-            Brace::Opens => '{' as u32,
+            Brace::Closes => CLOSE_BRACE,
+            Brace::Comma => COMMA,
+            Brace::Opens => OPEN_BRACE,
         }
     }
 }

@@ -2,15 +2,17 @@
 // from its end.
 #![tactic(auto)]
 
+pub mod code_points;
 pub mod kinds;
 pub mod name;
 pub mod set;
 
-ghost use Rattle.std.specs.Prelude.{◌≡◌, ◌+◌, ◌<◌, length, drop, get_or};
+ghost use Rattle.std.specs.Prelude.{◌≡◌, [], ◌+◌, ◌<◌, length, drop, get_or};
 ghost use Rattle.glob_pass.specs.Kinds.{plain_at};
 ghost use Rattle.glob_pass.specs.Held.{tokens_held};
-ghost use Rattle.glob_pass.specs.Pass.{value_at, Braced, Passed};
+ghost use Rattle.glob_pass.specs.Pass.{value_at, open_braces, Braced, Passed};
 
+use code_points::SLASH;
 use kinds::{Brace, ItemKind, Kind};
 use name::Name;
 
@@ -31,20 +33,33 @@ pub struct Known {
 
 // Of an open brace: whether one of its alternatives to the right matches, and what follows it.
 #[derive(Clone, Copy)]
-pub struct Side {
-    pub others: bool,
-    pub after: bool,
+struct Side {
+    others: bool,
+    after: bool,
 }
 
 // The open braces, the first `depth` of `sides`, the innermost last.
 // kept: fixed memory: there is no heap, and a name has at most 1,024 characters
 #[derive(Clone, Copy)]
 pub struct Braces {
-    pub sides: [Side; PLACES],
-    pub depth: usize,
+    sides: [Side; PLACES],
+    depth: usize,
 }
 
 impl Braces {
+    // No brace.
+    pub fn none() -> Braces
+        ensures { open_braces result ≡ [] }
+    {
+        Braces {
+            sides: [Side {
+                others: false,
+                after: false,
+            }; PLACES],
+            depth: 0,
+        }
+    }
+
     // The value before a brace or a comma, where `next` is that behind it.
     fn step(&mut self, brace: Brace, next: bool) -> bool
         requires { self.old.depth < PLACES }
@@ -90,13 +105,13 @@ fn value_at(k: ItemKind, chars: &[u32], p: usize, c: u32, known: Known) -> bool
     match k {
         ItemKind::Plain => (chars[p] == c) & known.prior,
         ItemKind::Covered => known.next,
-        ItemKind::One => (c != 47) & known.prior,
-        ItemKind::Star => known.next | ((c != 47) & known.old),
+        ItemKind::One => (c != SLASH) & known.prior,
+        ItemKind::Star => known.next | ((c != SLASH) & known.old),
         ItemKind::Stars => known.next | known.old,
         ItemKind::Set => set::in_set(&chars[p + 1..], c) & known.prior,
         ItemKind::Range => known.hit,
         ItemKind::Escape => (code_behind(chars, p) == c) & known.prior,
-        ItemKind::Ahead => (c == 47) & known.next,
+        ItemKind::Ahead => (c == SLASH) & known.next,
         ItemKind::Lone(brace) => (brace.code() == c) & known.prior,
     }
 }

@@ -4,6 +4,7 @@ ghost use Rattle.rules.specs.Basics.{is};
 ghost use Rattle.config_rules.specs.Sets.{escapes, dashes, named_after, names_at, names, fresh, in_set};
 ghost use Rattle.glob_pass.specs.Kinds.{up_to, last_names};
 
+use crate::code_points::{BACKSLASH, CLOSE_BRACKET, EXCLAMATION, MINUS};
 use config_rules::Named;
 
 // Before the first character.
@@ -18,7 +19,7 @@ const FRESH: Named = Named {
 fn escapes(n: Named, d: u32) -> bool
     ensures { result ≡ escapes n d }
 {
-    !n.esc & (d == 92)
+    !n.esc & (d == BACKSLASH)
 }
 
 // Whether d is the `-` of a range.
@@ -26,14 +27,14 @@ fn escapes(n: Named, d: u32) -> bool
 fn dashes(n: Named, d: u32) -> bool
     ensures { result ≡ dashes n d }
 {
-    (d == 45) & n.low.is_some() & !n.dash & !n.esc
+    (d == MINUS) & n.low.is_some() & !n.dash & !n.esc
 }
 
 // Whether d ends the set.
 fn ends_set(n: Named, d: u32) -> bool
     ensures { result ≡ (not n.esc && is "]" d) }
 {
-    !n.esc & (d == 93)
+    !n.esc & (d == CLOSE_BRACKET)
 }
 
 // After d.
@@ -79,7 +80,7 @@ fn names_at(n: Named, d: u32, c: u32) -> bool
 fn last_names(n: Named, c: u32) -> bool
     ensures { result ≡ last_names n c }
 {
-    n.low.is_some_and(|low| low == c) | (n.dash & (c == 45))
+    n.low.is_some_and(|low| low == c) | (n.dash & (c == MINUS))
 }
 
 // Whether the characters of a set, up to its end, name c.
@@ -104,7 +105,7 @@ pub fn in_set(set: &[u32], c: u32) -> bool
     ensures { result ≡ in_set (up_to false set.now) c }
 {
     match set {
-        [33, others @ ..] => !names(others, c),
+        [EXCLAMATION, others @ ..] => !names(others, c),
         _ => names(set, c),
     }
 }

@@ -9,7 +9,7 @@ ghost use Rattle.group_close.specs.Forth.{Room, Tells, close_until, Put, Pushed,
 ghost use Rattle.group_close.specs.Forth.{Ready, ForthTo, begins};
 
 use group_open::{enters, second_takes, stops};
-use group_rules::{CLOSER, OPENER};
+use group_rules::{CLOSER, Code, OPENER};
 
 // The text's length so far, and the stack's height.
 #[derive(Clone, Copy)]
@@ -114,16 +114,12 @@ fn close_code(scratch: &mut [u8], out: &mut [u8], b: u8, spot: Spot) -> Spot
     requires { Room scratch.old spot 1 }
     ensures { Stepped scratch.old scratch.new out.old out.new b spot result }
 {
-    if b == CLOSER {
-        return close_bracket(scratch, out, spot);
+    match Code::from(b) {
+        Code::Closer => close_bracket(scratch, out, spot),
+        Code::Opener => spot.push(scratch, 0),
+        Code::Left(s) => close_operator(scratch, out, s, spot),
+        Code::Right(_) | Code::Text(_) => spot.put(out, b),
     }
-    if b == OPENER {
-        return spot.push(scratch, 0);
-    }
-    if b <= 12 {
-        return close_operator(scratch, out, b, spot);
-    }
-    spot.put(out, b)
 }
 
 // The byte that is next.

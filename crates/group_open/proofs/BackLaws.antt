@@ -8,13 +8,17 @@ use native.Mathlib.Numerals.{add-one}
 use lib.Dec.{eqb, ltb}
 use lib.ListN.{length, take, drop, get_or, set, length-set, length-take, drop_of_length-le}
 use lib.Seq.{drop-cons, get_or-set_same, get_or-set_other, take-set-le, drop-set-lt, get_or-take}
-use borrow.Author.Tests.{eq-eqb, ne_eqb, le-ltb, lt-ltb}
+use borrow.Author.Tests.{eq-eqb, ne_eqb, le-ltb, lt-ltb, ltb-true}
+use mathlib.Core.Logic.{◌⊎◌, inl, inr}
+use Rattle.utf8.proofs.Tests.{and_left}
 use Rattle.buffer.specs.Buffer.{part}
 use Rattle.buffer.proofs.RegionLaws.{drop_take}
 use Rattle.rules.proofs.Choose.{choose_true, choose_false}
 use Rattle.group_rules.specs.Grouping.{takes}
 use Rattle.group_rules.proofs.TakesLaws.{star_is, takes_lt, takes_not}
 use Rattle.group_rules.specs.Passes.{Pass, pass, opens_after, open_bracket, open_operator, open_back, back_step, is_right_code, opened_text}
+use Rattle.group_rules.specs.Codes.{IsCode, IsRight}
+use Rattle.group_rules.specs.declared.Code.{Code}
 use Rattle.group_open.specs.Back.{stack_of, pass_in, Room, Put, Pushed, Opened, Moved, Backed, BackTo, OpenedAll}
 use Rattle.group_open.specs.declared.Spot.{Spot}
 use Rattle.group_open.specs.declared.Back.{Back}
@@ -160,9 +164,6 @@ module _ {l₀ l : List ℕ} {n t : ℕ} {s₀ s : Spot} (o : Opening l₀ l n t
       zero_top : 0 ≡ s.top
       zero_top = omega arith
 
-pub room_after : {l : List ℕ} {n : ℕ} {s : Spot} → Room l n s 1 → Room l n s 0
-room_after r = record { room = omega (arith, r.room); within = r.within; height = omega (arith, r.height); fits = r.fits }
-
 -- ---- one code
 
 pub moved_plain : {l l' : List ℕ} {n b : ℕ} {s r : Spot} → Room l n s 1 → Put l l' s b r
@@ -245,21 +246,29 @@ module _ {l l' : List ℕ} {n : ℕ} {s r : Spot} where
     unfolding back_step
     code_closer h e m = moved_as (sym (choose_false (eqb b 14) _ _ (ne_eqb b 14 h) ∙ choose_true (eqb b 15) _ _ (eq-eqb b 15 e))) m
 
-    pub code_operator : {k : ℕ} {t : Bool} → (b ≡ 14 → ⊥) → (b ≡ 15 → ⊥) → t ≡ is_right_code b → t ≡ true → k ≡ b - 16
-        → Moved l l' n s (open_operator k (opens_after k (part l s.at (3 * n)) (stack_of l (3 * n) s.top))) r
+    pub code_operator : {k : ℕ} → IsRight b k → Moved l l' n s (open_operator k (opens_after k (part l s.at (3 * n)) (stack_of l (3 * n) s.top))) r
         → Moved l l' n s (back_step b (pass_in l n s)) r
     unfolding back_step
-    code_operator h i e t q m =
+    code_operator {k} e m =
+        let h : 16 < b = ltb-true 16 b (and_left (ltb 16 b) (ltb b 32) e.right) in
         moved_as
-        (ap (λ x. open_operator x (opens_after x (part l s.at (3 * n)) (stack_of l (3 * n) s.top))) q
-        ∙ sym (choose_false (eqb b 14) _ _ (ne_eqb b 14 h) ∙ choose_false (eqb b 15) _ _ (ne_eqb b 15 i) ∙ choose_true (is_right_code b) _ _ (sym e ∙ t))) m
+        (ap (λ x. open_operator x (opens_after x (part l s.at (3 * n)) (stack_of l (3 * n) s.top))) (omega (arith, e.is))
+        ∙ sym (choose_false (eqb b 14) _ _ (ne_eqb b 14 (λ (z : b ≡ 14). absurd (omega arith))) ∙ choose_false (eqb b 15) _ _ (ne_eqb b 15 (λ (z : b ≡ 15). absurd (omega arith))) ∙ choose_true (is_right_code b) _ _ e.right)) m
 
-    pub code_plain : {t : Bool} → (b ≡ 14 → ⊥) → (b ≡ 15 → ⊥) → t ≡ is_right_code b → t ≡ false
+    code_other : (b ≡ 14 → ⊥) → (b ≡ 15 → ⊥) → is_right_code b ≡ false
         → Moved l l' n s (pass (b ∷ part l s.at (3 * n)) (stack_of l (3 * n) s.top)) r → Moved l l' n s (back_step b (pass_in l n s)) r
     unfolding back_step
-    code_plain h k e t m =
+    code_other h k e m =
         moved_as
-        (sym (choose_false (eqb b 14) _ _ (ne_eqb b 14 h) ∙ choose_false (eqb b 15) _ _ (ne_eqb b 15 k) ∙ choose_false (is_right_code b) _ _ (sym e ∙ t))) m
+        (sym (choose_false (eqb b 14) _ _ (ne_eqb b 14 h) ∙ choose_false (eqb b 15) _ _ (ne_eqb b 15 k) ∙ choose_false (is_right_code b) _ _ e)) m
+
+    pub code_plain : {c : Code} → IsCode b c → ((x : ℕ) × (c ≡ Code.Left x)) ⊎ ((x : ℕ) × (c ≡ Code.Text x))
+        → Moved l l' n s (pass (b ∷ part l s.at (3 * n)) (stack_of l (3 * n) s.top)) r → Moved l l' n s (back_step b (pass_in l n s)) r
+    code_plain {c} q (inl (x, e)) m =
+        let h : b ≤ 12 = (subst (IsCode b) e q).1 in
+        let f : is_right_code b ≡ false = rw (le-ltb 16 b (omega arith)) in
+        code_other (λ (z : b ≡ 14). absurd (omega arith)) (λ (z : b ≡ 15). absurd (omega arith)) f m
+    code_plain {c} q (inr (x, e)) m = let t = (subst (IsCode b) e q).1 in code_other t.opener t.closer t.right m
 
 -- ---- the codes one after the other
 

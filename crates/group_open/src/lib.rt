@@ -6,13 +6,10 @@
 ghost use Rattle.std.specs.Prelude.{◌≡◌, ◌∷◌, ◌&&◌, eqb, ltb, ◌+◌, ◌*◌, ◌-◌, ◌≤◌, ◌<◌, length, take};
 ghost use Rattle.buffer.specs.Buffer.{part};
 ghost use Rattle.group_rules.specs.Grouping.{takes};
-ghost use Rattle.group_rules.specs.Passes.{pass, opens_after, open_bracket, open_operator, back_step, is_right_code};
+ghost use Rattle.group_rules.specs.Passes.{pass, opens_after, open_bracket, open_operator, back_step};
 ghost use Rattle.group_open.specs.Back.{stack_of, pass_in, Room, Put, Pushed, Opened, Moved, Backed, BackTo, OpenedAll};
 
-use group_rules::{CLOSER, OPENER};
-
-// How deep brackets stand: 02's limit, and that of the recursion.
-pub const MAX_DEPTH: usize = 64;
+use group_rules::{CLOSER, Code, MAX_DEPTH, OPENER};
 
 // The place that the opened text has reached, and the stack's height.
 #[derive(Clone, Copy)]
@@ -107,29 +104,18 @@ fn open_operator(scratch: &mut [u8], n: usize, s: u8, spot: Spot) -> Spot
     p.push(scratch, n, s)
 }
 
-// A code of an operator's right side: its strength + 16.
-fn is_right_code(b: u8) -> bool
-    ensures { result ≡ is_right_code b }
-{
-    16 < b && b < 32
-}
-
 // One code.
 fn open_code(scratch: &mut [u8], n: usize, b: u8, spot: Spot) -> Spot
     requires { Room scratch.old n spot 1 }
     ensures { Moved scratch.old scratch.new n spot (back_step b
         (pass_in scratch.old n spot)) result }
 {
-    if b == OPENER {
-        return open_bracket(scratch, n, spot);
+    match Code::from(b) {
+        Code::Opener => open_bracket(scratch, n, spot),
+        Code::Closer => open_closer(scratch, n, spot),
+        Code::Right(s) => open_operator(scratch, n, s, spot),
+        Code::Left(_) | Code::Text(_) => spot.put(scratch, b),
     }
-    if b == CLOSER {
-        return open_closer(scratch, n, spot);
-    }
-    if is_right_code(b) {
-        return open_operator(scratch, n, b - 16, spot);
-    }
-    spot.put(scratch, b)
 }
 
 // The last code that is left.

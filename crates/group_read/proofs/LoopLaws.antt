@@ -31,10 +31,6 @@ module _ {source l : List ℕ} {i : ℕ} {r : Reader} (h : ReaderRoom source l i
   in_word_law : r.at ≤ 3 * i → ByteRoom source l r.start i r.depth r.at
   in_word_law k = record { inside = h.inside; started = h.started; fits = h.fits; written = k; shallow = h.shallow; small = h.small }
 
-  pub operator_room : r.phase ≡ Operator → OperatorRoom l i r.depth r.at
-  operator_room e =
-      record { fits = omega (arith, h.inside, h.fits, room_at Operator e); shallow = h.shallow; small = omega (arith, h.inside, h.small) }
-
   module _ {l' : List ℕ} {q : Next} where
     steps_at : (p : Phase) → r.phase ≡ p → ((ts : List Token) → take r.at l ≡ coded (reverse ts) ++ word_of (stage_of source i p r.start)
         → StepIs source l' (suc i) (stage_step max_depth (stage_of source i p r.start) r.depth ts (get_or source i 0)) q)

@@ -1,6 +1,6 @@
 -- Laws of the operators: their strengths, and the codes that they get.
 use Prim.Native.Nat.{ℕ, suc, ◌+◌, ◌≤◌, ◌<◌}
-use mathlib.Core.Bool.{Bool, true, false, ◌||◌}
+use mathlib.Core.Bool.{Bool, true, false, not, ◌||◌}
 use mathlib.Core.List.{List, [], ◌∷◌, ◌++◌, reverse, append-nil}
 use mathlib.Core.Path.{◌≡◌, refl, ap, sym, ◌∙◌, subst}
 use native.Mathlib.Omega.{arith}
@@ -8,8 +8,12 @@ use lib.ListN.{length, take, get_or, length-drop, length-take, length-append}
 use lib.Seq.{length-take-le}
 use borrow.Rule.Slice.PartMut.{put_mid}
 use Rattle.std.proofs.lemmas.Slice.{take-put_mid, drop-put_mid}
-use Rattle.std.specs.Prelude.{Err}
-use Rattle.std.proofs.lemmas.List.{get_or_past}
+use lib.Dec.{eqb}
+use borrow.Author.Tests.{ne_eqb, eq-eqb}
+use Rattle.std.specs.Prelude.{Result, Ok, Err}
+use Rattle.std.specs.Result.{IsErr, IsErrAnd}
+use Rattle.std.specs.Option.{ok_or}
+use Rattle.std.specs.Bool.{then_some}
 use Rattle.rules.specs.Basics.{choose, same, one_of}
 use Rattle.rules.specs.Operators.{operators, strengths, index_in}
 use Rattle.rules.specs.Strengths.{strengths_in, built_in}
@@ -34,10 +38,6 @@ pub strength_of_law : (w : List ℕ) (k s : ℕ) → k ≡ index_in operators w 
 unfolding precedence
 strength_of_law w k s e h = h ∙ ap (λ n. get_or strengths n 0) e
 
--- past the table there is none
-pub past_table : (k : ℕ) → 21 ≤ k → 0 ≡ get_or strengths k 0
-past_table k h = sym (get_or_past strengths k 0 h)
-
 pub built_read : (k r : ℕ) → r ≡ get_or (strengths_in built_in) k 0 → r ≡ get_or strengths k 0
 built_read k r e = e ∙ ap (λ l. get_or l k 0) built_in_read
 
@@ -50,6 +50,26 @@ positive_some n s e h =
 
 pub positive_none : (n : ℕ) → 0 ≡ n → Positive n None
 positive_none n e = record { some = λ t d. absurd (cc); none = λ d. sym e }
+
+pub positive_then : (n s : ℕ) → s ≡ n → (r : Option ℕ) → r ≡ then_some (not (eqb s 0)) s → Positive n r
+positive_then n s e r f =
+    by_equal s 0
+    (λ (z : s ≡ 0). let g : r ≡ None = rw (eq-eqb s 0 z) at f in subst (Positive n) (sym g) (positive_none n (sym z ∙ e)))
+    (λ (z : s ≡ 0 → ⊥). let g : r ≡ Some s = rw (ne_eqb s 0 z) at f in subst (Positive n) (sym g) (positive_some n s e z))
+
+-- what `?` gives of an error
+pub handed_on : {A E : Type 0} (r : Result A E) (why : E) → IsErr r × IsErrAnd r (λ e. e ≡ why) → r ≡ Err why
+handed_on (Ok x) why h = absurd h.1
+handed_on (Err q) why h = rw h.1
+
+-- what `ok_or` makes of a strength, or of none
+pub strength_err : (o : Option ℕ) (f e : Fault) → ok_or o f ≡ Err e → (o ≡ None) × (e ≡ f)
+strength_err None f e h = (refl, cc)
+strength_err (Some s) f e h = absurd (cc)
+
+pub strength_ok : (o : Option ℕ) (f : Fault) (s : ℕ) → ok_or o f ≡ Ok s → o ≡ Some s
+strength_ok None f s h = absurd (cc)
+strength_ok (Some t) f s h = cc
 
 pub strength_found : (w : List ℕ) (k : ℕ) (r : Option ℕ) → k ≡ index_in operators w → Positive (get_or strengths k 0) r
     → Positive (strength_of w) r
@@ -151,6 +171,3 @@ module _ {l : List ℕ} {i d at : ℕ} (a c : ℕ) (room : OperatorRoom l i d at
               (v.is source (operator (a ∷ []) ∷ ts) q j (omega (arith, w.size)) (omega (arith, w.place)) (coded_operator (a ∷ []) t p m f w ts g));
           size = v.size ∙ w.size;
         }
-
-    pub operator_room : {m : List ℕ} (t p : ℕ) → Written l m at (t ∷ a ∷ (t + 16) ∷ []) p → DueRoom m i d p
-    operator_room t p w = record { fits = omega (arith, w.size, w.place, room.fits); shallow = room.shallow; small = room.small }

@@ -11,13 +11,8 @@ use rules::Strengths;
 fn built_in(operator: Option<Operator>) -> Option<u8>
     ensures { Positive (get_or strengths (place_in operator) 0) result }
 {
-    match operator {
-        Some(operator) => match operator.strength(&Strengths::BUILT_IN.table) {
-            0 => None,
-            s => Some(s),
-        },
-        None => None,
-    }
+    let s = operator?.strength(&Strengths::BUILT_IN.table);
+    (s != 0).then_some(s)
 }
 
 // Of the byte a alone.

@@ -19,7 +19,6 @@ use Rattle.rules.specs.declared.Carry.{Carry}
 use Rattle.rules.specs.declared.Ignore.{Ignore}
 use Rattle.rules.proofs.Choose.{choose_true}
 use Rattle.scan.specs.Classified.{Classified}
-use Rattle.basics.specs.Closers.{Closers}
 use Rattle.brackets.specs.Stack.{stacked, Popped, BracketsDone}
 use Rattle.brackets.specs.declared.Nesting.{Nesting}
 use Rattle.text.specs.Text.{is_first, Adds}
@@ -92,14 +91,6 @@ pub raw_code : (g : Bool) (y : Carry) → y ≡ Carry.Code → g ≡ (g || not (
 raw_code true y e = refl
 raw_code false y e = rw e
 
-pub raw_block : (g : Bool) (y : Carry) (d : ℕ) → y ≡ Carry.Block d → true ≡ (g || not (in_code_now y))
-raw_block true y d e = refl
-raw_block false y d e = rw e
-
-pub raw_prefab : (g : Bool) (y : Carry) → y ≡ Carry.Prefab → true ≡ (g || not (in_code_now y))
-raw_prefab true y e = refl
-raw_prefab false y e = rw e
-
 -- ---- what is protected after a line
 
 pub guards_nothing : (i : Ignore) (before now : ℕ) → i ≡ Ignore.Nothing → Ignore.Nothing ≡ protected_after i before now
@@ -115,16 +106,6 @@ unfolding protected_after
 guards_block i r earlier before now e h = rw e h
 
 -- ---- a line that is kept
-
--- the closers that pop first
-pub closers_code : (y : Carry) (line : List ℕ) (n : ℕ) → y ≡ Carry.Code → Closers line n → ClosersOf y line n
-closers_code y line n e k = rw e (record { is = k })
-
-pub closers_block : (y : Carry) (line : List ℕ) (d : ℕ) → y ≡ Carry.Block d → ClosersOf y line 0
-closers_block y line d e = rw e (record { is = refl })
-
-pub closers_prefab : (y : Carry) (line : List ℕ) → y ≡ Carry.Prefab → ClosersOf y line 0
-closers_prefab y line e = rw e (record { is = refl })
 
 -- the part that is scanned
 part_well : (y : Carry) {raw line : List ℕ} → WellFormed raw → TrimmedLine raw line → WellFormed (part_of y raw line)

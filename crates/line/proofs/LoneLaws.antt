@@ -97,16 +97,6 @@ lone_of [] e = absurd (false≢true e)
 lone_of (c ∷ []) e = record { is = refl; facts = facts c e }
 lone_of (c ∷ d ∷ l) e = absurd (false≢true e)
 
-pub lone_one : (line : List ℕ) (a b : Bool) → length line ≡ 1 → a ≡ is_opener (get_or line 0 0) → b ≡ is_closer (get_or line 0 0) → (a || b) ≡ is_lone line
-lone_one [] a b n p q = absurd (omega arith)
-lone_one (c ∷ []) a b n p q = rw (p, q) refl
-lone_one (c ∷ d ∷ l) a b n p q = absurd (omega arith)
-
-pub lone_other : (line : List ℕ) → (length line ≡ 1 → ⊥) → false ≡ is_lone line
-lone_other [] n = refl
-lone_other (c ∷ []) n = absurd (n refl)
-lone_other (c ∷ d ∷ l) n = refl
-
 -- a closer has popped already
 pub closed_done : (buf : List ℕ) (base : ℕ) (b : Nesting) (r t : Bool) (s : List Entry) → StackFits buf 0 1 base b → r ≡ t → r ≡ true
     → BracketsDone buf buf base b 1 (choose t (stacked buf base b.depth) s) b

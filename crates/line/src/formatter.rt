@@ -9,7 +9,7 @@ use text::Written;
 use utf8::ByteOffset;
 
 // What later lines ask of a line: which declaration it is, and whether it ends in `}`.
-#[derive(Clone, Copy)]
+#[derive(Clone, Copy, Default)]
 pub struct Prev {
     pub declares: Option<Declaration>,
     pub brace: bool,
@@ -45,16 +45,9 @@ impl Formatter {
     {
         Self {
             text: Written::new(),
-            nesting: Nesting {
-                depth: 0,
-                levels: 0,
-                line: 0,
-            },
+            nesting: Nesting::default(),
             blank: false,
-            prev: Prev {
-                declares: None,
-                brace: false,
-            },
+            prev: Prev::default(),
             carry: Carry::Code,
             ignore: Ignore::Nothing,
             imports: 0,

@@ -39,18 +39,14 @@ fn shown_len(guarded: bool, carry: Carry, tail: usize, len: usize) -> usize
 fn scanned_part<'a>(carry: Carry, raw: &'a [u8], line: &'a [u8]) -> &'a [u8]
     ensures { result.now ≡ part_of carry raw.now line.now }
 {
-    if matches!(carry, Carry::Code) {
-        line
-    } else {
-        raw
-    }
+    if carry == Carry::Code { line } else { raw }
 }
 
 // The closers that pop first: a line that starts inside a comment or a prefab has none.
 fn closers_of(carry: Carry, line: &[u8]) -> usize
     ensures { ClosersOf carry line.now result }
 {
-    if matches!(carry, Carry::Code) {
+    if carry == Carry::Code {
         brackets::leading_closers(line)
     } else {
         0
@@ -69,7 +65,7 @@ pub fn in_block(ignore: Ignore) -> bool
 pub fn is_raw(guarded: bool, carry: Carry) -> bool
     ensures { result ≡ (guarded || not (in_code_now carry)) }
 {
-    guarded || !matches!(carry, Carry::Code)
+    guarded || carry != Carry::Code
 }
 
 // A block goes on while more brackets are open than before it.

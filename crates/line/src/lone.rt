@@ -20,7 +20,7 @@ use text::Adding;
 pub fn is_lone(line: &[u8]) -> bool
     ensures { result ≡ is_lone line.now }
 {
-    line.len() == 1 && (is_opener(line[0]) | is_closer(line[0]))
+    matches!(line, [c] if is_opener(*c) | is_closer(*c))
 }
 
 // How many leading closers it has.

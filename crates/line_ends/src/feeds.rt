@@ -1,37 +1,27 @@
-// Line feeds.
-ghost use Rattle.std.specs.Prelude.{◌≡◌, ◌≤◌, length, map};
+// The byte that ends a line.
+ghost use Rattle.std.specs.Prelude.{◌≡◌, ◌≤◌, map};
 ghost use Rattle.std.specs.Simd.Lanes.{mask_l};
-ghost use Rattle.line_ends.specs.LineEnds.{is_lf, lf_at};
+ghost use Rattle.line_ends.specs.LineEnds.{is_lf};
 
-use blocks::lanes::{LaneTest, PlaceTest};
+use blocks::bytes::{ByteLanes, ByteTest};
 use std::simd::prelude::*;
 
-fn lf_among<const N: usize>(v: Simd<u8, N>) -> u64
-    requires { N ≤ 64 }
-    ensures { result ≡ mask_l (map is_lf v.entry) }
-{
-    v.simd_eq(Simd::splat(b'\n')).to_bitmask()
-}
-
 #[derive(Drop)]
-pub struct LineFeeds<'a> {
-    pub source: &'a [u8],
-}
+pub struct LineFeed;
 
-impl<'a> PlaceTest for LineFeeds<'a> {
-    ghost places = { λ s. length s.source.now };
+impl ByteTest for LineFeed {
+    ghost passes = { λ s. is_lf };
 
-    ghost holds = { λ s. lf_at s.source.now };
-
-    fn at(&self, i: usize) -> bool {
-        let source = self.source;
-        source[i] == b'\n'
+    fn test(&self, b: u8) -> bool {
+        b == b'\n'
     }
 }
 
-impl<'a, const N: usize> LaneTest<N> for LineFeeds<'a> {
-    fn marks(&self, i: usize) -> u64 {
-        let source = self.source;
-        lf_among(Simd::<u8, N>::from_slice(&source[i..]))
+impl<const N: usize> ByteLanes<N> for LineFeed {
+    fn mask(&self, v: Simd<u8, N>) -> u64
+        requires { N ≤ 64 }
+        ensures { result ≡ mask_l (map is_lf v.entry) }
+    {
+        v.simd_eq(Simd::splat(b'\n')).to_bitmask()
     }
 }

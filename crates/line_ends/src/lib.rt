@@ -7,11 +7,14 @@ ghost use Rattle.line_ends.specs.LineEnds.{LineEnd};
 
 mod feeds;
 
+use blocks::bytes::Passing;
 use blocks::lanes;
-use feeds::LineFeeds;
+use feeds::LineFeed;
 
 // The place of the first LF from `at` on, or the source's end. An empty line is told at once, a short one by its first
 // sixteen bytes. Lines differ in length, so that a branch for each block of fewer than 64 bytes could not be predicted.
+// Part of the loop over the lines.
+#[inline(always)]
 pub fn line_end(source: &[u8], at: usize) -> usize
     requires { at ≤ length source.now }
     ensures { LineEnd source.now at result }
@@ -20,7 +23,10 @@ pub fn line_end(source: &[u8], at: usize) -> usize
     if at < n && source[at] == b'\n' {
         return at;
     }
-    let feeds = LineFeeds { source };
+    let feeds = Passing {
+        bytes: source,
+        test: LineFeed,
+    };
     if 64 <= n {
         lanes::first_near::<16, 64, _>(&feeds, at, n)
     } else {

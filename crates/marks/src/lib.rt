@@ -14,7 +14,7 @@ use rules::{Carry, Class, Mark, Mode};
 fn first_is(s: &[u8], c: u8) -> bool
     ensures { result ≡ starts_with s.now (c ∷ []) }
 {
-    s.len() != 0 && s[0] == c
+    matches!(s, [b, ..] if *b == c)
 }
 
 // Whether s starts with the character that ends a string.
@@ -28,39 +28,34 @@ fn in_code(s: &[u8]) -> Mark
     ensures { result ≡ in_code s.now }
 {
     if first_is(s, b'\\') {
-        return Mark::long(1, Class::Code, Mode::Code);
+        Mark::long(1, Class::Code, Mode::Code)
+    } else if first_is(s, b'"') {
+        Mark::one(Class::Str, Mode::Quoted(true))
+    } else if first_is(s, b'\'') {
+        Mark::one(Class::Str, Mode::Quoted(false))
+    } else if starts_with(s, b"//") {
+        Mark::one(Class::LineComment, Mode::Line)
+    } else if starts_with(s, b"/*") {
+        Mark::long(1, Class::BlockComment, Mode::Block(1))
+    } else if starts_with(s, b"$```") {
+        Mark::long(3, Class::Prefab, Mode::Prefab)
+    } else {
+        Mark::one(Class::Code, Mode::Code)
     }
-    if first_is(s, b'"') {
-        return Mark::one(Class::Str, Mode::Quoted(true));
-    }
-    if first_is(s, b'\'') {
-        return Mark::one(Class::Str, Mode::Quoted(false));
-    }
-    if starts_with(s, b"//") {
-        return Mark::one(Class::LineComment, Mode::Line);
-    }
-    if starts_with(s, b"/*") {
-        return Mark::long(1, Class::BlockComment, Mode::Block(1));
-    }
-    if starts_with(s, b"$```") {
-        return Mark::long(3, Class::Prefab, Mode::Prefab);
-    }
-    Mark::one(Class::Code, Mode::Code)
 }
 
 fn in_quoted(s: &[u8], q: bool) -> Mark
     ensures { result ≡ in_quoted q s.now }
 {
     if first_is(s, b'\\') {
-        return Mark::long(1, Class::Str, Mode::Quoted(q));
+        Mark::long(1, Class::Str, Mode::Quoted(q))
+    } else if starts_with(s, b"${") {
+        Mark::long(1, Class::Str, Mode::Interp(q, 1))
+    } else if closes(s, q) {
+        Mark::one(Class::Str, Mode::Code)
+    } else {
+        Mark::one(Class::Str, Mode::Quoted(q))
     }
-    if starts_with(s, b"${") {
-        return Mark::long(1, Class::Str, Mode::Interp(q, 1));
-    }
-    if closes(s, q) {
-        return Mark::one(Class::Str, Mode::Code);
-    }
-    Mark::one(Class::Str, Mode::Quoted(q))
 }
 
 fn in_interp(s: &[u8], q: bool, d: u32) -> Mark
@@ -68,36 +63,34 @@ fn in_interp(s: &[u8], q: bool, d: u32) -> Mark
     ensures { result ≡ in_interp q d s.now }
 {
     if first_is(s, b'\\') {
-        return Mark::long(1, Class::Str, Mode::Interp(q, d));
-    }
-    if first_is(s, b'"') {
-        return Mark::one(Class::Str, Mode::Inner(q, d, true));
-    }
-    if first_is(s, b'\'') {
-        return Mark::one(Class::Str, Mode::Inner(q, d, false));
-    }
-    if first_is(s, b'{') {
-        return Mark::one(Class::Str, Mode::Interp(q, d + 1));
-    }
-    if first_is(s, b'}') {
+        Mark::long(1, Class::Str, Mode::Interp(q, d))
+    } else if first_is(s, b'"') {
+        Mark::one(Class::Str, Mode::Inner(q, d, true))
+    } else if first_is(s, b'\'') {
+        Mark::one(Class::Str, Mode::Inner(q, d, false))
+    } else if first_is(s, b'{') {
+        Mark::one(Class::Str, Mode::Interp(q, d + 1))
+    } else if first_is(s, b'}') {
         if d <= 1 {
-            return Mark::one(Class::Str, Mode::Quoted(q));
+            Mark::one(Class::Str, Mode::Quoted(q))
+        } else {
+            Mark::one(Class::Str, Mode::Interp(q, d - 1))
         }
-        return Mark::one(Class::Str, Mode::Interp(q, d - 1));
+    } else {
+        Mark::one(Class::Str, Mode::Interp(q, d))
     }
-    Mark::one(Class::Str, Mode::Interp(q, d))
 }
 
 fn in_inner(s: &[u8], q: bool, d: u32, k: bool) -> Mark
     ensures { result ≡ in_inner q d k s.now }
 {
     if first_is(s, b'\\') {
-        return Mark::long(1, Class::Str, Mode::Inner(q, d, k));
+        Mark::long(1, Class::Str, Mode::Inner(q, d, k))
+    } else if closes(s, k) {
+        Mark::one(Class::Str, Mode::Interp(q, d))
+    } else {
+        Mark::one(Class::Str, Mode::Inner(q, d, k))
     }
-    if closes(s, k) {
-        return Mark::one(Class::Str, Mode::Interp(q, d));
-    }
-    Mark::one(Class::Str, Mode::Inner(q, d, k))
 }
 
 fn in_block(s: &[u8], d: u32) -> Mark
@@ -105,24 +98,26 @@ fn in_block(s: &[u8], d: u32) -> Mark
     ensures { result ≡ in_block d s.now }
 {
     if starts_with(s, b"/*") {
-        return Mark::long(1, Class::BlockComment, Mode::Block(d + 1));
-    }
-    if starts_with(s, b"*/") {
+        Mark::long(1, Class::BlockComment, Mode::Block(d + 1))
+    } else if starts_with(s, b"*/") {
         if d <= 1 {
-            return Mark::long(1, Class::BlockComment, Mode::Code);
+            Mark::long(1, Class::BlockComment, Mode::Code)
+        } else {
+            Mark::long(1, Class::BlockComment, Mode::Block(d - 1))
         }
-        return Mark::long(1, Class::BlockComment, Mode::Block(d - 1));
+    } else {
+        Mark::one(Class::BlockComment, Mode::Block(d))
     }
-    Mark::one(Class::BlockComment, Mode::Block(d))
 }
 
 fn in_prefab(s: &[u8]) -> Mark
     ensures { result ≡ in_prefab s.now }
 {
     if starts_with(s, b"```") {
-        return Mark::long(2, Class::Prefab, Mode::Code);
+        Mark::long(2, Class::Prefab, Mode::Code)
+    } else {
+        Mark::one(Class::Prefab, Mode::Prefab)
     }
-    Mark::one(Class::Prefab, Mode::Prefab)
 }
 
 // The mark at the head of s in mode m.
@@ -147,9 +142,10 @@ pub fn next_mark(s: &[u8], t: Mark) -> Mark
     ensures { result ≡ next t s.now }
 {
     if t.more == 0 {
-        return mark_at(s, t.mode);
+        mark_at(s, t.mode)
+    } else {
+        Mark::long(t.more - 1, t.class, t.mode)
     }
-    Mark::long(t.more - 1, t.class, t.mode)
 }
 
 // The mark before a line's first byte.

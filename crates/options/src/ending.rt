@@ -61,6 +61,5 @@ pub fn dominant_in(source: &[u8]) -> LineEnding
 pub fn ends_in_lf(source: &[u8]) -> bool
     ensures { result ≡ ends_in_lf source.now }
 {
-    let n = source.len();
-    n != 0 && source[n - 1] == b'\n'
+    source.last() == Some(&b'\n')
 }

@@ -17,7 +17,7 @@ use Rattle.format.specs.Words.{same_of}
 use Rattle.format.specs.declared.words.Declaration.{Declaration}
 use Rattle.text.specs.Text.{Text, Ordered}
 use Rattle.text.specs.declared.Written.{Written}
-use Rattle.split.specs.Measure.{InUse, Wide}
+use Rattle.split.specs.Measure.{InUse}
 use Rattle.split.specs.declared.Layout.{Layout}
 use Rattle.line.specs.declared.style.Style.{Style}
 use Rattle.line.specs.Holds.{Record, Holds, Small, Uses, prev_of}
@@ -123,10 +123,6 @@ pub record Lays (ruler : ℕ) (w : PrintWidth) (indent : List ℕ) (st : Strengt
 abbrev pub break_width : PrintWidth → Bool → Bool → ℕ → PrintWidth
 break_width width marker continued closers =
     choose continued None (choose (eqb closers 0) (choose marker None width) None)
-
--- if r, an indented line is not wider than max
-pub record Short (ruler : ℕ) (indent : List ℕ) (level : ℕ) (line : List ℕ) (max : ℕ) (r : Bool) : Type 0 where
-  pub fits : r ≡ true → Wide ruler indent level line max false
 
 -- how a line of a style is laid out at a level, and broken at the width max
 abbrev pub layout_of : Style → ℕ → ℕ → Layout

@@ -3,8 +3,10 @@ use Prim.Native.Nat.{ℕ, zero, suc, ◌+◌, ◌-◌, ◌*◌, ◌≤◌, ◌<�
 use mathlib.Core.Bool.{Bool, true, false, not, true≢false}
 use mathlib.Core.List.{List, [], ◌∷◌, ◌++◌, foldl}
 use mathlib.Core.Logic.{⊎_elim}
-use mathlib.Core.Path.{◌≡◌, refl, sym, ap, ◌∙◌}
+use mathlib.Core.Path.{◌≡◌, refl, sym, ap, ◌∙◌, subst}
 use native.Mathlib.Omega.{arith}
+use native.Mathlib.Nat.{add-zero}
+use mir.Val.{bool_byte}
 use borrow.Author.Tests.{lt-ltb, le-ltb, eq-eqb, ne_eqb, eqb-true, eqb-false, not-false, not-true}
 use lib.Dec.{eqb, ltb}
 use lib.ListN.{length, drop, take, get_or, length-drop, drop_of_length-le}
@@ -178,7 +180,7 @@ module _ (cs : List ℕ) (from n i : ℕ) (e : n ≡ number_len (drop from cs)) 
       let z : at + (q - at) ≡ q = omega arith in
       sym (ap is_digit (get_or-drop at cs (q - at) 0 ∙ ap (λ (j : ℕ). get_or cs j 0) z)) ∙ digits_in (drop at cs) (q - at) (omega arith)
 
-  pub end_minus : get_or cs from 0 ≡ 45 → PastZeros cs (from + 1) (from + n) i
+  end_minus : get_or cs from 0 ≡ 45 → PastZeros cs (from + 1) (from + n) i
       → EndAt cs (take n (drop from cs)) (record { minus = true; end = from + n; digits = from + n - i }) × (from + n - i ≤ n)
       × (record { minus = true; end = from + n; digits = from + n - i } ≡ end_of cs from n)
   unfolding end_of choose
@@ -200,7 +202,7 @@ module _ (cs : List ℕ) (from n i : ℕ) (e : n ≡ number_len (drop from cs)) 
           let s : ◌≡◌ {A = ℕ} (choose (minus (take n (drop from cs))) 1 0) 1 = choose_true _ 1 0 t in
           rw (s, drop_take_one n (drop from cs), drop-drop 1 from cs)
 
-  pub end_plain : (get_or cs from 0 ≡ 45 → ⊥) → PastZeros cs from (from + n) i
+  end_plain : (get_or cs from 0 ≡ 45 → ⊥) → PastZeros cs from (from + n) i
       → EndAt cs (take n (drop from cs)) (record { minus = false; end = from + n; digits = from + n - i }) × (from + n - i ≤ n)
       × (record { minus = false; end = from + n; digits = from + n - i } ≡ end_of cs from n)
   unfolding end_of choose
@@ -221,6 +223,22 @@ module _ (cs : List ℕ) (from n i : ℕ) (e : n ≡ number_len (drop from cs)) 
           let t : minus (take n (drop from cs)) ≡ false = minus_is ∙ ne_eqb (get_or cs from 0) 45 c in
           let s : ◌≡◌ {A = ℕ} (choose (minus (take n (drop from cs))) 1 0) 0 = choose_false _ 1 0 t in
           rw s
+
+  pub sign_inside : (b : Bool) (d : ℕ) → d ≡ bool_byte b → (from + d ≤ from + n) × (from + n ≤ length cs)
+  sign_inside true d f = (omega arith, k)
+  sign_inside false d f = (omega arith, k)
+
+  pub end_either : (b : Bool) → b ≡ eqb (get_or cs from 0) 45 → (d : ℕ) → d ≡ bool_byte b
+      → PastZeros cs (from + d) (from + n) i
+      → EndAt cs (take n (drop from cs)) (record { minus = b; end = from + n; digits = from + n - i })
+      × (from + n - i ≤ n)
+      × (record { minus = b; end = from + n; digits = from + n - i } ≡ end_of cs from n)
+  end_either true f d g w =
+      end_minus (eqb-true (get_or cs from 0) 45 (sym f))
+      (subst (λ (x : ℕ). PastZeros cs (from + x) (from + n) i) g w)
+  end_either false f d g w =
+      let z : from + d ≡ from = ap (λ (x : ℕ). from + x) g ∙ add-zero from in
+      end_plain (eqb-false (get_or cs from 0) 45 (sym f)) (subst (λ (x : ℕ). PastZeros cs x (from + n) i) z w)
 
 -- ---- zeros
 

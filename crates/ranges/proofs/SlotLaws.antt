@@ -1,11 +1,12 @@
 -- Slots: what one of them holds, and the loops over them.
 use Prim.Native.Nat.{ℕ, zero, suc, ◌+◌, ◌-◌, ◌≤◌, ◌<◌}
-use mathlib.Core.Bool.{Bool, false, ◌&&◌, ◌||◌}
+use mathlib.Core.Bool.{Bool, ◌&&◌, ◌||◌, or_assoc, or-false}
 use mathlib.Core.List.{List}
 use mathlib.Core.Logic.{⊎_elim}
 use mathlib.Core.Path.{◌≡◌, refl, sym, ap, ◌∙◌}
-use native.Mathlib.Numerals.{add-one}
 use native.Mathlib.Omega.{arith}
+use native.Mathlib.Nat.{add-zero}
+use Rattle.std.specs.List.{list_any, range_with_len}
 use lib.Dec.{eqb}
 use lib.ListN.{length, get_or, set, length-set, get_or-eq_default}
 use lib.Seq.{get_or-set_same, get_or-set_other}
@@ -97,18 +98,22 @@ module _ (cs : List ℕ) (p : ℕ) (r : Range) (c : ℕ) (l₀ : List (Option Or
 
 -- ---- any of them
 
-pub record Finding (r : Range) (l : List (Option Orders)) (p j : ℕ) (found : Bool) : Type 0 where
-  pub bound : j ≤ r.width
-  pub is : found ≡ any_slot r l p j
+-- the last of the numbers from a on
+any_last : (test : ℕ → Bool) (a n : ℕ)
+    → list_any test (range_with_len a (suc n)) ≡ (list_any test (range_with_len a n) || test (a + n))
+any_last test a zero = rw (add-zero a, or-false)
+any_last test a (suc n) =
+    let z : a + 1 + n ≡ a + suc n = omega arith in
+    ap (λ (b : Bool). test a || b) (any_last test (a + 1) n ∙ rw z)
+    ∙ sym (or_assoc (test a) (list_any test (range_with_len (a + 1) n)) (test (a + suc n)))
 
-pub finding_start : (r : Range) (l : List (Option Orders)) (p : ℕ) → Finding r l p 0 false
+abbrev pub found_in : Range → List (Option Orders) → ℕ → ℕ → Bool
+found_in r l p j = slot_in r j (get_or l (p + j) None)
+
+pub found_among : (r : Range) (l : List (Option Orders)) (p n : ℕ)
+    → list_any (found_in r l p) (range_with_len 1 n) ≡ any_slot r l p n
 unfolding any_slot
-finding_start r l p = record { bound = omega arith; is = refl }
-
-pub finding_more : (r : Range) (l : List (Option Orders)) (p j : ℕ) (found hit : Bool) → Finding r l p j found → j < r.width
-    → hit ≡ slot_in r (j + 1) (get_or l (p + (j + 1)) None) → Finding r l p (j + 1) (found || hit)
-unfolding any_slot
-finding_more r l p j found hit w h e = record { bound = omega arith; is = rw (add-one j, w.is, e, add-one j) }
-
-pub finding_end : (r : Range) (l : List (Option Orders)) (p j : ℕ) (found : Bool) → Finding r l p j found → r.width ≤ j → found ≡ any_slot r l p r.width
-finding_end r l p j found w h = let e : j ≡ r.width = let b : j ≤ r.width = w.bound in omega arith in rw e at w.is
+found_among r l p zero = refl
+found_among r l p (suc n) =
+    let z : 1 + n ≡ suc n = omega arith in
+    any_last (found_in r l p) 1 n ∙ rw (z, found_among r l p n)

@@ -10,6 +10,7 @@ ghost use Rattle.ranges.specs.Ranges.{PastZeros, turned, opposite, any_slot, Mov
 
 use glob_name::read::number_len;
 use glob_pass::PLACES;
+use glob_pass::code_points::{MINUS, NINE, ZERO};
 use std::cmp::Ordering;
 
 // An end of a range: whether a minus stands before it, where its digits end, and how many there are without leading
@@ -47,7 +48,8 @@ pub struct Far {
 
 // What is kept of the ranges of a name. The j-th place behind the brace of a range has slot j, for numbers of j
 // characters; the brace's own place has the rest.
-// kept: fixed memory: there is no heap, and a name has at most 1,024 characters
+// kept: fixed memory: there is no heap, and a name has at most 1,024 characters. Its fields are public: `range_next` takes
+// any slots, and private ones would ask more of its callers
 #[derive(Clone, Copy)]
 pub struct State {
     pub slots: [Option<Orders>; PLACES],
@@ -105,7 +107,7 @@ impl End {
         if j < self.digits {
             chars[self.end - 1 - j]
         } else {
-            48
+            ZERO
         }
     }
 }
@@ -148,7 +150,7 @@ fn slot_next(slot: Option<Orders>, c: u32, d: u32, e: u32) -> Option<Orders>
     ensures { result ≡ slot_step slot c d e }
 {
     let orders = slot?;
-    if (c < 48) | (57 < c) {
+    if (c < ZERO) | (NINE < c) {
         return None;
     }
     Some(Orders {
@@ -189,12 +191,7 @@ fn any_slot(slots: &[Option<Orders>; PLACES], p: usize, range: Range) -> bool
     requires { p + range.width < PLACES }
     ensures { result ≡ any_slot range slots.now p range.width }
 {
-    let mut found = false;
-    for below in 0..range.width {
-        let j = below + 1;
-        found |= slot_in(slots[p + j], j, range);
-    }
-    found
+    (1..range.width + 1).any(|j| slot_in(slots[p + j], j, range))
 }
 
 // Numbers of more characters than there are slots: only a 0 before them keeps them, and the highest slot joins them.
@@ -205,8 +202,8 @@ fn far_next(range: Range, last: Option<Orders>, far: Far, c: u32) -> (bool, bool
     let in_plain = slot_in(last, w, range);
     let in_minus = slot_in(last, w, range.opposite());
     (
-        (c == 48) & (in_plain | far.plain),
-        (c == 48) & (in_minus | far.minus),
+        (c == ZERO) & (in_plain | far.plain),
+        (c == ZERO) & (in_minus | far.minus),
     )
 }
 
@@ -215,7 +212,7 @@ fn past_zeros(chars: &[u32], from: usize, end: usize) -> usize
     requires { (from ≤ end) × (end ≤ length chars.now) }
     ensures { PastZeros chars.now from end result }
 {
-    blocks::first_from(from, end, &|i| chars[i] != 48)
+    blocks::first_from(from, end, &|i| chars[i] != ZERO)
 }
 
 // The end of a range that stands at `from` and is n characters long.
@@ -226,17 +223,10 @@ fn end_at(chars: &[u32], from: usize, n: usize) -> End
         (result ≡ end_of chars.now from n) }
 {
     let end = from + n;
-    if chars[from] == 45 {
-        let start = past_zeros(chars, from + 1, end);
-        return End {
-            minus: true,
-            end,
-            digits: end - start,
-        };
-    }
-    let start = past_zeros(chars, from, end);
+    let minus = chars[from] == MINUS;
+    let start = past_zeros(chars, from + usize::from(minus), end);
     End {
-        minus: false,
+        minus,
         end,
         digits: end - start,
     }
@@ -302,7 +292,7 @@ impl State {
             minus,
             behind: near_minus | minus,
         };
-        if c == 45 {
+        if c == MINUS {
             far.behind
         } else {
             near_plain | plain

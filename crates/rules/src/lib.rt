@@ -32,7 +32,8 @@ pub enum Carry {
 
 // Where in a line a character stands. The bools say which quote ends a string: `"` if true, else `'`.
 // Interp and Inner are inside `${..}`, at a depth of braces; Inner is a string in it.
-// kept: an enum of the two quotes is no plainer: the definitions say by the same bool which quote they look for
+// kept: the bool, which `quote` and `at_quote` of the definitions take: an enum of the two quotes would be turned into
+// it wherever a contract names them
 #[derive(Clone, Copy, PartialEq, Eq, Debug)]
 pub enum Mode {
     Code,
@@ -53,7 +54,7 @@ pub struct Mark {
 }
 
 // What spacing has just read, in code: a backslash, a comma, a space, or anything else.
-// kept: `Option<Gap>` is no plainer: it has the same four cases in two levels
+// kept: no `Option`: `Nothing` says that any other byte was read, it is no value that is missing
 #[derive(Clone, Copy, PartialEq, Eq, Debug)]
 pub enum Gap {
     Nothing,
@@ -64,7 +65,7 @@ pub enum Gap {
 
 // What a marker protects: nothing, the next line that is not blank, or a block up to and with the first line that
 // leaves so many brackets open or fewer.
-// kept: `Option<Ignore>` is no plainer: it has the same three cases in two levels
+// kept: no `Option`: the three are states that lines lead to from one another, and none is a value that is missing
 #[derive(Clone, Copy, PartialEq, Eq, Debug)]
 pub enum Ignore {
     Nothing,
@@ -290,13 +291,15 @@ pub enum IndentStyle {
     Spaces,
 }
 
-// kept: `Option<usize>` is no plainer, here and in `MaxLineLen`, since it would stand in the `Option` of an unset value
+// kept: no `Option`: `UseTabWidth` says where the size is to be taken from, it is no value that is missing
 #[derive(Clone, Copy, PartialEq, Eq, Debug)]
 pub enum IndentSize {
     UseTabWidth,
     Value(usize),
 }
 
+// kept: an `Option` is no plainer, since what holds it may be unset: `off` would be `Some(None)`, unset `None`, and four
+// crates would have to keep these apart without a name
 #[derive(Clone, Copy, PartialEq, Eq, Debug)]
 pub enum MaxLineLen {
     Off,

@@ -1,13 +1,13 @@
--- The loops of `code_end` and `all_code_or_str`, and what they say of a line's cells.
-use Prim.Native.Nat.{ℕ, zero, suc, ◌+◌, ◌<◌, ◌≤◌, zero-le}
+-- What `code_end` and `all_code_or_str` find, and what that says of a line's cells.
+use Prim.Native.Nat.{ℕ, zero, suc, ◌<◌, ◌≤◌, zero-le}
 use mathlib.Core.Bool.{Bool, true, false, ◌&&◌}
 use mathlib.Core.Path.{◌≡◌, refl, sym, ap, ◌∙◌}
 use mathlib.Core.List.{List, [], ◌∷◌}
-use native.Mathlib.Numerals.{add-one}
 use native.Mathlib.Omega.{arith}
-use borrow.Author.Tests.{le-leb, lt-leb}
-use lib.ListN.{length, get_or, take, drop, drop_of_length-le}
-use lib.Seq.{drop-cons, take-nil, drop-nil}
+use lib.ListN.{length, take, drop}
+use lib.Dec.{leb}
+use lib.Seq.{take-nil, drop-nil}
+use Rattle.std.specs.List.{list_all}
 use Rattle.rules.specs.Basics.{choose}
 use Rattle.rules.specs.Scan.{cell, before, from, code_part, comment_part, all_code_or_str, is_line_comment, is_code_or_str}
 use Rattle.rules.specs.ClassBytes.{cells_of, class_of}
@@ -30,26 +30,14 @@ comment_found ks r w = sym (first_comment ks r w.within (λ j l. w.none j zero-l
 pub no_comment : (ks : List ℕ) (r : Bool) → NoneBefore (comment_at ks) (length ks) r → NoComment ks r
 no_comment ks r w = record { none = λ e. first_comment ks (length ks) (omega arith) (w.none e) (λ l. absurd (omega arith)) }
 
--- whether all are code or string is left to those from i on
-pub record Checked (ks : List ℕ) (i : ℕ) : Type 0 where
-  pub within : i ≤ length ks
-  pub same : only_code_or_str ks ≡ only_code_or_str (drop i ks)
+-- whether all are code or string
+all_of_two : (ks : List ℕ) → list_all (λ k. leb k 1) ks ≡ only_code_or_str ks
+unfolding only_code_or_str
+all_of_two [] = refl
+all_of_two (k ∷ ks) = rw (code_or_str_byte k, all_of_two ks) refl
 
-pub checked_start : (ks : List ℕ) → Checked ks 0
-checked_start ks = record { within = zero-le; same = refl }
-
-module _ {ks : List ℕ} {i : ℕ} (p : Checked ks i) where
-  pub checked_other : i < length ks → 1 < get_or ks i 0 → false ≡ only_code_or_str ks
-  unfolding only_code_or_str
-  checked_other l e = sym (p.same ∙ rw (drop-cons ks i 0, code_or_str_byte, lt-leb _ _ e))
-
-  pub checked_more : i < length ks → get_or ks i 0 ≤ 1 → Checked ks (i + 1)
-  unfolding only_code_or_str
-  checked_more l e = record { within = omega arith; same = p.same ∙ rw (add-one, drop-cons ks i 0, code_or_str_byte, le-leb _ _ e) }
-
-  pub checked_end : length ks ≤ i → true ≡ only_code_or_str ks
-  unfolding only_code_or_str
-  checked_end l = sym (p.same ∙ rw (drop_of_length-le ks l))
+pub all_given : (ks : List ℕ) (r : Bool) → r ≡ list_all (λ k. leb k 1) ks → r ≡ only_code_or_str ks
+all_given ks r e = e ∙ all_of_two ks
 
 pub code_length_le : (ks : List ℕ) → code_length ks ≤ length ks
 unfolding code_length choose

@@ -2,6 +2,9 @@
 ghost use Rattle.std.specs.Prelude.{◌+◌, ◌≤◌, ◌<◌};
 ghost use Rattle.scan.specs.Marked.{Span, Marked};
 
+// kept: the class bytes, n and k are no struct with methods: it would hold the lent bytes, and each contract would say
+// once more that n and k stay
+
 // A block of W bytes at `at`.
 fn block<const W: usize>(class: &mut [u8], at: usize, n: usize, k: u8)
     requires span { Span at (at + W) n class.old }
@@ -49,7 +52,7 @@ pub fn mark(class: &mut [u8], at: usize, e: usize, n: usize, k: u8)
     ensures { Marked k at e n class.old class.new }
 {
     let mut i = at;
-    // kept: a range is no plainer, since the loop ends where a block no longer fits
+    // kept: a range is no plainer: the place behind the last whole block is used behind the loop
     while i < e && 16 <= n - i {
         block::<16>(class, i, n, k);
         i += 16;

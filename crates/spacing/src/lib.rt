@@ -35,6 +35,7 @@ fn is_code_blank(c: u8, k: u8) -> bool
 }
 
 // The length of a text without the blanks at its end.
+// kept: `rposition` takes 0.6 % more instructions of `commas` (tried)
 fn trim_blanks(text: &[u8]) -> usize
     ensures { Trimmed text.now result }
 {
@@ -46,8 +47,9 @@ fn trim_blanks(text: &[u8]) -> usize
     0
 }
 
-// kept: a byte with its class, and the slice with the length of the text at its front, are passed as they are: a struct
-// would have to hold the lent slice, and each function would take it apart again.
+// kept: a byte c and its class byte k are no struct: it would be built from two slices for each byte, and taken apart
+// where one of the two is tested. `out` and the length of the text at its front: it would have to hold the lent slice, and
+// each function would take it apart again.
 
 // One byte more after the text, the first n bytes of `out`.
 fn put(c: u8, gap: Gap, out: &mut [u8], n: usize) -> Respaced
@@ -59,6 +61,7 @@ fn put(c: u8, gap: Gap, out: &mut [u8], n: usize) -> Respaced
 }
 
 // A byte c of class k before which nothing is added or left out, but that blanks go before a comma.
+// kept: a `match` on c takes 1.3 % more instructions of `backslashes` (tried)
 fn put_plain(c: u8, k: u8, out: &mut [u8], n: usize) -> Respaced
     requires { n < length out.old }
     ensures { Wrote (put_plain (take n out.old) (cell c (class_of k))) 1 out.old n out.new result }
@@ -141,10 +144,11 @@ fn put_next(c: u8, k: u8, out: &mut [u8], t: Respaced) -> Respaced
 fn is_plain(c: u8, gap: Gap) -> bool
     ensures { Plain c gap result }
 {
-    matches!(gap, Gap::Nothing) && !matches!(c, b'\\' | b',' | b' ')
+    gap == Gap::Nothing && !matches!(c, b'\\' | b',' | b' ')
 }
 
 // Past all spaces.
+// kept: by vectors, as `utf8` passes those at a text's start, `commas` takes 2.7 % more instructions (tried)
 fn past_spaces(line: &[u8], at: usize) -> usize
     requires { at ≤ length line.now }
     ensures { FirstFrom (other_at line.now) at (length line.now) result }
@@ -156,7 +160,7 @@ fn past_spaces(line: &[u8], at: usize) -> usize
 fn is_dropped(c: u8, gap: Gap) -> bool
     ensures { Dropped c gap result }
 {
-    c == b' ' && matches!(gap, Gap::Space)
+    c == b' ' && gap == Gap::Space
 }
 
 // Copies the line's first `kept` bytes.
@@ -199,6 +203,8 @@ fn respace(line: &[u8], class: &[u8], out: &mut [u8], kept: usize) -> usize
 
 // Writes the respaced line of a line with its class bytes, and gives its length. Spacing leaves its first `kept` bytes
 // as they are.
+// Apart from the line step, which seldom needs it.
+#[inline(never)]
 pub fn normalize_from(line: &[u8], class: &[u8], out: &mut [u8], kept: usize) -> usize
     requires room { Room (length line.now) class.now out.old }
     requires keeping { Keeping line.now class.now kept }
@@ -294,6 +300,7 @@ fn kept_special(line: &[u8], class: &[u8], i: usize) -> Option<usize>
     }
 }
 
+// kept: in one function with `kept_special`, `if and else` takes 0.5 % more instructions (tried)
 fn kept_at(line: &[u8], class: &[u8], i: usize) -> Option<usize>
     requires { (i < length line.now) × (length line.now ≤ length class.now) }
     ensures { KeptAt line.now class.now i result }

@@ -18,11 +18,11 @@ use Rattle.buffer.specs.Repeat.{times}
 use Rattle.buffer.proofs.RegionLaws.{part_from, drop_take}
 use Rattle.buffer.proofs.RepeatLaws.{length_times}
 use Rattle.utf8.specs.Unicode.{is_scalar, Scalars, encode_char, encode, decode, size, WellFormed, units, width, trim, trim_end}
-use Rattle.utf8.specs.Places.{AsciiRun, units_of, TrimmedStart, TrimmedEnd, total}
+use Rattle.utf8.specs.Places.{units_of, TrimmedStart, TrimmedEnd, total}
 use Rattle.utf8.proofs.Tests.{by_test}
 use Rattle.utf8.proofs.Table.{High, also, Bytes, single, several}
 use Rattle.utf8.proofs.Table.{bytes as bytes_of}
-use Rattle.utf8.proofs.Bytewise.{SumScan, sum_begin, sum_turn, width_bytes, width_nil, width_cons}
+use Rattle.utf8.proofs.Bytewise.{total_small, width_bytes, width_nil, width_cons}
 use Rattle.utf8.proofs.Decode.{Ascii, ascii_append, encode_nil, encode_cons, encode_ascii, size_append, decode_ascii, decode_encode, decode_scalars, wf_ascii, wf_encode}
 use Rattle.rules.proofs.Choose.{choose_true, choose_false}
 use Rattle.rules.proofs.Columns.{stop_left_over, after_tab, after_other, measure_append, measure_zero, measure_short, measure_grows, indent_levels}
@@ -36,11 +36,6 @@ use Rattle.split.specs.Measure.{byte_after, ByteMeasured, Measurable, Measured, 
 unfoldable pub byte_measure : ℕ → ℕ → List ℕ → ℕ
 byte_measure r from [] = from
 byte_measure r from (b ∷ bs) = byte_measure r (byte_after r from b) bs
-
--- a byte takes at most two units
-byte_units : (b : ℕ) → units_of b ≤ 2
-unfolding units_of
-byte_units b = by_test (ltb b 0x80) (λ e. rw e (omega arith)) (λ e. rw e (by_test (ltb b 0xC0) (λ f. rw f (omega arith)) (λ f. rw f (by_test (ltb b 0xF0) (λ g. rw g (omega arith)) (λ g. rw g (omega arith))))))
 
 module _ (r from b : ℕ) (below : r < 256) where
   pub byte_tab : (b ≡ 9) → (0 < r) × (from + 256 < 2 ^ 64) → ByteMeasured r from b (from + (r - from % r))
@@ -118,25 +113,6 @@ module _ (r from : ℕ) (l : List ℕ) where
         }
 
 -- at ruler 0
-ascii_unit : (b : ℕ) → b < 0x80 → 1 ≡ units_of b
-unfolding units_of
-ascii_unit b h = rw (lt-ltb b 0x80 h)
-
--- bytes that are ASCII take a unit each
-pub ascii_sum : (s : List ℕ) (r : ℕ) → AsciiRun s 0 r → SumScan units_of 2 s r r
-ascii_sum s r a = go r (omega arith)
-  where
-    go : (n : ℕ) → n ≤ r → SumScan units_of 2 s n n
-    go zero h = sum_begin units_of 2 s
-    go (suc n) h =
-        let e : n + 1 ≡ suc n = omega arith in
-        let low : get_or s n 0 < 0x80 = rw zero-add at (a.ascii n (omega arith)) in
-        rw e at (sum_turn units_of 2 s n n 1 (go n (omega arith)) (omega (arith, a.within)) (ascii_unit (get_or s n 0) low, omega arith))
-
-total_small : (s : List ℕ) → total units_of s ≤ 2 * length s
-total_small [] = omega arith
-total_small (b ∷ s) = let r = total_small s in omega (arith, byte_units b)
-
 width_small : (s : List ℕ) → WellFormed s → width (decode s) ≤ 2 * length s
 width_small s w = rw (width_bytes s w) at (total_small s)
 

@@ -1,5 +1,5 @@
 -- Columns and parts of a line.
-use Rattle.std.specs.Prelude.{ℕ, ◌+◌, ◌-◌, ◌*◌, ◌^◌, ◌≤◌, ◌<◌, eqb, ltb, Bool, true, List, ◌++◌, ◌≡◌, length}
+use Rattle.std.specs.Prelude.{ℕ, ◌+◌, ◌-◌, ◌*◌, ◌^◌, ◌≤◌, ◌<◌, eqb, ltb, Bool, true, false, List, ◌++◌, ◌≡◌, length}
 use Rattle.buffer.specs.Buffer.{part}
 use Rattle.utf8.specs.Unicode.{decode, WellFormed, trim}
 use Rattle.utf8.specs.Places.{units_of, TrimmedStart}
@@ -49,6 +49,10 @@ pub record IndentMeasured (ruler : ℕ) (indent : List ℕ) (level r : ℕ) : Ty
 -- whether an indented line is wider than max
 pub record Wide (ruler : ℕ) (indent : List ℕ) (level : ℕ) (line : List ℕ) (max : ℕ) (r : Bool) : Type 0 where
   pub is : r ≡ ltb max (measure ruler 0 (times level indent ++ decode line))
+
+-- if r, an indented line is not wider than max
+pub record Short (ruler : ℕ) (indent : List ℕ) (level : ℕ) (line : List ℕ) (max : ℕ) (r : Bool) : Type 0 where
+  pub fits : r ≡ true → Wide ruler indent level line max false
 
 -- a part of s that is well-formed
 pub record Within (s : List ℕ) (a e : ℕ) : Type 0 where

@@ -3,10 +3,10 @@
 #![tactic(auto)]
 
 ghost use Rattle.std.specs.Prelude.{◌+◌, ◌≤◌, ◌<◌, ◌^◌, ◌≡◌, length};
-ghost use Rattle.utf8.specs.Unicode.{decode, WellFormed, width};
+ghost use Rattle.utf8.specs.Unicode.{decode, WellFormed};
 ghost use Rattle.rules.specs.Lines.{as_str};
 ghost use Rattle.split.specs.Measure.{ByteMeasured, Measurable, Measured, Indent, IndentMeasured, Wide, Within};
-ghost use Rattle.split.specs.Measure.{Trimmed};
+ghost use Rattle.split.specs.Measure.{Short, Trimmed};
 ghost use Rattle.split.specs.Text.{lay, LineRoom, LineWritten};
 
 use buffer::pad::Pad;
@@ -50,26 +50,13 @@ fn measure_tabs(ruler: u8, from: Utf16Column, part: &[u8]) -> Utf16Column
     Utf16Column(column)
 }
 
-// How many UTF-16 units the characters of a well-formed slice take: as many as bytes where they are ASCII.
-fn count_units(s: &[u8]) -> usize
-    requires { WellFormed s.now × (length s.now < 2 ^ 62) }
-    ensures { result ≡ width (decode s.now) }
-{
-    let ascii = utf8::past_blocks(s, 0);
-    let mut n = ascii;
-    for i in ascii..s.len() {
-        n += utf8::units(s[i]);
-    }
-    n
-}
-
 // The column that a part reaches which starts at column from. Whatever measures a line uses this.
 pub fn measure_from(ruler: u8, from: Utf16Column, part: &[u8]) -> Utf16Column
     requires { Measurable from.0 part.now }
     ensures { Measured ruler from.0 part.now result.0 }
 {
     if ruler == 0 {
-        Utf16Column(from.0 + count_units(part))
+        Utf16Column(from.0 + utf8::width(part).0)
     } else {
         measure_tabs(ruler, from, part)
     }
@@ -112,15 +99,24 @@ fn measured_wide(s: Layout, indent: &[u8], line: &[u8]) -> bool
     s.max < end
 }
 
-// The same. A character takes no more columns than bytes, a tab at most the ruler more, so that most lines are not
-// measured.
+// Whether a line is known to fit without being measured, its indent included: a character takes no more columns than
+// bytes, a tab at most the ruler more.
+pub fn is_short(line: &[u8], indent: &[u8], level: usize, ruler: u8, max: usize) -> bool
+    requires indent { Indent indent.now level }
+    requires well_formed { WellFormed line.now × (length line.now < 2 ^ 31) }
+    ensures { Short ruler indent.now level line.now max result }
+{
+    let bytes = level * indent.len() + line.len();
+    bytes * (ruler as usize + 1) <= max
+}
+
+// The same as `measured_wide`. Most lines are not measured.
 pub fn over_wide(s: Layout, indent: &[u8], line: &[u8]) -> bool
     requires indent { Indent indent.now s.level }
     requires well_formed { WellFormed line.now × (length line.now < 2 ^ 31) }
     ensures { Wide s.ruler indent.now s.level line.now s.max.0 result }
 {
-    let bytes = s.level * indent.len() + line.len();
-    s.max.0 < bytes * (s.ruler as usize + 1) && measured_wide(s, indent, line)
+    !is_short(line, indent, s.level, s.ruler, s.max.0) && measured_wide(s, indent, line)
 }
 
 // A part of a slice: where it starts and ends.

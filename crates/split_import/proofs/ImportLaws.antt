@@ -1,18 +1,19 @@
 -- Laws of the import and its braces.
 use Prim.Native.Nat.{ℕ, zero, suc, ◌+◌, ◌-◌, ◌^◌, ◌≤◌, ◌<◌, zero-le}
 use Prim.Native.Char.{Char, code}
-use mathlib.Core.Bool.{not, or-false, Bool, true, false, ◌&&◌}
+use mathlib.Core.Bool.{not, Bool, true, false, ◌&&◌}
 use mathlib.Core.List.{List, [], ◌∷◌, ◌++◌, map, map-append, foldl, reverse, append-nil, append_assoc}
 use mathlib.Core.Option.{Option, none}
 use Rattle.std.specs.Prelude.{Some, None}
 use Rattle.std.specs.Prelude as code
+use Rattle.std.specs.Bool.{then_some}
 use mathlib.Core.Path.{◌≡◌, refl, sym, ap, ◌∙◌, subst}
 use native.Mathlib.Numerals.{add-one}
 use native.Mathlib.Nat.{add-zero}
 use native.Mathlib.Omega.{arith}
 use lib.Dec.{eqb, ltb}
 use lib.ListN.{length, get_or, take, drop, length-append, length-drop, length-take, drop_of_length-le}
-use lib.Seq.{drop-cons, drop-drop}
+use lib.Seq.{drop-drop}
 use borrow.Author.Tests.{eqb-true, le-leb, lt-leb, ltb-true, ltb-false}
 use Rattle.buffer.specs.Buffer.{part}
 use Rattle.compare.specs.Common.{Compared}
@@ -22,12 +23,12 @@ use Rattle.compare.proofs.WriterLaws.{compared_append}
 use Rattle.utf8.specs.Unicode.{encode_char, encode, decode, Scalars, trim_end}
 use Rattle.utf8.specs.Places.{TrimmedEnd}
 use Rattle.blocks.specs.Blocks.{NoneFrom, FirstFrom}
-use Rattle.utf8.proofs.Tests.{and_right}
+use Rattle.utf8.proofs.Tests.{by_test, and_right}
 use Rattle.utf8.proofs.Table.{encode_char_1, Bytes, single, several}
 use Rattle.utf8.proofs.Table.{bytes as bytes_of}
 use Rattle.utf8.proofs.Decode.{encode_nil, encode_append, encode_ascii, decode_encode, decode_scalars, wf_encode}
 use Rattle.rules.specs.declared.Carry.{Carry}
-use Rattle.rules.specs.Basics.{choose, codes, starts_with, first_is, starts_then, is_ident}
+use Rattle.rules.specs.Basics.{choose, codes, starts_then, is_ident}
 use Rattle.rules.specs.Options.{Options, indent_of, over_wide}
 use Rattle.rules.specs.Scan.{Cell, chars_of, classify, is_code, before, from}
 use Rattle.rules.specs.ClassBytes.{class_of, cells_of, FirstAt}
@@ -42,24 +43,14 @@ use Rattle.split.specs.Text.{indented, lay, following, last_of, LineWritten}
 use Rattle.split.proofs.TextLaws.{following_append, last_append, written_lines, lay_encode, indent_short, level_fits}
 use Rattle.split_import.specs.declared.NameLines.{NameLines}
 use Rattle.split_import.specs.declared.ImportLines.{ImportLines}
-use Rattle.split_import.specs.Names.{code_byte, byte_at, code_at, parts, names_text, NamesWritten}
+use Rattle.split_import.specs.Names.{code_byte, FoundCode, byte_at, code_at, parts, names_text, NamesWritten}
 use Rattle.split_import.specs.Import.{Given, ImportFits, HeadFits, head_line, HeadWritten, Braces, parts_of}
 
 -- ---- the word
 
-module _ (line : List ℕ) (r : Bool) (e : r ≡ starts_with line (codes "import")) where
-  pub import_not : r ≡ false → false ≡ starts_import line
-  unfolding starts_import starts_then
-  import_not f = rw (← e, f)
-
-  module _ (f : r ≡ true) where
-    pub import_short : length line ≤ 6 → true ≡ starts_import line
-    unfolding starts_import starts_then first_is
-    import_short h = rw (← e, f, drop_of_length-le line {i = 6} h)
-
-    pub import_after : 6 < length line → (s : Bool) → s ≡ is_ident (get_or line 6 0) → not s ≡ starts_import line
-    unfolding starts_import starts_then first_is
-    import_after h s g = rw (← e, f, drop-cons line 6 0 h, ← g, or-false)
+pub import_told : (line : List ℕ) (r : Bool) → r ≡ starts_then (codes "import") (λ c. not (is_ident c)) true line → r ≡ starts_import line
+unfolding starts_import
+import_told line r e = e
 
 -- ---- a code character
 
@@ -94,13 +85,19 @@ module _ (c : ℕ) (line class : List ℕ) (start : ℕ) (room : length line ≤
         let e : start + (r - start) ≡ r = omega (arith, f.from) in
         subst (λ (i : ℕ). Finding (code_byte c) line class i) e (code_run (r - start) (omega arith))
 
-    pub code_found : r < length line → FirstAt (code_byte c) line class r
+    code_found : r < length line → FirstAt (code_byte c) line class r
     code_found h = find_stop code_scan h room (f.passes h)
 
-    pub code_end : length line ≤ r → FirstAt (code_byte c) line class (length line)
+    code_end : length line ≤ r → FirstAt (code_byte c) line class (length line)
     code_end h =
         let e : r ≡ length line = omega (arith, f.within) in
         subst (FirstAt (code_byte c) line class) e (find_end code_scan h)
+
+    pub code_given : (o : code.Option ℕ) → o ≡ then_some (ltb r (length line)) r → FoundCode c line class o
+    code_given o e =
+        by_test (ltb r (length line))
+        (λ t. let g : o ≡ Some r = rw t at e in let h : r < length line = ltb-true r (length line) t in subst (FoundCode c line class) (sym g) (code_found h, h))
+        (λ t. let g : o ≡ None = rw t at e in subst (FoundCode c line class) (sym g) (code_end (ltb-false r (length line) t)))
 
 -- ---- the lines of an import
 

@@ -4,6 +4,7 @@ use mathlib.Core.Bool.{Bool, true, false, not, true≢false}
 use mathlib.Core.List.{List, [], ◌∷◌, ◌++◌, foldl, append-nil, append_assoc}
 use mathlib.Core.Option.{Option, none, some}
 use Rattle.std.specs.Prelude.{Some, None}
+use Rattle.std.specs.Option.{SomeIff, MatchOption}
 use Rattle.std.specs.Prelude as code
 use mathlib.Core.Path.{◌≡◌, refl, sym, ap, ◌∙◌, subst}
 use native.Mathlib.Nat.{suc-min-suc, min-eq_left, min-eq_right}
@@ -117,14 +118,18 @@ module _ (table : List ℕ) (s : OpState) (line class : List ℕ) (i : ℕ) (h :
         let t : OpStep = token_step table (ops_of s) (get_or line i 0 ∷ drop (i + 1) line) in
         read_step (record { strength = 0; after = a }) (ap (λ (b : Bool). step_or t (unless b a)) (sym k) ∙ e t ∙ sym (byte_or_law table (ops_of s) x (drop (i + 1) line)))
 
-    pub read_token : r ≡ true → a ≡ s → (t : Token) → ((o : Ops) → o.operand ≡ a.operand → step_with o t ≡ token_step table o (take (length line - i) (drop i line)))
-        → (strength : ℕ) (after : OpState) → found_as strength after ≡ step_with (ops_of a) t → ReadAt table s line class i (record { strength = strength; after = after })
+    pub read_token : r ≡ true → a ≡ s → (t : Token) → ((o : Ops) → o.operand ≡ a.operand → step_with table o t ≡ token_step table o (take (length line - i) (drop i line)))
+        → (strength : ℕ) (after : OpState) → found_as strength after ≡ step_with table (ops_of a) t → ReadAt table s line class i (record { strength = strength; after = after })
     read_token k same t q strength after g =
         let d : take (length line - i) (drop i line) ≡ get_or line i 0 ∷ drop (i + 1) line = part_from line i ∙ drop-cons line i 0 h ∙ rw (add-one i) in
         let u : OpStep = token_step table (ops_of s) (get_or line i 0 ∷ drop (i + 1) line) in
         read_step (record { strength = strength; after = after })
-        (g ∙ ap (λ (y : OpState). step_with (ops_of y) t) same ∙ q (ops_of s) (ap (λ (y : OpState). y.operand) (sym same)) ∙ ap (token_step table (ops_of s)) d ∙ ap (λ (b : Bool). step_or u (unless b a)) (sym k) ∙ e u
+        (g ∙ ap (λ (y : OpState). step_with table (ops_of y) t) same ∙ q (ops_of s) (ap (λ (y : OpState). y.operand) (sym same)) ∙ ap (token_step table (ops_of s)) d ∙ ap (λ (b : Bool). step_or u (unless b a)) (sym k) ∙ e u
         ∙ sym (byte_or_law table (ops_of s) x (drop (i + 1) line)))
+
+-- the strength of the operator that a token is, as the call after `take` gives it
+pub taken_strength : {k n : ℕ} {s : OpState} {r : OpStep} → k ≡ n → found_as n s ≡ r → found_as k s ≡ r
+taken_strength {k} {n} {s} {r} e f = ap (λ (m : ℕ). found_as m s) e ∙ f
 
 -- ---- strengths
 
@@ -167,10 +172,10 @@ looser_assoc (suc a) (suc b) (suc c) = rw (looser_suc a b, looser_suc b c, loose
 pub never_looser : (a b : ℕ) → a ≡ 0 → IsLooser a b false
 never_looser a b h = record { taken = λ e. absurd (true≢false (sym e)); left = λ e. rw h (looser_zero b) }
 
-pub first_looser : (a b : ℕ) → (a ≡ 0 → ⊥) → b ≡ 0 → IsLooser a b true
+first_looser : (a b : ℕ) → (a ≡ 0 → ⊥) → b ≡ 0 → IsLooser a b true
 first_looser a b h k = record { taken = λ e. record { some = omega arith; less = λ l. absurd (omega arith); is = sym (looser_none b a k) }; left = λ e. absurd (true≢false e) }
 
-pub less_looser : (a b : ℕ) → (a ≡ 0 → ⊥) → (b ≡ 0 → ⊥) → IsLooser a b (ltb a b)
+less_looser : (a b : ℕ) → (a ≡ 0 → ⊥) → (b ≡ 0 → ⊥) → IsLooser a b (ltb a b)
 less_looser a b h k =
     record {
       taken = λ e. let l : a < b = ltb-true a b e in record { some = omega arith; less = λ _. l; is = sym (looser_more b a k h (omega arith)) };
@@ -180,6 +185,11 @@ less_looser a b h k =
     go : (b < a) ⊎ (a ≤ b) → b ≤ a → looser b a ≡ b
     go (inl m) l = sym (looser_less b a k h m)
     go (inr m) l = let q : a ≡ b = omega arith in rw q (sym (looser_more b b k k (omega arith)))
+
+pub looser_by : (a : ℕ) (b : code.Option Break) → (a ≡ 0 → ⊥) → Strong b → (r : Bool) → {P : Break → Type 0}
+    → MatchOption b (r ≡ true) P → ((w : Break) → P w → r ≡ ltb a w.strength) → IsLooser a (strength_of b) r
+looser_by a None h k r m f = rw m (first_looser a 0 h refl)
+looser_by a (Some w) h k r m f = rw (f w m) (less_looser a w.strength h k)
 
 -- ---- brackets
 
@@ -231,11 +241,10 @@ module _ (depth : ℕ) (x : Cell) (r : Bool) (p : r ≡ is_code x.class) where
       closed : t ≡ true → balance_step (some depth) x ≡ shallower (some depth)
       closed y = code_balance (some depth) x r p q ∙ choose_false _ _ _ (sym u ∙ v) ∙ choose_true _ _ _ (sym w ∙ y)
 
-      pub balance_fell : t ≡ true → depth ≡ 0 → Balances depth x None
-      balance_fell y z = record { is = falls depth z ∙ sym (closed y); small = zero-le }
-
-      pub balance_close : t ≡ true → (depth ≡ 0 → ⊥) → Balances depth x (Some (depth - 1))
-      balance_close y z = record { is = lessens depth z ∙ sym (closed y); small = omega arith }
+      pub balance_close : t ≡ true → (o : code.Option ℕ) → SomeIff o (1 ≤ depth) (depth - 1) → Balances depth x o
+      balance_close y None e = record { is = falls depth (omega (arith, e)) ∙ sym (closed y); small = zero-le }
+      balance_close y (Some d) e =
+          subst (λ (n : ℕ). Balances depth x (Some n)) (sym e.1) (record { is = lessens depth (λ (z : depth ≡ 0). absurd (omega (arith, e.0))) ∙ sym (closed y); small = omega arith })
 
       pub balance_plain : t ≡ false → Balances depth x (Some depth)
       balance_plain y =
@@ -413,8 +422,8 @@ module _ {table line class : List ℕ} {s : OpState} {depth : ℕ} (a : code.Opt
           pass_on (record { ops = n; strength = strength_of a; cut = cut_of a })
           (ops_left q.ops h (record { strength = 0; after = n }) (read_plain table s line class i h q.ops.breaks r n e k) (looser_zero (strength_of a)))
 
-      module _ (k : r ≡ true) (same : n ≡ s) (t : Token) (g : (o : Ops) → o.operand ≡ n.operand → step_with o t ≡ token_step table o (take (length line - i) (drop i line)))
-          (strength : ℕ) (after : OpState) (u : found_as strength after ≡ step_with (ops_of n) t) (l : Bool) (y : IsLooser strength (strength_of a) l) where
+      module _ (k : r ≡ true) (same : n ≡ s) (t : Token) (g : (o : Ops) → o.operand ≡ n.operand → step_with table o t ≡ token_step table o (take (length line - i) (drop i line)))
+          (strength : ℕ) (after : OpState) (u : found_as strength after ≡ step_with table (ops_of n) t) (l : Bool) (y : IsLooser strength (strength_of a) l) where
         abbrev f : OpFound
         f = record { strength = strength; after = after }
 

@@ -1,10 +1,11 @@
 -- Laws of a run of words, strings and gaps: no operator stands in it, and an operand ends after it if one of its bytes is
 -- of a word or string, or one ended before.
 use Prim.Native.Nat.{ℕ, zero, suc, ◌+◌, ◌≤◌, ◌<◌}
-use mathlib.Core.Bool.{Bool, true, false, not, ◌&&◌, and-false, true≢false}
+use mathlib.Core.Bool.{Bool, true, false, not, ◌&&◌, ◌||◌, and-false, true≢false}
 use mathlib.Core.List.{List, [], ◌∷◌}
 use mathlib.Core.Path.{◌≡◌, refl, sym, ap, ◌∙◌, subst}
 use Rattle.std.specs.Prelude.{Some}
+use Rattle.std.proofs.Math.Bool.{or-false, or-true}
 use native.Mathlib.Omega.{arith}
 use lib.Dec.{eqb}
 use lib.ListN.{length, get_or, take, drop}
@@ -22,7 +23,7 @@ use Rattle.rules.proofs.StartsBytes.{low_of, steady_ident}
 use Rattle.rules.specs.OperatorBytes.{byte_step}
 use Rattle.top_level_ops.specs.declared.OpState.{OpState}
 use Rattle.top_level_ops.specs.Steps.{ops_of, step_of}
-use Rattle.split_operation.specs.Pass.{Breakable, NonePending, is_operand, in_gap, QuietRun, past_run, Balances, Seeking, Pass, Passing}
+use Rattle.split_operation.specs.Pass.{Breakable, NonePending, is_operand, in_gap, is_quiet, QuietRun, past_run, Balances, Seeking, Pass, Passing}
 use Rattle.split_operation.proofs.WordLaws.{eqb_swap}
 use Rattle.split_operation.proofs.PassLaws.{ReadAt, read_step, looser_zero, balance_other, balance_plain, passing_more, seek_read, ops_left}
 
@@ -255,10 +256,16 @@ module _ {table : List ℕ} {strength : ℕ} {line class : List ℕ} {from : ℕ
 
 -- ---- the functions
 
-module _ {line class : List ℕ} {from : ℕ} {s : OpState} where
-  module _ {i : ℕ} {o : Bool} (q : QuietRun line class from s i o) (h : i < length line) (p : NonePending s) (r : Bool) where
-    pub run_word : r ≡ is_operand (cell_at line class i) → r ≡ true → QuietRun line class from s (i + 1) true
-    run_word e t = QuietRun.word q h p (sym e ∙ t)
+-- of code the table's test
+pub quiet_code : (c : ℕ) (k : Class) → is_code k ≡ true → (is_ident c || (tail c || is_blank c)) ≡ is_quiet (cell c k)
+quiet_code c Class.Code h = rw (or-false (is_ident c))
+quiet_code c Class.Str h = absurd (true≢false (sym h))
+quiet_code c Class.LineComment h = absurd (true≢false (sym h))
+quiet_code c Class.BlockComment h = absurd (true≢false (sym h))
+quiet_code c Class.Prefab h = absurd (true≢false (sym h))
 
-    pub run_gap : r ≡ in_gap (cell_at line class i) → r ≡ true → QuietRun line class from s (i + 1) o
-    run_gap e t = QuietRun.gap q h p (sym e ∙ t)
+module _ {line class : List ℕ} {from : ℕ} {s : OpState} {i : ℕ} {o : Bool} where
+  pub run_on : QuietRun line class from s i o → i < length line → NonePending s → (w : Bool) → w ≡ is_operand (cell_at line class i) → is_quiet (cell_at line class i) ≡ true
+      → QuietRun line class from s (i + 1) (o || w)
+  run_on q h p true e y = rw (or-true o) (QuietRun.word q h p (sym e))
+  run_on q h p false e y = rw (or-false o) (QuietRun.gap q h p (rw (sym e) at y))

@@ -47,6 +47,10 @@ is_operand x = in_word x || (is_str x.class && not (tail x.ch))
 abbrev pub in_gap : Cell → Bool
 in_gap x = tail x.ch || (is_code x.class && is_blank x.ch)
 
+-- either of them
+abbrev pub is_quiet : Cell → Bool
+is_quiet x = is_operand x || in_gap x
+
 -- from `from` up to e stand such cells and those of words, with nothing pending in the state s, and an operand ends
 -- after them if `operand` says so
 pub data QuietRun (line class : List ℕ) (from : ℕ) (s : OpState) : ℕ → Bool → Type 0 where

@@ -36,7 +36,7 @@ fn line_of(r: OperationSplit) -> NewLine
 }
 
 // kept: line and class, layout and indent are not one struct each: no plainer, since of a struct that holds a lent
-// slice the contracts say `k.entry.line.now` (tried), and the facts on both are one record already
+// slice the contracts say `k.entry.line.now` (tried), and the facts on both are one record here already
 
 // The pieces of a line from an operator on, each a line, one level deeper than the first, which was written last.
 fn write_rest(
@@ -85,16 +85,10 @@ fn round_break(line: &[u8], class: &[u8], s: Layout, rounds: usize, indent: &[u8
     ensures { RoundBreak (strengths_in s.strengths.table) s.ruler indent.now s.level s.max.0
         rounds line.now class.now result }
 {
-    if rounds == 0 {
+    if rounds == 0 || !over_wide(s, indent, line) || !has_operator(line) {
         return None;
     }
-    if over_wide(s, indent, line) {
-        if has_operator(line) {
-            return find_break(&s.strengths.table, line, class);
-        }
-        return None;
-    }
-    None
+    find_break(&s.strengths.table, line, class)
 }
 
 // A line, its first piece broken again while it is too wide and rounds are left.

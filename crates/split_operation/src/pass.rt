@@ -6,11 +6,11 @@ ghost use Rattle.rules.specs.Scan.{cell, is_code};
 ghost use Rattle.rules.specs.ClassBytes.{class_of, cells_of};
 ghost use Rattle.rules.specs.Strengths.{strengths_in};
 ghost use Rattle.rules.specs.SplitOperation.{in_word, keywords, has_word};
-ghost use Rattle.split_operation.specs.Pass.{PlainTest, NonePending, is_operand, in_gap, QuietRun, Balances};
+ghost use Rattle.split_operation.specs.Pass.{PlainTest, NonePending, is_operand, is_quiet, QuietRun, Balances};
 ghost use Rattle.split_operation.specs.Pass.{WordStep, starts_keyword, NoKeyword, IsLooser, broken_at, strength_of};
 ghost use Rattle.split_operation.specs.Pass.{Breakable, PassEnd, BreakFound, Cutting, NextOp, Strong};
 
-use basics::{is_blank, is_closer, is_ident, is_opener};
+use basics::{is_closer, is_ident, is_opener};
 use rules::Strengths;
 use rules::class_byte::{CODE, STR};
 use top_level_ops::{OpState, token_at};
@@ -39,14 +39,33 @@ fn is_plain(s: OpState) -> bool
 fn is_operand(k: u8, c: u8) -> bool
     ensures { result ≡ is_operand (cell c (class_of k)) }
 {
-    in_word(k, c) || k == STR && !utf8::is_tail(c)
+    if is_code(k) {
+        is_ident(c)
+    } else {
+        (k == STR) & !utf8::is_tail(c)
+    }
 }
 
-// A space or a tab of code, or a byte that starts no character.
-fn in_gap(k: u8, c: u8) -> bool
-    ensures { result ≡ in_gap (cell c (class_of k)) }
+// A point for each byte of a word or a gap of code.
+static QUIET: [u8; 256] = *b"\
+    !!!!!!!!!.!!!!!!!!!!!!!!!!!!!!!!\
+    .!!!!!!!!!!!!!!!..........!!!!!!\
+    !..........................!!!!.\
+    !..........................!!!!!\
+    ................................\
+    ................................\
+    !!!!!!!!!!!!!!!!!!!!!!!!!!!!!!!!\
+    !!!!!!!!!!!!!!!!!!!!!!!!!!!!!!!!";
+
+// A byte that an operand ends with, or one of a gap: a space or a tab of code, or a byte that starts no character.
+fn is_quiet(k: u8, c: u8) -> bool
+    ensures { result ≡ is_quiet (cell c (class_of k)) }
 {
-    utf8::is_tail(c) || is_code(k) && is_blank(c)
+    if is_code(k) {
+        QUIET[c as usize] != b'!'
+    } else {
+        (k == STR) | utf8::is_tail(c)
+    }
 }
 
 // Where a run of words, strings and gaps ends, and whether an operand ends there.
@@ -57,6 +76,8 @@ pub struct Run {
 }
 
 // The run of words, strings and gaps that stands at a place.
+// kept: line and class are not one struct, here and below: no plainer, since of a struct that holds lent slices the
+// contracts say `k.entry.line.now` (tried on `has_keyword`), and what it would say of both is a single bound
 fn quiet_run(line: &[u8], class: &[u8], from: usize, s: OpState) -> Run
     requires within { (from ≤ length line.now) × (length line.now ≤ length class.now) }
     requires none { NonePending s }
@@ -64,11 +85,10 @@ fn quiet_run(line: &[u8], class: &[u8], from: usize, s: OpState) -> Run
 {
     let mut operand = s.operand;
     for i in from..line.len() {
-        if is_operand(class[i], line[i]) {
-            operand = true;
-        } else if !in_gap(class[i], line[i]) {
+        if !is_quiet(class[i], line[i]) {
             return Run { end: i, operand };
         }
+        operand |= is_operand(class[i], line[i]);
     }
     Run {
         end: line.len(),
@@ -101,12 +121,13 @@ fn balance(depth: usize, k: u8, c: u8) -> Option<usize>
     } else if is_opener(c) {
         Some(depth + 1)
     } else if is_closer(c) {
-        if depth == 0 { None } else { Some(depth - 1) }
+        depth.checked_sub(1)
     } else {
         Some(depth)
     }
 }
 
+// kept: no plainer: `matches!(s, b"if" | ..)` was tried: each of its 26 goals needs an answer, this form none
 #[tactic(auto, using(crate::proofs::WordLaws::same_pointwise), unfolding(rules::specs::Basics::one_of))]
 pub fn is_keyword(s: &[u8]) -> bool
     ensures { result ≡ one_of keywords s.now }
@@ -132,7 +153,7 @@ fn word_step(line: &[u8], start: usize, i: usize, k: u8) -> Option<usize>
     Some(i + 1)
 }
 
-// Whether a keyword may start with the bytes a, b and c.
+// Whether a keyword may start with the bytes a, b and c. It makes no branch, so that 16 places are tested at once.
 fn starts_keyword(a: u8, b: u8, c: u8) -> bool
     ensures { result ≡ starts_keyword a b c }
 {
@@ -194,11 +215,7 @@ fn is_looser(a: u8, b: Option<Break>) -> bool
     requires { Strong b }
     ensures { IsLooser a (strength_of b) result }
 {
-    a != 0
-        && match b {
-            None => true,
-            Some(b) => a < b.strength,
-        }
+    a != 0 && b.is_none_or(|b| a < b.strength)
 }
 
 fn break_at(i: usize, strength: u8, after: OpState) -> Break
@@ -240,10 +257,12 @@ pub fn find_break(table: &[u8; Strengths::LENGTH], line: &[u8], class: &[u8]) ->
         }
         depth = balance(depth, class[i], line[i])?;
         if s.step(class[i], line[i]) {
-            let token = token_at(table, s.operand, &line[i..]);
-            let strength = s.take(token);
-            if is_looser(strength, b) {
-                b = Some(break_at(i, strength, s));
+            let token = token_at(s.operand, &line[i..]);
+            if let Some(operator) = s.take(token) {
+                let strength = operator.strength(table);
+                if is_looser(strength, b) {
+                    b = Some(break_at(i, strength, s));
+                }
             }
         }
         i += 1;
@@ -274,9 +293,11 @@ pub fn next_op(
             return Cut { place: i, after: s };
         }
         if s.step(class[i], line[i]) {
-            let token = token_at(table, s.operand, &line[i..]);
-            if s.take(token) == strength {
-                return Cut { place: i, after: s };
+            let token = token_at(s.operand, &line[i..]);
+            if let Some(operator) = s.take(token) {
+                if operator.strength(table) == strength {
+                    return Cut { place: i, after: s };
+                }
             }
         }
         i += 1;

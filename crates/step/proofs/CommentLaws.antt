@@ -1,11 +1,9 @@
 -- A `//` comment goes on to the line's end, so that a line whose last class is another has none.
 use Prim.Native.Nat.{ℕ, zero, suc, ◌+◌, ◌-◌, ◌≤◌}
 use native.Mathlib.Omega.{arith}
-use mathlib.Core.Bool.{Bool, true, false, not, false≢true}
+use mathlib.Core.Bool.{Bool, true, false, false≢true}
 use mathlib.Core.List.{List, [], ◌∷◌}
 use mathlib.Core.Path.{◌≡◌, refl, sym, ap, ◌∙◌, subst}
-use borrow.Author.Tests.{eq-eqb}
-use lib.Dec.{eqb}
 use lib.ListN.{length, take, drop, get_or, drop_of_length-le}
 use Rattle.utf8.specs.Unicode.{chars, decode, WellFormed}
 use Rattle.rules.specs.Basics.{choose, starts_with}
@@ -132,13 +130,3 @@ outside_none line class r well k o t =
     take_nil : (m : ℕ) → take {A = ℕ} m [] ≡ []
     take_nil zero = refl
     take_nil (suc m) = refl
-
--- what the test tells
-pub outside_empty : (ks : List ℕ) → EndsOutside ks false
-outside_empty ks = record { some = λ t. absurd (false≢true t); last = λ t. absurd (false≢true t) }
-
-pub outside_some : (ks : List ℕ) → (length ks ≡ 0 → ⊥) → EndsOutside ks (not (eqb (get_or ks (length ks - 1) 0) 2))
-outside_some ks n = record { some = λ t. n; last = λ t e. differs t e }
-  where
-    differs : not (eqb (get_or ks (length ks - 1) 0) 2) ≡ true → get_or ks (length ks - 1) 0 ≡ 2 → ⊥
-    differs t e = absurd (false≢true (sym (ap not (eq-eqb _ _ e)) ∙ t))

@@ -230,12 +230,11 @@ fn spaced_line(
 fn ends_outside(class: &[u8]) -> bool
     ensures { EndsOutside class.now result }
 {
-    let n = class.len();
-    n != 0 && class[n - 1] != LINE_COMMENT
+    matches!(class, [.., k] if *k != LINE_COMMENT)
 }
 
-// kept: line and class, layout and indent are not one struct each: no plainer. `Pad` and `Request` took clauses or names
-// away; here the facts on both are one record already, and each contract would say `k.entry.line.now` (tried)
+// kept: line and class are not one struct: no plainer, since of a struct that holds lent slices the contracts say
+// `k.entry.line.now` (tried), and what it would say of both is one clause of `marker_in` alone
 
 // The marker of a line with its class bytes.
 fn marker_in(line: &[u8], class: &[u8]) -> Option<Marker>
@@ -260,7 +259,7 @@ fn marker_in(line: &[u8], class: &[u8]) -> Option<Marker>
 fn protects_next(ignore: Ignore) -> bool
     ensures { result ≡ protects ignore }
 {
-    !matches!(ignore, Ignore::Nothing)
+    ignore != Ignore::Nothing
 }
 
 // Whether the line is kept as written: a marker is pending, or one stands after its code.

@@ -20,7 +20,8 @@ use rules::LineEnding;
 use utf8::ByteOffset;
 
 // The newest line of the text: none, an empty one, one that can take an else, any other.
-// kept: an `Option` of the other three is no plainer: it has the same four cases in two levels
+// kept: an `Option` of the other three is no plainer: what asks, asks for one of the four, and nothing takes a line's
+// kind out of it
 #[derive(Clone, Copy, PartialEq, Eq)]
 pub enum Last {
     Nothing,
@@ -86,7 +87,7 @@ pub fn append_ending(model: &[u8], out: &mut [u8], at: usize, ending: LineEnding
 fn ending_before(ending: LineEnding, first: bool) -> Option<LineEnding>
     ensures { ending_of result ≡ sep_by (as_str ending) first }
 {
-    if first { None } else { Some(ending) }
+    (!first).then_some(ending)
 }
 
 // This, from the place at on.

@@ -6,9 +6,10 @@ use mathlib.Core.Bool.{Bool, true, false, not, ◌&&◌, ◌||◌}
 use mathlib.Core.List.{List, [], ◌∷◌}
 use mathlib.Core.Logic.{◌⊎◌, inl, inr}
 use mathlib.Core.Path.{◌≡◌, refl, sym, ap, ◌∙◌}
-use borrow.Author.Tests.{eq-eqb, ne_eqb, lt-ltb, le-ltb, le-leb, lt-leb, ltb-true, leb-true, eqb-true, eqb-false}
+use borrow.Author.Tests.{eq-eqb, ne_eqb, lt-ltb, le-ltb, le-leb, lt-leb, ltb-true, leb-true, eqb-true}
 use Rattle.std.specs.Prelude.{Some, None}
 use Rattle.std.proofs.Common.{Ordering}
+use Rattle.std.specs.List.{list_any, range_with_len}
 use Rattle.std.specs.Ordering.{nat_cmp, partial_ordering_then, is_some_and, is_lt}
 use Rattle.std.proofs.lemmas.Cmp.{ranked}
 use lib.Dec.{eqb, leb, ltb}
@@ -16,7 +17,7 @@ use lib.ListN.{length, get_or, drop, length-drop}
 use lib.Seq.{drop-cons}
 use Rattle.utf8.proofs.Tests.{split, and_left, and_right}
 use Rattle.text_kinds.specs.Places.{Place, place_at, places_in, not_after, ascending}
-use Rattle.text_kinds.specs.Reading.{line_of, column_of, place_count, From, EntryAt, IsPlace, IsOn}
+use Rattle.text_kinds.specs.Reading.{line_of, column_of, place_count, From, EntryAt}
 
 -- ---- entries by number
 
@@ -135,52 +136,7 @@ module _ (list : List ℕ) (k : ℕ) where
   pub entry_past : length list / 2 ≤ k → EntryAt list k None
   entry_past h = record { some = λ p e. absurd (cc); none = λ e. omega (arith, count_half list) }
 
-  module _ (p : Place) (q : EntryAt list k (Some p)) where
-    line_is : p.line ≡ line_of list k
-    line_is = ap (λ (x : Place). x.line) (q.some p refl).1
-
-    column_is : p.column ≡ column_of list k
-    column_is = ap (λ (x : Place). x.column) (q.some p refl).1
-
-    pub is_on_some : (line : ℕ) → IsOn list k line (eqb p.line line)
-    is_on_some line =
-        record {
-          there = λ f. (q.some p refl).0;
-          same_line = λ f. sym line_is ∙ eqb-true p.line line f;
-          other = λ f h e. eqb-false p.line line f (line_is ∙ e);
-        }
-
-    pub is_place_some : (line column : ℕ) → IsPlace list k line column (eqb p.line line && eqb p.column column)
-    is_place_some line column =
-        record {
-          there = λ f. (q.some p refl).0;
-          same_line = λ f. sym line_is ∙ eqb-true p.line line (and_left (eqb p.line line) (eqb p.column column) f);
-          same_column = λ f. sym column_is ∙ eqb-true p.column column (and_right (eqb p.line line) (eqb p.column column) f);
-          other = λ f h e d.
-              let x : eqb p.line line ≡ true = eq-eqb p.line line (line_is ∙ e) in
-              let y : eqb p.column column ≡ true = eq-eqb p.column column (column_is ∙ d) in
-              never (sym f ∙ rw (x, y));
-        }
-
-  module _ (q : EntryAt list k None) where
-    pub is_on_none : (line : ℕ) → IsOn list k line false
-    is_on_none line =
-        record {
-          there = λ e. absurd (never e);
-          same_line = λ e. absurd (never e);
-          other = λ _ l _. let m = q.none refl in omega arith;
-        }
-
-    pub is_place_none : (line column : ℕ) → IsPlace list k line column false
-    is_place_none line column =
-        record {
-          there = λ e. absurd (never e);
-          same_line = λ e. absurd (never e);
-          same_column = λ e. absurd (never e);
-          other = λ _ l _ _. let m = q.none refl in omega arith;
-        }
-
--- ---- the loop of `is_ascending`: the places from entry k - 1 on are still to be compared
+-- ---- the test of `is_ascending`
 
 ascending_two : (ps : List Place) (i k : ℕ) (d : Place) → k ≡ suc i → k < length ps
     → ascending (drop i ps) ≡ (not_after (get_or ps i d) (get_or ps k d) && ascending (drop k ps))
@@ -189,38 +145,43 @@ ascending_two ps i k d e h =
     let n : suc i < length ps = omega arith in
     rw (e, drop-cons ps i d (omega arith), drop-cons ps (suc i) d n)
 
-pub record Ascends (list : List ℕ) (k : ℕ) : Type 0 where
-  pub first : 1 ≤ k
-  pub same : ascending (places_in list) ≡ ascending (drop (k - 1) (places_in list))
+-- entry k is before the one in front of it
+abbrev pub before_in : List ℕ → ℕ → Bool
+before_in list k = before (place_at (line_of list k) (column_of list k)) (place_at (line_of list (k - 1)) (column_of list (k - 1)))
 
-module _ {list : List ℕ} {k : ℕ} (r : Ascends list k) (h : k < length list / 2) (b : Bool)
-    (e : b ≡ before (place_at (get_or list (2 * k) 0) (get_or list (2 * k + 1) 0)) (place_at (get_or list (2 * k - 2) 0) (get_or list (2 * k - 1) 0)))
-  where
-    two : ascending (places_in list) ≡ (not b && ascending (drop k (places_in list)))
-    two =
-        let d : Place = place_at 0 0 in
-        let n : k < place_count list = omega (arith, count_half list) in
-        let j : k ≡ suc (k - 1) = omega (arith, r.first) in
-        let x : 2 * (k - 1) ≡ 2 * k - 2 = omega (arith, r.first) in
-        let y : 2 * (k - 1) + 1 ≡ 2 * k - 1 = omega (arith, r.first) in
-        let t : not_after (get_or (places_in list) (k - 1) d) (get_or (places_in list) k d) ≡ not b =
-        rw (place_at_law list (k - 1) d (omega arith), place_at_law list k d n, y, x) (sym (ap not e ∙ not_before _ _))
-        in
-        r.same ∙ ascending_two (places_in list) (k - 1) k d j n ∙ ap (λ (u : Bool). u && ascending (drop k (places_in list))) t
-
-    pub ascends_more : b ≡ false → Ascends list (k + 1)
-    ascends_more t =
-        let j : k + 1 - 1 ≡ k = omega arith in
-        record { first = omega arith; same = rw (j, two, t) }
-
-    pub ascends_not : b ≡ true → false ≡ ascending (places_in list)
-    ascends_not f = rw (two, f)
-
-pub ascends_end : (list : List ℕ) (k : ℕ) → Ascends list k → length list / 2 ≤ k → true ≡ ascending (places_in list)
+few : (ps : List Place) → length ps ≤ 1 → ascending ps ≡ true
 unfolding ascending
-ascends_end list k r h = sym (r.same ∙ few (drop (k - 1) (places_in list)) (omega (arith, length-drop (k - 1) (places_in list), count_half list, r.first)))
+few [] h = refl
+few (p ∷ []) h = refl
+few (p ∷ q ∷ ps) h = absurd (omega arith)
+
+neither : (b r : Bool) → not (b || r) ≡ (not b && not r)
+neither true r = refl
+neither false r = refl
+
+none_before : (list : List ℕ) (k n : ℕ) → k + 1 + n ≡ place_count list
+    → not (list_any (before_in list) (range_with_len (k + 1) n)) ≡ ascending (drop k (places_in list))
+none_before list k zero h = sym (few (drop k (places_in list)) (omega (arith, length-drop k (places_in list))))
+none_before list k (suc n) h =
+    let d : Place = place_at 0 0 in
+    let j : k + 1 - 1 ≡ k = omega arith in
+    let t : not_after (get_or (places_in list) k d) (get_or (places_in list) (k + 1) d) ≡ not (before_in list (k + 1)) =
+    rw (place_at_law list k d (omega arith), place_at_law list (k + 1) d (omega arith), j) (sym (not_before _ _))
+    in
+    neither (before_in list (k + 1)) (list_any (before_in list) (range_with_len (k + 1 + 1) n))
+    ∙ ap (λ (b : Bool). not (before_in list (k + 1)) && b) (none_before list (k + 1) n (omega arith))
+    ∙ ap (λ (b : Bool). b && ascending (drop (k + 1) (places_in list))) (sym t)
+    ∙ sym (ascending_two (places_in list) k (k + 1) d (omega arith) (omega arith))
+
+-- the test of `is_ascending`: no entry is before the one in front of it
+pub ascends : (list : List ℕ) → not (list_any (before_in list) (range_with_len 1 (length list / 2 - 1))) ≡ ascending (places_in list)
+ascends list = go (place_count list) refl
   where
-    few : (ps : List Place) → length ps ≤ 1 → ascending ps ≡ true
-    few [] h = refl
-    few (p ∷ []) h = refl
-    few (p ∷ q ∷ ps) h = absurd (omega arith)
+    go : (n : ℕ) → place_count list ≡ n
+        → not (list_any (before_in list) (range_with_len 1 (length list / 2 - 1))) ≡ ascending (places_in list)
+    go zero e =
+        let z : length list / 2 - 1 ≡ 0 = omega (arith, count_half list) in
+        rw z (sym (few (places_in list) (omega (arith, e))))
+    go (suc n) e =
+        let z : length list / 2 - 1 ≡ n = omega (arith, count_half list) in
+        rw z (none_before list 0 n (omega (arith, e)))

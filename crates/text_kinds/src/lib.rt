@@ -1,9 +1,10 @@
 // text_kinds: the text kinds of a list of places, in one reading of the source.
 #![tactic(auto)]
 
-ghost use Rattle.std.specs.Prelude.{◌≡◌, true, ◌<◌, ◌≤◌, length};
+ghost use Rattle.std.specs.Prelude.{◌≡◌, true, ◌<◌, ◌≤◌, ◌/◌, length};
 ghost use Rattle.utf8.specs.Places.{high_at};
-ghost use Rattle.text_kinds.specs.Places.{places_in, not_after, ascending, list_tests, kinds_verdict, kinds_answer};
+ghost use Rattle.text_kinds.specs.Places.{place_at, places_in, ascending, list_tests, kinds_verdict, kinds_answer};
+ghost use Rattle.text_kinds.specs.Reading.{line_of, column_of};
 ghost use Rattle.text_kinds.specs.Reading.{EntryAt, IsPlace, IsOn, Listed, Answered, PassedOver, Ahead, Shallow, Without};
 ghost use Rattle.text_kinds.specs.Reading.{dollar_at, kind_of_class, ClassesIn, Tells, KindTold, PartAnswered};
 ghost use Rattle.text_kinds.specs.Reading.{LineAnswered, place_count, Read, KindsFound, KindsRan, KindsGiven};
@@ -67,76 +68,59 @@ struct Told {
     clear: usize,
 }
 
+// Entry k of the list.
+fn place_at(places: &[u64], k: usize) -> Place
+    requires { k < length places.now / 2 }
+    ensures { result ≡ place_at (line_of places.now k) (column_of places.now k) }
+{
+    Place {
+        line: places[2 * k],
+        column: places[2 * k + 1],
+    }
+}
+
 // Whether the list is in order: no place is before the one in front of it.
 fn is_ascending(places: &[u64]) -> bool
     ensures { result ≡ ascending (places_in places.now) }
 {
-    for k in 1..places.len() / 2 {
-        let i = 2 * k;
-        let before = Place {
-            line: places[i - 2],
-            column: places[i - 1],
-        };
-        let here = Place {
-            line: places[i],
-            column: places[i + 1],
-        };
-        if here < before {
-            return false;
-        }
-    }
-    true
+    !(1..places.len() / 2).any(|k| place_at(places, k) < place_at(places, k - 1))
 }
 
-// Entry k of the list, if there is one.
+// Entry k, if there is one.
+// kept: the new form is no plainer: a struct of the list, the entry and the kinds would hold the kinds by `&mut`, and
+// each contract below would say by way of the struct what they were and are
 fn entry(places: &[u64], k: usize) -> Option<Place>
     ensures { EntryAt places.now k result }
 {
     if k < places.len() / 2 {
-        Some(Place {
-            line: places[2 * k],
-            column: places[2 * k + 1],
-        })
+        Some(place_at(places, k))
     } else {
         None
     }
 }
 
 // Whether entry k is this place.
-fn is_place(places: &[u64], k: usize, line: u64, column: u64) -> bool
-    ensures { IsPlace places.now k line column result }
+fn is_place(places: &[u64], k: usize, place: Place) -> bool
+    ensures { IsPlace places.now k place.line place.column result }
 {
-    match entry(places, k) {
-        Some(p) => p == Place { line, column },
-        None => false,
-    }
+    entry(places, k).is_some_and(|p| p == place)
 }
 
 // Whether entry k is on this line.
 fn is_on(places: &[u64], k: usize, line: u64) -> bool
     ensures { IsOn places.now k line result }
 {
-    match entry(places, k) {
-        Some(p) => p.line == line,
-        None => false,
-    }
+    entry(places, k).is_some_and(|p| p.line == line)
 }
 
 // Every entry from k on that is this place gets the kind. Gives the next entry.
-fn answer_place(
-    places: &[u64],
-    k: usize,
-    line: u64,
-    column: u64,
-    kind: u8,
-    kinds: &mut [u8],
-) -> usize
+fn answer_place(places: &[u64], k: usize, place: Place, kind: u8, kinds: &mut [u8]) -> usize
     requires { Listed places.now kinds.old }
-    ensures { Answered places.now line column kind k kinds.old result kinds.new }
+    ensures { Answered places.now place.line place.column kind k kinds.old result kinds.new }
 {
     let mut next = k;
     // kept: a range is no plainer, since the loop ends at the first entry of another place
-    while is_place(places, next, line, column) {
+    while is_place(places, next, place) {
         kinds[next] = kind;
         next += 1;
     }
@@ -182,7 +166,11 @@ fn kinds_in_line(
             continue;
         }
         let kind = class_kind(t.class, in_interpolation(before)).number();
-        next = answer_place(places, next, number, column, kind, kinds);
+        let place = Place {
+            line: number,
+            column,
+        };
+        next = answer_place(places, next, place, kind, kinds);
         if !is_on(places, next, number) {
             return next;
         }
@@ -267,7 +255,7 @@ fn kinds_by_class(
     let mut clear = 0;
     // kept: a range is no plainer, since the loop ends at the first entry of another line
     while is_on(places, next, number) {
-        let told = told_kind(line, class, ascii, clear, places[2 * next + 1]);
+        let told = told_kind(line, class, ascii, clear, place_at(places, next).column);
         let Some(kind) = told.kind else {
             return next;
         };

@@ -2,14 +2,16 @@
 use Prim.Native.Nat.{ℕ, zero, suc, ◌+◌, ◌-◌, ◌≤◌, ◌<◌, zero-le}
 use mathlib.Core.Bool.{Bool, true, false, not, ◌&&◌, ◌||◌, and-true, and-false, true≢false}
 use mathlib.Core.List.{List, [], ◌∷◌}
-use Rattle.std.specs.Prelude.{Some}
+use Rattle.std.specs.Prelude.{Option, Some, None}
+use Rattle.std.specs.Bool.{then_some}
 use mathlib.Core.Path.{◌≡◌, refl, sym, ap, subst, ◌∙◌}
 use native.Mathlib.Omega.{arith}
 use native.Mathlib.Nat.{le_refl}
 use native.Mathlib.Numerals.{add-one}
 use lib.Dec.{eqb, ltb}
+use mir.Val.{bool_byte}
 use lib.ListN.{length, get_or, take, drop, length-drop}
-use borrow.Author.Tests.{ne_eqb, eq-eqb, eqb-true, lt-ltb, ltb-true, ltb-false, not-false, not-true}
+use borrow.Author.Tests.{ne_eqb, eq-eqb, eqb-true, eqb-false, lt-ltb, ltb-true, ltb-false, not-false, not-true}
 use Rattle.rules.specs.Basics.{choose, is, codes, at, same, one_of, starts_with, first_is}
 use Rattle.rules.specs.ClassBytes.{class_of}
 use Rattle.rules.specs.Scan.{Cell, is_str}
@@ -27,7 +29,7 @@ use Rattle.blocks.specs.Blocks.{FirstFrom}
 use Rattle.operators.specs.Places.{place_of}
 use Rattle.operators.specs.declared.Operator.{Operator}
 use Rattle.operators.proofs.OperatorLaws.{strength_index, one_of_index, place_below, is_operator, no_operator}
-use Rattle.top_level_ops.specs.Steps.{AtomLen, AtomAt, atom_ends_at, sign_step, token_step, step_with, goes_on, LongToken, ops_of, step_or, passed, found_as, code_or, fresh_or, skip_or, byte_or}
+use Rattle.top_level_ops.specs.Steps.{AtomLen, AtomAt, AtomFound, atom_ends_at, sign_step, token_step, strength_in, step_with, goes_on, LongToken, ops_of, step_or, passed, found_as, code_or, fresh_or, skip_or, byte_or}
 use Rattle.top_level_ops.specs.declared.OpState.{OpState}
 use Rattle.top_level_ops.specs.declared.Token.{Token}
 
@@ -82,11 +84,11 @@ module _ (table : List ℕ) (s : Ops) (l : List ℕ) (x : OpStep) where
   unfolding two_char_step
   two_token r p q f = f ∙ sym (choose_true _ _ _ (sym (shift_assign l) ∙ sym p ∙ q))
 
-pub two_operator : (table : List ℕ) (s : Ops) (l : List ℕ) (o : Operator) → Two l (place_of o) → (x : OpStep) (r : Bool) (n : ℕ) → r ≡ (at l "<<=" || at l ">>=") → r ≡ false → n ≡ get_or table (place_of o) 0
-    → x ≡ operator s n 1 → x ≡ two_char_step table s (take 2 l) (drop 2 l)
+pub two_operator : (table : List ℕ) (s : Ops) (l : List ℕ) (o : Operator) → Two l (place_of o) → (x : OpStep) (r : Bool) → r ≡ (at l "<<=" || at l ">>=") → r ≡ false
+    → x ≡ operator s (get_or table (place_of o) 0) 1 → x ≡ two_char_step table s (take 2 l) (drop 2 l)
 unfolding two_char_step
-two_operator table s l o e x r n p q g f =
-    f ∙ ap (λ (m : ℕ). operator s m 1) (g ∙ strength_index table (take 2 l) (place_of o) ((two_cases l (place_of o) e).1 (place_below o)))
+two_operator table s l o e x r p q f =
+    f ∙ ap (λ (m : ℕ). operator s m 1) (strength_index table (take 2 l) (place_of o) ((two_cases l (place_of o) e).1 (place_below o)))
     ∙ sym (choose_false _ _ _ (sym (shift_assign l) ∙ sym p ∙ q))
 
 -- ---- an operator of one character
@@ -104,12 +106,21 @@ module _ (table : List ℕ) (s : Ops) (c : ℕ) (cs : List ℕ) (x : OpStep) whe
       (choose (is_sign c && not s.operand) (token s false 0)
       (operator s (precedence table (c ∷ [])) 0))
 
+  -- n is 1 where b holds, else 0
+  module _ (n : ℕ) (b : Bool) (e : n ≡ bool_byte b) (f : b ≡ first_is (is "=") cs) (g : x ≡ token s false n) where
+    pub signed_assigns : b ≡ true → x ≡ signed
+    signed_assigns t = g ∙ ap (λ (m : ℕ). token s false m) (e ∙ ap bool_byte t) ∙ sym (choose_true _ _ _ (sym f ∙ t))
+
+    pub signed_unary : b ≡ false → (is_sign c && not s.operand) ≡ true → x ≡ signed
+    signed_unary t u =
+        g ∙ ap (λ (m : ℕ). token s false m) (e ∙ ap bool_byte t) ∙ sym (choose_false _ _ _ (sym f ∙ t) ∙ choose_true _ _ _ u)
+
   pub one_operator : (o : Operator) → place_of o ≡ index_in operators (c ∷ []) → x ≡ signed → x ≡ one_char_step table s c cs
   unfolding one_char_step
   one_operator o e f = f ∙ sym (choose_false _ _ _ (ap not (is_operator (c ∷ []) o e)))
 
-pub operator_strength : (table : List ℕ) (s : Ops) (w : List ℕ) (x : OpStep) (k n m : ℕ) → k ≡ index_in operators w → n ≡ get_or table k 0 → x ≡ operator s n m → x ≡ operator s (precedence table w) m
-operator_strength table s w x k n m e g f = f ∙ ap (λ (i : ℕ). operator s i m) (g ∙ strength_index table w k e)
+pub operator_strength : (table : List ℕ) (s : Ops) (w : List ℕ) (x : OpStep) (k m : ℕ) → k ≡ index_in operators w → x ≡ operator s (get_or table k 0) m → x ≡ operator s (precedence table w) m
+operator_strength table s w x k m e f = f ∙ ap (λ (i : ℕ). operator s i m) (strength_index table w k e)
 
 pub assign_short : (l : List ℕ) → length l < 2 → false ≡ first_is (is "=") (drop 1 l)
 unfolding first_is
@@ -117,11 +128,17 @@ assign_short [] h = refl
 assign_short (a ∷ []) h = refl
 assign_short (a ∷ b ∷ l) h = absurd (omega arith)
 
-pub assign_long : (l : List ℕ) → 2 ≤ length l → eqb (get_or l 1 0) 61 ≡ first_is (is "=") (drop 1 l)
+pub assign_equals : (l : List ℕ) → 2 ≤ length l → get_or l 1 0 ≡ 61 → true ≡ first_is (is "=") (drop 1 l)
 unfolding first_is
-assign_long [] h = absurd (omega arith)
-assign_long (a ∷ []) h = absurd (omega arith)
-assign_long (a ∷ b ∷ l) h = refl
+assign_equals [] h e = absurd (omega arith)
+assign_equals (a ∷ []) h e = absurd (omega arith)
+assign_equals (a ∷ b ∷ l) h e = rw e refl
+
+pub assign_other : (l : List ℕ) → 2 ≤ length l → (get_or l 1 0 ≡ 61 → ⊥) → false ≡ first_is (is "=") (drop 1 l)
+unfolding first_is
+assign_other [] h e = absurd (omega arith)
+assign_other (a ∷ []) h e = absurd (omega arith)
+assign_other (a ∷ b ∷ l) h e = sym (ne_eqb b 61 e)
 
 pub unary_at : (b v w r : Bool) → v ≡ w → r ≡ (b && not w) → r ≡ (b && not v)
 unary_at b v w r e f = rw e f
@@ -155,21 +172,27 @@ module _ (operand : Bool) (l : List ℕ) (some : 0 < length l) where
         fits = omega (arith, q.fits, ap length d, length-drop 1 l);
       }
 
-  pub atom_none : (r : ℕ) → get_or l 0 0 ≡ 58 → operand ≡ false → AtomLen (take (length l - 1) (drop 1 l)) r → r ≡ 0 → AtomAt operand l 0
+  atom_none : (r : ℕ) → get_or l 0 0 ≡ 58 → operand ≡ false → AtomLen (take (length l - 1) (drop 1 l)) r → r ≡ 0 → AtomAt operand l 0
   atom_none r h e q z = subst (λ (n : ℕ). AtomAt operand l n) z (atom_colon r h e q)
+
+  pub atom_some : (r : ℕ) → get_or l 0 0 ≡ 58 → operand ≡ false → AtomLen (take (length l - 1) (drop 1 l)) r → (o : Option ℕ) → o ≡ then_some (not (eqb r 0)) r → AtomFound operand l o
+  atom_some r h e q o f =
+      by_test (eqb r 0)
+      (λ t. let g : o ≡ None = rw t at f in subst (AtomFound operand l) (sym g) (atom_none r h e q (eqb-true r 0 t)))
+      (λ t. let g : o ≡ Some r = rw t at f in let z : r ≡ 0 → ⊥ = eqb-false r 0 t in subst (AtomFound operand l) (sym g) (omega arith, atom_colon r h e q))
 
   pub atom_other : (get_or l 0 0 ≡ 58 → ⊥) → AtomAt operand l 0
   atom_other h = record { is = sym (choose_false _ _ _ (rw (ne_eqb (get_or l 0 0) 58 h))); fits = some }
 
 -- ---- tokens
 
-pub token_step_law : (s : Ops) (operand : Bool) (n : ℕ) → step_with s (record { strength = 0; operand = operand; skip = n }) ≡ token s operand n
+pub token_step_law : (table : List ℕ) (s : Ops) (operand : Bool) (n : ℕ) → step_with table s (record { operator = None; operand = operand; skip = n }) ≡ token s operand n
 unfolding token
-token_step_law s operand n = rw (choose_both {A = ℕ} (eqb s.opened s.closed) 0)
+token_step_law table s operand n = rw (choose_both {A = ℕ} (eqb s.opened s.closed) 0)
 
-pub token_operator : (s : Ops) (strength n : ℕ) → step_with s (record { strength = strength; operand = false; skip = n }) ≡ operator s strength n
+pub token_operator : (table : List ℕ) (s : Ops) (o : Operator) (n : ℕ) → step_with table s (record { operator = Some o; operand = false; skip = n }) ≡ operator s (get_or table (place_of o) 0) n
 unfolding operator
-token_operator s strength n = refl
+token_operator table s o n = refl
 
 module _ (table : List ℕ) (s : Ops) (l : List ℕ) (some : 0 < length l) (operand : Bool) (o : s.operand ≡ operand) (x : OpStep) (n : ℕ) (q : AtomAt operand l n) where
   abbrev colon : Bool
@@ -270,11 +293,15 @@ module _ (n s : OpState) (t : OpStep) where
   passed_bracket i k operand e = rw e
 
 module _ (n s : OpState) (t : Token) (e : n ≡ passed s t.operand false t.skip) where
-  pub taken_outside : n.opened ≡ n.closed → found_as t.strength n ≡ step_with (ops_of s) t
-  taken_outside h = let k : s.opened ≡ s.closed = rw e at h in rw (e, choose_true {A = ℕ} _ t.strength 0 (eq-eqb _ _ k))
+  pub taken_outside : n.opened ≡ n.closed → (table : List ℕ) → found_as (strength_in table t.operator) n ≡ step_with table (ops_of s) t
+  taken_outside h table =
+      let k : s.opened ≡ s.closed = rw e at h in
+      rw (e, choose_true {A = ℕ} _ (strength_in table t.operator) 0 (eq-eqb _ _ k))
 
-  pub taken_inside : (n.opened ≡ n.closed → ⊥) → found_as 0 n ≡ step_with (ops_of s) t
-  taken_inside h = let k : s.opened ≡ s.closed → ⊥ = rw e at h in rw (e, choose_false {A = ℕ} _ t.strength 0 (ne_eqb _ _ k))
+  pub taken_inside : (n.opened ≡ n.closed → ⊥) → (table : List ℕ) → found_as 0 n ≡ step_with table (ops_of s) t
+  taken_inside h table =
+      let k : s.opened ≡ s.closed → ⊥ = rw e at h in
+      rw (e, choose_false {A = ℕ} _ (strength_in table t.operator) 0 (ne_eqb _ _ k))
 
 module _ (k : ℕ) (x y z : OpStep) where
   pub pick_string : k ≡ 1 → x ≡ y → x ≡ choose (is_str (class_of k)) y z

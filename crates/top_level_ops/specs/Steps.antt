@@ -5,6 +5,8 @@ use Rattle.rules.specs.Basics.{choose, is, at, first_is, is_blank, is_opener, is
 use Rattle.rules.specs.Scan.{Cell, is_str}
 use Rattle.rules.specs.SplitOperation.{Ops, OpStep, ends_operand, token, escape, bracket, atom_char, atom_len, starts_pair}
 use Rattle.rules.specs.SplitOperation.{two_char_step, one_char_step}
+use Rattle.operators.specs.Places.{place_of}
+use Rattle.operators.specs.declared.Operator.{Operator}
 use Rattle.top_level_ops.specs.declared.OpState.{OpState}
 use Rattle.top_level_ops.specs.declared.Token.{Token}
 
@@ -67,11 +69,16 @@ pub record LongToken (l : List ℕ) (r : Bool) : Type 0 where
       → token_step table s l ≡ one_char_step table s (get_or l 0 0) (drop 1 l)
   pub alone : r ≡ false → first_is (is "=") (drop 1 l) ≡ false
 
+-- the strength that a table gives an operator, 0 for none
+abbrev pub strength_in : List ℕ → Option Operator → ℕ
+strength_in table None = 0
+strength_in table (Some o) = get_or table (place_of o) 0
+
 -- the step that a token says in the state s: its strength counts outside brackets
-abbrev pub step_with : Ops → Token → OpStep
-step_with s t =
+abbrev pub step_with : List ℕ → Ops → Token → OpStep
+step_with table s t =
     record {
-      strength = choose (eqb s.opened s.closed) t.strength 0;
+      strength = choose (eqb s.opened s.closed) (strength_in table t.operator) 0;
       after = record { opened = s.opened; closed = s.closed; operand = t.operand; esc = false; skip = t.skip };
     }
 

@@ -6,16 +6,14 @@ ghost use Rattle.rules.specs.Basics.{choose, is, at, first_is};
 ghost use Rattle.rules.specs.Scan.{cell};
 ghost use Rattle.rules.specs.ClassBytes.{class_of};
 ghost use Rattle.rules.specs.Operators.{operators, index_in};
-ghost use Rattle.rules.specs.Strengths.{strengths_in};
 ghost use Rattle.rules.specs.SplitOperation.{Ops, OpStep, ends_operand, atom_char, token, is_sign, one_char_step};
 ghost use Rattle.operators.specs.Places.{place_in};
-ghost use Rattle.top_level_ops.specs.Steps.{ops_of, AtomLen, AtomFound, sign_step, token_step, step_with};
+ghost use Rattle.top_level_ops.specs.Steps.{ops_of, AtomLen, AtomFound, sign_step, token_step, strength_in, step_with};
 ghost use Rattle.top_level_ops.specs.Steps.{step_or, code_or, fresh_or, byte_or, passed, unless, found_as, FewBrackets};
 ghost use Rattle.top_level_ops.specs.Steps.{goes_on, LongToken};
 
 use basics::{is_blank, is_closer, is_ident, is_opener, starts_with};
 use operators::{Operator, is_sign};
-use rules::Strengths;
 use rules::class_byte::STR;
 
 // Before a byte: the brackets opened and closed so far, whether an operand ends here, an escape, and how many more
@@ -29,12 +27,11 @@ pub struct OpState {
     pub skip: usize,
 }
 
-// A token of code: its strength if it is an operator, else 0; whether an operand ends with it; and how many more bytes
-// it has.
-// kept: the C interface's table of strengths has 0 for an operator that no line is broken at, as here
+// A token of code: the operator that it is, if it is one; whether an operand ends with it; and how many more bytes it
+// has.
 #[derive(Clone, Copy)]
 pub struct Token {
-    pub strength: u8,
+    pub operator: Option<Operator>,
     pub operand: bool,
     pub skip: usize,
 }
@@ -53,6 +50,7 @@ fn in_atom(c: u8) -> bool
 }
 
 // How many bytes of an atom's name s starts with.
+// kept: no plainer: `position(..).unwrap_or(s.len())` is a line too, and `FirstFrom` is what the laws are of
 fn atom_len(s: &[u8]) -> usize
     ensures { AtomLen s.now result }
 {
@@ -61,10 +59,10 @@ fn atom_len(s: &[u8]) -> usize
 
 // A token of n + 1 bytes that is no operator.
 fn plain_token(operand: bool, n: usize) -> Token
-    ensures { (s : Ops) → step_with s result ≡ token s operand n }
+    ensures { (table : List ℕ) (s : Ops) → step_with table s result ≡ token s operand n }
 {
     Token {
-        strength: 0,
+        operator: None,
         operand,
         skip: n,
     }
@@ -75,10 +73,10 @@ fn two_at(s: &[u8]) -> Option<Operator>
     ensures { place_in result ≡ choose (eqb (length (take 2 s.now)) 2) (index_in operators (take 2 s.now))
         21 }
 {
-    if s.len() < 2 {
-        return None;
+    match s {
+        [a, b, ..] => Operator::of_two(*a, *b),
+        _ => None,
     }
-    Operator::of_two(s[0], s[1])
 }
 
 // The length of the atom's name after a `:` where no operand ends.
@@ -90,7 +88,7 @@ fn atom_at(operand: bool, l: &[u8]) -> Option<usize>
         return None;
     }
     let n = atom_len(&l[1..]);
-    if n == 0 { None } else { Some(n) }
+    (n != 0).then_some(n)
 }
 
 fn is_arrow(l: &[u8]) -> bool
@@ -109,7 +107,7 @@ fn is_shift_assign(l: &[u8]) -> bool
 fn is_assign(l: &[u8]) -> bool
     ensures { result ≡ first_is (is "=") (drop 1 l.now) }
 {
-    1 < l.len() && l[1] == b'='
+    matches!(l, [_, b'=', ..])
 }
 
 // A sign where no operand ends.
@@ -120,30 +118,27 @@ fn is_unary(operand: bool, c: u8) -> bool
 }
 
 // A token of one character or, where it assigns, of two.
-fn one_char_step(table: &[u8; Strengths::LENGTH], operand: bool, c: u8, assigns: bool) -> Token
-    ensures { (s : Ops) (cs : List ℕ) → s.operand ≡ operand → assigns ≡ first_is (is "=") cs
-        → step_with s result ≡ one_char_step (strengths_in table.now) s c cs }
+fn one_char_step(operand: bool, c: u8, assigns: bool) -> Token
+    ensures { (table : List ℕ) (s : Ops) (cs : List ℕ) → s.operand ≡ operand → assigns ≡ first_is (is "=") cs
+        → step_with table s result ≡ one_char_step table s c cs }
 {
     let Some(operator) = Operator::of_one(c) else {
         return plain_token(ends_operand(c), 0);
     };
-    if assigns {
-        return plain_token(false, 1);
-    }
-    if is_unary(operand, c) {
-        return plain_token(false, 0);
+    if assigns || is_unary(operand, c) {
+        return plain_token(false, usize::from(assigns));
     }
     Token {
-        strength: operator.strength(table),
+        operator: Some(operator),
         operand: false,
         skip: 0,
     }
 }
 
-fn sign_step(table: &[u8; Strengths::LENGTH], operand: bool, l: &[u8]) -> Token
+fn sign_step(operand: bool, l: &[u8]) -> Token
     requires { 0 < length l.now }
-    ensures { (s : Ops) → s.operand ≡ operand → step_with s result ≡ sign_step (strengths_in table.now) s
-        l.now }
+    ensures { (table : List ℕ) (s : Ops) → s.operand ≡ operand
+        → step_with table s result ≡ sign_step table s l.now }
 {
     if starts_with(l, b"...") {
         return plain_token(false, 2);
@@ -152,27 +147,27 @@ fn sign_step(table: &[u8; Strengths::LENGTH], operand: bool, l: &[u8]) -> Token
         return plain_token(false, 1);
     }
     let Some(operator) = two_at(l) else {
-        return one_char_step(table, operand, l[0], is_assign(l));
+        return one_char_step(operand, l[0], is_assign(l));
     };
     if is_shift_assign(l) {
         return plain_token(false, 2);
     }
     Token {
-        strength: operator.strength(table),
+        operator: Some(operator),
         operand: false,
         skip: 1,
     }
 }
 
 // A token that may have several characters.
-fn long_token(table: &[u8; Strengths::LENGTH], operand: bool, l: &[u8]) -> Token
+fn long_token(operand: bool, l: &[u8]) -> Token
     requires { 0 < length l.now }
-    ensures { (s : Ops) → s.operand ≡ operand → step_with s result ≡ token_step (strengths_in table.now) s
-        l.now }
+    ensures { (table : List ℕ) (s : Ops) → s.operand ≡ operand
+        → step_with table s result ≡ token_step table s l.now }
 {
     match atom_at(operand, l) {
         Some(n) => plain_token(ends_operand(l[n]), n),
-        None => sign_step(table, operand, l),
+        None => sign_step(operand, l),
     }
 }
 
@@ -192,15 +187,15 @@ fn may_be_long(l: &[u8]) -> bool
 }
 
 // The token at the head of l, which is code and neither blank nor a bracket.
-pub fn token_at(table: &[u8; Strengths::LENGTH], operand: bool, l: &[u8]) -> Token
+pub fn token_at(operand: bool, l: &[u8]) -> Token
     requires { 0 < length l.now }
-    ensures { (s : Ops) → s.operand ≡ operand → step_with s result ≡ token_step (strengths_in table.now) s
-        l.now }
+    ensures { (table : List ℕ) (s : Ops) → s.operand ≡ operand
+        → step_with table s result ≡ token_step table s l.now }
 {
     if may_be_long(l) {
-        long_token(table, operand, l)
+        long_token(operand, l)
     } else {
-        one_char_step(table, operand, l[0], false)
+        one_char_step(operand, l[0], false)
     }
 }
 
@@ -270,15 +265,16 @@ impl OpState {
         }
     }
 
-    // Over the first byte of a token: its strength, which counts outside brackets, at depth exactly 0.
-    pub fn take(&mut self, t: Token) -> u8
-        ensures { found_as result self.new ≡ step_with (ops_of self.old) t }
+    // Over the first byte of a token: the operator, which counts outside brackets, at depth exactly 0.
+    pub fn take(&mut self, t: Token) -> Option<Operator>
+        ensures { (table : List ℕ)
+            → found_as (strength_in table result) self.new ≡ step_with table (ops_of self.old) t }
     {
         self.pass(t.operand, false, t.skip);
         if self.opened == self.closed {
-            t.strength
+            t.operator
         } else {
-            0
+            None
         }
     }
 }

@@ -3,20 +3,23 @@
 --     units_of, width_bytes     the UTF-16 units that a byte stands for, and their sum
 --     lead_of, count_bytes      1 for a byte that starts a character, and their sum
 --     total_drop               one byte of a sum
-use Prim.Native.Nat.{ℕ, ◌+◌, ◌*◌, ◌/◌, ◌%◌, ◌<◌, ◌≤◌, zero-le}
+use Prim.Native.Nat.{ℕ, zero, suc, ◌+◌, ◌-◌, ◌*◌, ◌/◌, ◌%◌, ◌^◌, ◌<◌, ◌≤◌, zero-le}
 use mathlib.Core.List.{List, [], ◌∷◌, ◌++◌}
 use mathlib.Core.Path.{◌≡◌, refl, sym, ap, ◌∙◌}
 use native.Mathlib.Omega.{arith}
-use native.Mathlib.Nat.{mul-suc}
+use native.Mathlib.Nat.{mul-suc, zero-add}
 use native.Mathlib.Numerals.{add-one}
-use borrow.Author.Tests.{lt-ltb, le-ltb}
-use lib.ListN.{length, get_or, drop}
-use lib.Seq.{drop-cons, drop-length}
-use lib.Dec.{T}
-use Rattle.utf8.specs.Unicode.{is_scalar, Scalars, encode_char, encode, decode, WellFormed, units, width}
-use Rattle.utf8.specs.Places.{units_of, lead_of, total}
+use borrow.Author.Tests.{lt-ltb, le-ltb, le-leb, lt-leb, ltb-true, ltb-false}
+use mir.Val.{bool_byte}
+use mathlib.Core.Bool.{Bool, true, false, not}
+use lib.ListN.{length, get_or, take, drop, length-drop}
+use lib.Seq.{take-length, drop-cons, drop-length}
+use lib.Dec.{T, ltb}
+use Rattle.utf8.specs.Unicode.{tail, is_scalar, Scalars, encode_char, encode, decode, WellFormed, units, width}
+use Rattle.utf8.specs.Places.{AsciiRun, units_of, lead_of, total}
 use Rattle.utf8.proofs.Table.{Shape, one, two, three, four, shape}
 use Rattle.utf8.proofs.Decode.{decode_scalars}
+use Rattle.utf8.proofs.Tests.{by_test}
 
 -- ---- sums
 
@@ -95,6 +98,25 @@ width_bytes s w =
 
 -- ---- characters
 
+-- 1 for what is no tail
+lead_is : (b : ℕ) → bool_byte (not (tail b)) ≡ lead_of b
+unfolding lead_of tail
+lead_is b =
+    by_test (ltb b 0x80)
+    (λ e. let h = ltb-true b 0x80 e in simp (lt-ltb b 0x80 h, lt-leb 0x80 b h))
+    (λ e. let h = ltb-false b 0x80 e in by_test (ltb b 0xC0)
+    (λ f. let k = ltb-true b 0xC0 f in
+    simp (le-ltb b 0x80 h, lt-ltb b 0xC0 k, le-leb 0x80 b h, le-leb b 0xBF (omega arith)))
+    (λ f. let k = ltb-false b 0xC0 f in
+    simp (le-ltb b 0x80 h, le-ltb b 0xC0 k, le-leb 0x80 b h, lt-leb b 0xBF (omega arith))))
+
+small : (t : Bool) → bool_byte t ≤ 2
+small true = omega arith
+small false = omega arith
+
+pub lead_by : (b n : ℕ) (t : Bool) → t ≡ tail b → n ≡ bool_byte (not t) → (n ≡ lead_of b) × (n ≤ 2)
+lead_by b n t e f = (f ∙ ap (λ (x : Bool). bool_byte (not x)) e ∙ lead_is b, omega (arith, f, small (not t)))
+
 pub count_bytes : (s : List ℕ) → WellFormed s → total lead_of s ≡ length (decode s)
 unfolding lead_of
 count_bytes s w =
@@ -128,5 +150,41 @@ module _ (f : ℕ → ℕ) (k : ℕ) (s : List ℕ) where
       total_end : (s : List ℕ) (i : ℕ) → i ≡ length s → total f (drop i s) ≡ 0
       total_end s i e = rw (e, drop-length)
 
-pub width_end : (s : List ℕ) (n i : ℕ) → SumScan units_of 2 s n i → length s ≤ i → WellFormed s → n ≡ width (decode s)
-width_end s n i q h w = sum_end units_of 2 s n i q h ∙ width_bytes s w
+-- bytes that are ASCII take a unit each
+ascii_unit : (b : ℕ) → b < 0x80 → 1 ≡ units_of b
+unfolding units_of
+ascii_unit b h = rw (lt-ltb b 0x80 h)
+
+ascii_sum : (s : List ℕ) (r : ℕ) → AsciiRun s 0 r → SumScan units_of 2 s r r
+ascii_sum s r a = go r (omega arith)
+  where
+    go : (n : ℕ) → n ≤ r → SumScan units_of 2 s n n
+    go zero h = sum_begin units_of 2 s
+    go (suc n) h =
+        let e : n + 1 ≡ suc n = omega arith in
+        let low : get_or s n 0 < 0x80 = rw zero-add at (a.ascii n (omega arith)) in
+        let unit = ascii_unit (get_or s n 0) low in
+        rw e at (sum_turn units_of 2 s n n 1 (go n (omega arith)) (omega (arith, a.within)) (unit, omega arith))
+
+-- a byte takes at most two units
+byte_units : (b : ℕ) → units_of b ≤ 2
+unfolding units_of
+byte_units b =
+    by_test (ltb b 0x80) (λ e. rw e (omega arith)) (λ e. rw e (
+    by_test (ltb b 0xC0) (λ f. rw f (omega arith)) (λ f. rw f (
+    by_test (ltb b 0xF0) (λ g. rw g (omega arith)) (λ g. rw g (omega arith))))))
+
+pub total_small : (s : List ℕ) → total units_of s ≤ 2 * length s
+total_small [] = omega arith
+total_small (b ∷ s) = let r = total_small s in omega (arith, byte_units b)
+
+-- the units of the rest beside them
+module _ (s : List ℕ) (r n : ℕ) (a : AsciiRun s 0 r) (e : n ≡ total units_of (take (length s - r) (drop r s))) where
+  rest : n ≡ total units_of (drop r s)
+  rest = e ∙ ap (total units_of) (rw (← length-drop, take-length))
+
+  pub width_past : WellFormed s → r + n ≡ width (decode s)
+  width_past w = ap (λ k. r + k) rest ∙ sym (ascii_sum s r a).sum ∙ width_bytes s w
+
+  pub width_fits : length s < 2 ^ 63 → r + n < 2 ^ 64
+  width_fits h = omega (arith, a.within, rest, total_small (drop r s), length-drop r s)

@@ -9,19 +9,19 @@ use native.Mathlib.Omega.{arith}
 use lib.ListN.{length, take, drop}
 use lib.Seq.{take_at, take-add, drop-drop, drop-length}
 use Rattle.std.specs.Prelude.{Option, Some, None, is_some}
+use Rattle.std.specs.List.{take_while}
+use Rattle.std.proofs.lemmas.List.Sums.{take_while-cons}
 use Rattle.utf8.specs.Unicode.{encode_char, encode, code_at, chars, decode, WellFormed}
-use Rattle.utf8.specs.Places.{Step, TakenAt, taken, PastChars}
+use Rattle.utf8.specs.Places.{Step, TakenAt, PastChars}
 use Rattle.utf8.proofs.Decode.{encode_nil, encode_one, encode_append}
 use Rattle.utf8.proofs.TrimScan.{first_char}
 
 module _ (p : ℕ → Bool) where
-  taken_one : (c : ℕ) (cs : List ℕ) → p c ≡ true → taken p (c ∷ cs) ≡ c ∷ taken p cs
-  unfolding taken
-  taken_one c cs e = rw e
+  one_more : (c : ℕ) (cs : List ℕ) → p c ≡ true → take_while p (c ∷ cs) ≡ c ∷ take_while p cs
+  one_more c cs e = take_while-cons p c cs ∙ rw e
 
-  taken_none : (c : ℕ) (cs : List ℕ) → p c ≡ false → taken p (c ∷ cs) ≡ []
-  unfolding taken
-  taken_none c cs e = rw e
+  no_more : (c : ℕ) (cs : List ℕ) → p c ≡ false → take_while p (c ∷ cs) ≡ []
+  no_more c cs e = take_while-cons p c cs ∙ rw e
 
   -- p takes what was passed from `from` up to i, and what it takes further on stands from i on
   pub record CharScan (s : List ℕ) (from i : ℕ) : Type 0 where
@@ -31,7 +31,7 @@ module _ (p : ℕ → Bool) where
     pub passed : List ℕ
     pub bytes : take (i - from) (drop from s) ≡ encode passed
     pub chars : decode (drop from s) ≡ passed ++ decode (drop i s)
-    pub takes : taken p (decode (drop from s)) ≡ passed ++ taken p (decode (drop i s))
+    pub takes : take_while p (decode (drop from s)) ≡ passed ++ take_while p (decode (drop i s))
 
   pub chars_begin : (s : List ℕ) (from : ℕ) → from ≤ length s → WellFormed (drop from s) → CharScan s from from
   chars_begin s from h w =
@@ -65,13 +65,16 @@ module _ (p : ℕ → Bool) where
         passed = q.passed ++ c ∷ [];
         bytes = more ∙ rw (q.bytes, one, encode_append q.passed (c ∷ []));
         chars = q.chars ∙ ap (λ (l : List ℕ). q.passed ++ l) t.chars ∙ last _;
-        takes = q.takes ∙ ap (λ (l : List ℕ). q.passed ++ l) (ap (taken p) t.chars ∙ taken_one c _ (v.is ∙ ap is_some z)) ∙ last _;
+        takes =
+            q.takes
+            ∙ ap (λ (l : List ℕ). q.passed ++ l) (ap (take_while p) t.chars ∙ one_more c _ (v.is ∙ ap is_some z))
+            ∙ last _;
       }
 
-  chars_done : (s : List ℕ) (from i : ℕ) → CharScan s from i → taken p (decode (drop i s)) ≡ []
+  chars_done : (s : List ℕ) (from i : ℕ) → CharScan s from i → take_while p (decode (drop i s)) ≡ []
       → (i < length s → p (code_at (drop i s)) ≡ false) → PastChars p s from i
   chars_done s from i q e h =
-      let t : taken p (decode (drop from s)) ≡ q.passed = q.takes ∙ rw e (append-nil q.passed) in
+      let t : take_while p (decode (drop from s)) ≡ q.passed = q.takes ∙ rw e (append-nil q.passed) in
       record {
         on = q.on;
         fits = q.fits;
@@ -85,11 +88,11 @@ module _ (p : ℕ → Bool) where
       → PastChars p s from i
   chars_found s from i r q h v z =
       let k : p (code_at (drop i s)) ≡ false = v.is ∙ ap is_some z in
-      chars_done s from i q (ap (taken p) (first_char s i h q.well).chars ∙ taken_none _ _ k) (λ l. k)
+      chars_done s from i q (ap (take_while p) (first_char s i h q.well).chars ∙ no_more _ _ k) (λ l. k)
 
   pub chars_end : (s : List ℕ) (from i : ℕ) → CharScan s from i → length s ≤ i → PastChars p s from i
-  unfolding chars taken
+  unfolding chars
   chars_end s from i q h =
       let m : i ≡ length s = omega (arith, q.fits) in
       let d : drop i s ≡ [] = ap (λ (k : ℕ). drop k s) m ∙ drop-length s in
-      chars_done s from i q (ap (λ (l : List ℕ). taken p (decode l)) d) (λ l. absurd (omega arith))
+      chars_done s from i q (ap (λ (l : List ℕ). take_while p (decode l)) d) (λ l. absurd (omega arith))

@@ -1,7 +1,7 @@
 -- The scans for the two ends of a trimmed text.
 --     low_white                                      White_Space, up to U+1680
---     white_ascii, other_ascii                         the white space at a place
---     before_ascii, before_ascii_other, before_more, before_other  the same before a place
+--     ascii_given                                      the white space at a place
+--     before_ascii                                      the same before a place
 --     spaces_passed, start_past                         the start, past its spaces and its white space
 --     end_begin, end_turn, end_found, end_all           the scan from the end
 use Prim.Native.Nat.{ℕ, zero, suc, ◌-◌, ◌<◌, ◌≤◌}
@@ -14,12 +14,15 @@ use lib.ListN.{length, get_or, take, drop, length-drop}
 use lib.Seq.{take-length}
 use lib.Dec.{eqb}
 use Rattle.std.specs.Prelude.{Option, Some, None, is_some, cond}
+use Rattle.std.specs.Bool.{then_some}
+use Rattle.std.specs.List.{take_while}
+use Rattle.std.proofs.lemmas.List.Sums.{take_while-cons}
 use Rattle.utf8.specs.Unicode.{seq_at, code_at, chars, decode, WellFormed, within, is_white, first_is_white, trim_start, trim_end}
 use Rattle.blocks.specs.Blocks.{FirstFrom}
 use Rattle.blocks.specs.Marks.{other_at}
 use borrow.Author.Tests.{eqb-true, not-false}
 use native.Mathlib.Numerals.{add-one}
-use Rattle.utf8.specs.Places.{Step, Back, WhiteAt, taken, PastChars, WhiteBefore, TrimmedStart, SpacesPassed, TrimmedEnd}
+use Rattle.utf8.specs.Places.{Step, Back, WhiteAt, PastChars, WhiteBefore, TrimmedStart, SpacesPassed, TrimmedEnd}
 use Rattle.utf8.proofs.Scan.{step, ascii, ascii_step, wf_sequence}
 use Rattle.utf8.proofs.Back.{back_1}
 use Rattle.utf8.proofs.Trim.{end_nil, end_white, end_other}
@@ -42,13 +45,17 @@ low_white c h =
 
 -- the premises are what the calls ensure, and the tests: b is the byte, c the character, w the test's value
 module _ (s : List ℕ) (i : ℕ) (h : i < length s) where
-  pub white_ascii : (w : Bool) → get_or s i 0 < 0x80 → w ≡ is_white (get_or s i 0) → w ≡ true → WhiteAt s i (Some 1)
+  white_ascii : (w : Bool) → get_or s i 0 < 0x80 → w ≡ is_white (get_or s i 0) → w ≡ true → WhiteAt s i (Some 1)
   white_ascii w b v y =
       let t : Step s i 1 = ascii_step s i h b in
       record { is = ap is_white (ascii s i b).1 ∙ sym v ∙ y; step = λ n p. let k : 1 ≡ n = cc in subst (Step s i) k t }
 
-  pub other_ascii : (w : Bool) → get_or s i 0 < 0x80 → w ≡ is_white (get_or s i 0) → w ≡ false → WhiteAt s i None
+  other_ascii : (w : Bool) → get_or s i 0 < 0x80 → w ≡ is_white (get_or s i 0) → w ≡ false → WhiteAt s i None
   other_ascii w b v y = record { is = ap is_white (ascii s i b).1 ∙ sym v ∙ y; step = λ n p. absurd cc }
+
+  pub ascii_given : (w : Bool) (o : Option ℕ) → get_or s i 0 < 0x80 → w ≡ is_white (get_or s i 0) → o ≡ then_some w 1 → WhiteAt s i o
+  ascii_given true o b v y = subst (WhiteAt s i) (sym y) (white_ascii true b v refl)
+  ascii_given false o b v y = subst (WhiteAt s i) (sym y) (other_ascii false b v refl)
 
 module _ (s : List ℕ) (e n : ℕ) (t : Back s e n) where
   back_white : is_white (code_at (drop (e - n) s)) ≡ true → WhiteBefore s e (Some n)
@@ -57,18 +64,10 @@ module _ (s : List ℕ) (e n : ℕ) (t : Back s e n) where
   back_other : is_white (code_at (drop (e - n) s)) ≡ false → WhiteBefore s e None
   back_other y = record { white = λ m p. absurd cc; other = λ p. (n, t, y) }
 
-  pub before_more : (c : ℕ) (w : Bool) → c ≡ code_at (drop (e - n) s) → w ≡ is_white c → w ≡ true → WhiteBefore s e (Some n)
-  before_more c w k v y = back_white (ap is_white (sym k) ∙ sym v ∙ y)
-
-  pub before_other : (c : ℕ) (w : Bool) → c ≡ code_at (drop (e - n) s) → w ≡ is_white c → w ≡ false → WhiteBefore s e None
-  before_other c w k v y = back_other (ap is_white (sym k) ∙ sym v ∙ y)
-
 module _ (s : List ℕ) (e : ℕ) (pre : (0 < e) × (e ≤ length s) × WellFormed (take e s)) where
-  pub before_ascii : (w : Bool) → get_or s (e - 1) 0 < 0x80 → w ≡ is_white (get_or s (e - 1) 0) → w ≡ true → WhiteBefore s e (Some 1)
-  before_ascii w b v y = back_white s e 1 (back_1 s e pre b) (ap is_white (ascii s (e - 1) b).1 ∙ sym v ∙ y)
-
-  pub before_ascii_other : (w : Bool) → get_or s (e - 1) 0 < 0x80 → w ≡ is_white (get_or s (e - 1) 0) → w ≡ false → WhiteBefore s e None
-  before_ascii_other w b v y = back_other s e 1 (back_1 s e pre b) (ap is_white (ascii s (e - 1) b).1 ∙ sym v ∙ y)
+  pub before_ascii : (w : Bool) (o : Option ℕ) → get_or s (e - 1) 0 < 0x80 → w ≡ is_white (get_or s (e - 1) 0) → o ≡ then_some w 1 → WhiteBefore s e o
+  before_ascii true o b v y = subst (WhiteBefore s e) (sym y) (back_white s e 1 (back_1 s e pre b) (ap is_white (ascii s (e - 1) b).1 ∙ sym v))
+  before_ascii false o b v y = subst (WhiteBefore s e) (sym y) (back_other s e 1 (back_1 s e pre b) (ap is_white (ascii s (e - 1) b).1 ∙ sym v))
 
 -- ---- the first character of a well-formed list
 
@@ -85,15 +84,15 @@ first_some s r w h q = sym q.is ∙ sym (ap first_is_white (first_char s 0 (omeg
 
 -- ---- the start, past its white space
 
-start_taken : (l : List ℕ) → l ≡ taken is_white l ++ trim_start l
-unfolding taken trim_start
+start_taken : (l : List ℕ) → l ≡ take_while is_white l ++ trim_start l
+unfolding trim_start
 start_taken [] = refl
-start_taken (c ∷ cs) = go (is_white c) refl (start_taken cs)
+start_taken (c ∷ cs) = rw (take_while-cons is_white c cs) (go (is_white c) (start_taken cs))
   where
-    go : (w : Bool) → is_white c ≡ w → cs ≡ taken is_white cs ++ trim_start cs
-        → c ∷ cs ≡ cond w (c ∷ taken is_white cs) [] ++ cond w (trim_start cs) (c ∷ cs)
-    go true e q = ap {B = List ℕ} (λ l. c ∷ l) q
-    go false e q = refl
+    go : (w : Bool) → cs ≡ take_while is_white cs ++ trim_start cs
+        → c ∷ cs ≡ cond w (c ∷ take_while is_white cs) [] ++ cond w (trim_start cs) (c ∷ cs)
+    go true q = ap {B = List ℕ} (λ l. c ∷ l) q
+    go false q = refl
 
 -- spaces at the front
 spaces_gone : (s : List ℕ) (i : ℕ) → i ≤ length s → WellFormed s → ((j : ℕ) → j < i → get_or s j 0 ≡ 32) → WellFormed (drop i s) × (trim_start (decode s) ≡ trim_start (decode (drop i s)))
@@ -119,7 +118,9 @@ start_past s i r p q =
     record {
       fits = q.fits;
       well = q.well;
-      text = append_cancel_left (taken is_white (decode (drop i s))) _ _ (sym q.chars ∙ start_taken (decode (drop i s))) ∙ sym p.text;
+      text =
+          append_cancel_left (take_while is_white (decode (drop i s))) _ _ (sym q.chars ∙ start_taken (decode (drop i s)))
+          ∙ sym p.text;
     }
 
 -- ---- the scan from the end, at e

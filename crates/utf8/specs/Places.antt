@@ -1,5 +1,6 @@
 -- What the contracts say of places in a list s of bytes.
 use Rattle.std.specs.Prelude.{ℕ, ◌+◌, ◌-◌, ◌<◌, ◌≤◌, Bool, true, false, cond, List, [], ◌∷◌, ◌++◌, ◌≡◌, length, get_or, take, drop, T, ltb, Option, None, Some, is_some}
+use Rattle.std.specs.List.{take_while}
 use Rattle.utf8.specs.Unicode.{is_scalar, encode_char, encode, code_at, decode, prefix_len, WellFormed, is_white}
 use Rattle.utf8.specs.Unicode.{trim_start, trim_end}
 pub use Rattle.blocks.specs.Blocks.{NoneAmong}
@@ -47,18 +48,13 @@ TellsChars pre post p s =
 abbrev pub WhiteAt : List ℕ → ℕ → Option ℕ → Type 0
 WhiteAt s i r = TakenAt is_white s i r
 
--- the characters before the first one that p does not take
-unfoldable pub taken : (ℕ → Bool) → List ℕ → List ℕ
-taken p [] = []
-taken p (c ∷ cs) = cond (p c) (c ∷ taken p cs) []
-
 -- from `from` up to r stand the characters that p takes, and p does not take the one at r, or s ends there
 pub record PastChars (p : ℕ → Bool) (s : List ℕ) (from r : ℕ) : Type 0 where
   pub on : from ≤ r
   pub fits : r ≤ length s
   pub well : WellFormed (drop r s)
-  pub bytes : take (r - from) (drop from s) ≡ encode (taken p (decode (drop from s)))
-  pub chars : decode (drop from s) ≡ taken p (decode (drop from s)) ++ decode (drop r s)
+  pub bytes : take (r - from) (drop from s) ≡ encode (take_while p (decode (drop from s)))
+  pub chars : decode (drop from s) ≡ take_while p (decode (drop from s)) ++ decode (drop r s)
   pub stop : r < length s → p (code_at (drop r s)) ≡ false
 
 -- the character before e is white space and takes r bytes, or it is none

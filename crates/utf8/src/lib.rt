@@ -8,8 +8,9 @@ ghost use Rattle.utf8.specs.Unicode.{WellFormed, width, is_white, first_is_white
 ghost use Rattle.utf8.specs.Places.{AsciiRun, Step, Back, TellsChars, PastChars, WhiteAt, WhiteBefore};
 ghost use Rattle.utf8.specs.Places.{TrimmedStart, SpacesPassed, TrimmedEnd, Column, units_of, lead_of, total};
 
+use blocks::bytes::Passing;
 use blocks::lanes;
-use blocks::others::Others;
+use blocks::others::Other;
 
 // A place in a slice: how many bytes stand before it.
 #[derive(Clone, Copy, PartialEq, Eq, PartialOrd, Ord, Debug)]
@@ -79,14 +80,10 @@ pub fn units(b: u8) -> usize
 }
 
 // 1 for a byte that starts a character, else 0.
-#[tactic(auto, unfolding(crate::specs::Places::lead_of))]
 fn lead(b: u8) -> usize
     ensures { (result ≡ lead_of b) × (result ≤ 2) }
 {
-    match b {
-        0x80..=0xBF => 0,
-        _ => 1,
-    }
+    usize::from(!is_tail(b))
 }
 
 // The sum of what the bytes count for, each at most 2.
@@ -103,12 +100,13 @@ fn total<F: Fn(u8) -> usize>(s: &[u8], count: &F) -> usize
     n
 }
 
-// How many UTF-16 units the characters of a well-formed slice take.
+// How many UTF-16 units the characters of a well-formed slice take: as many as bytes where they are ASCII.
 pub fn width(s: &[u8]) -> Utf16Column
     requires { WellFormed s.now }
     ensures { result.0 ≡ width (decode s.now) }
 {
-    Utf16Column(total(s, &units))
+    let ascii = past_blocks(s, 0);
+    Utf16Column(ascii + total(&s[ascii..], &units))
 }
 
 // How many characters a well-formed slice has.
@@ -209,6 +207,8 @@ pub fn is_white(c: u32) -> bool
 }
 
 // How many bytes the character at i takes, if it is white space.
+// Apart from the callers' loops, which seldom meet one.
+#[inline(never)]
 fn wide_white_at(s: &[u8], i: usize) -> Option<usize>
     requires { (i < length s.now) × WellFormed (drop i s.now) }
     ensures { WhiteAt s.now i result }
@@ -228,27 +228,31 @@ pub fn white_at(s: &[u8], i: usize) -> Option<usize>
     let b = s[i];
     if 0x80 <= b {
         wide_white_at(s, i)
-    } else if is_white(b as u32) {
-        Some(1)
     } else {
-        None
+        is_white(b as u32).then_some(1)
     }
 }
 
-// How many bytes the character before e takes, if it is white space.
+// How many bytes the character before e takes, if it is white space. Apart, as `wide_white_at` is.
+#[inline(never)]
+fn wide_white_before(s: &[u8], e: usize) -> Option<usize>
+    requires { (0 < e) × (e ≤ length s.now) × WellFormed (take e s.now) }
+    ensures { WhiteBefore s.now e result }
+{
+    let n = size_before(s, e);
+    is_white(code_at(s, e - n)).then_some(n)
+}
+
+// The same. One of a byte is told here, so that a caller's loop takes this in.
 pub fn white_before(s: &[u8], e: usize) -> Option<usize>
     requires { (0 < e) × (e ≤ length s.now) × WellFormed (take e s.now) }
     ensures { WhiteBefore s.now e result }
 {
     let b = s[e - 1];
-    if b < 0x80 {
-        return if is_white(b as u32) { Some(1) } else { None };
-    }
-    let n = size_before(s, e);
-    if is_white(code_at(s, e - n)) {
-        Some(n)
+    if 0x80 <= b {
+        wide_white_before(s, e)
     } else {
-        None
+        is_white(b as u32).then_some(1)
     }
 }
 
@@ -269,7 +273,7 @@ pub fn past_chars<F: Fn(usize) -> Option<usize>>(s: &[u8], from: usize, test: &F
 {
     let mut i = from;
     // kept: a range is no plainer, since a step takes the bytes of a character; `char_indices` is of a `str`, which
-    // these bytes become by one more pass over them, or by `unsafe`, which no crate has
+    // these lent bytes are not: `from_utf8` would read all of them once more
     while i < s.len() {
         let Some(n) = test(i) else {
             return i;
@@ -287,11 +291,17 @@ fn past_spaces(s: &[u8]) -> usize
     if s.len() < 16 {
         0
     } else {
-        lanes::first_in::<16, _>(&Others { bytes: s, b: b' ' }, 0, s.len())
+        let others = Passing {
+            bytes: s,
+            test: Other { b: b' ' },
+        };
+        lanes::first_in::<16, _>(&others, 0, s.len())
     }
 }
 
 // Where the white space at the start of a well-formed slice ends.
+// Part of the line step, as `trim_end` is.
+#[inline(always)]
 pub fn trim_start(s: &[u8]) -> usize
     requires { WellFormed s.now }
     ensures { TrimmedStart s.now result }
@@ -300,6 +310,7 @@ pub fn trim_start(s: &[u8]) -> usize
 }
 
 // Where the white space at the end of a well-formed slice starts.
+#[inline(always)]
 pub fn trim_end(s: &[u8]) -> usize
     requires { WellFormed s.now }
     ensures { TrimmedEnd s.now result }

@@ -16,7 +16,7 @@ use rules::{OptionNumbers, Refusal, Strengths};
 // What a setting step gives: refusal 0 and the changed options, their indent's bytes in the lent output; or a refusal
 // with its place, the other numbers 0 and the output all zeros.
 #[repr(C)]
-#[derive(Clone, Copy)]
+#[derive(Clone, Copy, Default)]
 pub struct Settings {
     pub refusal: u64,
     pub place: u64,
@@ -34,11 +34,7 @@ fn refuse(refusal: Refusal, output: &mut [u8]) -> Settings
     Settings {
         refusal: refusal.number(),
         place: refusal.place(),
-        indent_len: 0,
-        width_set: 0,
-        width: 0,
-        line_ending: 0,
-        final_newline: 0,
+        ..Settings::default()
     }
 }
 

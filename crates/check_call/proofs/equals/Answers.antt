@@ -5,5 +5,5 @@ use Rattle.check_call.proofs.equals.Goals as goal
 pub returns-then-n-source : goal.returns-then-n-source
 returns-then-n-source c = search (rules, equals_told)
 
-pub returns : goal.returns
-returns c = search (rules, equals_long)
+pub returns-else-n-source : goal.returns-else-n-source
+returns-else-n-source c = search (rules, equals_long)

@@ -11,5 +11,5 @@ loop-e-preserved c = search (rules, reading_more)
 pub returns-then-levels : goal.returns-then-levels
 returns-then-levels c = search (rules, reading_levels)
 
-pub returns : goal.returns
-returns c = search (rules, reading_whole)
+pub returns-else-levels : goal.returns-else-levels
+returns-else-levels c = search (rules, reading_whole)

@@ -1,6 +1,7 @@
-use mathlib.Core.Path.{refl}
+use mathlib.Core.Path.{◌≡◌, refl, sym, ◌∙◌}
+use Rattle.std.specs.Prelude.{Some}
 use native.Mathlib.Omega.{arith}
-use Rattle.group_read.proofs.OperatorLaws.{strength_small, operator_two_law, operator_none, operator_one_law}
+use Rattle.group_read.proofs.OperatorLaws.{strength_small, strength_err, strength_ok, handed_on, operator_two_law, operator_none, operator_one_law}
 use Rattle.group_read.proofs.operator_byte.Goals as goal
 
 pub overflow_add-two : goal.overflow_add-two
@@ -9,13 +10,18 @@ overflow_add-two c = omega (arith, strength_small _ _ (c.in-Some.ensures.some _ 
 pub returns-in-Some : goal.returns-in-Some
 returns-in-Some c = operator_two_law _ _ c.requires _ _ c.in-Some.ensures c.put-p.ensures _ c.goes.ensures
 
-pub returns-in_default-of_one : goal.returns-in_default-of_one
-returns-in_default-of_one c = operator_none _ _ c.requires c.in_default.ensures c.in_default-of_one.ensures _ refl
+pub returns-in_err-one : goal.returns-in_err-one
+returns-in_err-one c =
+    let e = strength_err _ _ _ (sym c.ok_or.ensures.value ∙ c.in_err-one.was) in
+    operator_none _ _ c.requires c.in_default.ensures (rw e.0 at c.of_one.ensures) _ (handed_on _ _ c.from_residual.ensures ∙ rw e.1)
 
 pub overflow_add-one : goal.overflow_add-one
-overflow_add-one c = omega (arith, strength_small _ _ (c.in-Some-of_one.ensures.some _ refl).0)
+overflow_add-one c =
+    let e : c.of_one.result ≡ Some c.in_ok-one.one = strength_ok _ _ _ (sym c.ok_or.ensures.value ∙ c.in_ok-one.was) in
+    omega (arith, strength_small _ _ (c.of_one.ensures.some _ e).0)
 
 pub returns : goal.returns
 returns c =
-    operator_one_law _ _ c.requires c.in_default.ensures _ _ c.in-Some-of_one.ensures c.put-p-2.ensures _
+    let e = strength_ok _ _ _ (sym c.ok_or.ensures.value ∙ c.in_ok-one.was) in
+    operator_one_law _ _ c.requires c.in_default.ensures _ _ (rw e at c.of_one.ensures) c.put-p-2.ensures _
     c.due_byte.ensures

@@ -1,8 +1,12 @@
-use Rattle.basics.proofs.StartsLaws.{is_none, is_first_law}
+use borrow.Author.Rules.{rules}
+use Rattle.basics.proofs.StartsLaws.{is_none, first_same, first_other}
 use Rattle.marks.proofs.first_is.Goals as goal
 
-pub returns-then-s-ne0 : goal.returns-then-s-ne0
-returns-then-s-ne0 c = is_first_law c.args.c c.args.s.now c.if-s-ne0.true
+pub returns-in-len1-up : goal.returns-in-len1-up
+returns-in-len1-up c = search (rules, first_same)
 
-pub returns-else-s-ne0 : goal.returns-else-s-ne0
-returns-else-s-ne0 c = rw c.if-s-ne0.false (is_none c.args.c c.args.s.now c.if-s-ne0.false)
+pub returns-in_default : goal.returns-in_default
+returns-in_default c = search (rules, is_none)
+
+pub returns-in_default-2 : goal.returns-in_default-2
+returns-in_default-2 c = search (rules, first_other)

@@ -10,10 +10,10 @@ pub returns-then-d-le1 : goal.returns-then-d-le1
 unfolding in_block
 returns-then-d-le1 c = search picks depth 20
 
-pub returns-then-starts_with-2 : goal.returns-then-starts_with-2
+pub returns-else-d-le1 : goal.returns-else-d-le1
 unfolding in_block
-returns-then-starts_with-2 c = search picks depth 20
+returns-else-d-le1 c = search picks depth 20
 
-pub returns : goal.returns
+pub returns-else-starts_with-2 : goal.returns-else-starts_with-2
 unfolding in_block
-returns c = search picks depth 20
+returns-else-starts_with-2 c = search picks depth 20

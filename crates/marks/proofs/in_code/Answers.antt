@@ -26,6 +26,6 @@ pub returns-then-starts_with-3 : goal.returns-then-starts_with-3
 unfolding in_code
 returns-then-starts_with-3 c = search picks depth 20
 
-pub returns : goal.returns
+pub returns-else-starts_with-3 : goal.returns-else-starts_with-3
 unfolding in_code
-returns c = search picks depth 20
+returns-else-starts_with-3 c = search picks depth 20

@@ -10,6 +10,6 @@ pub returns-then-closes : goal.returns-then-closes
 unfolding in_inner
 returns-then-closes c = search picks depth 20
 
-pub returns : goal.returns
+pub returns-else-closes : goal.returns-else-closes
 unfolding in_inner
-returns c = search picks depth 20
+returns-else-closes c = search picks depth 20

@@ -22,10 +22,10 @@ pub returns-then-d-le1 : goal.returns-then-d-le1
 unfolding in_interp
 returns-then-d-le1 c = search picks depth 20
 
-pub returns-then-first_is-5 : goal.returns-then-first_is-5
+pub returns-else-d-le1 : goal.returns-else-d-le1
 unfolding in_interp
-returns-then-first_is-5 c = search picks depth 20
+returns-else-d-le1 c = search picks depth 20
 
-pub returns : goal.returns
+pub returns-else-first_is-5 : goal.returns-else-first_is-5
 unfolding in_interp
-returns c = search picks depth 20
+returns-else-first_is-5 c = search picks depth 20

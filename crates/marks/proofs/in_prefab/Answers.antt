@@ -6,6 +6,6 @@ pub returns-then-starts_with : goal.returns-then-starts_with
 unfolding in_prefab
 returns-then-starts_with c = search picks depth 20
 
-pub returns : goal.returns
+pub returns-else-starts_with : goal.returns-else-starts_with
 unfolding in_prefab
-returns c = search picks depth 20
+returns-else-starts_with c = search picks depth 20

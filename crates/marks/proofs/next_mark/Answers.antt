@@ -5,5 +5,5 @@ use Rattle.marks.proofs.next_mark.Goals as goal
 pub returns-then-t-eq0 : goal.returns-then-t-eq0
 returns-then-t-eq0 c = rw c.if-t-eq0.true c.mark_at.ensures
 
-pub returns : goal.returns
-returns c = c.long.ensures ∙ next_more c.args.t c.args.s.now c.if-t-eq0.false
+pub returns-else-t-eq0 : goal.returns-else-t-eq0
+returns-else-t-eq0 c = c.long.ensures ∙ next_more c.args.t c.args.s.now c.if-t-eq0.false

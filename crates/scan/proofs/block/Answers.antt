@@ -1,6 +1,6 @@
 use native.Mathlib.Omega.{arith}
 use Rattle.scan.proofs.StartsLaws.{told}
-use Rattle.scan.proofs.CodeLaws.{block_begins, block_plainly, block_opens, block_ends, block_closes, block_goes_on, block_stops}
+use Rattle.scan.proofs.CodeLaws.{block_begins, block_plainly, block_opens, block_ends, block_closes, block_goes_on}
 use Rattle.scan.proofs.block.Goals as goal
 
 pub loop-i-init : goal.loop-i-init

@@ -5,8 +5,9 @@ use Rattle.text_kinds.specs.Reading.{place_count}
 use Rattle.text_kinds.proofs.FillLaws.{Answering}
 use Rattle.text_kinds.proofs.answer_place.Given as goal
 
-abbrev pub invariant-loop-kinds : goal.invariant-loop-kinds
-invariant-loop-kinds l = Answering l.places l.line l.column l.kind l.initial.next l.initial.kinds l.next l.kinds
+abbrev pub invariant-loop-place : goal.invariant-loop-place
+invariant-loop-place l =
+    Answering l.places l.place.line l.place.column l.kind l.initial.next l.initial.kinds l.next l.kinds
 
-abbrev pub decreases-loop-kinds : goal.decreases-loop-kinds
-decreases-loop-kinds l = place_count l.places - l.next
+abbrev pub decreases-loop-place : goal.decreases-loop-place
+decreases-loop-place l = place_count l.places - l.next

@@ -1,10 +1,12 @@
 use borrow.Author.Rules.{rules}
-use native.Mathlib.Omega.{arith}
-use Rattle.top_level_ops.proofs.StepLaws.{assign_short, assign_long}
+use Rattle.top_level_ops.proofs.StepLaws.{assign_short, assign_equals, assign_other}
 use Rattle.top_level_ops.proofs.is_assign.Goals as goal
 
-pub returns-then-l-gt1 : goal.returns-then-l-gt1
-returns-then-l-gt1 c = search (rules, assign_long)
+pub returns-in-61 : goal.returns-in-61
+returns-in-61 c = search (rules, assign_equals)
 
-pub returns-else-l-gt1 : goal.returns-else-l-gt1
-returns-else-l-gt1 c = grind (arith, assign_short)
+pub returns-in_default : goal.returns-in_default
+returns-in_default c = search (rules, assign_short)
+
+pub returns-in_default-2 : goal.returns-in_default-2
+returns-in_default-2 c = search (rules, assign_other)

@@ -1,11 +1,8 @@
--- `utf8::white_at` meets its contract: each answer is a law of proofs/TrimScan.antt.
+-- `utf8::white_at` meets its contract: the answer is a law of proofs/TrimScan.antt.
 -- Assumes nothing.
-use Rattle.utf8.proofs.TrimScan.{white_ascii, other_ascii}
+use Rattle.utf8.proofs.TrimScan.{ascii_given}
 use borrow.Author.Rules.{rules}
 use Rattle.utf8.proofs.white_at.Goals as goal
 
-pub returns-then-is_white : goal.returns-then-is_white
-returns-then-is_white c = search (rules, white_ascii)
-
-pub returns-else-is_white : goal.returns-else-is_white
-returns-else-is_white c = search (rules, other_ascii)
+pub returns-else-b-ge128 : goal.returns-else-b-ge128
+returns-else-b-ge128 c = search (rules, ascii_given)

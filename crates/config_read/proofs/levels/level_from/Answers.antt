@@ -1,12 +1,11 @@
-use borrow.Author.Rules.{rules}
-use Rattle.config_read.proofs.LevelLaws.{scan_found, scan_more, scan_end}
+use Rattle.std.proofs.Common.{rules, tests, ap, ◌∙◌, length}
+use lib.Seq.{length-take-le}
+use Rattle.config_read.proofs.LevelLaws.{level_back}
 use Rattle.config_read.proofs.levels.level_from.Goals as goal
 
-pub returns-then-p-i-eq47 : goal.returns-then-p-i-eq47
-returns-then-p-i-eq47 c = search (rules, scan_found)
-
-pub loop-i-preserved : goal.loop-i-preserved
-loop-i-preserved c = search (rules, scan_more)
-
 pub returns : goal.returns
-returns c = search (rules, scan_end)
+returns c =
+    let s = c.requires in
+    let t = c.iter.ensures.rest in
+    level_back _ (λ f x b g q. search (rules, tests)) _ _ s.e_in_bounds s.well_formed _ _ _ c.rposition.result _ _ t
+    (ap length t ∙ length-take-le _ _ s.e_in_bounds) c.rposition.ensures.ran _ c.map_or.ensures (λ i h. search rules)

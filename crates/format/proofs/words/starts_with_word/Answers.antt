@@ -2,7 +2,7 @@ use borrow.Author.Rules.{rules}
 use Rattle.rules.specs.Words.{starts_with_word}
 use mathlib.Core.Path.{sym, ◌∙◌}
 use borrow.Author.Tests.{le-leb}
-use Rattle.format.proofs.StartsLaws.{then_no, then_end, then_next}
+use Rattle.basics.proofs.StartsLaws.{then_no, then_end, then_next}
 use Rattle.format.proofs.words.starts_with_word.Goals as goal
 
 pub returns-then-line-n : goal.returns-then-line-n

@@ -1,15 +1,14 @@
-use borrow.Author.Rules.{rules}
-use Rattle.glob_match.proofs.NameLaws.{seeking_start, seeking_found, seeking_more, seeking_end}
+use Rattle.std.proofs.Common.{rules, refl, ◌∙◌, ◌-◌, length}
+use native.Mathlib.Omega.{arith}
+use Rattle.std.proofs.lemmas.Iterator.{YieldsList-from_range}
+use Rattle.std.proofs.lemmas.Iterator.Search.{any_from_yields_List}
+use Rattle.glob_match.proofs.NameLaws.{slash_in, slash_among}
 use Rattle.glob_match.proofs.name.has_slash.Goals as goal
 
-pub loop-i-init : goal.loop-i-init
-loop-i-init c = search (rules, seeking_start)
-
-pub returns-then-slash_at : goal.returns-then-slash_at
-returns-then-slash_at c = search (rules, seeking_found)
-
-pub loop-i-preserved : goal.loop-i-preserved
-loop-i-preserved c = search (rules, seeking_more)
-
 pub returns : goal.returns
-returns c = search (rules, seeking_end)
+returns c =
+    let n = length c.args.kinds.now - 1 in
+    let slash = slash_in c.args.kinds.now c.args.chars.now in
+    any_from_yields_List slash _ _ _ c.any.ensures.ran (YieldsList-from_range 1 _ n refl refl)
+    (λ x b q k. search rules)
+    ∙ slash_among _ _ c.requires.0 1 n (omega arith)

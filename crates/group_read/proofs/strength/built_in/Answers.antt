@@ -1,10 +1,9 @@
-use mathlib.Core.Path.{sym, ◌∙◌}
-use borrow.Author.Rules.{rules}
-use Rattle.group_read.proofs.OperatorLaws.{built_read, positive_some, positive_none}
+use mathlib.Core.Path.{refl}
+use Rattle.group_read.proofs.OperatorLaws.{built_read, positive_none, positive_then}
 use Rattle.group_read.proofs.strength.built_in.Goals as goal
 
-pub returns-in-0 : goal.returns-in-0
-returns-in-0 c = rw c.in-Some.is (positive_none _ (sym c.in-0.is ∙ built_read _ _ c.strength.ensures))
+pub returns-in_err-operator : goal.returns-in_err-operator
+returns-in_err-operator c = rw (c.from_residual.ensures, c.in_err-operator.was) (positive_none _ refl)
 
-pub returns-in_default : goal.returns-in_default
-returns-in_default c = rw c.in-Some.is (positive_some _ _ (built_read _ _ c.strength.ensures) (search rules))
+pub returns : goal.returns
+returns c = rw c.in_ok-operator.was (positive_then _ _ (built_read _ _ c.strength-s.ensures) _ c.then_some.ensures)

@@ -10,8 +10,7 @@ use borrow.Rule.Slice.PartMut.{put_mid}
 use Rattle.std.proofs.lemmas.Slice.{take-put_mid, drop-put_mid}
 use lib.Dec.{eqb}
 use borrow.Author.Tests.{ne_eqb, eq-eqb}
-use Rattle.std.specs.Prelude.{Result, Ok, Err}
-use Rattle.std.specs.Result.{IsErr, IsErrAnd}
+use Rattle.std.specs.Prelude.{Ok, Err}
 use Rattle.std.specs.Option.{ok_or}
 use Rattle.std.specs.Bool.{then_some}
 use Rattle.rules.specs.Basics.{choose, same, one_of}
@@ -56,11 +55,6 @@ positive_then n s e r f =
     by_equal s 0
     (λ (z : s ≡ 0). let g : r ≡ None = rw (eq-eqb s 0 z) at f in subst (Positive n) (sym g) (positive_none n (sym z ∙ e)))
     (λ (z : s ≡ 0 → ⊥). let g : r ≡ Some s = rw (ne_eqb s 0 z) at f in subst (Positive n) (sym g) (positive_some n s e z))
-
--- what `?` gives of an error
-pub handed_on : {A E : Type 0} (r : Result A E) (why : E) → IsErr r × IsErrAnd r (λ e. e ≡ why) → r ≡ Err why
-handed_on (Ok x) why h = absurd h.1
-handed_on (Err q) why h = rw h.1
 
 -- what `ok_or` makes of a strength, or of none
 pub strength_err : (o : Option ℕ) (f e : Fault) → ok_or o f ≡ Err e → (o ≡ None) × (e ≡ f)

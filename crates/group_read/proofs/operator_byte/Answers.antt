@@ -1,7 +1,8 @@
-use mathlib.Core.Path.{◌≡◌, refl, sym, ◌∙◌}
-use Rattle.std.specs.Prelude.{Some}
+use mathlib.Core.Path.{◌≡◌, refl, ap, sym, ◌∙◌}
+use Rattle.std.specs.Prelude.{Some, Err}
+use Rattle.std.proofs.lemmas.Result.{err_from_is_err_and}
 use native.Mathlib.Omega.{arith}
-use Rattle.group_read.proofs.OperatorLaws.{strength_small, strength_err, strength_ok, handed_on, operator_two_law, operator_none, operator_one_law}
+use Rattle.group_read.proofs.OperatorLaws.{strength_small, strength_err, strength_ok, operator_two_law, operator_none, operator_one_law}
 use Rattle.group_read.proofs.operator_byte.Goals as goal
 
 pub overflow_add-two : goal.overflow_add-two
@@ -13,7 +14,8 @@ returns-in-Some c = operator_two_law _ _ c.requires _ _ c.in-Some.ensures c.put-
 pub returns-in_err-one : goal.returns-in_err-one
 returns-in_err-one c =
     let e = strength_err _ _ _ (sym c.ok_or.ensures.value ∙ c.in_err-one.was) in
-    operator_none _ _ c.requires c.in_default.ensures (rw e.0 at c.of_one.ensures) _ (handed_on _ _ c.from_residual.ensures ∙ rw e.1)
+    let z = err_from_is_err_and c.from_residual.result c.from_residual.ensures.1 in
+    operator_none _ _ c.requires c.in_default.ensures (rw e.0 at c.of_one.ensures) _ (z.1 ∙ ap Err (z.2 ∙ e.1))
 
 pub overflow_add-one : goal.overflow_add-one
 overflow_add-one c =

@@ -124,7 +124,7 @@ def table(files, numbers):
 HEADING = re.compile(r"-- ---- (.*)")
 COMMENT = re.compile(r"( *)-- (.*)")
 BESIDE = re.compile(r" +(\S.*?) : .*?  -- (.*)")
-DEFINED = re.compile(r"(?:(?:abbrev|unfoldable|opaque) )?pub (?:record |data )?(?!mod )([^\s:({]+)")
+DEFINED = re.compile(r"(?:(?:abbrev|unfoldable|opaque) )?pub (?:record |data )?(?!mod |use )([^\s:({]+)")
 FIELD = re.compile(r"  pub (\S+) :")
 
 

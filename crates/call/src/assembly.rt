@@ -85,7 +85,7 @@ pub fn format_with(
     let ending = ending_of(options.end_of_line, source);
     let style = style_of(options, ending);
     let indent = options.indent.as_bytes();
-    let read = lines::read_lines(source, indent, style, None, output, scratch);
+    let read = lines::read_lines(source, indent, style, false, None, output, scratch);
     let st = read.st;
     let last = has_last_ending(options.insert_final_newline, source);
     let n = text::finish_text(output, st.text, ending, last);

@@ -56,7 +56,7 @@ module _
     o = options_in chosen
 
     module _ (work : List ℕ)
-        (w : AllRead source indent (style_of chosen ending) (Some source) r cell work)
+        (w : AllRead source indent (style_of chosen ending) true (Some source) r cell work)
       where
         uses : Uses o indent (style_of chosen ending)
         uses = record { indents = sym own; breaks = refl; ruled = refl; strengths = refl }
@@ -67,7 +67,7 @@ module _
 
         answer_is : Scalars (format_with o (decode source)).text → is_formatted o (decode source) ≡ answer_at o (decode source) (as_str ending) r.all r.st.nesting.line
         unfolding is_formatted
-        answer_is s = rw (← e) (w.answer refl o uses (subst Scalars text_is s))
+        answer_is s = rw (← e) (w.answer refl refl o uses (subst Scalars text_is s))
 
         -- the settled text differs
         pub found_early : r.all ≡ false → CheckedWith o source (record { yes = false; read = r.st.nesting.line })

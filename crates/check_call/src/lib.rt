@@ -72,7 +72,15 @@ fn check_with(source: &[u8], options: FormatOptions, scratch: &mut [u8]) -> Find
     let style = call::assembly::style_of(options, ending);
     let indent = options.indent.as_bytes();
     let mut cell = [0u8; CELL];
-    let lines = lines::read_lines(source, indent, style, Some(source), &mut cell, scratch);
+    let lines = lines::read_lines(
+        source,
+        indent,
+        style,
+        true,
+        Some(source),
+        &mut cell,
+        scratch,
+    );
     let st = lines.st;
     let read = st.nesting.line;
     if lines.all {

@@ -26,7 +26,7 @@ use Rattle.rules.proofs.Leading.{last_at}
 use Rattle.rules.proofs.StartsBytes.{on_decode, encode_some, steady_is, first_encode, last_encode, empty_encode}
 use Rattle.config_rules.specs.Lines.{lower, has_eq, key, setting, is_comment, is_header, line_of}
 use Rattle.config_rules.specs.Lines.Line.{nothing, header, pair}
-use Rattle.config_lines.specs.Words.{EqAt, Trimmed}
+use Rattle.config_lines.specs.Words.{EqAt}
 use Rattle.config_lines.specs.Kinds.{name_in, Named, line_in, Parts, KindOf}
 use Rattle.config_lines.specs.declared.kinds.LineKind.{LineKind}
 use Rattle.config_lines.proofs.LineBytes.{has_encode, key_encode, setting_encode}
@@ -180,14 +180,11 @@ module _ (s : List ℕ) (w : WellFormed s) (i : ℕ) (q : EqAt s i) where
   setting_bytes : drop (i + 1) s ≡ encode (setting (decode s))
   setting_bytes = sym q.setting ∙ on_decode setting (λ (l : List ℕ). encode (setting l)) setting_encode s w
 
-  pub key_well : WellFormed (take i s)
+  key_well : WellFormed (take i s)
   key_well = rw key_bytes (wf_encode (key (decode s)) (key_scalars (decode s) (decode_scalars s)))
 
   setting_well : WellFormed (drop (i + 1) s)
   setting_well = rw setting_bytes (wf_encode (setting (decode s)) (setting_scalars (decode s) (decode_scalars s)))
-
-  pub value_well : WellFormed (take (length s - (i + 1)) (drop (i + 1) s))
-  value_well = rw (part_from s (i + 1)) setting_well
 
   key_text : key (decode s) ≡ decode (take i s)
   key_text = sym (ap decode key_bytes ∙ decode_encode (key (decode s)) (key_scalars (decode s) (decode_scalars s)))
@@ -238,12 +235,12 @@ module _ (s : List ℕ) (w : WellFormed s) where
       unfolding line_in Parts
       kind_other q = record { is = no_header ∙ choose_false _ _ _ (sym eq_same ∙ q); parts = tt }
 
-      pub kind_pair : (i : ℕ) → EqAt s i → (k v : Bor (List ℕ)) → Trimmed (take i s) k.now → Trimmed (take (length s - (i + 1)) (drop (i + 1) s)) v.now
+      pub kind_pair : (i : ℕ) → EqAt s i → (k v : Bor (List ℕ)) → k.now ≡ take i s → v.now ≡ take (length s - (i + 1)) (drop (i + 1) s)
           → KindOf s (Some (LineKind.Pair k v))
       unfolding line_in Parts
       kind_pair i q k v a b =
-          let z : Trimmed (drop (i + 1) s) v.now = rw (part_from s (i + 1)) at b in
+          let z : v.now ≡ drop (i + 1) s = b ∙ part_from s (i + 1) in
           record {
-            is = no_header ∙ choose_true _ _ _ (sym eq_same ∙ q.has) ∙ rw (key_text s w i q, setting_text s w i q, ← a.is, ← z.is);
-            parts = (a.well, z.well);
+            is = no_header ∙ choose_true _ _ _ (sym eq_same ∙ q.has) ∙ rw (key_text s w i q, setting_text s w i q, a, z);
+            parts = (rw a (key_well s w i q), rw z (setting_well s w i q));
           }

@@ -1,6 +1,6 @@
 -- The kind of a trimmed line, by bytes.
 use Rattle.std.specs.Prelude.{ℕ, ◌-◌, List, ◌≡◌, true, length, take, drop, Option, Some, None}
-use Rattle.utf8.specs.Unicode.{decode, WellFormed}
+use Rattle.utf8.specs.Unicode.{decode, WellFormed, trim}
 use Rattle.config_rules.specs.Lines.{Line, lower, line_of, is_header}
 use Rattle.config_rules.specs.Lines.Line.{nothing, header, pair}
 use Rattle.config_lines.specs.declared.kinds.LineKind.{LineKind}
@@ -17,7 +17,7 @@ pub record Named (s name : List ℕ) : Type 0 where
 unfoldable pub line_in : Option LineKind → Line
 line_in None = nothing
 line_in (Some (LineKind.Header name)) = header (decode name.now)
-line_in (Some (LineKind.Pair k v)) = pair (lower (decode k.now)) (lower (decode v.now))
+line_in (Some (LineKind.Pair k v)) = pair (lower (trim (decode k.now))) (lower (trim (decode v.now)))
 
 -- its parts are well-formed
 unfoldable pub Parts : Option LineKind → Type 0

@@ -6,9 +6,9 @@ ghost use Rattle.rules.specs.Basics.{is_empty};
 ghost use Rattle.config_rules.specs.Lines.{is_comment, is_header};
 ghost use Rattle.config_lines.specs.Kinds.{Named, KindOf};
 
-use crate::{eq_at, trimmed};
+use crate::eq_at;
 
-// A header has its name; a pair its key and its value, both trimmed.
+// A header has its name; a pair its key and its value as they stand, to be trimmed where they are asked for.
 // kept: the new form is no plainer: neither is the absence of the other, and a line of no kind is `None`
 #[derive(Clone, Copy, PartialEq, Eq, Debug)]
 pub enum LineKind<'a> {
@@ -45,7 +45,5 @@ pub fn kind_of(line: &[u8]) -> Option<LineKind<'_>>
         return Some(LineKind::Header(name));
     }
     let i = eq_at(line)?;
-    let key = trimmed(&line[..i]);
-    let value = trimmed(&line[i + 1..]);
-    Some(LineKind::Pair(key, value))
+    Some(LineKind::Pair(&line[..i], &line[i + 1..]))
 }

@@ -8,12 +8,13 @@ use mathlib.Core.Path.{◌≡◌, refl, ◌∙◌}
 use borrow.Author.Tests.{ltb-false}
 use lib.Dec.{ltb}
 use lib.ListN.{length}
-use Rattle.utf8.specs.Unicode.{decode, WellFormed}
+use Rattle.utf8.specs.Unicode.{decode, WellFormed, trim}
 use Rattle.rules.specs.Basics.{choose, codes, same}
 use Rattle.rules.specs.declared.Resolved.{Resolved}
 use Rattle.config_rules.specs.Lines.{lower}
 use Rattle.config_rules.specs.Values.{superseded}
 use Rattle.config_rules.specs.Sections.{long_name}
+use Rattle.config_lines.specs.Words.{Trimmed}
 use Rattle.config_lines.specs.Kinds.{line_in, Parts}
 use Rattle.config_lines.specs.declared.kinds.LineKind.{LineKind}
 use Rattle.config_lines.proofs.LineBytes.{word_decode}
@@ -45,23 +46,34 @@ module _ (line : Option LineKind) (k v : Bor (List ℕ)) (e : line ≡ Some (Lin
   unfolding Parts
   pair_well = rw e at p
 
-  root_key : same (lower k.now) (codes "root") ≡ same (lower (decode k.now)) (codes "root")
-  root_key = word_decode (codes "root") refl k.now pair_well.0
+  pub key_well : WellFormed k.now
+  key_well = pair_well.0
 
-  pub root_set : (b : Bool) → b ≡ same (lower k.now) (codes "root") → b ≡ true → (root r : Bool) → r ≡ same (lower v.now) (codes "true")
-      → r ≡ root_after root (line_in line)
-  unfolding root_after line_in choose
-  root_set b q y root r z = rw (e, ← root_key, ← q, y) (z ∙ word_decode (codes "true") refl v.now pair_well.1)
-
-  pub root_kept : (b : Bool) → b ≡ same (lower k.now) (codes "root") → b ≡ false → (root : Bool) → root ≡ root_after root (line_in line)
-  unfolding root_after line_in choose
-  root_kept b q n root = rw (e, ← root_key, ← q, n)
-
-  pub values_set : (old r : Resolved) (applies : Bool) → applies ≡ true → r ≡ superseded old (lower k.now) (lower v.now)
-      → r ≡ values_after applies old (line_in line)
-  unfolding values_after line_in choose
-  values_set old r applies y q = rw (e, y) (q ∙ superseded_decode old k.now v.now pair_well.0 pair_well.1)
+  pub value_well : WellFormed v.now
+  value_well = pair_well.1
 
   pub values_kept : (old : Resolved) (applies : Bool) → applies ≡ false → old ≡ values_after applies old (line_in line)
   unfolding values_after line_in choose
   values_kept old applies n = rw (e, n)
+
+  module _ (key : List ℕ) (a : Trimmed k.now key) where
+    root_key : same (lower key) (codes "root") ≡ same (lower (trim (decode k.now))) (codes "root")
+    root_key = word_decode (codes "root") refl key a.well ∙ rw a.is
+
+    pub root_kept : (b : Bool) → b ≡ same (lower key) (codes "root") → b ≡ false → (root : Bool) → root ≡ root_after root (line_in line)
+    unfolding root_after line_in choose
+    root_kept b q n root = rw (e, ← root_key, ← q, n)
+
+    module _ (value : List ℕ) (z : Trimmed v.now value) where
+      root_value : same (lower value) (codes "true") ≡ same (lower (trim (decode v.now))) (codes "true")
+      root_value = word_decode (codes "true") refl value z.well ∙ rw z.is
+
+      pub root_set : (b : Bool) → b ≡ same (lower key) (codes "root") → b ≡ true → (root r : Bool) → r ≡ same (lower value) (codes "true")
+          → r ≡ root_after root (line_in line)
+      unfolding root_after line_in choose
+      root_set b q y root r n = rw (e, ← root_key, ← q, y) (n ∙ root_value)
+
+      pub values_set : (old r : Resolved) (applies : Bool) → applies ≡ true → r ≡ superseded old (lower key) (lower value)
+          → r ≡ values_after applies old (line_in line)
+      unfolding values_after line_in choose
+      values_set old r applies y q = rw (e, y) (q ∙ superseded_decode old key value a.well z.well ∙ rw (a.is, z.is))

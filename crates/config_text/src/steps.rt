@@ -6,7 +6,7 @@ ghost use Rattle.config_lines.specs.Kinds.{line_in, Parts};
 ghost use Rattle.config_text.specs.Steps.{starts_section, root_after, applies_after, values_after, Named};
 
 use config_lines::kinds::LineKind;
-use config_lines::{is_word, pairs};
+use config_lines::{is_word, pairs, trimmed};
 use glob_match::glob_matches;
 use rules::Resolved;
 
@@ -38,7 +38,9 @@ pub fn root_after(root: bool, line: Option<LineKind<'_>>) -> bool
     ensures { result ≡ root_after root (line_in line.entry) }
 {
     match line {
-        Some(LineKind::Pair(key, value)) if is_word(key, b"root") => is_word(value, b"true"),
+        Some(LineKind::Pair(key, value)) if is_word(trimmed(key), b"root") => {
+            is_word(trimmed(value), b"true")
+        }
         _ => root,
     }
 }
@@ -62,7 +64,9 @@ pub fn values_after(applies: bool, old: Resolved, line: Option<LineKind<'_>>) ->
     ensures { result ≡ values_after applies old (line_in line.entry) }
 {
     match line {
-        Some(LineKind::Pair(key, value)) if applies => pairs::superseded(old, key, value),
+        Some(LineKind::Pair(key, value)) if applies => {
+            pairs::superseded(old, trimmed(key), trimmed(value))
+        }
         _ => old,
     }
 }

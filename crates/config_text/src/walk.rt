@@ -22,6 +22,8 @@ impl<'a> Iterator for Lines<'a> {
 
     ghost remaining = { item_count lines_left };
 
+    // Part of the three walks.
+    #[inline(always)]
     fn next(&mut self) -> Option<Option<LineKind<'a>>> {
         let rest = self.rest?;
         let end = line_end(rest, 0);

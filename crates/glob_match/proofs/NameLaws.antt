@@ -15,11 +15,8 @@ use Rattle.utf8.proofs.Tests.{by_test}
 use Rattle.rules.specs.Basics.{choose, is, first_is}
 use Rattle.rules.proofs.StartsBytes.{on_decode, first_encode, steady_is}
 use Rattle.config_rules.specs.Name.{tokens_of}
-use Rattle.config_rules.specs.Name.Token.{item}
 use Rattle.config_rules.specs.Globs.{rooted, is_slash, has_slash, anchored, matches}
-use Rattle.glob_pass.specs.Kinds.{range_in, plain_at, brace_of, held_at, held, kind_at}
-use Rattle.glob_pass.specs.declared.kinds.Brace.{Brace}
-use Rattle.glob_pass.specs.declared.kinds.ItemKind.{ItemKind}
+use Rattle.glob_pass.specs.Kinds.{range_in, held_at, held, kind_at}
 use Rattle.glob_pass.specs.declared.kinds.Kind.{Kind}
 use Rattle.glob_pass.proofs.TokenLaws.{length_held, held_at_law}
 use Rattle.glob_name.specs.Read.{Spaced}
@@ -111,34 +108,23 @@ module _ (name : List ℕ) (k : ℕ) (old : List ℕ) (i n : ℕ) (new : List �
 
 -- ---- slashes
 
-pub slash_brace : (k : Kind) (b : Brace) (s : List ℕ) → k ≡ Kind.Brace b → false ≡ is_slash (held_at k s)
-unfolding held_at
-slash_brace k b s e = rw e (brace_no b)
-  where
-    brace_no : (b : Brace) → false ≡ is_slash (brace_of b)
-    brace_no Brace.Closes = unfold brace_of in unfold is_slash in refl
-    brace_no Brace.Comma = unfold brace_of in unfold is_slash in refl
-    brace_no Brace.Opens = unfold brace_of in unfold is_slash in refl
-
-item_no : (k : ItemKind) (s : List ℕ) → (k ≡ ItemKind.Plain → ⊥) → (k ≡ ItemKind.Escape → ⊥) → (k ≡ ItemKind.Ahead → ⊥) → false ≡ is_slash (item (plain_at k s))
-unfolding plain_at is_slash range_in
-item_no ItemKind.Plain s x y z = absurd (x refl)
-item_no ItemKind.Covered s x y z = refl
-item_no ItemKind.One s x y z = refl
-item_no ItemKind.Star s x y z = refl
-item_no ItemKind.Stars s x y z = refl
-item_no ItemKind.Set s x y z = refl
-item_no ItemKind.Range s x y z = refl
-item_no ItemKind.Escape s x y z = absurd (y refl)
-item_no ItemKind.Ahead s x y z = absurd (z refl)
-item_no (ItemKind.Lone Brace.Closes) s x y z = refl
-item_no (ItemKind.Lone Brace.Comma) s x y z = refl
-item_no (ItemKind.Lone Brace.Opens) s x y z = refl
-
-pub slash_item : (k : Kind) (j : ItemKind) (s : List ℕ) → k ≡ Kind.Item j → (j ≡ ItemKind.Plain → ⊥) → (j ≡ ItemKind.Escape → ⊥) → (j ≡ ItemKind.Ahead → ⊥)
-    → false ≡ is_slash (held_at k s)
-unfolding held_at
-slash_item k j s e x y z = rw e (item_no j s x y z)
+pub slash_no : (k : Kind) (s : List ℕ) → (k ≡ Kind.Plain → ⊥) → (k ≡ Kind.Escape → ⊥) → (k ≡ Kind.Ahead → ⊥) → false ≡ is_slash (held_at k s)
+unfolding held_at is_slash range_in
+slash_no Kind.Plain s x y z = absurd (x refl)
+slash_no Kind.Covered s x y z = refl
+slash_no Kind.One s x y z = refl
+slash_no Kind.Star s x y z = refl
+slash_no Kind.Stars s x y z = refl
+slash_no Kind.Set s x y z = refl
+slash_no Kind.Range s x y z = refl
+slash_no Kind.Escape s x y z = absurd (y refl)
+slash_no Kind.Ahead s x y z = absurd (z refl)
+slash_no Kind.LoneCloses s x y z = refl
+slash_no Kind.LoneComma s x y z = refl
+slash_no Kind.LoneOpens s x y z = refl
+slash_no Kind.Closes s x y z = refl
+slash_no Kind.Comma s x y z = refl
+slash_no Kind.Opens s x y z = refl
 
 abbrev pub slash_in : List Kind → List ℕ → ℕ → Bool
 slash_in ks cs i = is_slash (held_at (kind_at ks i) (drop i cs))
@@ -151,7 +137,7 @@ slash_among ks cs e i zero h =
     sym (ap has_slash (drop_of_length-le (held ks cs) {i = i} (rw (length_held ks cs e) (omega (arith, h)))))
 slash_among ks cs e i (suc n) h =
     ap (λ (b : Bool). slash_in ks cs i || b) (slash_among ks cs e (i + 1) n (omega (arith, h)))
-    ∙ sym (rw (add-one i) (ap has_slash (held_at_law ks cs i (Kind.Item ItemKind.Plain) e (omega (arith, h)))))
+    ∙ sym (rw (add-one i) (ap has_slash (held_at_law ks cs i Kind.Plain e (omega (arith, h)))))
 
 -- ---- the whole
 
@@ -198,12 +184,12 @@ decoded_room name old new k n b e f h d =
 
 pub slices : (name new : List ℕ) (k n : ℕ) (b : Bool) → b ≡ first_is (is "/") (decode name) → (k ≡ first_place b) × (k ≤ 1) → length (decode name) ≤ 1024
     → Decoded name k (set (replicate 1025 0) 0 47) new n
-    → (n ≡ length (take n new)) × (n ≡ length (take {A = Kind} n (replicate 1025 (Kind.Item ItemKind.Plain)))) × (n < 1026) × (0 < n)
+    → (n ≡ length (take n new)) × (n ≡ length (take {A = Kind} n (replicate 1025 Kind.Plain))) × (n < 1026) × (0 < n)
 slices name new k n b e f h d =
     let r : (n ≤ 1025) × (0 < n) = decoded_room name (replicate 1025 0) new k n b e f h d in
     let z : length {A = ℕ} (replicate 1025 0) ≡ 1025 = length-replicate {A = ℕ} 1025 0 in
     let l : length new ≡ length {A = ℕ} (replicate 1025 0) = d.long ∙ length-set {A = ℕ} (replicate 1025 0) 0 47 in
-    (sym (length-take-le n new (omega (arith, r.0))), sym (length-take-le n (replicate 1025 (Kind.Item ItemKind.Plain)) (let y : length {A = Kind} (replicate 1025 (Kind.Item ItemKind.Plain)) ≡ 1025 = length-replicate {A = Kind} 1025 (Kind.Item ItemKind.Plain) in omega (arith, r.0))), omega (arith, r.0), r.1)
+    (sym (length-take-le n new (omega (arith, r.0))), sym (length-take-le n (replicate 1025 Kind.Plain) (let y : length {A = Kind} (replicate 1025 Kind.Plain) ≡ 1025 = length-replicate {A = Kind} 1025 Kind.Plain in omega (arith, r.0))), omega (arith, r.0), r.1)
 
 pub rooted_are : (name new : List ℕ) (k n : ℕ) (b : Bool) → b ≡ first_is (is "/") (decode name) → (k ≡ first_place b) × (k ≤ 1)
     → Decoded name k (set (replicate 1025 0) 0 47) new n → take n new ≡ rooted (decode name)

@@ -16,9 +16,7 @@ use Rattle.config_rules.specs.Name.{Item, Token}
 use Rattle.config_rules.specs.Name.Item.{part, same, one, run, ahead, range}
 use Rattle.config_rules.specs.Name.Token.{item}
 use Rattle.config_rules.specs.Globs.{Strings, some_then}
-use Rattle.glob_pass.specs.Kinds.{range_in, plain_at, brace_of, held_at, held, kind_at}
-use Rattle.glob_pass.specs.declared.kinds.Brace.{Brace}
-use Rattle.glob_pass.specs.declared.kinds.ItemKind.{ItemKind}
+use Rattle.glob_pass.specs.Kinds.{range_in, held_at, held, kind_at}
 use Rattle.glob_pass.specs.declared.kinds.Kind.{Kind}
 use Rattle.glob_pass.specs.Pass.{here_at, Values, Hits}
 use Rattle.glob_pass.proofs.TokenLaws.{length_held, held_at_law}
@@ -48,27 +46,29 @@ is_range_token Token.comma = false
 is_range_token Token.closes = false
 
 abbrev plain_kind : Kind
-plain_kind = Kind.Item ItemKind.Plain
+plain_kind = Kind.Plain
 
-covered_range : Kind.Item ItemKind.Covered ≡ range_kind → ⊥
+covered_range : Kind.Covered ≡ range_kind → ⊥
 covered_range e = cc
 
 -- no other kind holds a range
 range_held : (k : Kind) (s : List ℕ) → is_range_token (held_at k s) ≡ true → k ≡ range_kind
-unfolding held_at brace_of plain_at
-range_held (Kind.Brace Brace.Closes) s e = absurd (true≢false (sym e))
-range_held (Kind.Brace Brace.Comma) s e = absurd (true≢false (sym e))
-range_held (Kind.Brace Brace.Opens) s e = absurd (true≢false (sym e))
-range_held (Kind.Item ItemKind.Plain) s e = absurd (true≢false (sym e))
-range_held (Kind.Item ItemKind.Covered) s e = absurd (true≢false (sym e))
-range_held (Kind.Item ItemKind.One) s e = absurd (true≢false (sym e))
-range_held (Kind.Item ItemKind.Star) s e = absurd (true≢false (sym e))
-range_held (Kind.Item ItemKind.Stars) s e = absurd (true≢false (sym e))
-range_held (Kind.Item ItemKind.Set) s e = absurd (true≢false (sym e))
-range_held (Kind.Item ItemKind.Range) s e = refl
-range_held (Kind.Item ItemKind.Escape) s e = absurd (true≢false (sym e))
-range_held (Kind.Item ItemKind.Ahead) s e = absurd (true≢false (sym e))
-range_held (Kind.Item (ItemKind.Lone b)) s e = absurd (true≢false (sym e))
+unfolding held_at
+range_held Kind.Closes s e = absurd (true≢false (sym e))
+range_held Kind.Comma s e = absurd (true≢false (sym e))
+range_held Kind.Opens s e = absurd (true≢false (sym e))
+range_held Kind.Plain s e = absurd (true≢false (sym e))
+range_held Kind.Covered s e = absurd (true≢false (sym e))
+range_held Kind.One s e = absurd (true≢false (sym e))
+range_held Kind.Star s e = absurd (true≢false (sym e))
+range_held Kind.Stars s e = absurd (true≢false (sym e))
+range_held Kind.Set s e = absurd (true≢false (sym e))
+range_held Kind.Range s e = refl
+range_held Kind.Escape s e = absurd (true≢false (sym e))
+range_held Kind.Ahead s e = absurd (true≢false (sym e))
+range_held Kind.LoneCloses s e = absurd (true≢false (sym e))
+range_held Kind.LoneComma s e = absurd (true≢false (sym e))
+range_held Kind.LoneOpens s e = absurd (true≢false (sym e))
 
 range_ends : (cs : List ℕ) (j : ℕ) → range_in (drop 1 (drop j cs)) ≡ range (first_end cs j) (second_end cs j)
 unfolding range_in
@@ -78,7 +78,7 @@ range_ends cs j =
     rw (drop-drop 1 j cs, drop-drop (x + 2) (j + 1) cs, z)
 
 held_nine : (s : List ℕ) (k : Kind) → k ≡ range_kind → held_at k s ≡ item (range_in (drop 1 s))
-unfolding held_at plain_at
+unfolding held_at
 held_nine s k e = rw e
 
 record Nine (ks : List Kind) (cs : List ℕ) (j : ℕ) (m n : List ℕ) (r : List Token) : Type 0 where

@@ -5,14 +5,13 @@ use Rattle.rules.specs.Basics.{choose, is, first_is}
 use Rattle.config_rules.specs.Name.{Token}
 use Rattle.config_rules.specs.Globs.{suffix, rooted, matches}
 use Rattle.glob_pass.specs.Kinds.{held, kind_at}
-use Rattle.glob_pass.specs.declared.kinds.ItemKind.{ItemKind}
 use Rattle.glob_pass.specs.declared.kinds.Kind.{Kind}
 use Rattle.glob_pass.specs.Pass.{here_at, Values, Hits}
 use Rattle.ranges.specs.declared.State.{State}
 use Rattle.ranges.specs.Ranges.{range_for, Kept}
 
 abbrev pub range_kind : Kind
-range_kind = Kind.Item ItemKind.Range
+range_kind = Kind.Range
 
 -- what is kept of each range at s
 pub record SlotsAt (ks : List Kind) (cs s : List ℕ) (t : State) : Type 0 where

@@ -12,7 +12,7 @@ ghost use Rattle.glob_name.specs.Read.{Spaced};
 ghost use Rattle.glob_match.specs.Match.{range_kind, RangesNext, matches_at, first_place, NameMatches};
 
 use glob_pass::code_points::SLASH;
-use glob_pass::kinds::{ItemKind, Kind};
+use glob_pass::kinds::Kind;
 use glob_pass::name::Name;
 use glob_pass::{Braces, CHARS, PLACES, pass};
 use ranges::State;
@@ -21,7 +21,7 @@ use utf8::{code_at, size_before};
 fn is_range(k: Kind) -> bool
     ensures { MatchBool result (k ≡ range_kind) (k ≡ range_kind → ⊥) }
 {
-    k == Kind::Item(ItemKind::Range)
+    k == Kind::Range
 }
 
 // What the ranges of a name say of one character more, from the values without it.
@@ -81,7 +81,7 @@ pub fn glob_matches(name: &[u8], path: &[u8]) -> bool
     ensures { result ≡ matches (decode name.now) (decode path.now) }
 {
     let mut chars = [0u32; CHARS];
-    let mut kinds = [Kind::Item(ItemKind::Plain); CHARS];
+    let mut kinds = [Kind::Plain; CHARS];
     chars[0] = SLASH;
     let slash = name::starts_with_slash(name);
     let k = first_place(slash);

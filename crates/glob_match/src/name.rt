@@ -8,7 +8,7 @@ ghost use Rattle.glob_match.specs.Match.{Decoded};
 
 use glob_pass::CHARS;
 use glob_pass::code_points::SLASH;
-use glob_pass::kinds::{ItemKind, Kind};
+use glob_pass::kinds::Kind;
 use utf8::{code_at, size_at};
 
 // Whether a name starts with a slash.
@@ -38,18 +38,15 @@ pub fn decode_into(name: &[u8], chars: &mut [u32; CHARS], k: usize) -> usize
 }
 
 // Whether the token at i is a slash.
-#[tactic(auto, unfolding(glob_pass::specs::Kinds::held_at, glob_pass::specs::Kinds::plain_at, config_rules::specs::Globs::is_slash))]
+#[tactic(auto, unfolding(glob_pass::specs::Kinds::held_at, config_rules::specs::Globs::is_slash))]
 fn slash_at(k: Kind, chars: &[u32], i: usize) -> bool
     requires { i < length chars.now }
     ensures { result ≡ is_slash (held_at k (drop i chars.now)) }
 {
-    let Kind::Item(item) = k else {
-        return false;
-    };
-    match item {
-        ItemKind::Plain => chars[i] == SLASH,
-        ItemKind::Escape => i + 1 < chars.len() && chars[i + 1] == SLASH,
-        ItemKind::Ahead => true,
+    match k {
+        Kind::Plain => chars[i] == SLASH,
+        Kind::Escape => i + 1 < chars.len() && chars[i + 1] == SLASH,
+        Kind::Ahead => true,
         _ => false,
     }
 }

@@ -12,12 +12,11 @@ use Rattle.glob_pass.specs.Kinds.{kind_at}
 use Rattle.config_rules.specs.Name.{with_comma, outer}
 use Rattle.glob_name.specs.declared.braces.Open.{Open}
 use Rattle.glob_pass.specs.declared.kinds.Brace.{Brace}
-use Rattle.glob_pass.specs.declared.kinds.ItemKind.{ItemKind}
 use Rattle.glob_pass.specs.declared.kinds.Kind.{Kind}
 use Rattle.glob_name.specs.Braces.{right_event, left_event, marked, stack_after, is_lone, open_right, mark_right, mark_left, flagged, open_braces, Happened}
 
 abbrev plain_kind : Kind
-plain_kind = Kind.Item ItemKind.Plain
+plain_kind = Kind.Plain
 
 -- ---- flags
 

@@ -11,20 +11,19 @@ use lib.Seq.{drop-cons, take-suc-set, get_or-set_same, get_or-set_other, take-le
 use Rattle.utf8.proofs.Tests.{split}
 use Rattle.rules.specs.Basics.{choose}
 use Rattle.config_rules.specs.Name.{Token, Reading, tokens}
-use Rattle.glob_pass.specs.Kinds.{plain_at, held_at, held, kind_at}
-use Rattle.glob_pass.specs.declared.kinds.ItemKind.{ItemKind}
+use Rattle.glob_pass.specs.Kinds.{held_at, held, kind_at}
 use Rattle.glob_pass.specs.declared.kinds.Kind.{Kind}
 use Rattle.glob_name.specs.declared.read.Read.{Read}
 use Rattle.glob_name.specs.Read.{range_more, is_raw, TokenRead, RawKinds}
 
 abbrev plain_kind : Kind
-plain_kind = Kind.Item ItemKind.Plain
+plain_kind = Kind.Plain
 
 abbrev covered_kind : Kind
-covered_kind = Kind.Item ItemKind.Covered
+covered_kind = Kind.Covered
 
 abbrev range_kind : Kind
-range_kind = Kind.Item ItemKind.Range
+range_kind = Kind.Range
 
 plain_range : plain_kind ≡ range_kind → ⊥
 plain_range e = cc
@@ -129,7 +128,7 @@ module _ (cs : List ℕ) (i more : ℕ) (deep : Bool) (kinds : List Kind) (w : S
       part_is : (n : ℕ) → 0 < n → held_at covered_kind (drop i cs) ∷ tokens (n - 1) deep (drop (suc i) cs) ≡ tokens n deep (drop i cs)
       part_is zero b = absurd (omega arith)
       part_is (suc n) b =
-          unfold tokens in unfold held_at in unfold plain_at in unfold choose in
+          unfold tokens in unfold held_at in unfold choose in
           let e : suc n - 1 ≡ n = omega arith in rw (e, drop-cons cs i 0 h)
 
   pub scanning_token : i < length cs → more ≤ 0 → (r : Read) → TokenRead cs i deep r → Scanning cs (i + 1) r.more r.deep (set kinds i r.kind)

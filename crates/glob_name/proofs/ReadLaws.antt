@@ -21,9 +21,7 @@ use Rattle.rules.proofs.Choose.{choose_true, choose_false}
 use Rattle.config_rules.specs.Numbers.{is_digit, digit_count, sign, number_len}
 use Rattle.config_rules.specs.Name.{reading, cons_to, to_bracket, bracket_at, escape_at, range_at, brace_at, star_at, slash_at, reading_at}
 use Rattle.config_rules.specs.Name.Token.{item, opens}
-use Rattle.glob_pass.specs.Kinds.{up_to, range_in, plain_at, brace_of, held_at}
-use Rattle.glob_pass.specs.declared.kinds.Brace.{Brace}
-use Rattle.glob_pass.specs.declared.kinds.ItemKind.{ItemKind}
+use Rattle.glob_pass.specs.Kinds.{up_to, range_in, held_at}
 use Rattle.glob_pass.specs.declared.kinds.Kind.{Kind}
 use Rattle.glob_name.specs.declared.read.Read.{Read}
 use Rattle.glob_name.specs.Read.{Counted, NumberAt, Told, rest_more, range_more, set_end, set_more, longer, Ends}
@@ -354,16 +352,16 @@ upto_is esc (c ∷ s) l e =
     ∙ upto_cons c (up_to (not esc && is "\\" c) s) l (to_bracket (not esc && is "\\" c) s) (λ k. upto_is (not esc && is "\\" c) s k) (sym (choose_false _ _ _ t) ∙ e))
 
 bracket_read : (s : List ℕ) (o : Found (List ℕ)) → to_bracket false s ≡ o → as_reading (set_read (set_end o)) (91 ∷ s) ≡ bracket_at o
-unfolding bracket_at held_at plain_at
+unfolding bracket_at held_at
 bracket_read s none e = refl
 bracket_read s (some l) e = rw (upto_is false s l e)
 
-pub brace_range : (x m : ℕ) → (m ≡ x) × (0 < m) → plain_read (Kind.Item ItemKind.Range) m ≡ brace_read x
+pub brace_range : (x m : ℕ) → (m ≡ x) × (0 < m) → plain_read Kind.Range m ≡ brace_read x
 unfolding brace_read choose
 brace_range x m w = rw (← w.0, ne_eqb m 0 (λ z. absurd (omega (arith, w.1))))
 
 -- the kind is one that is read
-good_kind : (x : ℕ) (r : Read) → is_raw r.kind ≡ true → (r.kind ≡ Kind.Item ItemKind.Range → ⊥) → Good x r
+good_kind : (x : ℕ) (r : Read) → is_raw r.kind ≡ true → (r.kind ≡ Kind.Range → ⊥) → Good x r
 good_kind x r h n = record { raw = h; spans = λ e. absurd (n e) }
 
 good_choose : (x : ℕ) (b : Bool) (r t : Read) → Good x r → Good x t → Good x (choose b r t)
@@ -375,11 +373,11 @@ good_set : (x : ℕ) (end : Option ℕ) → Good x (set_read end)
 good_set x None = good_kind x (set_read None) refl (λ e. cc)
 good_set x (Some n) = good_kind x (set_read (Some n)) refl (λ e. cc)
 
-good_range : (x : ℕ) → Good x (choose (eqb x 0) (plain_read (Kind.Brace Brace.Opens) 0) (plain_read (Kind.Item ItemKind.Range) x))
+good_range : (x : ℕ) → Good x (choose (eqb x 0) (plain_read Kind.Opens 0) (plain_read Kind.Range x))
 unfolding choose
 good_range x =
     by_test (eqb x 0)
-    (λ t. rw t (good_kind x (plain_read (Kind.Brace Brace.Opens) 0) refl (λ e. cc)))
+    (λ t. rw t (good_kind x (plain_read Kind.Opens 0) refl (λ e. cc)))
     (λ t. rw t (record { raw = refl; spans = λ e. (refl, ⊎_elim (λ (h : 0 < x). h) (λ (h : x ≤ 0). absurd (eqb-false x 0 t (omega arith))) (split 0 x)) }))
 
 module _ (cs : List ℕ) (i : ℕ) (deep : Bool) (h : i < length cs) where
@@ -389,16 +387,16 @@ module _ (cs : List ℕ) (i : ℕ) (deep : Bool) (h : i < length cs) where
   abbrev s : List ℕ
   s = drop (i + 1) cs
 
-  escape_token : c ≡ 92 → as_reading (choose (ltb (i + 1) (length cs)) (plain_read (Kind.Item ItemKind.Escape) 1) (plain_read (Kind.Item ItemKind.Plain) 0)) (92 ∷ s) ≡ escape_at s
-  unfolding choose held_at plain_at
+  escape_token : c ≡ 92 → as_reading (choose (ltb (i + 1) (length cs)) (plain_read Kind.Escape 1) (plain_read Kind.Plain 0)) (92 ∷ s) ≡ escape_at s
+  unfolding choose held_at
   escape_token e =
       ⊎_elim
       (λ (l : i + 1 < length cs). rw (lt-ltb (i + 1) (length cs) l, drop-cons cs (i + 1) 0 l) (unfold escape_at in refl))
       (λ (l : length cs ≤ i + 1). rw (le-ltb (i + 1) (length cs) l, drop_of_length-le cs {i = i + 1}) (unfold escape_at in refl))
       (split (i + 1) (length cs))
 
-  brace_token : as_reading (choose (eqb (range_more cs (i + 1)) 0) (plain_read (Kind.Brace Brace.Opens) 0) (plain_read (Kind.Item ItemKind.Range) (range_more cs (i + 1)))) (123 ∷ s) ≡ brace_at s
-  unfolding choose held_at plain_at brace_of
+  brace_token : as_reading (choose (eqb (range_more cs (i + 1)) 0) (plain_read Kind.Opens 0) (plain_read Kind.Range (range_more cs (i + 1)))) (123 ∷ s) ≡ brace_at s
+  unfolding choose held_at
   brace_token =
       by_test (eqb (range_more cs (i + 1)) 0) (λ t. rw t (sym (brace_is cs (i + 1) ∙ rw t))) (λ t. rw t (sym (brace_is cs (i + 1) ∙ rw t)))
 
@@ -430,14 +428,14 @@ module _ (cs : List ℕ) (i : ℕ) (deep : Bool) (h : i < length cs) where
       }
 
   pub token_star : (r : Read) → c ≡ 42 → r ≡ star_read deep s → TokenRead cs i deep r
-  unfolding reading_at star_read star_at choose held_at plain_at
+  unfolding reading_at star_read star_at choose held_at
   token_star r e f =
       by_test (first_is (is "*") s)
       (λ t. record { is = rw (f, e, t); good = rw (f, t) (good_kind _ _ refl (λ e. cc)) })
       (λ t. record { is = rw (f, e, t); good = rw (f, t) (good_kind _ _ refl (λ e. cc)) })
 
   pub token_slash : (r : Read) → c ≡ 47 → r ≡ slash_read deep s → TokenRead cs i deep r
-  unfolding reading_at slash_read slash_at choose held_at plain_at
+  unfolding reading_at slash_read slash_at choose held_at
   token_slash r e f =
       by_test deep
       (λ t. record { is = rw (f, e, t); good = rw (f, t) (good_kind _ _ refl (λ e. cc)) })
@@ -447,21 +445,21 @@ module _ (cs : List ℕ) (i : ℕ) (deep : Bool) (h : i < length cs) where
       (λ u. record { is = rw (f, e, t, u); good = rw (f, t, u) (good_kind _ _ refl (λ e. cc)) }))
 
   module _ (r : Read) where
-    pub token_one : c ≡ 63 → r ≡ plain_read (Kind.Item ItemKind.One) 0 → TokenRead cs i deep r
-    unfolding reading_at choose held_at plain_at
+    pub token_one : c ≡ 63 → r ≡ plain_read Kind.One 0 → TokenRead cs i deep r
+    unfolding reading_at choose held_at
     token_one q f = record { is = rw (f, q); good = rw f (good_kind _ _ refl (λ e. cc)) }
 
-    pub token_comma : c ≡ 44 → r ≡ plain_read (Kind.Brace Brace.Comma) 0 → TokenRead cs i deep r
-    unfolding reading_at choose held_at brace_of
+    pub token_comma : c ≡ 44 → r ≡ plain_read Kind.Comma 0 → TokenRead cs i deep r
+    unfolding reading_at choose held_at
     token_comma q f = record { is = rw (f, q); good = rw f (good_kind _ _ refl (λ e. cc)) }
 
-    pub token_closes : c ≡ 125 → r ≡ plain_read (Kind.Brace Brace.Closes) 0 → TokenRead cs i deep r
-    unfolding reading_at choose held_at brace_of
+    pub token_closes : c ≡ 125 → r ≡ plain_read Kind.Closes 0 → TokenRead cs i deep r
+    unfolding reading_at choose held_at
     token_closes q f = record { is = rw (f, q); good = rw f (good_kind _ _ refl (λ e. cc)) }
 
     pub token_plain : (c ≡ 92 → ⊥) → (c ≡ 91 → ⊥) → (c ≡ 123 → ⊥) → (c ≡ 42 → ⊥) → (c ≡ 47 → ⊥) → (c ≡ 63 → ⊥)
-        → (c ≡ 44 → ⊥) → (c ≡ 125 → ⊥) → r ≡ plain_read (Kind.Item ItemKind.Plain) 0 → TokenRead cs i deep r
-    unfolding reading_at choose held_at plain_at
+        → (c ≡ 44 → ⊥) → (c ≡ 125 → ⊥) → r ≡ plain_read Kind.Plain 0 → TokenRead cs i deep r
+    unfolding reading_at choose held_at
     token_plain n o p q t u v w f =
         record {
           is =

@@ -8,19 +8,18 @@ use native.Mathlib.Omega.{arith}
 use lib.ListN.{length}
 use Rattle.utf8.proofs.Tests.{by_test}
 use Rattle.rules.specs.Basics.{choose, is_empty}
-use Rattle.config_rules.specs.Name.{innermost, closers, unopened, openers, settled_at, settled, tokens_of}
-use Rattle.glob_pass.specs.Kinds.{plain_at, brace_of, held_at, held, kind_at}
-use Rattle.glob_pass.specs.declared.kinds.Brace.{Brace}
-use Rattle.glob_pass.specs.declared.kinds.ItemKind.{ItemKind}
+use Rattle.config_rules.specs.Name.{Item, innermost, closers, unopened, openers, settled_at, settled, tokens_of}
+use Rattle.config_rules.specs.Name.Token.{item}
+use Rattle.glob_pass.specs.Kinds.{held_at, held, kind_at}
 use Rattle.glob_pass.specs.declared.kinds.Kind.{Kind}
 use Rattle.glob_name.specs.Read.{is_raw, Raw, Spaced, RawKinds}
-use Rattle.glob_name.specs.Braces.{right_event, lone_brace, left_event, marked, stack_after, is_lone, open_right, mark_right, mark_left}
+use Rattle.glob_name.specs.Braces.{right_event, left_event, lone_of, marked, stack_after, is_lone, open_right, mark_right, mark_left}
 
 abbrev covered_kind : Kind
-covered_kind = Kind.Item ItemKind.Covered
+covered_kind = Kind.Covered
 
 abbrev range_kind : Kind
-range_kind = Kind.Item ItemKind.Range
+range_kind = Kind.Range
 
 -- one kind, marked from the right with `after` open there, then from the left with `before`
 abbrev once : Kind → List Bool → Kind
@@ -35,8 +34,8 @@ record Settles (k : Kind) (s : List ℕ) : Type 0 where
   is : (before after : List Bool) → held_at (twice k before after) s ≡ settled_at before (held_at k s) after
 
 -- `{`
-opens_is : (s : List ℕ) → Settles (Kind.Brace Brace.Opens) s
-unfolding stack_after is_lone marked choose held_at brace_of plain_at closers openers settled_at
+opens_is : (s : List ℕ) → Settles Kind.Opens s
+unfolding stack_after is_lone marked choose held_at closers openers settled_at
 opens_is s =
     record {
       right = λ bs. refl;
@@ -45,8 +44,8 @@ opens_is s =
     }
 
 -- `,`
-comma_is : (s : List ℕ) → Settles (Kind.Brace Brace.Comma) s
-unfolding stack_after is_lone marked choose held_at brace_of plain_at closers openers settled_at
+comma_is : (s : List ℕ) → Settles Kind.Comma s
+unfolding stack_after is_lone marked choose held_at closers openers settled_at
 comma_is s =
     record {
       right = λ bs. refl;
@@ -58,8 +57,8 @@ comma_is s =
     }
 
 -- `}`
-closes_is : (s : List ℕ) → Settles (Kind.Brace Brace.Closes) s
-unfolding stack_after is_lone marked choose held_at brace_of plain_at closers openers settled_at
+closes_is : (s : List ℕ) → Settles Kind.Closes s
+unfolding stack_after is_lone marked choose held_at closers openers settled_at
 closes_is s =
     record {
       right = λ bs. refl;
@@ -68,27 +67,27 @@ closes_is s =
     }
 
 -- an item that is read
-item_is : (k : ItemKind) (s : List ℕ) → lone_brace k ≡ None → Settles (Kind.Item k) s
-unfolding stack_after is_lone marked choose held_at closers openers settled_at
-item_is k s e = record { right = λ bs. refl; left = λ bs after. rw e; is = λ before after. rw e }
-
-none_lone : (k : ItemKind) → is_raw (Kind.Item k) ≡ true → lone_brace k ≡ None
-none_lone ItemKind.Plain e = refl
-none_lone ItemKind.Covered e = refl
-none_lone ItemKind.One e = refl
-none_lone ItemKind.Star e = refl
-none_lone ItemKind.Stars e = refl
-none_lone ItemKind.Set e = refl
-none_lone ItemKind.Range e = refl
-none_lone ItemKind.Escape e = refl
-none_lone ItemKind.Ahead e = refl
-none_lone (ItemKind.Lone b) e = absurd (true≢false (sym e))
+item_is : (k : Kind) (i : Item) (s : List ℕ) → right_event k ≡ None → left_event k ≡ None → lone_of k ≡ k → held_at k s ≡ item i → Settles k s
+unfolding stack_after is_lone marked choose closers openers settled_at
+item_is k i s r l m h = record { right = λ bs. rw (r, h); left = λ bs after. rw (r, l, h); is = λ before after. rw (r, l, h) }
 
 settles : (k : Kind) (s : List ℕ) → is_raw k ≡ true → Settles k s
-settles (Kind.Brace Brace.Opens) s h = opens_is s
-settles (Kind.Brace Brace.Comma) s h = comma_is s
-settles (Kind.Brace Brace.Closes) s h = closes_is s
-settles (Kind.Item k) s h = item_is k s (none_lone k h)
+unfolding held_at
+settles Kind.Plain s h = item_is _ _ s refl refl refl refl
+settles Kind.Covered s h = item_is _ _ s refl refl refl refl
+settles Kind.One s h = item_is _ _ s refl refl refl refl
+settles Kind.Star s h = item_is _ _ s refl refl refl refl
+settles Kind.Stars s h = item_is _ _ s refl refl refl refl
+settles Kind.Set s h = item_is _ _ s refl refl refl refl
+settles Kind.Range s h = item_is _ _ s refl refl refl refl
+settles Kind.Escape s h = item_is _ _ s refl refl refl refl
+settles Kind.Ahead s h = item_is _ _ s refl refl refl refl
+settles Kind.LoneCloses s h = absurd (true≢false (sym h))
+settles Kind.LoneComma s h = absurd (true≢false (sym h))
+settles Kind.LoneOpens s h = absurd (true≢false (sym h))
+settles Kind.Closes s h = closes_is s
+settles Kind.Comma s h = comma_is s
+settles Kind.Opens s h = opens_is s
 
 tail_raw : (k : Kind) (ks : List Kind) → Raw (k ∷ ks) → Raw ks
 tail_raw k ks w = record { at = λ j. w.at (suc j) }
@@ -130,11 +129,21 @@ right_short ks l e h = let n : length l ≡ length ks = ap length e ∙ length_r
 same_range : (k : Kind) (b : Bool) → marked k b ≡ range_kind → k ≡ range_kind
 unfolding marked choose
 same_range k false e = e
-same_range (Kind.Brace r) true e = absurd (lone_range e)
-  where
-    lone_range : {r : Brace} → Kind.Item (ItemKind.Lone r) ≡ range_kind → ⊥
-    lone_range e = cc
-same_range (Kind.Item k) true e = e
+same_range Kind.Plain true e = e
+same_range Kind.Covered true e = e
+same_range Kind.One true e = e
+same_range Kind.Star true e = e
+same_range Kind.Stars true e = e
+same_range Kind.Set true e = e
+same_range Kind.Range true e = e
+same_range Kind.Escape true e = e
+same_range Kind.Ahead true e = e
+same_range Kind.LoneCloses true e = e
+same_range Kind.LoneComma true e = e
+same_range Kind.LoneOpens true e = e
+same_range Kind.Closes true e = cc
+same_range Kind.Comma true e = cc
+same_range Kind.Opens true e = cc
 
 same_covered : (k : Kind) (b : Bool) → k ≡ covered_kind → marked k b ≡ covered_kind
 unfolding marked choose

@@ -3,40 +3,59 @@ use Rattle.std.specs.Prelude.{ℕ, zero, suc, ◌+◌, ◌≤◌, Bool, false, n
 use Rattle.rules.specs.Basics.{choose, is_empty}
 use Rattle.config_rules.specs.Name.{with_comma, outer, innermost}
 use Rattle.glob_pass.specs.declared.kinds.Brace.{Brace}
-use Rattle.glob_pass.specs.declared.kinds.ItemKind.{ItemKind}
 use Rattle.glob_pass.specs.declared.kinds.Kind.{Kind}
 use Rattle.glob_name.specs.declared.braces.Open.{Open}
 
-abbrev pub mirrored : Brace → Brace
-mirrored Brace.Closes = Brace.Opens
-mirrored Brace.Comma = Brace.Comma
-mirrored Brace.Opens = Brace.Closes
-
 abbrev pub right_event : Kind → Option Brace
-right_event (Kind.Brace b) = Some (mirrored b)
-right_event (Kind.Item k) = None
-
-abbrev pub lone_brace : ItemKind → Option Brace
-lone_brace ItemKind.Plain = None
-lone_brace ItemKind.Covered = None
-lone_brace ItemKind.One = None
-lone_brace ItemKind.Star = None
-lone_brace ItemKind.Stars = None
-lone_brace ItemKind.Set = None
-lone_brace ItemKind.Range = None
-lone_brace ItemKind.Escape = None
-lone_brace ItemKind.Ahead = None
-lone_brace (ItemKind.Lone Brace.Closes) = None
-lone_brace (ItemKind.Lone Brace.Comma) = Some Brace.Comma
-lone_brace (ItemKind.Lone Brace.Opens) = Some Brace.Opens
+right_event Kind.Plain = None
+right_event Kind.Covered = None
+right_event Kind.One = None
+right_event Kind.Star = None
+right_event Kind.Stars = None
+right_event Kind.Set = None
+right_event Kind.Range = None
+right_event Kind.Escape = None
+right_event Kind.Ahead = None
+right_event Kind.LoneCloses = None
+right_event Kind.LoneComma = None
+right_event Kind.LoneOpens = None
+right_event Kind.Closes = Some Brace.Opens
+right_event Kind.Comma = Some Brace.Comma
+right_event Kind.Opens = Some Brace.Closes
 
 abbrev pub left_event : Kind → Option Brace
-left_event (Kind.Brace b) = Some b
-left_event (Kind.Item k) = lone_brace k
+left_event Kind.Plain = None
+left_event Kind.Covered = None
+left_event Kind.One = None
+left_event Kind.Star = None
+left_event Kind.Stars = None
+left_event Kind.Set = None
+left_event Kind.Range = None
+left_event Kind.Escape = None
+left_event Kind.Ahead = None
+left_event Kind.LoneCloses = None
+left_event Kind.LoneComma = Some Brace.Comma
+left_event Kind.LoneOpens = Some Brace.Opens
+left_event Kind.Closes = Some Brace.Closes
+left_event Kind.Comma = Some Brace.Comma
+left_event Kind.Opens = Some Brace.Opens
 
 abbrev pub lone_of : Kind → Kind
-lone_of (Kind.Brace b) = Kind.Item (ItemKind.Lone b)
-lone_of (Kind.Item k) = Kind.Item k
+lone_of Kind.Plain = Kind.Plain
+lone_of Kind.Covered = Kind.Covered
+lone_of Kind.One = Kind.One
+lone_of Kind.Star = Kind.Star
+lone_of Kind.Stars = Kind.Stars
+lone_of Kind.Set = Kind.Set
+lone_of Kind.Range = Kind.Range
+lone_of Kind.Escape = Kind.Escape
+lone_of Kind.Ahead = Kind.Ahead
+lone_of Kind.LoneCloses = Kind.LoneCloses
+lone_of Kind.LoneComma = Kind.LoneComma
+lone_of Kind.LoneOpens = Kind.LoneOpens
+lone_of Kind.Closes = Kind.LoneCloses
+lone_of Kind.Comma = Kind.LoneComma
+lone_of Kind.Opens = Kind.LoneOpens
 
 unfoldable pub marked : Kind → Bool → Kind
 marked k lone = choose lone (lone_of k) k

@@ -6,8 +6,6 @@ use Rattle.rules.specs.Basics.{choose, is, at, first_is}
 use Rattle.config_rules.specs.Numbers.{number_len}
 use Rattle.config_rules.specs.Name.{Reading, to_bracket, reading_at, tokens}
 use Rattle.glob_pass.specs.Kinds.{held_at, held, kind_at}
-use Rattle.glob_pass.specs.declared.kinds.Brace.{Brace}
-use Rattle.glob_pass.specs.declared.kinds.ItemKind.{ItemKind}
 use Rattle.glob_pass.specs.declared.kinds.Kind.{Kind}
 use Rattle.glob_name.specs.declared.read.Read.{Read}
 
@@ -61,22 +59,22 @@ abbrev pub plain_read : Kind → ℕ → Read
 plain_read k n = record { kind = k; more = n; deep = false }
 
 unfoldable pub star_read : Bool → List ℕ → Read
-star_read deep s = choose (first_is (is "*") s) (record { kind = Kind.Item ItemKind.Stars; more = 1; deep = deep }) (plain_read (Kind.Item ItemKind.Star) 0)
+star_read deep s = choose (first_is (is "*") s) (record { kind = Kind.Stars; more = 1; deep = deep }) (plain_read Kind.Star 0)
 
 unfoldable pub slash_read : Bool → List ℕ → Read
 slash_read deep s =
-    choose deep (plain_read (Kind.Item ItemKind.Plain) 0) (choose (at s "**/") (record { kind = Kind.Item ItemKind.Ahead; more = 0; deep = true }) (plain_read (Kind.Item ItemKind.Plain) 0))
+    choose deep (plain_read Kind.Plain 0) (choose (at s "**/") (record { kind = Kind.Ahead; more = 0; deep = true }) (plain_read Kind.Plain 0))
 
 unfoldable pub escape_read : Bool → Read
-escape_read more = choose more (plain_read (Kind.Item ItemKind.Escape) 1) (plain_read (Kind.Item ItemKind.Plain) 0)
+escape_read more = choose more (plain_read Kind.Escape 1) (plain_read Kind.Plain 0)
 
 abbrev pub set_read : Option ℕ → Read
-set_read None = plain_read (Kind.Item ItemKind.Plain) 0
-set_read (Some n) = plain_read (Kind.Item ItemKind.Set) n
+set_read None = plain_read Kind.Plain 0
+set_read (Some n) = plain_read Kind.Set n
 
 -- where a range has n characters more, 0 for none
 unfoldable pub brace_read : ℕ → Read
-brace_read n = choose (eqb n 0) (plain_read (Kind.Brace Brace.Opens) 0) (plain_read (Kind.Item ItemKind.Range) n)
+brace_read n = choose (eqb n 0) (plain_read Kind.Opens 0) (plain_read Kind.Range n)
 
 -- the same as the definitions read it, s from the character on
 abbrev pub as_reading : Read → List ℕ → Reading
@@ -84,25 +82,26 @@ as_reading r s = record { token = held_at r.kind s; more = r.more; deep = r.deep
 
 -- the kinds that are read: no brace or comma is taken for itself yet
 abbrev pub is_raw : Kind → Bool
-is_raw (Kind.Brace b) = true
-is_raw (Kind.Item k) = not_lone k
-  where
-    not_lone : ItemKind → Bool
-    not_lone ItemKind.Plain = true
-    not_lone ItemKind.Covered = true
-    not_lone ItemKind.One = true
-    not_lone ItemKind.Star = true
-    not_lone ItemKind.Stars = true
-    not_lone ItemKind.Set = true
-    not_lone ItemKind.Range = true
-    not_lone ItemKind.Escape = true
-    not_lone ItemKind.Ahead = true
-    not_lone (ItemKind.Lone b) = false
+is_raw Kind.Plain = true
+is_raw Kind.Covered = true
+is_raw Kind.One = true
+is_raw Kind.Star = true
+is_raw Kind.Stars = true
+is_raw Kind.Set = true
+is_raw Kind.Range = true
+is_raw Kind.Escape = true
+is_raw Kind.Ahead = true
+is_raw Kind.LoneCloses = false
+is_raw Kind.LoneComma = false
+is_raw Kind.LoneOpens = false
+is_raw Kind.Closes = true
+is_raw Kind.Comma = true
+is_raw Kind.Opens = true
 
 -- the kind is one that is read; a range has x characters more
 pub record Good (x : ℕ) (r : Read) : Type 0 where
   pub raw : is_raw r.kind ≡ true
-  pub spans : r.kind ≡ Kind.Item ItemKind.Range → (r.more ≡ x) × (0 < r.more)
+  pub spans : r.kind ≡ Kind.Range → (r.more ≡ x) × (0 < r.more)
 
 pub record TokenRead (cs : List ℕ) (i : ℕ) (deep : Bool) (r : Read) : Type 0 where
   pub is : as_reading r (get_or cs i 0 ∷ drop (i + 1) cs) ≡ reading_at deep (get_or cs i 0) (drop (i + 1) cs)
@@ -114,9 +113,9 @@ pub record Raw (ks : List Kind) : Type 0 where
 
 -- where a range stands, its characters follow as parts
 pub record Spaced (cs : List ℕ) (ks : List Kind) : Type 0 where
-  pub some : (j : ℕ) → kind_at ks j ≡ Kind.Item ItemKind.Range → 0 < range_more cs (j + 1)
-  pub parts : (j : ℕ) → kind_at ks j ≡ Kind.Item ItemKind.Range → (q : ℕ) → j < q → q ≤ j + range_more cs (j + 1) → q < length ks
-      → kind_at ks q ≡ Kind.Item ItemKind.Covered
+  pub some : (j : ℕ) → kind_at ks j ≡ Kind.Range → 0 < range_more cs (j + 1)
+  pub parts : (j : ℕ) → kind_at ks j ≡ Kind.Range → (q : ℕ) → j < q → q ≤ j + range_more cs (j + 1) → q < length ks
+      → kind_at ks q ≡ Kind.Covered
 
 pub record RawKinds (cs : List ℕ) (ks : List Kind) : Type 0 where
   pub long : length ks ≡ length cs

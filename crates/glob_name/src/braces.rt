@@ -1,9 +1,9 @@
 // Braces and commas that stand for themselves, found with the open braces on each side.
 ghost use Rattle.std.specs.Prelude.{◌≡◌, [], ◌<◌, length};
-ghost use Rattle.glob_name.specs.Braces.{mirrored, right_event, left_event, marked, Happened, mark_right, mark_left};
+ghost use Rattle.glob_name.specs.Braces.{right_event, left_event, marked, Happened, mark_right, mark_left};
 
 use glob_pass::PLACES;
-use glob_pass::kinds::{Brace, ItemKind, Kind};
+use glob_pass::kinds::{Brace, Kind};
 
 // The braces that are open on one side of a place: the first `depth` of `commas` say of each, the innermost last,
 // whether it has a comma there.
@@ -14,25 +14,15 @@ struct Open {
     depth: usize,
 }
 
-// What a brace is to those who read from the right.
-// kept: the new form is no plainer: a method would stand in `glob_pass`, which has no other use for it
-fn mirrored(b: Brace) -> Brace
-    ensures { result ≡ mirrored b }
-{
-    match b {
-        Brace::Closes => Brace::Opens,
-        Brace::Comma => Brace::Comma,
-        Brace::Opens => Brace::Closes,
-    }
-}
-
-// What a kind does to the braces that are open to its right.
+// What a kind does to the braces that are open to its right, which see it from the other side.
 fn right_event(k: Kind) -> Option<Brace>
     ensures { result ≡ right_event k }
 {
     match k {
-        Kind::Brace(b) => Some(mirrored(b)),
-        Kind::Item(_) => None,
+        Kind::Closes => Some(Brace::Opens),
+        Kind::Comma => Some(Brace::Comma),
+        Kind::Opens => Some(Brace::Closes),
+        _ => None,
     }
 }
 
@@ -41,10 +31,10 @@ fn left_event(k: Kind) -> Option<Brace>
     ensures { result ≡ left_event k }
 {
     match k {
-        Kind::Brace(b) => Some(b),
-        Kind::Item(ItemKind::Lone(Brace::Comma)) => Some(Brace::Comma),
-        Kind::Item(ItemKind::Lone(Brace::Opens)) => Some(Brace::Opens),
-        Kind::Item(_) => None,
+        Kind::Closes => Some(Brace::Closes),
+        Kind::Comma | Kind::LoneComma => Some(Brace::Comma),
+        Kind::Opens | Kind::LoneOpens => Some(Brace::Opens),
+        _ => None,
     }
 }
 
@@ -54,7 +44,9 @@ fn marked(k: Kind, lone: bool) -> Kind
     ensures { result ≡ marked k lone }
 {
     match k {
-        Kind::Brace(b) if lone => Kind::Item(ItemKind::Lone(b)),
+        Kind::Closes if lone => Kind::LoneCloses,
+        Kind::Comma if lone => Kind::LoneComma,
+        Kind::Opens if lone => Kind::LoneOpens,
         _ => k,
     }
 }

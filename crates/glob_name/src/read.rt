@@ -10,7 +10,7 @@ use glob_pass::code_points::{
     BACKSLASH, CLOSE_BRACE, CLOSE_BRACKET, COMMA, DOT, MINUS, NINE, OPEN_BRACE, OPEN_BRACKET,
     QUESTION, SLASH, STAR, ZERO,
 };
-use glob_pass::kinds::{Brace, ItemKind, Kind};
+use glob_pass::kinds::Kind;
 use glob_pass::{CHARS, PLACES};
 
 // A token's kind, how many more characters it has, which may be none, and whether a `/**/` goes on behind it.
@@ -75,7 +75,7 @@ fn range_more(chars: &[u32], from: usize) -> Option<usize>
 }
 
 // The next longer distance.
-fn up(n: Option<usize>) -> Option<usize>
+fn up(n: Option<u16>) -> Option<u16>
     requires { MatchOption n (Unit {0}) (λ m. m < 2000) }
     ensures { result ≡ longer n }
 {
@@ -83,7 +83,8 @@ fn up(n: Option<usize>) -> Option<usize>
 }
 
 // For each place, how far the `]` is that ends a set there, if one does.
-fn set_ends(chars: &[u32], ends: &mut [Option<usize>; PLACES])
+// kept: `u16`: a place takes four bytes for sixteen, and all are cleared for each name
+fn set_ends(chars: &[u32], ends: &mut [Option<u16>; PLACES])
     requires { length chars.now < PLACES }
     ensures { Ends chars.now ends.new }
 {
@@ -137,12 +138,12 @@ fn star_read(chars: &[u32], i: usize, deep: bool) -> Read
 {
     if char_is(chars, i + 1, STAR) {
         return Read {
-            kind: Kind::Item(ItemKind::Stars),
+            kind: Kind::Stars,
             more: 1,
             deep,
         };
     }
-    plain_read(Kind::Item(ItemKind::Star), 0)
+    plain_read(Kind::Star, 0)
 }
 
 #[tactic(auto, unfolding(rules::specs::Basics::choose, crate::specs::Read::slash_read))]
@@ -151,16 +152,16 @@ fn slash_read(chars: &[u32], i: usize, deep: bool) -> Read
     ensures { result ≡ slash_read deep (drop (i + 1) chars.now) }
 {
     if deep {
-        return plain_read(Kind::Item(ItemKind::Plain), 0);
+        return plain_read(Kind::Plain, 0);
     }
     if stars_at(chars, i + 1) {
         return Read {
-            kind: Kind::Item(ItemKind::Ahead),
+            kind: Kind::Ahead,
             more: 0,
             deep: true,
         };
     }
-    plain_read(Kind::Item(ItemKind::Plain), 0)
+    plain_read(Kind::Plain, 0)
 }
 
 // A backslash at i: it escapes the next character, if there is one.
@@ -170,19 +171,19 @@ fn escape_read(chars: &[u32], i: usize) -> Read
     ensures { result ≡ escape_read (ltb (i + 1) (length chars.now)) }
 {
     if i + 1 < chars.len() {
-        plain_read(Kind::Item(ItemKind::Escape), 1)
+        plain_read(Kind::Escape, 1)
     } else {
-        plain_read(Kind::Item(ItemKind::Plain), 0)
+        plain_read(Kind::Plain, 0)
     }
 }
 
 // An opening bracket, where `end` says how far the `]` is that ends the set, if one does.
-fn set_read(end: Option<usize>) -> Read
+fn set_read(end: Option<u16>) -> Read
     ensures { result ≡ set_read end }
 {
     match end {
-        Some(more) => plain_read(Kind::Item(ItemKind::Set), more),
-        None => plain_read(Kind::Item(ItemKind::Plain), 0),
+        Some(more) => plain_read(Kind::Set, usize::from(more)),
+        None => plain_read(Kind::Plain, 0),
     }
 }
 
@@ -193,13 +194,13 @@ fn brace_read(chars: &[u32], i: usize) -> Read
     ensures { result ≡ brace_read (range_more chars.now (i + 1)) }
 {
     match range_more(chars, i + 1) {
-        Some(more) => plain_read(Kind::Item(ItemKind::Range), more),
-        None => plain_read(Kind::Brace(Brace::Opens), 0),
+        Some(more) => plain_read(Kind::Range, more),
+        None => plain_read(Kind::Opens, 0),
     }
 }
 
 // The token at i, which nothing escapes.
-fn read_at(chars: &[u32], ends: &[Option<usize>; PLACES], i: usize, deep: bool) -> Read
+fn read_at(chars: &[u32], ends: &[Option<u16>; PLACES], i: usize, deep: bool) -> Read
     requires { (i < length chars.now) × (length chars.now < PLACES) × Ends chars.now ends.now }
     ensures { TokenRead chars.now i deep result }
 {
@@ -209,10 +210,10 @@ fn read_at(chars: &[u32], ends: &[Option<usize>; PLACES], i: usize, deep: bool) 
         OPEN_BRACE => brace_read(chars, i),
         STAR => star_read(chars, i, deep),
         SLASH => slash_read(chars, i, deep),
-        QUESTION => plain_read(Kind::Item(ItemKind::One), 0),
-        COMMA => plain_read(Kind::Brace(Brace::Comma), 0),
-        CLOSE_BRACE => plain_read(Kind::Brace(Brace::Closes), 0),
-        _ => plain_read(Kind::Item(ItemKind::Plain), 0),
+        QUESTION => plain_read(Kind::One, 0),
+        COMMA => plain_read(Kind::Comma, 0),
+        CLOSE_BRACE => plain_read(Kind::Closes, 0),
+        _ => plain_read(Kind::Plain, 0),
     }
 }
 
@@ -221,13 +222,13 @@ pub fn raw_kinds(chars: &[u32], kinds: &mut [Kind])
     requires { (length kinds.old ≡ length chars.now) × (length chars.now < PLACES) }
     ensures { RawKinds chars.now kinds.new }
 {
-    let mut ends: [Option<usize>; PLACES] = [None; PLACES];
+    let mut ends: [Option<u16>; PLACES] = [None; PLACES];
     set_ends(chars, &mut ends);
     let mut more: usize = 0;
     let mut deep = false;
     for (i, k) in kinds.iter_mut().enumerate() {
         if 0 < more {
-            *k = Kind::Item(ItemKind::Covered);
+            *k = Kind::Covered;
             more -= 1;
             continue;
         }

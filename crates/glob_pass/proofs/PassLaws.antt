@@ -3,21 +3,20 @@ use Prim.Native.Nat.{ℕ, suc, ◌+◌, ◌-◌, ◌≤◌, ◌<◌}
 use mathlib.Core.Bool.{Bool, false}
 use mathlib.Core.List.{List, ◌∷◌}
 use mathlib.Core.Logic.{⊎_elim}
-use mathlib.Core.Path.{◌≡◌, sym, ap, ◌∙◌}
+use mathlib.Core.Path.{◌≡◌, refl, sym, ap, ◌∙◌}
 use native.Mathlib.Nat.{eq-or-lt_of_le}
 use native.Mathlib.Omega.{arith}
 use lib.ListN.{length, drop, get_or, set, length-set}
 use lib.Seq.{get_or-set_same, get_or-set_other, drop-length, set-set, set-get_or}
 use Rattle.rules.specs.Basics.{is_empty}
 use Rattle.config_rules.specs.Name.{Item, Token}
-use Rattle.config_rules.specs.Name.Token.{item}
+use Rattle.config_rules.specs.Name.Token.{item, opens, comma, closes}
 use Rattle.config_rules.specs.Globs.{Place, place_at, place_of}
 use Rattle.glob_pass.specs.declared.Braces.{Braces}
 use Rattle.glob_pass.specs.declared.kinds.Brace.{Brace}
-use Rattle.glob_pass.specs.declared.kinds.ItemKind.{ItemKind}
 use Rattle.glob_pass.specs.declared.kinds.Kind.{Kind}
-use Rattle.glob_pass.specs.Kinds.{plain_at, brace_of, held_at, held}
-use Rattle.glob_pass.specs.Pass.{here_at, before, value_at, open_braces, seen, Turn, Braced, Given, Passed}
+use Rattle.glob_pass.specs.Kinds.{brace_of, held_at, held}
+use Rattle.glob_pass.specs.Pass.{here_at, before, value_at, open_braces, seen, Turn, Braced, Valued, Given, Passed}
 use Rattle.glob_pass.proofs.TokenLaws.{known, item_first, length_held, held_at_law}
 
 pub record GoingAt (ts : List Token) (s : List ℕ) (p : ℕ) (v : List Bool) (prior : Bool) (b : Braces) (x : Bool) : Type 0 where
@@ -127,24 +126,21 @@ module _ (ks : List Kind) (cs : List ℕ) (c : ℕ) (base : Bool) (hits olds : L
           at = back_at;
         }
 
-  brace_q : (r : Brace) → get_or ks q k ≡ Kind.Brace r → (b' : Braces) (y : Bool) → Braced r b x b' y
+  brace_q : (r : Brace) → held_at (get_or ks q k) (drop q cs) ≡ brace_of r → (b' : Braces) (y : Bool) → Braced r b x b' y
       → Going ks cs c base hits olds q (set v q y) (get_or v q false) b' y
-  unfolding held_at
   brace_q r e b' y f =
       let dp : b.depth + suc q ≤ length ks = w.deep in
       let rd : b'.depth ≤ b.depth + 1 = f.deep in
-      going_back (brace_of r) (rw e) b' y (omega arith)
+      going_back (brace_of r) e b' y (omega arith)
       (rw f.room w.room)
       (λ s g. f.turn (place_of (drop (suc q) (held ks cs))) s (w.at s g).turn)
 
-  plain_q : (r : ItemKind) → get_or ks q k ≡ Kind.Item r → (y : Bool)
-      → y ≡ value_at (plain_at r (drop q cs)) c (known x (get_or v q false) prior (get_or hits q false))
+  plain_q : (i : Item) → held_at (get_or ks q k) (drop q cs) ≡ item i → (y : Bool)
+      → y ≡ value_at i c (known x (get_or v q false) prior (get_or hits q false))
       → Going ks cs c base hits olds q (set v q y) (get_or v q false) b y
-  unfolding held_at place_at
-  plain_q r e y f =
+  unfolding place_at
+  plain_q i h y f =
       let dp : b.depth + suc q ≤ length ks = w.deep in
-      let i : Item = plain_at r (drop q cs) in
-      let h : held_at (get_or ks q k) (drop q cs) ≡ item i = rw e in
       let P : Place = place_of (drop (suc q) (held ks cs)) in
       let b : suc q ≤ length ks = w.place in
       let ey : drop q (held ks cs) ≡ item i ∷ drop (suc q) (held ks cs) = held_at_law ks cs q k w.same (omega arith) ∙ ap (λ (u : Token). u ∷ drop (suc q) (held ks cs)) h in
@@ -162,17 +158,22 @@ module _ (ks : List Kind) (cs : List ℕ) (c : ℕ) (base : Bool) (hits olds : L
         around = m.turn.around;
       })
 
+  token_q : (t : Token) → held_at (get_or ks q k) (drop q cs) ≡ t → (b' : Braces) (y : Bool)
+      → Valued t c (known x (get_or v q false) prior (get_or hits q false)) b b' y
+      → Going ks cs c base hits olds q (set v q y) (get_or v q false) b' y
+  unfolding brace_of
+  token_q (item i) e b' y f = rw f.1 (plain_q i e y f.0)
+  token_q opens e b' y f = brace_q Brace.Opens e b' y f
+  token_q comma e b' y f = brace_q Brace.Comma e b' y f
+  token_q closes e b' y f = brace_q Brace.Closes e b' y f
+
 -- the same at p, of which the code goes to p - 1
 module _ (ks : List Kind) (cs : List ℕ) (c : ℕ) (base : Bool) (hits olds : List Bool) (p : ℕ) (v : List Bool) (prior : Bool) (b : Braces) (x : Bool)
     (w : Going ks cs c base hits olds p v prior b x) (h : 0 < p) (k : Kind) where
   back : Going ks cs c base hits olds (suc (p - 1)) v prior b x
   back = let e : suc (p - 1) ≡ p = omega arith in rw e w
 
-  pub going_brace : (r : Brace) → get_or ks (p - 1) k ≡ Kind.Brace r → (b' : Braces) (y : Bool) → Braced r b x b' y
+  pub going_token : (b' : Braces) (y : Bool)
+      → Valued (held_at (get_or ks (p - 1) k) (drop (p - 1) cs)) c (known x (get_or v (p - 1) false) prior (get_or hits (p - 1) false)) b b' y
       → Going ks cs c base hits olds (p - 1) (set v (p - 1) y) (get_or v (p - 1) false) b' y
-  going_brace r e b' y f = brace_q ks cs c base hits olds (p - 1) v prior b x back k r e b' y f
-
-  pub going_plain : (r : ItemKind) → get_or ks (p - 1) k ≡ Kind.Item r → (y : Bool)
-      → y ≡ value_at (plain_at r (drop (p - 1) cs)) c (known x (get_or v (p - 1) false) prior (get_or hits (p - 1) false))
-      → Going ks cs c base hits olds (p - 1) (set v (p - 1) y) (get_or v (p - 1) false) b y
-  going_plain r e y f = plain_q ks cs c base hits olds (p - 1) v prior b x back k r e y f
+  going_token b' y f = token_q ks cs c base hits olds (p - 1) v prior b x back k _ refl b' y f

@@ -8,7 +8,6 @@ use Rattle.config_rules.specs.Name.{Item, Token, not_slash, any_char}
 use Rattle.config_rules.specs.Name.Item.{part, same, one, run, ahead, range}
 use Rattle.config_rules.specs.Name.Token.{item, opens, comma, closes}
 use Rattle.glob_pass.specs.declared.kinds.Brace.{Brace}
-use Rattle.glob_pass.specs.declared.kinds.ItemKind.{ItemKind}
 use Rattle.glob_pass.specs.declared.kinds.Kind.{Kind}
 
 -- what stands before the first unescaped `]`, or all
@@ -26,27 +25,28 @@ code_of Brace.Closes = 125
 code_of Brace.Comma = 44
 code_of Brace.Opens = 123
 
--- the item of a kind whose characters s starts with
-unfoldable pub plain_at : ItemKind → List ℕ → Item
-plain_at ItemKind.Plain s = same (get_or s 0 0)
-plain_at ItemKind.Covered s = part
-plain_at ItemKind.One s = one not_slash
-plain_at ItemKind.Star s = run not_slash
-plain_at ItemKind.Stars s = run any_char
-plain_at ItemKind.Set s = one (in_set (up_to false (drop 1 s)))
-plain_at ItemKind.Range s = range_in (drop 1 s)
-plain_at ItemKind.Escape s = same (get_or s 1 0)
-plain_at ItemKind.Ahead s = ahead
-plain_at (ItemKind.Lone b) s = same (code_of b)
-
 unfoldable pub brace_of : Brace → Token
 brace_of Brace.Closes = closes
 brace_of Brace.Comma = comma
 brace_of Brace.Opens = opens
 
+-- the token of a kind whose characters s starts with
 unfoldable pub held_at : Kind → List ℕ → Token
-held_at (Kind.Brace b) s = brace_of b
-held_at (Kind.Item k) s = item (plain_at k s)
+held_at Kind.Plain s = item (same (get_or s 0 0))
+held_at Kind.Covered s = item part
+held_at Kind.One s = item (one not_slash)
+held_at Kind.Star s = item (run not_slash)
+held_at Kind.Stars s = item (run any_char)
+held_at Kind.Set s = item (one (in_set (up_to false (drop 1 s))))
+held_at Kind.Range s = item (range_in (drop 1 s))
+held_at Kind.Escape s = item (same (get_or s 1 0))
+held_at Kind.Ahead s = item ahead
+held_at Kind.LoneCloses s = item (same (code_of Brace.Closes))
+held_at Kind.LoneComma s = item (same (code_of Brace.Comma))
+held_at Kind.LoneOpens s = item (same (code_of Brace.Opens))
+held_at Kind.Closes s = closes
+held_at Kind.Comma s = comma
+held_at Kind.Opens s = opens
 
 unfoldable pub held : List Kind → List ℕ → List Token
 held [] cs = []
@@ -55,7 +55,7 @@ held (k ∷ ks) (c ∷ cs) = held_at k (c ∷ cs) ∷ held ks cs
 
 -- the kind at a place, a character that stands for itself behind the last
 abbrev pub kind_at : List Kind → ℕ → Kind
-kind_at ks j = get_or ks j (Kind.Item ItemKind.Plain)
+kind_at ks j = get_or ks j Kind.Plain
 
 -- the end of a set names c
 unfoldable pub last_names : Named → ℕ → Bool

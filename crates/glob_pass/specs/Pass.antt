@@ -4,7 +4,7 @@ use Rattle.rules.specs.Basics.{is, is_empty}
 use Rattle.config_rules.specs.Numbers.{in_range}
 use Rattle.config_rules.specs.Name.{Item, Token}
 use Rattle.config_rules.specs.Name.Item.{part, same, one, run, ahead, range}
-use Rattle.config_rules.specs.Name.Token.{item}
+use Rattle.config_rules.specs.Name.Token.{item, opens, comma, closes}
 use Rattle.config_rules.specs.Globs.{Strings, Around, Place, some_then, place_at, place_of}
 use Rattle.glob_pass.specs.declared.Known.{Known}
 use Rattle.glob_pass.specs.declared.Side.{Side}
@@ -57,6 +57,13 @@ pub record Braced (k : Brace) (b : Braces) (next : Bool) (b' : Braces) (r : Bool
   pub deep : b'.depth ≤ b.depth + 1
   pub room : length b'.sides ≡ length b.sides
   pub turn : (p : Place) (s : List ℕ) → Turn p s next (open_braces b) → Turn (place_at (brace_of k) p) s r (open_braces b')
+
+-- at a token: its place's value and the open braces
+abbrev pub Valued : Token → ℕ → Known → Braces → Braces → Bool → Type 0
+Valued (item i) c n b b' r = (r ≡ value_at i c n) × (b' ≡ b)
+Valued opens c n b b' r = Braced Brace.Opens b n.next b' r
+Valued comma c n b b' r = Braced Brace.Comma b n.next b' r
+Valued closes c n b b' r = Braced Brace.Closes b n.next b' r
 
 -- ---- v holds the value of each place of the name at s; the values without the first character; the values of the
 -- ranges

@@ -13,9 +13,12 @@ pub enum Brace {
 }
 
 // What matches by itself: a character, the rest of a token of several characters, `?`, `*`, `**`, a set, a range, a
-// backslash before a character, the first slash of a `/**/`, and a brace or a comma that stands for itself.
+// backslash before a character, the first slash of a `/**/`, and a brace or a comma that stands for itself. Or a brace
+// or a comma between alternatives.
+// kept: one flat enum: with one of the items in it, and a `Brace` in both, a kind takes three bytes for one, and each
+// place of a pass two tests for one
 #[derive(Clone, Copy, PartialEq, Eq, Debug)]
-pub enum ItemKind {
+pub enum Kind {
     Plain,
     Covered,
     One,
@@ -25,15 +28,12 @@ pub enum ItemKind {
     Range,
     Escape,
     Ahead,
-    Lone(Brace),
-}
-
-// An item, or a brace or a comma between alternatives.
-// kept: the new form is no plainer: neither of the two is the absence of the other
-#[derive(Clone, Copy, PartialEq, Eq, Debug)]
-pub enum Kind {
-    Item(ItemKind),
-    Brace(Brace),
+    LoneCloses,
+    LoneComma,
+    LoneOpens,
+    Closes,
+    Comma,
+    Opens,
 }
 
 impl Brace {

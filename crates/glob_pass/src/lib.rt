@@ -8,12 +8,12 @@ pub mod name;
 pub mod set;
 
 ghost use Rattle.std.specs.Prelude.{◌≡◌, [], ◌+◌, ◌<◌, length, drop, get_or};
-ghost use Rattle.glob_pass.specs.Kinds.{plain_at};
+ghost use Rattle.glob_pass.specs.Kinds.{held_at};
 ghost use Rattle.glob_pass.specs.Held.{tokens_held};
-ghost use Rattle.glob_pass.specs.Pass.{value_at, open_braces, Braced, Passed};
+ghost use Rattle.glob_pass.specs.Pass.{open_braces, Braced, Valued, Passed};
 
 use code_points::SLASH;
-use kinds::{Brace, ItemKind, Kind};
+use kinds::{Brace, Kind};
 use name::Name;
 
 // The characters of a name of at most 1,024, with a slash before it.
@@ -84,6 +84,31 @@ impl Braces {
         self.depth -= 1;
         next | top.others
     }
+
+    // The value at p.
+    #[tactic(auto, unfolding(crate::specs::Kinds::held_at, crate::specs::Kinds::range_in, crate::specs::Pass::value_at))]
+    fn value_at(&mut self, k: Kind, chars: &[u32], p: usize, c: u32, known: Known) -> bool
+        requires { (p < length chars.now) × (self.old.depth < PLACES) }
+        ensures { Valued (held_at k (drop p chars.now)) c known self.old self.new result }
+    {
+        match k {
+            Kind::Plain => (chars[p] == c) & known.prior,
+            Kind::Covered => known.next,
+            Kind::One => (c != SLASH) & known.prior,
+            Kind::Star => known.next | ((c != SLASH) & known.old),
+            Kind::Stars => known.next | known.old,
+            Kind::Set => set::in_set(&chars[p + 1..], c) & known.prior,
+            Kind::Range => known.hit,
+            Kind::Escape => (code_behind(chars, p) == c) & known.prior,
+            Kind::Ahead => (c == SLASH) & known.next,
+            Kind::LoneCloses => (Brace::Closes.code() == c) & known.prior,
+            Kind::LoneComma => (Brace::Comma.code() == c) & known.prior,
+            Kind::LoneOpens => (Brace::Opens.code() == c) & known.prior,
+            Kind::Closes => self.step(Brace::Closes, known.next),
+            Kind::Comma => self.step(Brace::Comma, known.next),
+            Kind::Opens => self.step(Brace::Opens, known.next),
+        }
+    }
 }
 
 // The character behind p, or 0.
@@ -94,26 +119,6 @@ fn code_behind(chars: &[u32], p: usize) -> u32
     ensures { result ≡ get_or chars.now (p + 1) 0 }
 {
     chars.get(p + 1).copied().unwrap_or(0)
-}
-
-// The value at p of a token that is no brace or comma.
-#[tactic(auto, unfolding(crate::specs::Kinds::plain_at, crate::specs::Kinds::range_in, crate::specs::Pass::value_at))]
-fn value_at(k: ItemKind, chars: &[u32], p: usize, c: u32, known: Known) -> bool
-    requires { p < length chars.now }
-    ensures { result ≡ value_at (plain_at k (drop p chars.now)) c known }
-{
-    match k {
-        ItemKind::Plain => (chars[p] == c) & known.prior,
-        ItemKind::Covered => known.next,
-        ItemKind::One => (c != SLASH) & known.prior,
-        ItemKind::Star => known.next | ((c != SLASH) & known.old),
-        ItemKind::Stars => known.next | known.old,
-        ItemKind::Set => set::in_set(&chars[p + 1..], c) & known.prior,
-        ItemKind::Range => known.hit,
-        ItemKind::Escape => (code_behind(chars, p) == c) & known.prior,
-        ItemKind::Ahead => (c == SLASH) & known.next,
-        ItemKind::Lone(brace) => (brace.code() == c) & known.prior,
-    }
 }
 
 // One character more of the path: v holds the values without it, and then with it. For the end of the path, base is
@@ -134,18 +139,13 @@ pub fn pass(
     v[name.kinds.len()] = base;
     for p in (0..name.kinds.len()).rev() {
         let old = v[p];
-        next = match name.kinds[p] {
-            Kind::Brace(brace) => braces.step(brace, next),
-            Kind::Item(item) => {
-                let known = Known {
-                    next,
-                    old,
-                    prior,
-                    hit: hits[p],
-                };
-                value_at(item, name.chars, p, c, known)
-            }
+        let known = Known {
+            next,
+            old,
+            prior,
+            hit: hits[p],
         };
+        next = braces.value_at(name.kinds[p], name.chars, p, c, known);
         v[p] = next;
         prior = old;
     }

@@ -1,5 +1,5 @@
 -- Laws of the operators: their strengths, and the codes that they get.
-use Prim.Native.Nat.{ℕ, suc, ◌+◌, ◌≤◌, ◌<◌}
+use Prim.Native.Nat.{ℕ, zero, suc, ◌+◌, ◌≤◌, ◌<◌}
 use mathlib.Core.Bool.{Bool, true, false, not, ◌||◌}
 use mathlib.Core.List.{List, [], ◌∷◌, ◌++◌, reverse, append-nil}
 use mathlib.Core.Path.{◌≡◌, refl, ap, sym, ◌∙◌, subst}
@@ -39,6 +39,15 @@ strength_of_law w k s e h = h ∙ ap (λ n. get_or strengths n 0) e
 
 pub built_read : (k r : ℕ) → r ≡ get_or (strengths_in built_in) k 0 → r ≡ get_or strengths k 0
 built_read k r e = e ∙ ap (λ l. get_or l k 0) built_in_read
+
+-- the table has no strength past the last operator
+pub past_table : (k : ℕ) → 21 ≤ k → 0 ≡ get_or strengths k 0
+past_table k h = sym (past strengths k h)
+  where
+    past : (l : List ℕ) (k : ℕ) → length l ≤ k → get_or l k 0 ≡ 0
+    past [] k h = refl
+    past (x ∷ l) zero h = absurd (omega arith)
+    past (x ∷ l) (suc k) h = past l k (omega arith)
 
 pub positive_some : (n s : ℕ) → s ≡ n → (s ≡ 0 → ⊥) → Positive n (Some s)
 positive_some n s e h =

@@ -89,16 +89,16 @@ pub record Checking (o : Options) (source eol : List ℕ) (left : List (List ℕ
   pub holds : Holds source eol (length source) f st out scratch
   pub checks : check_lines o (decode source) eol (lines_of (decode source)) start 0 ≡ check_lines o (decode source) eol (map decode left) f st.nesting.line
 
-pub record Looked (source indent : List ℕ) (style : Style) (model : Option (List ℕ)) (out₀ scratch₀ out scratch : List ℕ) (st : Record) (at : ℕ) : Type 0 where
+pub record Looked (source indent : List ℕ) (style : Style) (checks : Bool) (model : Option (List ℕ)) (out₀ scratch₀ out scratch : List ℕ) (st : Record) (at : ℕ) : Type 0 where
   pub reached : Reached source indent style (given model) out₀ scratch₀ out scratch st at
-  pub check : model ≡ Some source → (o : Options) → Uses o indent style → Scalars (whole_text o (decode source) (as_str style.ending))
+  pub check : checks ≡ true → model ≡ Some source → (o : Options) → Uses o indent style → Scalars (whole_text o (decode source) (as_str style.ending))
       → Checking o source (as_str style.ending) reached.left st out scratch
 
-pub looked_start : (source indent : List ℕ) (style : Style) (model : Option (List ℕ)) (out scratch : List ℕ) (st : Record) → Passed source indent scratch → Starts model out → st ≡ initial
-    → Looked source indent style model out scratch out scratch st 0
-looked_start source indent style model out scratch st p s e =
+pub looked_start : (source indent : List ℕ) (style : Style) (checks : Bool) (model : Option (List ℕ)) (out scratch : List ℕ) (st : Record) → Passed source indent scratch → Starts model out → st ≡ initial
+    → Looked source indent style checks model out scratch out scratch st 0
+looked_start source indent style checks model out scratch st p s e =
     let r = reached_start source indent style (given model) out scratch st p s.none e in
-    record { reached = r; check = λ m o u t. first r m o u }
+    record { reached = r; check = λ b m o u t. first r m o u }
   where
     first : (r : Reached source indent style (given model) out scratch out scratch st 0) → model ≡ Some source → (o : Options) → Uses o indent style
         → Checking o source (as_str style.ending) r.left st out scratch
@@ -116,12 +116,12 @@ looked_start source indent style model out scratch st p s e =
         initially o u = rw e (initial_holds (given model) (as_str style.ending) (length source) out scratch s.none)
 
 module _
-    {source indent : List ℕ} {style : Style} {model : Option (List ℕ)} {out₀ scratch₀ out scratch : List ℕ} {st : Record} {at : ℕ}
-    (r : Looked source indent style model out₀ scratch₀ out scratch st at) (p : Passed source indent scratch₀) (more : at ≤ length source)
+    {source indent : List ℕ} {style : Style} {checks : Bool} {model : Option (List ℕ)} {out₀ scratch₀ out scratch : List ℕ} {st : Record} {at : ℕ}
+    (r : Looked source indent style checks model out₀ scratch₀ out scratch st at) (p : Passed source indent scratch₀) (more : at ≤ length source)
     {e : ℕ} (q : LineEnd source at e) {raw : List ℕ} (l : raw ≡ drop_cr (part source at e))
     {st' : Record} {out' scratch' : List ℕ}
     (w : (o : Options) → Uses o indent style → Stepped (λ f. any_line o f (decode raw)) (length raw) (length source) (given model) (as_str style.ending) st out scratch st' out' scratch')
-    {d : Bool} (t : Differs model out' st'.text.settled d)
+    {d : Bool} (t : Differs checks model out' st'.text.settled d)
   where
     abbrev eol : List ℕ
     eol = as_str style.ending
@@ -132,9 +132,9 @@ module _
     number : suc st.nesting.line ≡ st'.nesting.line + 1
     number = omega (arith, (stepped r.reached p more q l w).line)
 
-    module _ (m : model ≡ Some source) (o : Options) (u : Uses o indent style) (s : Scalars (whole_text o (decode source) eol)) where
+    module _ (b : checks ≡ true) (m : model ≡ Some source) (o : Options) (u : Uses o indent style) (s : Scalars (whole_text o (decode source) eol)) where
       abbrev now : Checking o source eol r.reached.left st out scratch
-      now = r.check m o u s
+      now = r.check b m o u s
 
       abbrev after : Formatter
       after = format_line o now.f (decode raw)
@@ -161,44 +161,46 @@ module _
 
       test : not d ≡ starts_with (decode source) (settled eol after)
       test =
-          settled_test source eol after.lines st'.text out' (not d) holds_on.text (t.told source m)
+          settled_test source eol after.lines st'.text out' (not d) holds_on.text (t.told b source m)
           ∙ settled_chars source eol after.lines (whole_text o (decode source) eol) p.well s begins_on
 
     pub looked_more : d ≡ false → length out' ≡ length out → length scratch' ≡ length scratch
-        → Looked source indent style model out₀ scratch₀ out' scratch' (next_line st') (e + 1)
+        → Looked source indent style checks model out₀ scratch₀ out' scratch' (next_line st') (e + 1)
     looked_more f eo es =
         record {
           reached = next_reached r.reached p more q l w eo es;
-          check = λ m o u s. subst (λ (ls : List (List ℕ)). Checking o source eol ls (next_line st') out' scratch') (sym (next_left r.reached p more q l w eo es)) (record {
-            f = after m o u s;
-            lines = lines_on m o u s;
-            holds = holds_on m o u s;
+          check = λ b m o u s. subst (λ (ls : List (List ℕ)). Checking o source eol ls (next_line st') out' scratch') (sym (next_left r.reached p more q l w eo es)) (record {
+            f = after b m o u s;
+            lines = lines_on b m o u s;
+            holds = holds_on b m o u s;
             checks =
-                checks_on m o u s
-                ∙ check_next o (decode source) eol (decode raw) (map decode rest) (now m o u s).f st.nesting.line (sym (test m o u s) ∙ ap not f)
-                ∙ ap (check_lines o (decode source) eol (map decode rest) (after m o u s)) number;
+                checks_on b m o u s
+                ∙ check_next o (decode source) eol (decode raw) (map decode rest) (now b m o u s).f st.nesting.line (sym (test b m o u s) ∙ ap not f)
+                ∙ ap (check_lines o (decode source) eol (map decode rest) (after b m o u s)) number;
           });
         }
 
-    pub looked_stop : d ≡ true → AllRead source indent style model (record { st = next_line st'; all = false }) out' scratch'
+    pub looked_stop : d ≡ true → AllRead source indent style checks model (record { st = next_line st'; all = false }) out' scratch'
     looked_stop f =
         record {
           done = λ h. absurd (true≢false (sym h));
+          unchecked = λ h. absurd (true≢false (sym f ∙ t.unchecked h));
           all = λ h. absurd (true≢false (sym f ∙ t.off h));
-          answer = λ m o u s.
-              checks_on m o u s
-              ∙ check_stop o (decode source) eol (decode raw) (map decode rest) (now m o u s).f st.nesting.line (sym (test m o u s) ∙ ap not f)
+          answer = λ b m o u s.
+              checks_on b m o u s
+              ∙ check_stop o (decode source) eol (decode raw) (map decode rest) (now b m o u s).f st.nesting.line (sym (test b m o u s) ∙ ap not f)
               ∙ answer_stop o (decode source) eol (suc st.nesting.line) (st'.nesting.line + 1) number;
         }
 
-pub looked_end : {source indent : List ℕ} {style : Style} {model : Option (List ℕ)} {out₀ scratch₀ out scratch : List ℕ} {st : Record} {at : ℕ}
-    → Looked source indent style model out₀ scratch₀ out scratch st at → Passed source indent scratch₀ → length source < at
-    → AllRead source indent style model (record { st = st; all = true }) out scratch
-looked_end {source = source} {indent = indent} {style = style} {model = model} {out = out} {scratch = scratch} {st = st} r p h =
+pub looked_end : {source indent : List ℕ} {style : Style} {checks : Bool} {model : Option (List ℕ)} {out₀ scratch₀ out scratch : List ℕ} {st : Record} {at : ℕ}
+    → Looked source indent style checks model out₀ scratch₀ out scratch st at → Passed source indent scratch₀ → length source < at
+    → AllRead source indent style checks model (record { st = st; all = true }) out scratch
+looked_end {source = source} {indent = indent} {style = style} {checks = checks} {model = model} {out = out} {scratch = scratch} {st = st} r p h =
     record {
       done = λ _. reached_end r.reached p h;
+      unchecked = λ _. refl;
       all = λ _. refl;
-      answer = λ m o u s. end o (r.check m o u s);
+      answer = λ b m o u s. end o (r.check b m o u s);
     }
   where
     end : (o : Options) → Checking o source (as_str style.ending) r.reached.left st out scratch

@@ -47,19 +47,21 @@ whole_text o source eol = (finish o source eol (format_lines o (lines_of source)
 abbrev pub answer_at : Options → List ℕ → List ℕ → Bool → ℕ → Checked
 answer_at o source eol all read = record { yes = choose all (same (whole_text o source eol) source) false; read = read }
 
--- r tells whether the first k bytes of a text that is compared with the model differ from it; without a comparison they
--- don't
-pub record Differs (model : Option (List ℕ)) (out : List ℕ) (k : ℕ) (r : Bool) : Type 0 where
+-- If checks, r tells whether the first k bytes of a text that is compared with the model differ from it; without a check
+-- or a comparison they don't.
+pub record Differs (checks : Bool) (model : Option (List ℕ)) (out : List ℕ) (k : ℕ) (r : Bool) : Type 0 where
+  pub unchecked : checks ≡ false → r ≡ false
   pub off : model ≡ None → r ≡ false
-  pub told : (text : List ℕ) → model ≡ Some text → Tells text out k (not r)
+  pub told : checks ≡ true → (text : List ℕ) → model ≡ Some text → Tells text out k (not r)
 
--- The lines of the source were read: all of them, or, where the text is compared with the source, up to the first whose
--- settled text differs. Then the definition's answer is known but for the finished text.
-pub record AllRead (source indent : List ℕ) (style : Style) (model : Option (List ℕ)) (r : LinesRead)
+-- The lines of the source were read: all of them, or, if checks and where the text is compared with the source, up to
+-- the first whose settled text differs. Then the definition's answer is known but for the finished text.
+pub record AllRead (source indent : List ℕ) (style : Style) (checks : Bool) (model : Option (List ℕ)) (r : LinesRead)
     (out scratch : List ℕ) : Type 0 where
   pub done : r.all ≡ true → LinesDone source indent style (given model) r.st out scratch
+  pub unchecked : checks ≡ false → r.all ≡ true
   pub all : model ≡ None → r.all ≡ true
-  pub answer : model ≡ Some source → (o : Options) → Uses o indent style
+  pub answer : checks ≡ true → model ≡ Some source → (o : Options) → Uses o indent style
       → Scalars (whole_text o (decode source) (as_str style.ending))
       → check_lines o (decode source) (as_str style.ending) (lines_of (decode source)) start 0
       ≡ answer_at o (decode source) (as_str style.ending) r.all r.st.nesting.line

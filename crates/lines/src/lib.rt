@@ -18,27 +18,29 @@ pub struct LinesRead {
     pub all: bool,
 }
 
-// Whether a text that is compared with a model differs from it in its first k bytes, which are settled. The model is
-// read as `read_lines` reads it, so that both are one value: with a match `blank lines` takes 8 % more instructions.
-fn differs(model: Option<&[u8]>, out: &[u8], k: usize) -> bool
-    ensures { Differs (option_copied model.entry) out.now k result }
+// Whether a text that is compared with a model differs from it in its first k bytes, which are settled, if checks. The
+// model is read as `read_lines` reads it, so that both are one value: with a match `blank lines` takes 8 % more
+// instructions.
+fn differs(checks: bool, model: Option<&[u8]>, out: &[u8], k: usize) -> bool
+    ensures { Differs checks (option_copied model.entry) out.now k result }
 {
-    model.is_some() && !compare::begins(model.unwrap_or(b""), out, k)
+    checks && model.is_some() && !compare::begins(model.unwrap_or(b""), out, k)
 }
 
 // Every line of the source goes to the output. After the last LF stands one more line. If there is a model, the text is
-// compared with it, and reading stops after the first line whose settled text differs.
+// compared with it, and if checks, reading stops after the first line whose settled text differs.
 pub fn read_lines(
     source: &[u8],
     indent: &[u8],
     style: Style,
+    checks: bool,
     model: Option<&[u8]>,
     out: &mut [u8],
     scratch: &mut [u8],
 ) -> LinesRead
     requires passed { Passed source.now indent.now scratch.old }
     requires starts { Starts (option_copied model) out.old }
-    ensures { AllRead source.now indent.now style (option_copied model.entry) result
+    ensures { AllRead source.now indent.now style checks (option_copied model.entry) result
         out.new scratch.new }
 {
     let unit = source.len();
@@ -55,7 +57,7 @@ pub fn read_lines(
         st = line_step(raw, held, setup, text, out, scratch, st).remade();
         st.nesting.line += 1;
         at = end + 1;
-        if differs(model, out, st.text.settled) {
+        if differs(checks, model, out, st.text.settled) {
             return LinesRead { st, all: false };
         }
     }

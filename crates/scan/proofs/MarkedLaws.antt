@@ -1,7 +1,9 @@
--- Class bytes that are written in one go.
-use Prim.Native.Nat.{ℕ, ◌+◌, ◌-◌, ◌≤◌}
+-- Class bytes that are written in one go, of the bytes that a search passes.
+use Prim.Native.Nat.{ℕ, ◌+◌, ◌-◌, ◌<◌, ◌≤◌}
+use mathlib.Core.Bool.{Bool, false}
 use mathlib.Core.Path.{◌≡◌, refl, sym, ap, ◌∙◌}
 use mathlib.Core.List.{List, ◌++◌, append-nil, append_assoc}
+use native.Mathlib.Nat.{le_refl}
 use native.Mathlib.Omega.{arith}
 use lib.ListN.{length, take, drop, replicate, length-replicate, length-append, length-drop, take-append-drop}
 use lib.Seq.{length-take-le, take_at, drop-drop}
@@ -9,6 +11,9 @@ use Rattle.std.proofs.lemmas.List.{take-append-le, take-replicate, replicate-app
 use Rattle.std.proofs.Math.Seq.{take-append-add, drop-append-add}
 use Rattle.buffer.specs.Buffer.{put}
 use Rattle.buffer.proofs.RegionLaws.{length_put, put_back}
+use Rattle.std.proofs.Common.{◌⊎◌, inl, inr}
+use Rattle.std.proofs.lemmas.Bool.{cases_lt}
+use Rattle.blocks.specs.Blocks.{FirstFrom}
 use Rattle.scan.specs.Marked.{Span, Marked}
 
 -- class bytes a to e, lent to `fill`, when they are back
@@ -76,3 +81,16 @@ marked_then {k} {a} {i} {e} {n} {d} {y} p q h l =
       as_long = q.as_long ∙ p.as_long;
       beyond = q.beyond ∙ p.beyond;
     }
+
+module _ {p : ℕ → Bool} where
+  -- a search that found no place before m
+  pub first_past : {a m e : ℕ} → FirstFrom p a m e → m ≤ e → FirstFrom p a e e
+  first_past {a} {m} {e} f h = record { from = f.from; within = le_refl e; none = f.none; passes = λ l. absurd (omega arith) }
+
+  -- one that goes on behind another
+  pub first_then : {a i n e : ℕ} → FirstFrom p a i i → FirstFrom p i n e → FirstFrom p a n e
+  first_then {a} {i} {n} {e} f g = record { from = omega (arith, f.from, g.from); within = g.within; none = λ j h l. go j h l (cases_lt j i); passes = g.passes }
+    where
+      go : (j : ℕ) → a ≤ j → j < e → (j < i) ⊎ (i ≤ j) → p j ≡ false
+      go j h l (inl k) = f.none j h k
+      go j h l (inr k) = g.none j k l

@@ -1,6 +1,6 @@
 -- The loops that read strings: their invariants, and what each way through a turn makes of them.
 use Prim.Native.Nat.{ℕ, ◌+◌, ◌-◌, ◌<◌, ◌≤◌}
-use mathlib.Core.Bool.{Bool, true, false, ◌||◌, true≢false}
+use mathlib.Core.Bool.{Bool, true, false, not, ◌||◌, true≢false}
 use mathlib.Core.Path.{◌≡◌, refl, sym, ◌∙◌}
 use mathlib.Core.List.{List, [], ◌∷◌}
 use native.Mathlib.Omega.{arith}
@@ -191,6 +191,11 @@ module _ {line : List ℕ} {a : ℕ} {q : Bool} {class₀ class : List ℕ} {i :
 
   pub quoted_stops : length line ≤ i → Scanned line (fresh (Mode.Quoted q)) a class₀ (fresh Mode.Code) i class
   quoted_stops l = scanned_last (fresh Mode.Code) p.scanned l refl
+
+-- a byte that is the other quote is not this one
+pub other_quote : (b end other : ℕ) (q : Bool) → end ≡ quote q → other ≡ quote (not q) → b ≡ other → b ≡ end → ⊥
+other_quote b end other true e f g h = omega arith
+other_quote b end other false e f g h = omega arith
 
 not_quote : (b : ℕ) (q : Bool) → (b ≡ 34 → ⊥) → (b ≡ 39 → ⊥) → b ≡ quote q → ⊥
 not_quote b true x y e = x e

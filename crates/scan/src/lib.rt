@@ -6,22 +6,19 @@
 mod marked;
 mod starts;
 
-ghost use Rattle.std.specs.Prelude.{◌≡◌, ◌∷◌, [], ◌+◌, ◌<◌, ◌≤◌, ◌^◌, length, drop, get_or};
+ghost use Rattle.std.specs.Prelude.{◌≡◌, ◌∷◌, [], ◌+◌, ◌<◌, ◌≤◌, ◌^◌, ◌&&◌, not, ltb, length, drop, get_or};
 ghost use Rattle.rules.specs.Basics.{starts_with};
 ghost use Rattle.rules.specs.Scan.{quote};
 ghost use Rattle.basics.specs.Depth.{carry_depth};
 ghost use Rattle.scan.specs.Classified.{Classified};
-ghost use Rattle.blocks.specs.Blocks.{FirstFrom};
-ghost use Rattle.scan.specs.Marked.{Marked};
 ghost use Rattle.scan.specs.CodeEnd.{code_length, NoComment, only_code_or_str};
 ghost use Rattle.scan.specs.Stretch.{Room, Inside, At, Deep, PairRead, PlainString, PlainComment, InnerRead, InterpRead, DollarRead};
 ghost use Rattle.scan.specs.Stretch.{Scanned, Stretch, fresh, starts_in_code};
 ghost use Rattle.scan.specs.Within.{ClassRoom, ClassifiedAt};
 
 use basics::quote_of;
-use blocks::bytes::{ByteLanes, Passing};
-use blocks::lanes;
-use marked::mark;
+use blocks::bytes::ByteTest;
+use marked::plain;
 use rules::class_byte::{BLOCK_COMMENT, CODE, LINE_COMMENT, PREFAB, STR};
 use rules::{Carry, Mode};
 use starts::{Starts, Stops, Turns, starts_in_code};
@@ -153,22 +150,11 @@ fn dollar(line: &[u8], at: usize, class: &mut [u8]) -> usize
     at + 1
 }
 
-// Past the bytes that do not pass the test, all of the class byte k.
-fn plain<T: ByteLanes<16> + ByteLanes<8> + Drop>(
-    line: &[u8],
-    at: usize,
-    test: T,
-    k: u8,
-    class: &mut [u8],
-) -> usize
-    requires { Room line.now at class.old }
-    ensures first { FirstFrom (λ j. T.passes test (get_or line.now j 0)) at (length line.now)
-        result }
-    ensures marked { Marked k at result (length line.now) class.old class.new }
+// Whether a byte stands at `at` that does not pass the test.
+fn is_plain<T: ByteTest>(line: &[u8], at: usize, test: &T) -> bool
+    ensures { result ≡ (ltb at (length line.now) && not (T.passes test.now (get_or line.now at 0))) }
 {
-    let e = lanes::first(&Passing { bytes: line, test }, at, line.len());
-    mark(class, at, e, line.len(), k);
-    e
+    at < line.len() && !test.test(line[at])
 }
 
 // Bytes of a string that start and end nothing.
@@ -186,13 +172,10 @@ fn quoted(line: &[u8], at: usize, q: bool, class: &mut [u8]) -> usize
         class.new }
 {
     let end = quote_of(q);
+    let other = quote_of(!q);
     let mut i = at;
     // kept: a range is no plainer, since a mark takes one byte or more
     while i < line.len() {
-        i = plain_string(line, i, class);
-        if i == line.len() {
-            return i;
-        }
         let b = line[i];
         if b == b'\\' {
             i = pair(line, i, STR, class);
@@ -202,10 +185,19 @@ fn quoted(line: &[u8], at: usize, q: bool, class: &mut [u8]) -> usize
             i = dollar(line, i, class);
             continue;
         }
+        if b == other {
+            class[i] = STR;
+            i += 1;
+            continue;
+        }
         class[i] = STR;
         i += 1;
         if b == end {
             return i;
+        }
+        // a mark is often near: a search is begun at the second byte that is none, and never at a mark
+        if is_plain(line, i, &Stops) {
+            i = plain_string(line, i, class);
         }
     }
     i
@@ -302,7 +294,7 @@ fn plain_code(line: &[u8], at: usize, class: &mut [u8]) -> usize
     plain(line, at, Starts, CODE, class)
 }
 
-// Bytes of code that start nothing and escaped characters, one at a time.
+// Escaped characters of code and single bytes between them that start nothing.
 fn ones(line: &[u8], at: usize, class: &mut [u8]) -> usize
     requires { Room line.now at class.old }
     ensures { Scanned line.now (fresh Mode.Code) at class.old (fresh Mode.Code) result
@@ -312,20 +304,23 @@ fn ones(line: &[u8], at: usize, class: &mut [u8]) -> usize
     // kept: a range is no plainer, since a mark takes one byte or two
     while i < line.len() {
         let b = line[i];
-        if !starts_in_code(b) {
-            class[i] = CODE;
-            i += 1;
+        if b == b'\\' {
+            i = pair(line, i, CODE, class);
             continue;
         }
-        if b != b'\\' {
+        if starts_in_code(b) {
             return i;
         }
-        i = pair(line, i, CODE, class);
+        class[i] = CODE;
+        if !next_is(line, i, b'\\') {
+            return i + 1;
+        }
+        i += 1;
     }
     i
 }
 
-// Past escaped characters of code, which are read one at a time with what stands between them.
+// Past escaped characters of code, which are read one at a time with the single bytes between them.
 fn past_escapes(line: &[u8], at: usize, class: &mut [u8]) -> usize
     requires { Room line.now at class.old }
     ensures { Scanned line.now (fresh Mode.Code) at class.old (fresh Mode.Code) result
@@ -371,10 +366,6 @@ fn block(line: &[u8], at: usize, depth: u32, class: &mut [u8]) -> Stop
     let mut d = depth;
     // kept: a range is no plainer, since a mark takes one byte or more
     while i < line.len() {
-        i = plain_comment(line, i, class);
-        if i == line.len() {
-            break;
-        }
         if two_at(line, i, b'/', b'*') {
             i = pair(line, i, BLOCK_COMMENT, class);
             d += 1;
@@ -391,8 +382,13 @@ fn block(line: &[u8], at: usize, depth: u32, class: &mut [u8]) -> Stop
             d -= 1;
             continue;
         }
+        let b = line[i];
         class[i] = BLOCK_COMMENT;
         i += 1;
+        // as in a string: a search is begun at the second byte that is no mark
+        if !Turns.test(b) && is_plain(line, i, &Turns) {
+            i = plain_comment(line, i, class);
+        }
     }
     Stop {
         at: i,

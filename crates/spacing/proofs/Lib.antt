@@ -2,3 +2,4 @@
 pub mod SpacingLaws
 pub mod KeptLaws
 pub mod QuietLaws
+pub mod SaidLaws

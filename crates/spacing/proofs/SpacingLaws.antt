@@ -8,7 +8,11 @@ use borrow.Author.Tests.{eqb-true, ne_eqb, not-false}
 use lib.Dec.{eqb}
 use lib.ListN.{length, get_or, take, drop}
 use lib.Seq.{take-suc, take-take, length-take-le}
+use Rattle.std.proofs.Math.Seq.{length_front}
+use Rattle.std.proofs.lemmas.List.{take_at}
+use Rattle.std.proofs.lemmas.Slice.{drop-append-drop}
 use Rattle.blocks.specs.Blocks.{FirstFrom}
+use Rattle.buffer.specs.Buffer.{over}
 use Rattle.rules.specs.Basics.{choose, is_blank}
 use Rattle.rules.specs.Scan.{Cell, cell, is_code}
 use Rattle.rules.specs.ClassBytes.{class_of, cells_of}
@@ -176,6 +180,26 @@ module _ (line ks buf₀ buf : List ℕ) (t : Respaced) (i : ℕ) (p : Room (len
       record { is = sym (w.same ∙ d); most = omega (arith, w.most, w.within); only = w.only }
 
 -- ---- the bytes that are copied
+
+over_same : (d t : List ℕ) → length d ≡ length t → over d t ≡ t
+unfolding over
+over_same [] [] h = refl
+over_same [] (a ∷ t) h = absurd (omega arith)
+over_same (x ∷ d) [] h = absurd (omega arith)
+over_same (x ∷ d) (a ∷ t) h = ap (λ (l : List ℕ). a ∷ l) (over_same d t (omega arith))
+
+-- the line's first k, over the first k
+pub put_over : (line buf new : List ℕ) (k : ℕ) → k ≤ length line → k ≤ length buf → new ≡ over (take k buf) (take k line) → Copied (take k line) buf (new ++ drop k buf) k
+put_over line buf new k h l w =
+    let m : length (take k line) ≡ k = length-take-le k line h in
+    let n : length (take k buf) ≡ k = length-take-le k buf l in
+    let e : new ≡ take k line = w ∙ over_same (take k buf) (take k line) (n ∙ sym m) in
+    let c : Copied (take k line) buf (take k line ++ drop k buf) k =
+    record {
+      is = take_at (take k line) (drop k buf) k m;
+      only = record { long = length_front buf (take k line) k (m ∙ sym n); front = refl; back = drop-append-drop k buf (take k line) k (omega arith) m };
+    } in
+    rw e c
 
 -- the rest is written after them
 module _ (line ks buf mid : List ℕ) (k : ℕ) (t : List ℕ) (c : Copied t buf mid k) where

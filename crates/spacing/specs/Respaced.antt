@@ -1,6 +1,7 @@
 -- The respaced line, written into a slice.
 use Rattle.std.specs.Prelude.{ℕ, Option, Some, None, ◌+◌, ◌*◌, ◌≤◌, ◌<◌, Bool, true, false, not, ◌&&◌, ◌||◌, ◌≡◌, eqb, length, get_or, take, drop}
 use mathlib.Core.List.{List, foldl}
+use Rattle.rules.specs.Basics.{is_blank, is_closer}
 use Rattle.rules.specs.Scan.{Cell}
 use Rattle.rules.specs.ClassBytes.{cells_of}
 use Rattle.rules.specs.Spacing.{Spaced, spaced, trim_blanks, space_step, normalize_spacing}
@@ -84,12 +85,32 @@ pub record Keeping (line ks : List ℕ) (i : ℕ) : Type 0 where
   pub within : i ≤ length line
   pub same : normalize_spacing (cells_of line ks) ≡ respaced_from line ks i
 
+-- r is i or a place after it, within the line, and spacing leaves what stands before it
+pub record Evened (line ks : List ℕ) (i r : ℕ) : Type 0 where
+  pub from : i ≤ r
+  pub within : r < length line
+  pub keeping : Keeping line ks r
+
 -- a comma, a backslash or the first of two spaces: x, which y follows
 abbrev pub busy : ℕ → ℕ → Bool
 busy x y = eqb x 44 || eqb x 92 || (eqb x 32 && eqb y 32)
 
 abbrev pub busy_at : List ℕ → ℕ → Bool
 busy_at line i = busy (get_or line i 0) (get_or line (i + 1) 0)
+
+-- of the byte x of class k, behind w and before y of class l and z, spacing may change something: in code, a backslash,
+-- the first of two spaces, or a comma but one behind no blank, before a space of code and then no blank and no closer
+abbrev pub odd : ℕ → ℕ → ℕ → ℕ → ℕ → ℕ → Bool
+odd w x y z k l =
+    eqb k 0
+    && ((eqb x 92 || (eqb x 32 && eqb y 32))
+    || (eqb x 44 && ((is_blank w || (not (eqb y 32) || not (eqb l 0))) || (is_blank z || is_closer z))))
+
+-- the byte after the place i is one
+abbrev pub odd_at : List ℕ → List ℕ → ℕ → Bool
+odd_at line ks i =
+    odd (get_or line i 0) (get_or line (i + 1) 0) (get_or line (i + 2) 0) (get_or line (i + 3) 0) (get_or ks (i + 1) 0)
+    (get_or ks (i + 2) 0)
 
 -- a line that is said to be spaced is what spacing makes of it
 pub record Unchanged (line ks : List ℕ) (r : Bool) : Type 0 where

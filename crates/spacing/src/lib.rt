@@ -10,13 +10,15 @@ ghost use Rattle.rules.specs.Scan.{cell, is_code};
 ghost use Rattle.rules.specs.ClassBytes.{class_of, cells_of};
 ghost use Rattle.rules.specs.Spacing.{spaced, put_plain, put_after_comma, put_at};
 ghost use Rattle.spacing.specs.Respaced.{Trimmed, Wrote, Plain, Dropped, other_at, Room, Copied, Normalized};
-ghost use Rattle.spacing.specs.Respaced.{InCode, KeptAt, NoBlank, Keeping, Unchanged};
+ghost use Rattle.spacing.specs.Respaced.{InCode, KeptAt, NoBlank, Keeping, Evened, Unchanged};
 
 mod busy;
+mod odd;
 
 use basics::{is_blank, is_closer};
 use blocks::lanes;
 use busy::Busy;
+use odd::Odd;
 use rules::Gap;
 use rules::class_byte::CODE;
 
@@ -168,7 +170,7 @@ fn put_kept(line: &[u8], out: &mut [u8], kept: usize)
     requires { (kept ≤ length line.now) × (kept ≤ length out.old) }
     ensures { Copied (take kept line.now) out.old out.new kept }
 {
-    out[..kept].copy_from_slice(&line[..kept]);
+    buffer::put_line(&mut out[..kept], &line[..kept]);
 }
 
 // Writes the respaced line behind its first `kept` bytes, which stand there already, and gives its length.
@@ -311,22 +313,56 @@ fn kept_at(line: &[u8], class: &[u8], i: usize) -> Option<usize>
     }
 }
 
-// How many bytes spacing leaves as they are, as far as a look at each byte and its neighbours tells.
-pub fn spaced_to(line: &[u8], class: &[u8]) -> usize
-    requires { length line.now ≤ length class.now }
+// Past the bytes from i on that are not odd, up to the last two, of which no vector tells. None is passed in a line too
+// short for a vector, at the line's first byte, and at a backslash of code, which is odd.
+fn even_to(line: &[u8], class: &[u8], i: usize) -> usize
+    requires in_bounds { (i < length line.now) × (length line.now ≤ length class.now) }
+    requires keeping { Keeping line.now class.now i }
+    ensures { Evened line.now class.now i result }
+{
+    let n = line.len();
+    if n < 11 || i == 0 || n - 3 < i || (line[i] == b'\\' && class[i] == CODE) {
+        return i;
+    }
+    lanes::first(&Odd { line, class }, i - 1, n - 3) + 1
+}
+
+// How many bytes spacing leaves as they are, from the first i on, which it does.
+// Apart from the line step, which seldom needs it.
+#[inline(never)]
+fn spaced_from(line: &[u8], class: &[u8], from: usize) -> usize
+    requires long { length line.now ≤ length class.now }
+    requires keeping { Keeping line.now class.now from }
     ensures { Keeping line.now class.now result }
 {
     let n = line.len();
-    let mut i = 0;
+    let mut i = from;
     // kept: a range is no plainer, since the place moves by as many bytes as are kept
     while i < n {
-        let e = lanes::first(&Busy { line }, i, n - 1);
+        let e = even_to(line, class, i);
         let Some(more) = kept_at(line, class, e) else {
             return e;
         };
         i = e + more;
     }
     i
+}
+
+// How many bytes spacing leaves as they are, as far as a look at each byte and its neighbours tells: at first without
+// the classes, up to a busy byte.
+pub fn spaced_to(line: &[u8], class: &[u8]) -> usize
+    requires { length line.now ≤ length class.now }
+    ensures { Keeping line.now class.now result }
+{
+    let n = line.len();
+    if n == 0 {
+        return 0;
+    }
+    let i = lanes::first(&Busy { line }, 0, n - 1);
+    if i == n - 1 && line[i] != b',' {
+        return n;
+    }
+    spaced_from(line, class, i)
 }
 
 // Whether it leaves the line whole as it is, as far as that tells.

@@ -35,6 +35,20 @@ fn line_of(r: OperationSplit) -> NewLine
     }
 }
 
+// How a first line is broken, and how often.
+#[derive(Clone, Copy)]
+struct Breaking {
+    layout: Layout,
+    rounds: usize,
+}
+
+// Where a line is broken, and the line that its first piece is written as.
+#[derive(Clone, Copy)]
+struct Rest {
+    found: Break,
+    first: NewLine,
+}
+
 // kept: line and class, layout and indent are not one struct each: no plainer, since of a struct that holds a lent
 // slice the contracts say `k.entry.line.now` (tried), and the facts on both are one record here already
 
@@ -42,36 +56,29 @@ fn line_of(r: OperationSplit) -> NewLine
 fn write_rest(
     line: &[u8],
     class: &[u8],
-    b: Break,
-    first: NewLine,
+    rest: Rest,
     s: Layout,
     indent: &[u8],
     model: &[u8],
     out: &mut [u8],
 ) -> NewLine
-    requires { RestFits (strengths_in s.strengths.table) b.strength line.now class.now b.cut indent.now
-        (s.level + 1) (as_str s.ending) first }
-    ensures { RestWritten (strengths_in s.strengths.table) b.strength line.now class.now
-        b.cut indent.now (s.level + 1) (as_str s.ending)
-        model.now out.old out.new first result }
+    requires { RestFits (strengths_in s.strengths.table) rest.found.strength line.now class.now
+        rest.found.cut indent.now (s.level + 1) (as_str s.ending) rest.first }
+    ensures { RestWritten (strengths_in s.strengths.table) rest.found.strength line.now class.now
+        rest.found.cut indent.now (s.level + 1) (as_str s.ending)
+        model.now out.old out.new rest.first result }
 {
     let under = Layout {
         level: s.level + 1,
         ..s
     };
-    let mut c = b.cut;
-    let mut r = first;
+    let strength = rest.found.strength;
+    let mut c = rest.found.cut;
+    let mut r = rest.first;
     // kept: a range is no plainer, since a step takes a piece up to the next operator
     while c.place < line.len() {
         let from = c.place;
-        c = next_op(
-            &s.strengths.table,
-            line,
-            class,
-            b.strength,
-            from + 1,
-            c.after,
-        );
+        c = next_op(&s.strengths.table, line, class, strength, from + 1, c.after);
         let p = trim_part(line, from, c.place);
         r = write_line(model, out, r.next, under, indent, &line[p.start..p.end]);
     }
@@ -95,19 +102,19 @@ fn round_break(line: &[u8], class: &[u8], s: Layout, rounds: usize, indent: &[u8
 fn break_first(
     line: &[u8],
     class: &[u8],
-    s: Layout,
-    rounds: usize,
+    b: Breaking,
     indent: &[u8],
     model: &[u8],
     out: &mut [u8],
     at: usize,
 ) -> OperationSplit
-    requires { OperationFits line.now class.now indent.now s.level (as_str s.ending) at }
-    ensures { FirstBroken (strengths_in s.strengths.table) s.ruler line.now indent.now
-        s.level (as_str s.ending) s.max.0 rounds
+    requires { OperationFits line.now class.now indent.now b.layout.level (as_str b.layout.ending) at }
+    ensures { FirstBroken (strengths_in b.layout.strengths.table) b.layout.ruler line.now indent.now
+        b.layout.level (as_str b.layout.ending) b.layout.max.0 b.rounds
         model.now out.old out.new at result }
 {
-    match round_break(line, class, s, rounds, indent) {
+    let s = b.layout;
+    match round_break(line, class, s, b.rounds, indent) {
         None => {
             let pad = Pad {
                 indent,
@@ -116,12 +123,17 @@ fn break_first(
             let next = compare::append_indented(model, out, at, pad, line);
             OperationSplit::Whole(NewLine { start: at, next })
         }
-        Some(b) => {
-            let p = trim_part(line, 0, b.cut.place);
+        Some(found) => {
+            let p = trim_part(line, 0, found.cut.place);
             let l = &line[p.start..p.end];
             let k = &class[p.start..p.end];
-            let first = line_of(break_first(l, k, s, rounds - 1, indent, model, out, at));
-            OperationSplit::Broken(write_rest(line, class, b, first, s, indent, model, out))
+            let fewer = Breaking {
+                rounds: b.rounds - 1,
+                ..b
+            };
+            let first = line_of(break_first(l, k, fewer, indent, model, out, at));
+            let rest = Rest { found, first };
+            OperationSplit::Broken(write_rest(line, class, rest, s, indent, model, out))
         }
     }
 }
@@ -143,5 +155,9 @@ pub fn split_operation(
         → Broken (as_str s.ending) (split_operation (strengths_in s.strengths.table) o s.max.0 s.level
         (decode line.now)) model.now out.old out.new at result }
 {
-    break_first(line, class, s, MAX_STRENGTH, indent, model, out, at)
+    let b = Breaking {
+        layout: s,
+        rounds: MAX_STRENGTH,
+    };
+    break_first(line, class, b, indent, model, out, at)
 }

@@ -9,6 +9,7 @@ use Rattle.rules.specs.declared.Refusal.{Refusal}
 use Rattle.text_kinds.specs.declared.Kinds.{Kinds}
 pub use Rattle.text_kinds.specs.declared.Place.{Place}
 
+-- a line and a character column, both from 0
 abbrev pub place_at : ℕ → ℕ → Place
 place_at line column = record { line = line; column = column }
 

@@ -59,8 +59,8 @@ pub extern "C" fn wirescript_test_classify(
     scan::classify(line, carry_named(carry, depth), classes).into()
 }
 
-// The respaced line: scratch holds the line's n class bytes, and after them takes the text, of which the length is
-// given.
+// The respaced line, made as the formatter makes it: scratch holds the line's n class bytes, and after them takes the
+// text, of which the length is given.
 #[unsafe(no_mangle)]
 pub extern "C" fn wirescript_test_normalize_spacing(line: &[u8], scratch: &mut [u8]) -> u64 {
     let n = line.len();
@@ -68,7 +68,8 @@ pub extern "C" fn wirescript_test_normalize_spacing(line: &[u8], scratch: &mut [
         return 0;
     }
     let (class, out) = scratch.split_at_mut(n);
-    spacing::normalize_spacing(line, class, out) as u64
+    let kept = spacing::spaced_to(line, class);
+    spacing::normalize_from(line, class, out, kept) as u64
 }
 
 // Whether the line is spaced already.

@@ -7,7 +7,7 @@ use Rattle.lines.proofs.read_lines.Goals as goal
 
 pub loop-at-init : goal.loop-at-init
 loop-at-init c =
-    looked_start _ _ _ _ _ _ _ c.requires.passed c.requires.starts c.new-st.ensures
+    looked_start _ _ _ _ _ _ _ _ c.requires.passed c.requires.starts c.new-st.ensures
 
 pub line_step-requires : goal.line_step-requires
 line_step-requires c =

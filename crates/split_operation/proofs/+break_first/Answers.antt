@@ -28,8 +28,8 @@ slice_bounds-k-end t c =
     let q = c.in-Some.ensures.cut.fits in
     search rules
 
-pub overflow_sub-rounds : goal.overflow_sub-rounds
-overflow_sub-rounds t c = some_rounds _ (rounds_left _ _ _ _ _ _ _ _ _ c.in-Some.ensures)
+pub overflow_sub-fewer : goal.overflow_sub-fewer
+overflow_sub-fewer t c = some_rounds _ (rounds_left _ _ _ _ _ _ _ _ _ c.in-Some.ensures)
 
 pub break_first-requires : goal.break_first-requires
 break_first-requires t c = (

@@ -2,4 +2,4 @@
 use Rattle.split_operation.proofs.+break_first.Given as goal
 
 abbrev pub decreases-break_first : goal.decreases-break_first
-decreases-break_first l = l.rounds
+decreases-break_first l = l.b.rounds

@@ -8,7 +8,7 @@ use Rattle.split_operation.proofs.OperationLaws.{Writing}
 use Rattle.split_operation.proofs.write_rest.Given as goal
 
 abbrev pub invariant-loop-c : goal.invariant-loop-c
-invariant-loop-c l = Writing (strengths_in l.s.strengths.table) l.b.strength l.line l.class l.initial.c l.indent l.under.level (as_str l.under.ending) l.model l.initial.out l.initial.r l.out l.c l.r
+invariant-loop-c l = Writing (strengths_in l.s.strengths.table) l.strength l.line l.class l.initial.c l.indent l.under.level (as_str l.under.ending) l.model l.initial.out l.initial.r l.out l.c l.r
 
 abbrev pub decreases-loop-c : goal.decreases-loop-c
 decreases-loop-c l = length l.line - l.c.place

@@ -1,5 +1,5 @@
-use Rattle.std.proofs.Common.{rules}
-use Rattle.config_lines.proofs.KindLaws.{kind_skipped, kind_header, kind_other, kind_pair, key_well, value_well}
+use Rattle.std.proofs.Common.{rules, refl}
+use Rattle.config_lines.proofs.KindLaws.{kind_skipped, kind_header, kind_other, kind_pair}
 use Rattle.config_lines.proofs.kinds.kind_of.Goals as goal
 
 pub returns-then-is_skipped : goal.returns-then-is_skipped
@@ -11,12 +11,5 @@ returns-in-Some c = kind_header _ c.requires _ c.is_skipped.ensures c.if-is_skip
 pub returns-in_err-i : goal.returns-in_err-i
 returns-in_err-i c = rw c.from_residual.ensures (kind_other _ c.requires _ c.is_skipped.ensures c.if-is_skipped.false c.in_default.ensures c.in_err-i.ensures)
 
-pub trimmed-key-requires : goal.trimmed-key-requires
-trimmed-key-requires c = key_well _ c.requires _ c.in_ok-i.ensures
-
-pub trimmed-value-requires : goal.trimmed-value-requires
-trimmed-value-requires c = value_well _ c.requires _ c.in_ok-i.ensures
-
 pub returns : goal.returns
-returns c =
-    kind_pair _ c.requires _ c.is_skipped.ensures c.if-is_skipped.false c.in_default.ensures _ c.in_ok-i.ensures _ _ c.trimmed-key.ensures c.trimmed-value.ensures
+returns c = kind_pair _ c.requires _ c.is_skipped.ensures c.if-is_skipped.false c.in_default.ensures _ c.in_ok-i.ensures _ _ refl refl

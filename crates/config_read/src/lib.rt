@@ -1,11 +1,9 @@
 // C-12: the values of our .editorconfig files for a path.
 //   levels     the directories of a path, from the nearest outward, and the text of each
-//   prefix     how far a text is well-formed
 //   refusals   7, 4 and 8, each over all texts
 #![tactic(auto)]
 
 pub mod levels;
-mod prefix;
 pub mod refusals;
 
 ghost use Rattle.std.specs.Prelude.{◌≡◌};

@@ -2,7 +2,6 @@
 ghost use Rattle.std.specs.Prelude.{◌≡◌, max};
 ghost use Rattle.config_read.specs.Refusals.{bytes_of, rank_number, rank_of, path_rank, worst};
 
-use crate::prefix::well_formed_prefix;
 use config_rules::ConfigRefusal;
 
 // The bytes that a text may have.
@@ -21,7 +20,7 @@ fn of_text(text: &[u8]) -> Option<ConfigRefusal>
     if MAX_TEXT < text.len() {
         return Some(ConfigRefusal::LongText);
     }
-    if well_formed_prefix(text) != text.len() {
+    if utf8::well_formed_prefix(text) != text.len() {
         return Some(ConfigRefusal::NotUtf8);
     }
     if config_text::has_long_name(text) {
@@ -33,7 +32,7 @@ fn of_text(text: &[u8]) -> Option<ConfigRefusal>
 fn of_path(path: &[u8]) -> Option<ConfigRefusal>
     ensures { rank_number result ≡ path_rank path.now }
 {
-    if well_formed_prefix(path) != path.len() {
+    if utf8::well_formed_prefix(path) != path.len() {
         return Some(ConfigRefusal::NotUtf8);
     }
     None

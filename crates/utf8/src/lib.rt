@@ -2,7 +2,8 @@
 // `decode` (specs/Unicode.antt).
 #![tactic(auto)]
 
-ghost use Rattle.std.specs.Prelude.{◌≡◌, ◌+◌, ◌≤◌, ◌<◌, ℕ, Bool, length, get_or, take, drop};
+ghost use Rattle.std.specs.Prelude.{◌≡◌, ◌+◌, ◌≤◌, ◌<◌, ℕ, Bool, IfSome, length, get_or, take, drop, slice_range};
+ghost use Rattle.std.specs.Str.{IsUtf8};
 ghost use Rattle.utf8.specs.Unicode.{tail, prefix_len, code_of, code_at, decode};
 ghost use Rattle.utf8.specs.Unicode.{WellFormed, width, is_white, first_is_white};
 ghost use Rattle.utf8.specs.Places.{AsciiRun, Step, Back, TellsChars, PastChars, WhiteAt, WhiteBefore};
@@ -53,16 +54,79 @@ pub fn past_blocks(s: &[u8], at: usize) -> usize
     i
 }
 
-// The length of the longest well-formed prefix.
+// How many bytes tell whether text is dense: each block of 16 among them has a byte that is not ASCII.
+const FRONT: usize = 256;
+
+// The bytes of dense text that `simdutf8` tests at a time. One that is not ASCII among 64 costs it what 64 do.
+const DENSE_PART: usize = 1024;
+
+// Those of other text, which the standard library tests. Each character of several bytes costs it the same.
+const SPARSE_PART: usize = 4096;
+
+// Whether text is dense. One that is shorter than `FRONT` is not.
+fn is_dense(s: &[u8]) -> bool {
+    s.get(..FRONT).is_some_and(|front| front.chunks_exact(16).all(|block| !block.is_ascii()))
+}
+
+// One place back, where a byte stands that no sequence starts with.
+fn back_in_char(s: &[u8], at: usize) -> usize
+    requires { (0 < at) × (at < length s.now) }
+    ensures { (result ≤ at) × (at ≤ result + 1) }
+{
+    at - usize::from(is_tail(s[at]))
+}
+
+// Where the part that begins at `at` ends: `most` bytes on, but before a character that would be cut.
+fn part_end(s: &[u8], at: usize, most: usize) -> usize
+    requires { (at < length s.now) × (4 ≤ most) }
+    ensures { (at < result) × (result ≤ length s.now) }
+{
+    if s.len() - at <= most {
+        s.len()
+    } else {
+        back_in_char(s, back_in_char(s, back_in_char(s, at + most)))
+    }
+}
+
+// Where the part that begins at `at` ends, if it is well-formed.
+fn well_formed_part(s: &[u8], at: usize) -> Option<usize>
+    requires { at < length s.now }
+    ensures { IfSome result (λ end. (at < end) × (end ≤ length s.now) × IsUtf8 (slice_range s.now at end)) }
+{
+    let dense = is_dense(&s[at..]);
+    let end = part_end(s, at, if dense { DENSE_PART } else { SPARSE_PART });
+    let part = &s[at..end];
+    let fits = if dense {
+        simdutf8::is_utf8_baseline(part)
+    } else {
+        str::from_utf8(part).is_ok()
+    };
+    fits.then_some(end)
+}
+
+// How many bytes lie in well-formed parts from the start on. A rest that is shorter than `FRONT` is no part.
+fn well_formed_parts(s: &[u8]) -> usize
+    ensures { (result ≤ length s.now) × IsUtf8 (take result s.now) }
+{
+    let mut at = 0;
+    // kept: a range is no plainer, since a part ends where a character does
+    while s.len() - at >= FRONT {
+        let Some(end) = well_formed_part(s, at) else {
+            return at;
+        };
+        at = end;
+    }
+    at
+}
+
+// The length of the longest well-formed prefix. Behind a fault no more is read than its part.
 pub fn well_formed_prefix(s: &[u8]) -> usize
     ensures { result ≡ prefix_len s.now }
 {
-    if simdutf8::is_utf8_baseline(s) {
-        return s.len();
-    }
-    match str::from_utf8(s) {
-        Ok(text) => text.len(),
-        Err(e) => e.valid_up_to(),
+    let at = well_formed_parts(s);
+    match str::from_utf8(&s[at..]) {
+        Ok(text) => at + text.len(),
+        Err(e) => at + e.valid_up_to(),
     }
 }
 

@@ -1,5 +1,5 @@
 use Rattle.std.proofs.Common.{◌-◌, ◌≤◌, length, take, IsUtf8}
-use Rattle.config_read.proofs.prefix.well_formed_parts.Given as goal
+use Rattle.utf8.proofs.well_formed_parts.Given as goal
 
 abbrev pub invariant-loop-at : goal.invariant-loop-at
 invariant-loop-at l = (l.at ≤ length l.s) × IsUtf8 (take l.at l.s)

@@ -90,8 +90,8 @@ pub refused_call : (why : Refusal) (scratch : List ℕ) (n k m : ℕ) {r : ℕ} 
 refused_call why scratch n k m z w = record { outcome = refl; zeros = z; none = none_told scratch w; cleared = w.cleared }
 
 -- without a comparison all lines are read
-pub all_done : {source indent : List ℕ} {style : Style} {r : LinesRead} {out scratch : List ℕ}
-    → AllRead source indent style false None r out scratch → LinesDone source indent style [] r.st out scratch
+pub all_done : {source indent : List ℕ} {style : Style} {checks : Bool} {r : LinesRead} {out scratch : List ℕ}
+    → AllRead source indent style checks None r out scratch → LinesDone source indent style [] r.st out scratch
 all_done w = w.done (w.all refl)
 
 -- out₁ is what `read_lines` leaves of the output, out₂ what `finish_text` leaves of it; list₁ and scratch₂ are what

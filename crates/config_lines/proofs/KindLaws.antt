@@ -2,6 +2,7 @@
 --     skip_first, skip_not     the tests of `is_skipped`
 --     header_short, header_first, header_last, header_is     those of `name_in`
 --     kind_skipped, kind_header, kind_pair, kind_other     those of `kind_of`
+--     trimmed_pair     what `trimmed` makes of a pair
 use Rattle.std.specs.Prelude.{Some, None}
 use denote.Ref.{Bor}
 use Prim.Native.Nat.{ℕ, ◌+◌, ◌-◌, ◌≤◌, ◌<◌}
@@ -26,8 +27,8 @@ use Rattle.rules.proofs.Leading.{last_at}
 use Rattle.rules.proofs.StartsBytes.{on_decode, encode_some, steady_is, first_encode, last_encode, empty_encode}
 use Rattle.config_rules.specs.Lines.{lower, has_eq, key, setting, is_comment, is_header, line_of}
 use Rattle.config_rules.specs.Lines.Line.{nothing, header, pair}
-use Rattle.config_lines.specs.Words.{EqAt}
-use Rattle.config_lines.specs.Kinds.{name_in, Named, line_in, Parts, KindOf}
+use Rattle.config_lines.specs.Words.{EqAt, Trimmed}
+use Rattle.config_lines.specs.Kinds.{name_in, Named, line_in, trimmed_line_in, Parts, KindOf}
 use Rattle.config_lines.specs.declared.kinds.LineKind.{LineKind}
 use Rattle.config_lines.proofs.LineBytes.{has_encode, key_encode, setting_encode}
 
@@ -180,11 +181,14 @@ module _ (s : List ℕ) (w : WellFormed s) (i : ℕ) (q : EqAt s i) where
   setting_bytes : drop (i + 1) s ≡ encode (setting (decode s))
   setting_bytes = sym q.setting ∙ on_decode setting (λ (l : List ℕ). encode (setting l)) setting_encode s w
 
-  key_well : WellFormed (take i s)
+  pub key_well : WellFormed (take i s)
   key_well = rw key_bytes (wf_encode (key (decode s)) (key_scalars (decode s) (decode_scalars s)))
 
   setting_well : WellFormed (drop (i + 1) s)
   setting_well = rw setting_bytes (wf_encode (setting (decode s)) (setting_scalars (decode s) (decode_scalars s)))
+
+  pub value_well : WellFormed (take (length s - (i + 1)) (drop (i + 1) s))
+  value_well = rw (part_from s (i + 1)) setting_well
 
   key_text : key (decode s) ≡ decode (take i s)
   key_text = sym (ap decode key_bytes ∙ decode_encode (key (decode s)) (key_scalars (decode s) (decode_scalars s)))
@@ -211,7 +215,7 @@ module _ (s : List ℕ) (w : WellFormed s) where
   skipped_same = rw (empty_same, comment_same)
 
   pub kind_skipped : (t : Bool) → t ≡ skipped s → t ≡ true → KindOf s None
-  unfolding line_of line_in Parts
+  unfolding line_of trimmed_line_in Parts
   kind_skipped t e y = record { is = choose_true _ _ _ (sym skipped_same ∙ sym e ∙ y); parts = tt }
 
   module _ (t : Bool) (e : t ≡ skipped s) (n : t ≡ false) where
@@ -219,7 +223,7 @@ module _ (s : List ℕ) (w : WellFormed s) where
     counts = sym skipped_same ∙ sym e ∙ n
 
     pub kind_header : (name : Bor (List ℕ)) → Named s name.now → KindOf s (Some (LineKind.Header name))
-    unfolding line_of line_in Parts
+    unfolding line_of trimmed_line_in Parts
     kind_header name h =
         record {
           is = choose_false _ _ _ counts ∙ choose_true _ _ _ (sym header_same ∙ h.header) ∙ ap header (header_name s w h.header ∙ ap decode (sym h.is));
@@ -232,15 +236,22 @@ module _ (s : List ℕ) (w : WellFormed s) where
       no_header = choose_false _ _ _ counts ∙ choose_false _ _ _ (sym header_same ∙ h)
 
       pub kind_other : has_eq s ≡ false → KindOf s None
-      unfolding line_in Parts
+      unfolding trimmed_line_in Parts
       kind_other q = record { is = no_header ∙ choose_false _ _ _ (sym eq_same ∙ q); parts = tt }
 
       pub kind_pair : (i : ℕ) → EqAt s i → (k v : Bor (List ℕ)) → k.now ≡ take i s → v.now ≡ take (length s - (i + 1)) (drop (i + 1) s)
           → KindOf s (Some (LineKind.Pair k v))
-      unfolding line_in Parts
+      unfolding trimmed_line_in Parts
       kind_pair i q k v a b =
           let z : v.now ≡ drop (i + 1) s = b ∙ part_from s (i + 1) in
           record {
             is = no_header ∙ choose_true _ _ _ (sym eq_same ∙ q.has) ∙ rw (key_text s w i q, setting_text s w i q, a, z);
             parts = (rw a (key_well s w i q), rw z (setting_well s w i q));
           }
+
+-- ---- a pair of which the parts are trimmed
+
+pub trimmed_pair : (k v key value : Bor (List ℕ)) → Trimmed k.now key.now → Trimmed v.now value.now
+    → trimmed_line_in (Some (LineKind.Pair k v)) ≡ line_in (Some (LineKind.Pair key value))
+unfolding trimmed_line_in line_in
+trimmed_pair k v key value a z = rw (a.is, z.is)

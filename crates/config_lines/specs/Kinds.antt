@@ -13,11 +13,17 @@ pub record Named (s name : List ℕ) : Type 0 where
   pub header : is_header s ≡ true
   pub is : name ≡ name_in s
 
--- the line that is of this kind
+-- the line that is of this kind, with key and value as they stand
 unfoldable pub line_in : Option LineKind → Line
 line_in None = nothing
 line_in (Some (LineKind.Header name)) = header (decode name.now)
-line_in (Some (LineKind.Pair k v)) = pair (lower (trim (decode k.now))) (lower (trim (decode v.now)))
+line_in (Some (LineKind.Pair k v)) = pair (lower (decode k.now)) (lower (decode v.now))
+
+-- the same with key and value trimmed
+unfoldable pub trimmed_line_in : Option LineKind → Line
+trimmed_line_in None = nothing
+trimmed_line_in (Some (LineKind.Header name)) = header (decode name.now)
+trimmed_line_in (Some (LineKind.Pair k v)) = pair (lower (trim (decode k.now))) (lower (trim (decode v.now)))
 
 -- its parts are well-formed
 unfoldable pub Parts : Option LineKind → Type 0
@@ -26,5 +32,5 @@ Parts (Some (LineKind.Header name)) = WellFormed name.now
 Parts (Some (LineKind.Pair k v)) = WellFormed k.now × WellFormed v.now
 
 pub record KindOf (s : List ℕ) (k : Option LineKind) : Type 0 where
-  pub is : line_of (decode s) ≡ line_in k
+  pub is : line_of (decode s) ≡ trimmed_line_in k
   pub parts : Parts k

@@ -40,11 +40,12 @@ use Rattle.config_rules.specs.Lines.{Line, line_of, without_bom, lines_of}
 use Rattle.config_rules.specs.Lines.Line.{nothing, header, pair}
 use Rattle.config_rules.specs.Sections.{long_name, root_at, settings}
 use Rattle.config_lines.specs.Words.{Trimmed}
-use Rattle.config_lines.specs.Kinds.{line_in, Parts, KindOf}
+use Rattle.config_lines.specs.Kinds.{line_in, trimmed_line_in, Parts, KindOf}
 use Rattle.config_lines.specs.declared.kinds.LineKind.{LineKind}
 use Rattle.config_text.specs.Walk.{Unmarked, lines_in, lines_left, LinesWell, NextLine}
 use Rattle.config_text.specs.declared.walk.Lines.{Lines}
 use Rattle.config_text.specs.Steps.{starts_section, root_after, applies_after, values_after, Named}
+use Rattle.config_text.proofs.StepLaws.{long_trimmed, applies_trimmed}
 
 -- ---- where the lines start
 
@@ -163,10 +164,10 @@ module _ (text : List ℕ) (w : WellFormed text) (e : ℕ) (q : LineEnd text 0 e
   rest_well l = (lf_cut l).right
 
   module _ (line : List ℕ) (kind : Option LineKind) (t : Trimmed (take e text) line) (k : KindOf line kind) where
-    line_is : line_of (trim (decode (take e text))) ≡ line_in kind
+    line_is : line_of (trim (decode (take e text))) ≡ trimmed_line_in kind
     line_is = ap line_of (sym t.is) ∙ k.is
 
-    pub lines_more : e < length text → lines_in text ≡ line_in kind ∷ lines_in (drop (e + 1) text)
+    pub lines_more : e < length text → lines_in text ≡ trimmed_line_in kind ∷ lines_in (drop (e + 1) text)
     unfolding lines_in
     lines_more l =
         let z : e - 0 ≡ e = omega arith in
@@ -175,7 +176,7 @@ module _ (text : List ℕ) (w : WellFormed text) (e : ℕ) (q : LineEnd text 0 e
         ∙ ap (λ (n : ℕ). line_at_law (take e text) ∷ map line_at_law (pieces (split_on "\n" (drop n text)))) (sym (add-one e))
         ∙ ap (λ (x : Line). x ∷ map line_at_law (pieces (split_on "\n" (drop (e + 1) text)))) line_is
 
-    pub lines_last : length text ≤ e → lines_in text ≡ line_in kind ∷ []
+    pub lines_last : length text ≤ e → lines_in text ≡ trimmed_line_in kind ∷ []
     unfolding lines_in
     lines_last l =
         ap (λ (p : Pieces). map line_at_law (pieces p)) (whole text 0 e q l)
@@ -193,15 +194,15 @@ module _ (s : Lines) (text : Bor (List ℕ)) (a : s.rest ≡ Some text) (w : Lin
   module _ (e : ℕ) (q : LineEnd text.now 0 e) (line : List ℕ) (kind : Option LineKind) (t : Trimmed (take e text.now) line) (k : KindOf line kind)
       (r : Option (Bor (List ℕ))) (g : IsGetRangeResult text.now (e + 1) (length text.now) r)
     where
-      pub lines_next : lines_left s ≡ line_in kind ∷ lines_left (record { rest = r })
+      pub lines_next : lines_left s ≡ trimmed_line_in kind ∷ lines_left (record { rest = r })
       lines_next = rw a (go r g)
         where
           go : (r : Option (Bor (List ℕ))) → IsGetRangeResult text.now (e + 1) (length text.now) r
-              → lines_in text.now ≡ line_in kind ∷ lines_left (record { rest = r })
+              → lines_in text.now ≡ trimmed_line_in kind ∷ lines_left (record { rest = r })
           go None g = lines_last text.now text_well e q line kind t k (⊎_elim (λ h. omega arith) (λ h. absurd (omega arith)) g.0)
           go (Some x) g =
               lines_more text.now text_well e q line kind t k (omega (arith, g.0.0))
-              ∙ ap (λ (l : List ℕ). line_in kind ∷ lines_in l) (sym (g.0.2 ∙ part_from text.now (e + 1)))
+              ∙ ap (λ (l : List ℕ). trimmed_line_in kind ∷ lines_in l) (sym (g.0.2 ∙ part_from text.now (e + 1)))
 
       pub next_well : LinesWell (record { rest = r })
       next_well = go r g
@@ -230,8 +231,8 @@ module _ {F : Type 0} (g : Mut F (Option LineKind × Unit {0}) Bool)
         → long_name (lines_left s) ≡ long_name (lines_left t)
     names_passed [] s t f f' y c = ap (λ (x : Lines). long_name (lines_left x)) y
     names_passed (x ∷ xs) s t f f' y c =
-        ap long_name y.1.0 ∙ long_cons (line_in x) (lines_left y.0)
-        ∙ ap (λ (b : Bool). b || long_name (lines_left y.0)) (sym (tells f x false c.0 y.1.1 c.1))
+        ap long_name y.1.0 ∙ long_cons (trimmed_line_in x) (lines_left y.0)
+        ∙ ap (λ (b : Bool). b || long_name (lines_left y.0)) (long_trimmed x ∙ sym (tells f x false c.0 y.1.1 c.1))
         ∙ names_passed xs y.0 t c.0 f' y.2 c.2
 
     pub names_any : (s u : Lines) (f : F) (r : Bool) → ChecksAny NextLine g s f r u → r ≡ long_name (lines_left s)
@@ -241,8 +242,8 @@ module _ {F : Type 0} (g : Mut F (Option LineKind × Unit {0}) Bool)
             → MatchOption o (r ≡ false) (λ x. (r ≡ true) × ((h : F) × Called g d.2 (x, tt) true h)) → r ≡ long_name (lines_left d.3.0)
         last None n e = e ∙ sym (ap long_name n.0 ∙ long_nil)
         last (Some x) n e =
-            e.0 ∙ sym (ap long_name n.0 ∙ long_cons (line_in x) (lines_left u)
-            ∙ ap (λ (b : Bool). b || long_name (lines_left u)) (sym (tells d.2 x true e.1.0 n.1 e.1.1)))
+            e.0 ∙ sym (ap long_name n.0 ∙ long_cons (trimmed_line_in x) (lines_left u)
+            ∙ ap (λ (b : Bool). b || long_name (lines_left u)) (long_trimmed x ∙ sym (tells d.2 x true e.1.0 n.1 e.1.1)))
 
 -- ---- root
 
@@ -250,14 +251,14 @@ root_nil : (root : Bool) → root_at root [] ≡ root
 unfolding root_at
 root_nil root = refl
 
-root_ends : (root : Bool) (line : Option LineKind) (ls : List Line) → starts_section line ≡ true → root_at root (line_in line ∷ ls) ≡ root
-unfolding root_at line_in
+root_ends : (root : Bool) (line : Option LineKind) (ls : List Line) → starts_section line ≡ true → root_at root (trimmed_line_in line ∷ ls) ≡ root
+unfolding root_at trimmed_line_in
 root_ends root None ls e = absurd (let z : ◌≡◌ {A = ℕ} 0 1 = cc in omega arith)
 root_ends root (Some (LineKind.Header name)) ls e = refl
 root_ends root (Some (LineKind.Pair k v)) ls e = absurd (let z : ◌≡◌ {A = ℕ} 0 1 = cc in omega arith)
 
-root_goes : (root : Bool) (line : Option LineKind) (ls : List Line) → starts_section line ≡ false → root_at root (line_in line ∷ ls) ≡ root_at (root_after root (line_in line)) ls
-unfolding root_at root_after line_in
+root_goes : (root : Bool) (line : Option LineKind) (ls : List Line) → starts_section line ≡ false → root_at root (trimmed_line_in line ∷ ls) ≡ root_at (root_after root (trimmed_line_in line)) ls
+unfolding root_at root_after trimmed_line_in
 root_goes root None ls e = refl
 root_goes root (Some (LineKind.Header name)) ls e = absurd (let z : ◌≡◌ {A = ℕ} 0 1 = cc in omega arith)
 root_goes root (Some (LineKind.Pair k v)) ls e = refl
@@ -270,14 +271,14 @@ module _ (text : List ℕ) (root : Bool) (s : Lines) (w : Root text root s) wher
   pub root_end : lines_left s ≡ [] → root ≡ root_at false (lines_of (decode text))
   root_end e = sym (w.is ∙ ap (root_at root) e ∙ root_nil root)
 
-  module _ (line : Option LineKind) (t : Lines) (n : lines_left s ≡ line_in line ∷ lines_left t) where
-    root_next : root_at false (lines_of (decode text)) ≡ root_at root (line_in line ∷ lines_left t)
+  module _ (line : Option LineKind) (t : Lines) (n : lines_left s ≡ trimmed_line_in line ∷ lines_left t) where
+    root_next : root_at false (lines_of (decode text)) ≡ root_at root (trimmed_line_in line ∷ lines_left t)
     root_next = w.is ∙ ap (root_at root) n
 
     pub root_found : (b : Bool) → b ≡ starts_section line → b ≡ true → root ≡ root_at false (lines_of (decode text))
     root_found b p y = sym (root_next ∙ root_ends root line (lines_left t) (sym p ∙ y))
 
-    pub root_more : (b : Bool) → b ≡ starts_section line → b ≡ false → (new : Bool) → new ≡ root_after root (line_in line) → LinesWell t → Root text new t
+    pub root_more : (b : Bool) → b ≡ starts_section line → b ≡ false → (new : Bool) → new ≡ root_after root (trimmed_line_in line) → LinesWell t → Root text new t
     root_more b p f new u v =
         record { well = v; is = root_next ∙ root_goes root line (lines_left t) (sym p ∙ f) ∙ ap (λ (x : Bool). root_at x (lines_left t)) (sym u) }
 
@@ -303,21 +304,21 @@ module _ (text rel : List ℕ) (old values : Resolved) (applies : Bool) (s : Lin
   pub setting_end : lines_left s ≡ [] → values ≡ settings (decode rel) false old (lines_of (decode text))
   setting_end e = sym (w.is ∙ ap (settings (decode rel) applies values) e ∙ settings_nil (decode rel) applies values)
 
-  module _ (line : Option LineKind) (t : Lines) (n : lines_left s ≡ line_in line ∷ lines_left t) where
-    setting_names : (long_name (line_in line ∷ []) || long_name (lines_left t)) ≡ false
-    setting_names = sym (long_cons (line_in line) (lines_left t)) ∙ sym (ap long_name n) ∙ w.names
+  module _ (line : Option LineKind) (t : Lines) (n : lines_left s ≡ trimmed_line_in line ∷ lines_left t) where
+    setting_names : (long_name (trimmed_line_in line ∷ []) || long_name (lines_left t)) ≡ false
+    setting_names = sym (long_cons (trimmed_line_in line) (lines_left t)) ∙ sym (ap long_name n) ∙ w.names
 
     pub setting_named : Parts line → WellFormed rel → Named line rel
-    setting_named p v = record { parts = p; well = v; short = neither_left (long_name (line_in line ∷ [])) (long_name (lines_left t)) setting_names }
+    setting_named p v = record { parts = p; well = v; short = sym (long_trimmed line) ∙ neither_left (long_name (trimmed_line_in line ∷ [])) (long_name (lines_left t)) setting_names }
 
-    pub setting_more : (on : Bool) (new : Resolved) → on ≡ applies_after (decode rel) applies (line_in line) → new ≡ values_after on values (line_in line)
+    pub setting_more : (on : Bool) (new : Resolved) → on ≡ applies_after (decode rel) applies (line_in line) → new ≡ values_after on values (trimmed_line_in line)
         → LinesWell t → Setting text rel old new on t
     setting_more on new a b v =
         record {
           well = v;
-          names = neither_right (long_name (line_in line ∷ [])) (long_name (lines_left t)) setting_names;
+          names = neither_right (long_name (trimmed_line_in line ∷ [])) (long_name (lines_left t)) setting_names;
           is =
-              w.is ∙ ap (settings (decode rel) applies values) n ∙ settings_cons (decode rel) applies values (line_in line) (lines_left t)
-              ∙ ap (λ (x : Bool). settings (decode rel) x (values_after x values (line_in line)) (lines_left t)) (sym a)
+              w.is ∙ ap (settings (decode rel) applies values) n ∙ settings_cons (decode rel) applies values (trimmed_line_in line) (lines_left t)
+              ∙ ap (λ (x : Bool). settings (decode rel) x (values_after x values (trimmed_line_in line)) (lines_left t)) (applies_trimmed (decode rel) applies line ∙ sym a)
               ∙ ap (λ (x : Resolved). settings (decode rel) on x (lines_left t)) (sym b);
         }

@@ -5,7 +5,7 @@ use denote.Ref.{Bor}
 use Rattle.utf8.specs.Unicode.{decode, WellFormed, trim}
 use Rattle.rules.specs.Basics.{pieces, split_on}
 use Rattle.config_rules.specs.Lines.{Line, line_of, without_bom, lines_of}
-use Rattle.config_lines.specs.Kinds.{line_in, Parts}
+use Rattle.config_lines.specs.Kinds.{trimmed_line_in, Parts}
 use Rattle.config_lines.specs.declared.kinds.LineKind.{LineKind}
 use Rattle.config_text.specs.declared.walk.Lines.{Lines}
 
@@ -25,7 +25,7 @@ LinesWell s = MatchOption s.rest (Unit {0}) (λ text. WellFormed text.now)
 
 -- the next of the lines that are left
 abbrev pub NextLine : Lines → Option (Option LineKind) → Lines → Type 0
-NextLine s r t = MatchOption r ((lines_left s ≡ []) × (t ≡ s)) (λ line. (lines_left s ≡ line_in line ∷ lines_left t) × Parts line)
+NextLine s r t = MatchOption r ((lines_left s ≡ []) × (t ≡ s)) (λ line. (lines_left s ≡ trimmed_line_in line ∷ lines_left t) × Parts line)
 
 -- r is the text without one U+FEFF at its start
 pub record Unmarked (text r : List ℕ) : Type 0 where

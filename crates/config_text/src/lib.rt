@@ -2,6 +2,8 @@
 #![tactic(auto)]
 
 pub mod steps;
+#[cfg(test)]
+mod tests;
 pub mod walk;
 
 ghost use Rattle.std.specs.Prelude.{◌≡◌, false};
@@ -32,7 +34,7 @@ pub fn is_root(text: &[u8]) -> bool
         if steps::starts_section(line) {
             return root;
         }
-        root = steps::root_after(root, line);
+        root = steps::root_after_trimming(root, line);
     }
     root
 }
@@ -46,7 +48,7 @@ pub fn settings(text: &[u8], rel: &[u8], old: Resolved) -> Resolved
     let mut applies = false;
     for line in Lines::of(text) {
         applies = steps::applies_after(applies, line, rel);
-        values = steps::values_after(applies, values, line);
+        values = steps::values_after_trimming(applies, values, line);
     }
     values
 }

@@ -2,7 +2,7 @@
 ghost use Rattle.std.specs.Prelude.{◌≡◌, [], ◌∷◌};
 ghost use Rattle.utf8.specs.Unicode.{decode};
 ghost use Rattle.config_rules.specs.Sections.{long_name};
-ghost use Rattle.config_lines.specs.Kinds.{line_in, Parts};
+ghost use Rattle.config_lines.specs.Kinds.{line_in, trimmed_line_in, Parts};
 ghost use Rattle.config_text.specs.Steps.{starts_section, root_after, applies_after, values_after, Named};
 
 use config_lines::kinds::LineKind;
@@ -31,11 +31,23 @@ pub fn starts_section(line: Option<LineKind<'_>>) -> bool
     matches!(line, Some(LineKind::Header(_)))
 }
 
-// A pair sets `root` if that is its key.
+// A pair sets `root` if that is its key. Key and value are taken as they stand.
 #[tactic(auto, unfolding(config_lines::specs::Kinds::line_in, crate::specs::Steps::root_after))]
 pub fn root_after(root: bool, line: Option<LineKind<'_>>) -> bool
     requires { Parts line }
     ensures { result ≡ root_after root (line_in line.entry) }
+{
+    match line {
+        Some(LineKind::Pair(key, value)) if is_word(key, b"root") => is_word(value, b"true"),
+        _ => root,
+    }
+}
+
+// The same, where key and value are yet to be trimmed.
+#[tactic(auto, unfolding(config_lines::specs::Kinds::trimmed_line_in, crate::specs::Steps::root_after))]
+pub fn root_after_trimming(root: bool, line: Option<LineKind<'_>>) -> bool
+    requires { Parts line }
+    ensures { result ≡ root_after root (trimmed_line_in line.entry) }
 {
     match line {
         Some(LineKind::Pair(key, value)) if is_word(trimmed(key), b"root") => {
@@ -57,11 +69,23 @@ pub fn applies_after(applies: bool, line: Option<LineKind<'_>>, rel: &[u8]) -> b
     }
 }
 
-// A pair that counts supersedes a value.
+// A pair that counts supersedes a value. Key and value are taken as they stand.
 #[tactic(auto, unfolding(config_lines::specs::Kinds::line_in, crate::specs::Steps::values_after))]
 pub fn values_after(applies: bool, old: Resolved, line: Option<LineKind<'_>>) -> Resolved
     requires { Parts line }
     ensures { result ≡ values_after applies old (line_in line.entry) }
+{
+    match line {
+        Some(LineKind::Pair(key, value)) if applies => pairs::superseded(old, key, value),
+        _ => old,
+    }
+}
+
+// The same, where key and value are yet to be trimmed.
+#[tactic(auto, unfolding(config_lines::specs::Kinds::trimmed_line_in, crate::specs::Steps::values_after))]
+pub fn values_after_trimming(applies: bool, old: Resolved, line: Option<LineKind<'_>>) -> Resolved
+    requires { Parts line }
+    ensures { result ≡ values_after applies old (trimmed_line_in line.entry) }
 {
     match line {
         Some(LineKind::Pair(key, value)) if applies => {

@@ -7,7 +7,7 @@ applies_after-applies-requires c =
 
 pub loop-line-preserved : goal.loop-line-preserved
 loop-line-preserved c =
-    setting_more _ _ _ _ _ _ c.loop-line.invariant _ _ c.in-Some.ensures.steps.0 _ _ c.applies_after-applies.ensures c.values_after-values.ensures c.in-Some.ensures.goes.keeps
+    setting_more _ _ _ _ _ _ c.loop-line.invariant _ _ c.in-Some.ensures.steps.0 _ _ c.applies_after-applies.ensures c.values_after_trimming-values.ensures c.in-Some.ensures.goes.keeps
 
 pub returns : goal.returns
 returns c = setting_end _ _ _ _ _ _ c.loop-line.invariant c.in-None.ensures.steps.0

@@ -12,6 +12,7 @@ use Rattle.utf8.specs.Unicode.{decode, WellFormed, trim}
 use Rattle.rules.specs.Basics.{choose, codes, same}
 use Rattle.rules.specs.declared.Resolved.{Resolved}
 use Rattle.config_rules.specs.Lines.{lower}
+use Rattle.config_rules.specs.Lines.Line.{pair}
 use Rattle.config_rules.specs.Values.{superseded}
 use Rattle.config_rules.specs.Sections.{long_name}
 use Rattle.config_lines.specs.Words.{Trimmed}
@@ -54,7 +55,28 @@ applies_trimmed rel applies None = refl
 applies_trimmed rel applies (Some (LineKind.Header name)) = refl
 applies_trimmed rel applies (Some (LineKind.Pair k v)) = refl
 
--- ---- a pair
+-- ---- a pair of which the bytes key and value are the characters k and v
+
+module _ (key k : List ℕ) (w : WellFormed key) (d : decode key ≡ k) where
+  key_same : same (lower key) (codes "root") ≡ same (lower k) (codes "root")
+  key_same = word_decode (codes "root") refl key w ∙ rw d
+
+  other_key : (b : Bool) → b ≡ same (lower key) (codes "root") → b ≡ false → (root : Bool) (v : List ℕ) → root ≡ root_after root (pair (lower k) v)
+  unfolding root_after choose
+  other_key b q n root v = rw (← key_same, ← q, n)
+
+  module _ (value v : List ℕ) (x : WellFormed value) (f : decode value ≡ v) where
+    root_pair : (b : Bool) → b ≡ same (lower key) (codes "root") → b ≡ true → (root r : Bool) → r ≡ same (lower value) (codes "true")
+        → r ≡ root_after root (pair (lower k) (lower v))
+    unfolding root_after choose
+    root_pair b q y root r z = rw (← key_same, ← q, y) (z ∙ word_decode (codes "true") refl value x ∙ rw f)
+
+    counted_pair : (old r : Resolved) (applies : Bool) → applies ≡ true → r ≡ superseded old (lower key) (lower value)
+        → r ≡ values_after applies old (pair (lower k) (lower v))
+    unfolding values_after choose
+    counted_pair old r applies y q = rw y (q ∙ superseded_decode old key value w x ∙ rw (d, f))
+
+-- ---- a pair, its key and value as they stand, and trimmed
 
 module _ (line : Option LineKind) (k v : Bor (List ℕ)) (e : line ≡ Some (LineKind.Pair k v)) (p : Parts line) where
   pair_well : WellFormed k.now × WellFormed v.now
@@ -67,51 +89,40 @@ module _ (line : Option LineKind) (k v : Bor (List ℕ)) (e : line ≡ Some (Lin
   pub value_well : WellFormed v.now
   value_well = pair_well.1
 
-  root_key : same (lower k.now) (codes "root") ≡ same (lower (decode k.now)) (codes "root")
-  root_key = word_decode (codes "root") refl k.now pair_well.0
-
   pub root_set : (b : Bool) → b ≡ same (lower k.now) (codes "root") → b ≡ true → (root r : Bool) → r ≡ same (lower v.now) (codes "true")
       → r ≡ root_after root (line_in line)
-  unfolding root_after line_in choose
-  root_set b q y root r z = rw (e, ← root_key, ← q, y) (z ∙ word_decode (codes "true") refl v.now pair_well.1)
+  unfolding line_in
+  root_set b q y root r z = rw e (root_pair k.now (decode k.now) key_well refl v.now (decode v.now) value_well refl b q y root r z)
 
   pub root_kept : (b : Bool) → b ≡ same (lower k.now) (codes "root") → b ≡ false → (root : Bool) → root ≡ root_after root (line_in line)
-  unfolding root_after line_in choose
-  root_kept b q n root = rw (e, ← root_key, ← q, n)
+  unfolding line_in
+  root_kept b q n root = rw e (other_key k.now (decode k.now) key_well refl b q n root (lower (decode v.now)))
 
   pub values_set : (old r : Resolved) (applies : Bool) → applies ≡ true → r ≡ superseded old (lower k.now) (lower v.now)
       → r ≡ values_after applies old (line_in line)
-  unfolding values_after line_in choose
-  values_set old r applies y q = rw (e, y) (q ∙ superseded_decode old k.now v.now pair_well.0 pair_well.1)
+  unfolding line_in
+  values_set old r applies y q = rw e (counted_pair k.now (decode k.now) key_well refl v.now (decode v.now) value_well refl old r applies y q)
 
   pub values_kept : (old : Resolved) (applies : Bool) → applies ≡ false → old ≡ values_after applies old (line_in line)
   unfolding values_after line_in choose
   values_kept old applies n = rw (e, n)
-
-  -- where they are yet to be trimmed
 
   pub trimmed_values_kept : (old : Resolved) (applies : Bool) → applies ≡ false → old ≡ values_after applies old (trimmed_line_in line)
   unfolding values_after trimmed_line_in choose
   trimmed_values_kept old applies n = rw (e, n)
 
   module _ (key : List ℕ) (a : Trimmed k.now key) where
-    trimmed_key : same (lower key) (codes "root") ≡ same (lower (trim (decode k.now))) (codes "root")
-    trimmed_key = word_decode (codes "root") refl key a.well ∙ rw a.is
-
     pub trimmed_root_kept : (b : Bool) → b ≡ same (lower key) (codes "root") → b ≡ false → (root : Bool) → root ≡ root_after root (trimmed_line_in line)
-    unfolding root_after trimmed_line_in choose
-    trimmed_root_kept b q n root = rw (e, ← trimmed_key, ← q, n)
+    unfolding trimmed_line_in
+    trimmed_root_kept b q n root = rw e (other_key key (trim (decode k.now)) a.well a.is b q n root (lower (trim (decode v.now))))
 
     module _ (value : List ℕ) (z : Trimmed v.now value) where
-      trimmed_value : same (lower value) (codes "true") ≡ same (lower (trim (decode v.now))) (codes "true")
-      trimmed_value = word_decode (codes "true") refl value z.well ∙ rw z.is
-
       pub trimmed_root_set : (b : Bool) → b ≡ same (lower key) (codes "root") → b ≡ true → (root r : Bool) → r ≡ same (lower value) (codes "true")
           → r ≡ root_after root (trimmed_line_in line)
-      unfolding root_after trimmed_line_in choose
-      trimmed_root_set b q y root r n = rw (e, ← trimmed_key, ← q, y) (n ∙ trimmed_value)
+      unfolding trimmed_line_in
+      trimmed_root_set b q y root r n = rw e (root_pair key (trim (decode k.now)) a.well a.is value (trim (decode v.now)) z.well z.is b q y root r n)
 
       pub trimmed_values_set : (old r : Resolved) (applies : Bool) → applies ≡ true → r ≡ superseded old (lower key) (lower value)
           → r ≡ values_after applies old (trimmed_line_in line)
-      unfolding values_after trimmed_line_in choose
-      trimmed_values_set old r applies y q = rw (e, y) (q ∙ superseded_decode old key value a.well z.well ∙ rw (a.is, z.is))
+      unfolding trimmed_line_in
+      trimmed_values_set old r applies y q = rw e (counted_pair key (trim (decode k.now)) a.well a.is value (trim (decode v.now)) z.well z.is old r applies y q)

@@ -1,3 +1,4 @@
+// The steps on a pair as it stands in its line, and on one whose parts are trimmed.
 use crate::steps::{root_after, root_after_trimming, values_after, values_after_trimming};
 use config_lines::kinds::{LineKind, kind_of};
 use rules::{MaxLineLen, Resolved};
